@@ -1,0 +1,46 @@
+//! A time.
+
+ghost use Rattle.std.specs.Prelude.{◌≡◌, ◌<◌};
+ghost use Rattle.std.specs.Option.{SomeIff};
+
+use std::marker::Model;
+
+/// A Lamport time: a number below 2^64 - 1, so that a clock still has a number above it.
+///
+/// Contracts see it as the number. Serf has no such bound: its clock wraps at 2^64 - 1.
+#[derive(Clone, Copy, Debug, PartialEq, Eq, PartialOrd, Ord)]
+pub struct Time {
+    value: u64,
+}
+
+impl Model for Time {
+    ghost use Rattle.std.specs.Prelude.{ℕ, ◌<◌};
+
+    ghost Value = { ℕ };
+
+    ghost view = { λ t. t.value };
+
+    ghost invariant = { λ t. t.value < 18446744073709551615 };
+
+    ghost inverse = { λ n. record { value = n } };
+}
+
+impl Time {
+    /// The time of this number, or `None` at 2^64 - 1. Takes no memory.
+    pub fn new(value: u64) -> Option<Time>
+        ensures { SomeIff result (value < 18446744073709551615) value }
+    {
+        if value == u64::MAX {
+            return None;
+        }
+        Some(Time { value })
+    }
+
+    /// The number. Takes no memory.
+    pub fn get(self) -> u64
+        ensures value { result ≡ self }
+        ensures time { result < 18446744073709551615 }
+    {
+        self.value
+    }
+}
