@@ -1,0 +1,119 @@
+-- The whole input: it is spelled where it is read, and faulty where it is refused.
+use Rattle.std.proofs.Common.{◌≡◌, ℕ, ◌+◌, ◌<◌, ◌≤◌, List, [], ◌++◌, length, Bool, true, false, cond, eqb, Result, Ok, Err, refl, sym, ap, subst, ◌∙◌, arith, append-nil, length-append, inl, inr}
+use Rattle.std.specs.Prelude.{IfOk, IfErr, IsOkAnd}
+use Rattle.std.proofs.lemmas.Bool.{eqb-true}
+use Rattle.std.proofs.lemmas.Bool.Decides.{nat_tests}
+use Rattle.std.proofs.lemmas.List.{nil_from_length}
+use Rattle.serf_pack.specs.declared.fault.PackFault.{PackFault}
+use Rattle.serf_pack.specs.declared.fault.PackFault.TheVariants.{Trailing}
+use Rattle.serf_pack.specs.Tree.{Tree}
+use Rattle.serf_pack.specs.Table.{place}
+use Rattle.serf_pack.specs.Reading.{Gives, value_at, whole_at}
+use Rattle.serf_pack.specs.Packs.{Packs}
+use Rattle.serf_pack.specs.Breaks.{Breaks, IsFaulty, breaks, trails, fault_place}
+use Rattle.serf_pack.proofs.SpelledIsRead.{value_read}
+use Rattle.serf_pack.proofs.Steps.{done, refused, bind_ok, bind_err}
+use Rattle.serf_pack.proofs.ReadIsSpelled.{value_back}
+use Rattle.serf_pack.proofs.BrokenIsRefused.{break_read}
+use Rattle.serf_pack.proofs.RefusedIsBroken.{value_refused}
+use Rattle.serf_pack.proofs.FaultPlaces.{faulty_within}
+
+abbrev ended : List ℕ → Tree × List ℕ → Result Tree PackFault
+ended bytes v = cond (eqb (length v.1) 0) (Ok v.0) (Err (Trailing (place (length bytes) v.1)))
+
+ended_ok : (bytes : List ℕ) (x : Tree × List ℕ) (v : Tree) → ended bytes x ≡ Ok v → (x.1 ≡ []) × (x.0 ≡ v)
+ended_ok bytes x v e = by_test (eqb (length x.1) 0) refl e
+  where
+    by_test : (b : Bool) → eqb (length x.1) 0 ≡ b → cond b (Ok x.0) (Err (Trailing (place (length bytes) x.1))) ≡ Ok v → (x.1 ≡ []) × (x.0 ≡ v)
+    by_test true t h = (nil_from_length x.1 (eqb-true _ _ t), cc)
+    by_test false t h = absurd cc
+
+ended_err : (bytes : List ℕ) (x : Tree × List ℕ) (f : PackFault) → ended bytes x ≡ Err f → (0 < length x.1) × (f ≡ Trailing (place (length bytes) x.1))
+ended_err bytes x f e = by_test (eqb (length x.1) 0) refl e
+  where
+    by_test : (b : Bool) → eqb (length x.1) 0 ≡ b → cond {A = Result Tree PackFault} b (Ok x.0) (Err (Trailing (place (length bytes) x.1))) ≡ Err f → (0 < length x.1) × (f ≡ Trailing (place (length bytes) x.1))
+    by_test true t h = absurd cc
+    by_test false t h = let some : 0 < length x.1 = grind (arith, nat_tests) in (some, cc)
+
+start : (bytes : List ℕ) → place (length bytes) bytes ≡ 0
+start bytes = omega arith
+
+value_whole : (bytes rest : List ℕ) (v : Tree) → value_at 8 (length bytes) bytes ≡ Ok (v, rest) → whole_at 8 bytes ≡ ended bytes (v, rest)
+unfolding whole_at
+value_whole bytes rest v e = rw e refl
+
+pub packs_whole : (bytes : List ℕ) (v : Tree) → Packs v 0 0 bytes → whole_at 8 bytes ≡ Ok v
+packs_whole bytes v h =
+    let all : bytes ++ [] ≡ bytes = append-nil bytes in
+    let here : place (length bytes) (bytes ++ []) ≡ 0 = rw all (start bytes) in
+    let long : length (bytes ++ []) ≤ length bytes = rw all (omega arith) in
+    let read = value_read v 0 8 (length bytes) bytes [] refl long (subst (λ k. Packs v 0 k bytes) (sym here) h) in
+    value_whole bytes [] v (rw all at read)
+
+pub whole_packs : (bytes : List ℕ) (v : Tree) → whole_at 8 bytes ≡ Ok v → Packs v 0 0 bytes
+unfolding whole_at
+whole_packs bytes v e =
+    let a = bind_ok (value_at 8 (length bytes) bytes) (ended bytes) v e in
+    let b = ended_ok bytes a.0 v a.2 in
+    let s = value_back 8 (length bytes) 0 refl bytes a.0 (omega arith) a.1 in
+    let same : bytes ≡ s.text = s.bytes_are ∙ ap (λ (t : List ℕ). s.text ++ t) b.0 ∙ append-nil s.text in
+    let there : Packs v 0 (place (length bytes) bytes) s.text = subst (λ (t : Tree). Packs t 0 (place (length bytes) bytes) s.text) b.1 s.packs in
+    subst (λ k. Packs v 0 k bytes) (start bytes) (subst (λ (t : List ℕ). Packs v 0 (place (length bytes) bytes) t) (sym same) there)
+
+pub faulty_whole : (bytes : List ℕ) (f : PackFault) → IsFaulty bytes f → whole_at 8 bytes ≡ Err f
+unfolding whole_at
+faulty_whole bytes f (breaks _ _ h) = rw (break_read 0 0 bytes f h 8 (length bytes) refl (omega arith) (omega arith)) refl
+faulty_whole bytes f (trails _ _ front rest v e packs some fault) =
+    let lengths : length bytes ≡ length front + length rest = ap length e ∙ length-append front rest in
+    let here : 0 ≡ place (length bytes) (front ++ rest) = rw (← e) (omega arith) in
+    let long : length (front ++ rest) ≤ length bytes = rw (← e) (omega arith) in
+    let read : value_at 8 (length bytes) bytes ≡ Ok (v, rest) = ap (value_at 8 (length bytes)) e ∙ value_read v 0 8 (length bytes) front rest refl long (subst (λ k. Packs v 0 k front) here packs) in
+    let test : eqb (length rest) 0 ≡ false = grind (arith, nat_tests) in
+    let there : place (length bytes) rest ≡ length front = omega arith in
+    rw (read, test, there, fault) refl
+
+pub whole_faulty : (bytes : List ℕ) (f : PackFault) → whole_at 8 bytes ≡ Err f → IsFaulty bytes f
+unfolding whole_at
+whole_faulty bytes f e =
+    elim (bind_err (value_at 8 (length bytes) bytes) (ended bytes) f e) [
+      | inl bad ↦ breaks bytes f (subst (λ k. Breaks 0 k bytes f) (start bytes) (value_refused 8 (length bytes) 0 refl bytes f (omega arith) bad))
+      | inr a ↦
+          let g = ended_err bytes a.0 f a.2 in
+          let s = value_back 8 (length bytes) 0 refl bytes a.0 (omega arith) a.1 in
+          let lengths : length bytes ≡ length s.text + length a.0.1 = ap length s.bytes_are ∙ length-append s.text a.0.1 in
+          let there : place (length bytes) a.0.1 ≡ length s.text = omega arith in
+          trails bytes f s.text a.0.1 a.0.0 s.bytes_are (subst (λ k. Packs a.0.0 0 k s.text) (start bytes) s.packs) g.0 (g.1 ∙ ap Trailing there)
+    ]
+
+-- ---- the answers of a check
+
+module _ {V : Type 0} (tree : V → Tree) (bytes : List ℕ) where
+  pub check_packs : (r : Result V PackFault) → Gives tree r (whole_at 8 bytes) → IfOk r (λ view. Packs (tree view) 0 0 bytes)
+  check_packs (Ok x) h = whole_packs bytes (tree x) h
+  check_packs (Err f) h = tt
+
+  pub check_faulty : (r : Result V PackFault) → Gives tree r (whole_at 8 bytes) → IfErr r (λ f. IsFaulty bytes f)
+  check_faulty (Ok x) h = tt
+  check_faulty (Err f) h = whole_faulty bytes f h
+
+  pub check_place : (r : Result V PackFault) → Gives tree r (whole_at 8 bytes) → IfErr r (λ f. fault_place f ≤ length bytes)
+  check_place (Ok x) h = tt
+  check_place (Err f) h = faulty_within bytes f (whole_faulty bytes f h)
+
+pub one_tree : (bytes : List ℕ) (v w : Tree) → Packs v 0 0 bytes → Packs w 0 0 bytes → v ≡ w
+one_tree bytes v w h g = let e : done v ≡ done w = sym (packs_whole bytes v h) ∙ packs_whole bytes w g in cc
+
+pub one_fault : (bytes : List ℕ) (f g : PackFault) → IsFaulty bytes f → IsFaulty bytes g → f ≡ g
+one_fault bytes f g h k = let e : refused {A = Tree} f ≡ refused {A = Tree} g = sym (faulty_whole bytes f h) ∙ faulty_whole bytes g k in cc
+
+pub never_both : (bytes : List ℕ) (v : Tree) (f : PackFault) → Packs v 0 0 bytes → IsFaulty bytes f → ⊥
+never_both bytes v f h k = let e : done v ≡ refused {A = Tree} f = sym (packs_whole bytes v h) ∙ faulty_whole bytes f k in cc
+
+module _ {V : Type 0} (tree : V → Tree) (bytes : List ℕ) where
+  pub check_only : (r : Result V PackFault) → Gives tree r (whole_at 8 bytes) → (v : Tree) → Packs v 0 0 bytes → IsOkAnd r (λ view. tree view ≡ v)
+  check_only (Ok x) h v p = let e : done (tree x) ≡ done v = sym h ∙ packs_whole bytes v p in cc
+  check_only (Err f) h v p = absurd (let e : refused {A = Tree} f ≡ done v = sym h ∙ packs_whole bytes v p in cc)
+
+  pub check_only_fault : (r : Result V PackFault) → Gives tree r (whole_at 8 bytes) → (f : PackFault) → IsFaulty bytes f → r ≡ Err f
+  check_only_fault (Ok x) h f p = absurd (let e : done (tree x) ≡ refused {A = Tree} f = sym h ∙ faulty_whole bytes f p in cc)
+  check_only_fault (Err g) h f p = let e : refused {A = Tree} g ≡ refused {A = Tree} f = sym h ∙ faulty_whole bytes f p in let same : g ≡ f = cc in rw same refl

@@ -1,0 +1,14 @@
+pub mod Steps
+pub mod ByHead
+pub mod Skipping
+pub mod Viewing
+pub mod Walking
+pub mod PartCounts
+pub mod SpelledIsRead
+pub mod ReadIsSpelled
+pub mod BrokenIsRefused
+pub mod RefusedIsBroken
+pub mod FaultPlaces
+pub mod Inputs
+pub mod Canonical
+pub mod Appending

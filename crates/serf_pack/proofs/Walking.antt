@@ -1,0 +1,170 @@
+-- One part of a checked value after another.
+use Rattle.std.proofs.Common.{◌≡◌, ℕ, zero, suc, ◌-◌, ◌<◌, List, [], ◌∷◌, length, false, cond, eqb, Result, Ok, Err, refl, ap, subst, ◌∙◌, arith}
+use Rattle.std.proofs.lemmas.Bool.Decides.{nat_tests}
+use Rattle.serf_pack.specs.declared.fault.PackFault.{PackFault}
+use Rattle.serf_pack.specs.declared.fault.PackFault.TheVariants.{Trailing}
+use Rattle.serf_pack.specs.Table.{place}
+use Rattle.serf_pack.specs.Tree.{Tree, Items, item, Pairs, pair}
+use Rattle.serf_pack.specs.Reading.{Reader, ◌>>=◌, items_at, pairs_at, value_at, whole_at, rest_of, value_or_nil, items_or_none, pairs_or_none}
+use Rattle.serf_pack.specs.View.{item_list, pair_list}
+use Rattle.serf_pack.proofs.Steps.{done}
+use Rattle.serf_pack.proofs.Viewing.{IsGood}
+
+-- what was read of a value whose rest is known
+same_rest : {A : Type 0} (x : A × List ℕ) (after : List ℕ) → done x.1 ≡ done after → x.1 ≡ after
+same_rest x after e = cc
+
+-- a value whose rest is known was read
+pub good_by_rest : {A : Type 0} (r : Result (A × List ℕ) PackFault) (after : List ℕ) → rest_of r ≡ Ok after → IsGood r
+good_by_rest (Ok x) after e = refl
+good_by_rest (Err f) after e = absurd cc
+
+pub bad_by_fault : {A : Type 0} (r : Result (A × List ℕ) PackFault) (f : PackFault) → rest_of r ≡ Err f → IsGood r → ⊥
+bad_by_fault (Ok x) f e good = cc
+bad_by_fault (Err g) f e good = cc
+
+-- ---- items
+
+abbrev with_item : Tree → Result (Items × List ℕ) PackFault → Result (Items × List ℕ) PackFault
+with_item v r = r >>= λ vs. Ok (item v vs.0, vs.1)
+
+abbrev whole_item : Reader Tree → ℕ → Result (Tree × List ℕ) PackFault → Result (Items × List ℕ) PackFault
+whole_item value n r = r >>= λ v. with_item v.0 (items_at value n v.1)
+
+abbrev ItemStep : Reader Tree → ℕ → List ℕ → Result (Tree × List ℕ) PackFault → Result (Items × List ℕ) PackFault → Type 0
+ItemStep value n after first whole = IsGood (items_at value n after) × (item_list (items_or_none whole) ≡ value_or_nil first ∷ item_list (items_or_none (items_at value n after)))
+
+item_tail : (value : Reader Tree) (n : ℕ) (after : List ℕ) (v : Tree) (r : Result (Items × List ℕ) PackFault) → IsGood (with_item v r)
+    → IsGood r × (item_list (items_or_none (with_item v r)) ≡ v ∷ item_list (items_or_none r))
+item_tail value n after v (Ok x) good = (refl, refl)
+item_tail value n after v (Err f) good = absurd cc
+
+item_first : (value : Reader Tree) (n : ℕ) (after : List ℕ) (r : Result (Tree × List ℕ) PackFault) → rest_of r ≡ Ok after → IsGood (whole_item value n r)
+    → ItemStep value n after r (whole_item value n r)
+item_first value n after (Ok x) e good =
+    subst (λ (t : List ℕ). IsGood (items_at value n t) × (item_list (items_or_none (with_item x.0 (items_at value n x.1))) ≡ x.0 ∷ item_list (items_or_none (items_at value n t)))) (same_rest x after e)
+    (item_tail value n after x.0 (items_at value n x.1) good)
+item_first value n after (Err f) e good = absurd cc
+
+pub item_step : (value : Reader Tree) (left : ℕ) (bytes after : List ℕ) → (left ≡ 0 → ⊥) → rest_of (value bytes) ≡ Ok after → IsGood (items_at value left bytes)
+    → ItemStep value (left - 1) after (value bytes) (items_at value left bytes)
+unfolding items_at
+item_step value zero bytes after some e good = absurd (some refl)
+item_step value (suc n) bytes after some e good =
+    let k : suc n - 1 ≡ n = omega arith in
+    rw k (item_first value n after (value bytes) e good)
+
+item_good : (value : Reader Tree) (n : ℕ) (r : Result (Tree × List ℕ) PackFault) → IsGood (whole_item value n r) → IsGood r
+item_good value n (Ok x) good = refl
+item_good value n (Err f) good = absurd cc
+
+pub item_is_good : (value : Reader Tree) (left : ℕ) (bytes : List ℕ) → (left ≡ 0 → ⊥) → IsGood (items_at value left bytes) → IsGood (value bytes)
+unfolding items_at
+item_is_good value zero bytes some good = absurd (some refl)
+item_is_good value (suc n) bytes some good = item_good value n (value bytes) good
+
+pub no_item : (value : Reader Tree) (left : ℕ) (bytes : List ℕ) → left ≡ 0 → item_list (items_or_none (items_at value left bytes)) ≡ []
+unfolding items_at
+no_item value left bytes e = rw e refl
+
+-- ---- pairs
+
+abbrev with_pair : Tree → Tree → Result (Pairs × List ℕ) PackFault → Result (Pairs × List ℕ) PackFault
+with_pair k v r = r >>= λ ps. Ok (pair k v ps.0, ps.1)
+
+abbrev half_pair : Reader Tree → ℕ → Tree → Result (Tree × List ℕ) PackFault → Result (Pairs × List ℕ) PackFault
+half_pair value n k r = r >>= λ v. with_pair k v.0 (pairs_at value n v.1)
+
+abbrev PairStep : Reader Tree → ℕ → List ℕ → Result (Tree × List ℕ) PackFault → Result (Tree × List ℕ) PackFault → Result (Pairs × List ℕ) PackFault → Type 0
+PairStep value n after first second whole = IsGood (pairs_at value n after) × (pair_list (pairs_or_none whole) ≡ (value_or_nil first, value_or_nil second) ∷ pair_list (pairs_or_none (pairs_at value n after)))
+
+pair_tail : (value : Reader Tree) (n : ℕ) (after : List ℕ) (k v : Tree) (r : Result (Pairs × List ℕ) PackFault) → IsGood (with_pair k v r)
+    → IsGood r × (pair_list (pairs_or_none (with_pair k v r)) ≡ (k, v) ∷ pair_list (pairs_or_none r))
+pair_tail value n after k v (Ok x) good = (refl, refl)
+pair_tail value n after k v (Err f) good = absurd cc
+
+pair_second : (value : Reader Tree) (n : ℕ) (after : List ℕ) (k : Tree) (r : Result (Tree × List ℕ) PackFault) → rest_of r ≡ Ok after → IsGood (half_pair value n k r)
+    → PairStep value n after (Ok (k, [])) r (half_pair value n k r)
+pair_second value n after k (Ok x) e good =
+    subst (λ (t : List ℕ). IsGood (pairs_at value n t) × (pair_list (pairs_or_none (with_pair k x.0 (pairs_at value n x.1))) ≡ (k, x.0) ∷ pair_list (pairs_or_none (pairs_at value n t)))) (same_rest x after e)
+    (pair_tail value n after k x.0 (pairs_at value n x.1) good)
+pair_second value n after k (Err f) e good = absurd cc
+
+abbrev whole_pair : Reader Tree → ℕ → Result (Tree × List ℕ) PackFault → Result (Pairs × List ℕ) PackFault
+whole_pair value n r = r >>= λ k. half_pair value n k.0 (value k.1)
+
+pair_first : (value : Reader Tree) (n : ℕ) (behind after : List ℕ) (r : Result (Tree × List ℕ) PackFault) → rest_of r ≡ Ok behind → rest_of (value behind) ≡ Ok after → IsGood (whole_pair value n r)
+    → PairStep value n after r (value behind) (whole_pair value n r)
+pair_first value n behind after (Ok x) e g good =
+    let same = same_rest x behind e in
+    subst (λ (t : List ℕ). rest_of (value t) ≡ Ok after → PairStep value n after (Ok x) (value t) (half_pair value n x.0 (value x.1))) same
+    (λ h. pair_second value n after x.0 (value x.1) h good) g
+pair_first value n behind after (Err f) e g good = absurd cc
+
+pub pair_step : (value : Reader Tree) (left : ℕ) (bytes behind after : List ℕ) → (left ≡ 0 → ⊥) → rest_of (value bytes) ≡ Ok behind → rest_of (value behind) ≡ Ok after → IsGood (pairs_at value left bytes)
+    → PairStep value (left - 1) after (value bytes) (value behind) (pairs_at value left bytes)
+unfolding pairs_at
+pair_step value zero bytes behind after some e g good = absurd (some refl)
+pair_step value (suc n) bytes behind after some e g good =
+    let k : suc n - 1 ≡ n = omega arith in
+    rw k (pair_first value n behind after (value bytes) e g good)
+
+key_good : (value : Reader Tree) (n : ℕ) (r : Result (Tree × List ℕ) PackFault) → IsGood (whole_pair value n r) → IsGood r
+key_good value n (Ok x) good = refl
+key_good value n (Err f) good = absurd cc
+
+pub key_is_good : (value : Reader Tree) (left : ℕ) (bytes : List ℕ) → (left ≡ 0 → ⊥) → IsGood (pairs_at value left bytes) → IsGood (value bytes)
+unfolding pairs_at
+key_is_good value zero bytes some good = absurd (some refl)
+key_is_good value (suc n) bytes some good = key_good value n (value bytes) good
+
+second_good : (value : Reader Tree) (n : ℕ) (k : Tree) (r : Result (Tree × List ℕ) PackFault) → IsGood (half_pair value n k r) → IsGood r
+second_good value n k (Ok x) good = refl
+second_good value n k (Err f) good = absurd cc
+
+second_by : (value : Reader Tree) (n : ℕ) (behind : List ℕ) (r : Result (Tree × List ℕ) PackFault) → rest_of r ≡ Ok behind → IsGood (whole_pair value n r) → IsGood (value behind)
+second_by value n behind (Ok x) e good = subst (λ (t : List ℕ). IsGood (value t)) (same_rest x behind e) (second_good value n x.0 (value x.1) good)
+second_by value n behind (Err f) e good = absurd cc
+
+pub value_is_good : (value : Reader Tree) (left : ℕ) (bytes behind : List ℕ) → (left ≡ 0 → ⊥) → rest_of (value bytes) ≡ Ok behind → IsGood (pairs_at value left bytes) → IsGood (value behind)
+unfolding pairs_at
+value_is_good value zero bytes behind some e good = absurd (some refl)
+value_is_good value (suc n) bytes behind some e good = second_by value n behind (value bytes) e good
+
+pub no_pair : (value : Reader Tree) (left : ℕ) (bytes : List ℕ) → left ≡ 0 → pair_list (pairs_or_none (pairs_at value left bytes)) ≡ []
+unfolding pairs_at
+no_pair value left bytes e = rw e refl
+
+-- ---- all of the bytes
+
+whole_by : (bytes : List ℕ) (r : Result (Tree × List ℕ) PackFault) (rest : List ℕ) → rest_of r ≡ Ok rest → length rest ≡ 0
+    → (r >>= λ v. cond (eqb (length v.1) 0) (Ok v.0) (Err (Trailing (place (length bytes) v.1)))) ≡ Ok (value_or_nil r)
+whole_by bytes (Ok x) rest e none =
+    let ended : length x.1 ≡ 0 = ap length (same_rest x rest e) ∙ none in
+    rw ended refl
+whole_by bytes (Err f) rest e none = absurd cc
+
+pub whole_is : (room : ℕ) (bytes rest : List ℕ) → rest_of (value_at room (length bytes) bytes) ≡ Ok rest → length rest ≡ 0 → whole_at room bytes ≡ Ok (value_or_nil (value_at room (length bytes) bytes))
+unfolding whole_at
+whole_is room bytes rest e none = whole_by bytes (value_at room (length bytes) bytes) rest e none
+
+trailing_by : (bytes : List ℕ) (r : Result (Tree × List ℕ) PackFault) (rest : List ℕ) → rest_of r ≡ Ok rest → 0 < length rest
+    → (r >>= λ v. cond (eqb (length v.1) 0) (Ok v.0) (Err (Trailing (place (length bytes) v.1)))) ≡ Err (Trailing (place (length bytes) rest))
+trailing_by bytes (Ok x) rest e some =
+    let same = same_rest x rest e in
+    let test : eqb (length x.1) 0 ≡ false = grind (arith, nat_tests) in
+    rw (test, same) refl
+trailing_by bytes (Err f) rest e some = absurd cc
+
+pub trailing_is : (room : ℕ) (bytes rest : List ℕ) → rest_of (value_at room (length bytes) bytes) ≡ Ok rest → 0 < length rest → whole_at room bytes ≡ Err (Trailing (place (length bytes) rest))
+unfolding whole_at
+trailing_is room bytes rest e some = trailing_by bytes (value_at room (length bytes) bytes) rest e some
+
+whole_fault_by : (bytes : List ℕ) (r : Result (Tree × List ℕ) PackFault) (f : PackFault) → rest_of r ≡ Err f
+    → (r >>= λ v. cond (eqb (length v.1) 0) (Ok v.0) (Err (Trailing (place (length bytes) v.1)))) ≡ Err f
+whole_fault_by bytes (Ok x) f e = absurd cc
+whole_fault_by bytes (Err g) f e = let same : g ≡ f = cc in rw same refl
+
+pub whole_fault : (room : ℕ) (bytes : List ℕ) (f : PackFault) → rest_of (value_at room (length bytes) bytes) ≡ Err f → whole_at room bytes ≡ Err f
+unfolding whole_at
+whole_fault room bytes f e = whole_fault_by bytes (value_at room (length bytes) bytes) f e

@@ -1,0 +1,9 @@
+pub mod Table
+pub mod Tree
+pub mod Packs
+pub mod Breaks
+pub mod Canonical
+pub mod Laws
+pub mod Reading
+pub mod View
+pub mod Walk

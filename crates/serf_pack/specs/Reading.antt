@@ -1,0 +1,82 @@
+-- Reading from left to right, up to the first fault: the bridge between the code and the relations Packs and Breaks.
+-- No rule of MessagePack stands here that does not stand there.
+use Rattle.std.specs.Prelude.{◌≡◌, ℕ, zero, suc, List, length, take, drop, Result, Ok, Err, nat_lt, ◌==◌, if◌then◌else◌}
+use Rattle.serf_pack.specs.declared.fault.PackFault.{PackFault}
+use Rattle.serf_pack.specs.declared.fault.PackFault.TheVariants.{Truncated, TooDeep, Trailing}
+use Rattle.serf_pack.specs.declared.head.Head.{Head}
+use Rattle.serf_pack.specs.declared.head.Head.TheVariants.{Nil, Flag, Int, Raw, Array, Map}
+use Rattle.serf_pack.specs.Tree.{Tree, nil, flag, int, raw, array, pairs, Items, no_items, item, Pairs, no_pairs, pair}
+use Rattle.serf_pack.specs.Table.{head_at, place}
+
+-- what a function returned, seen by view, is what reading gives
+abbrev pub Gives : {X Y E : Type 0} → (X → Y) → Result X E → Result Y E → Type 0
+Gives view (Ok x) read = read ≡ Ok (view x)
+Gives view (Err e) read = read ≡ Err e
+
+-- the next step of a reading, unless this one met a fault
+infixl 10 ◌>>=◌
+abbrev pub ◌>>=◌ : {A B : Type 0} → Result A PackFault → (A → Result B PackFault) → Result B PackFault
+(Ok x) >>= f = f x
+(Err e) >>= f = Err e
+
+-- a reader gives what stands at the front, and what follows it
+abbrev pub Reader : Type 0 → Type 0
+Reader A = List ℕ → Result (A × List ℕ) PackFault
+
+-- so many values, one after another
+unfoldable pub items_at : Reader Tree → ℕ → Reader Items
+items_at value zero bytes = Ok (no_items, bytes)
+items_at value (suc n) bytes = do
+  v ← value bytes
+  vs ← items_at value n v.1
+  Ok (item v.0 vs.0, vs.1)
+
+-- so many pairs, each a key and a value
+unfoldable pub pairs_at : Reader Tree → ℕ → Reader Pairs
+pairs_at value zero bytes = Ok (no_pairs, bytes)
+pairs_at value (suc n) bytes = do
+  k ← value bytes
+  v ← value k.1
+  ps ← pairs_at value n v.1
+  Ok (pair k.0 v.0 ps.0, ps.1)
+
+-- the parts of a value behind its head, where p is the value's place
+abbrev pub parts_by : (ℕ → Reader Items) → (ℕ → Reader Pairs) → ℕ → Head → Reader Tree
+parts_by items members p Nil rest = Ok (nil p, rest)
+parts_by items members p (Flag b) rest = Ok (flag p b, rest)
+parts_by items members p (Int z) rest = Ok (int p z, rest)
+parts_by items members p (Raw n) rest = if nat_lt (length rest) n then Err (Truncated p) else Ok (raw p (take n rest), drop n rest)
+parts_by items members p (Array n) rest = items n rest >>= λ vs. Ok (array p vs.0, vs.1)
+parts_by items members p (Map n) rest = members n rest >>= λ ps. Ok (pairs p ps.0, ps.1)
+
+-- parts that may not be read, where the value at place p stands inside eight others
+abbrev pub too_deep : {A : Type 0} → ℕ → ℕ → Reader A
+too_deep p n rest = Err (TooDeep p)
+
+-- one value, of the input of length total, with room for so many containers inside one another
+unfoldable pub value_at : ℕ → ℕ → Reader Tree
+value_at zero total bytes = head_at total bytes >>= λ h. parts_by (too_deep (place total bytes)) (too_deep (place total bytes)) (place total bytes) h.0 h.1
+value_at (suc room) total bytes = head_at total bytes >>= λ h. parts_by (items_at (value_at room total)) (pairs_at (value_at room total)) (place total bytes) h.0 h.1
+
+-- the same, without the value
+abbrev pub rest_of : {A : Type 0} → Result (A × List ℕ) PackFault → Result (List ℕ) PackFault
+rest_of read = read >>= λ x. Ok x.1
+
+-- the value that the whole input is
+unfoldable pub whole_at : ℕ → List ℕ → Result Tree PackFault
+whole_at room bytes = do
+  v ← value_at room (length bytes) bytes
+  if length v.1 == 0 then Ok v.0 else Err (Trailing (place (length bytes) v.1))
+
+-- what was read, and a stand-in where nothing was
+abbrev pub value_or_nil : Result (Tree × List ℕ) PackFault → Tree
+value_or_nil (Ok x) = x.0
+value_or_nil (Err e) = nil 0
+
+abbrev pub items_or_none : Result (Items × List ℕ) PackFault → Items
+items_or_none (Ok x) = x.0
+items_or_none (Err e) = no_items
+
+abbrev pub pairs_or_none : Result (Pairs × List ℕ) PackFault → Pairs
+pairs_or_none (Ok x) = x.0
+pairs_or_none (Err e) = no_pairs

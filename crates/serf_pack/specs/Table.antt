@@ -1,0 +1,72 @@
+-- The formats of MessagePack, row by row: MessagePack specification, "Formats" (the table of first bytes).
+-- Str and bin are one kind here, raw. Floats, ext and timestamps are of no format of this profile.
+use Rattle.std.specs.Prelude.{ℕ, pos, ◌-ℤ◌, ◌-◌, true, false, List, [], ◌∷◌, length, drop, Result, Ok, Err, nat_lt, ◌==◌, if◌then◌else◌, ◌≤◌}
+use Rattle.byteorder.specs.Endian.{big_number, twos_complement}
+use Rattle.serf_pack.specs.declared.fault.PackFault.{PackFault}
+use Rattle.serf_pack.specs.declared.fault.PackFault.TheVariants as faults
+use Rattle.serf_pack.specs.declared.head.Head.{Head}
+use Rattle.serf_pack.specs.declared.head.Head.TheVariants as heads
+use Rattle.serf_pack.specs.declared.head.Field.{Field}
+use Rattle.serf_pack.specs.declared.head.Field.TheVariants as fields
+use Rattle.serf_pack.specs.declared.head.Row.{Row}
+use Rattle.serf_pack.specs.declared.head.Row.TheVariants.{Whole, Number, Unsupported}
+
+-- what the first byte of a value says: "Formats", "Overview"
+abbrev pub row_of : ℕ → Row
+row_of b =
+    if nat_lt b 0x80 then Whole (heads.Int (pos b)) else
+    (if nat_lt b 0x90 then Whole (heads.Map (b - 0x80)) else
+    (if nat_lt b 0xa0 then Whole (heads.Array (b - 0x90)) else
+    (if nat_lt b 0xc0 then Whole (heads.Raw (b - 0xa0)) else
+    (if b == 0xc0 then Whole heads.Nil else
+    (if b == 0xc2 then Whole (heads.Flag false) else
+    (if b == 0xc3 then Whole (heads.Flag true) else
+    (if b == 0xc4 then Number fields.Raw 1 else
+    (if b == 0xc5 then Number fields.Raw 2 else
+    (if b == 0xc6 then Number fields.Raw 4 else
+    (if b == 0xcc then Number fields.Unsigned 1 else
+    (if b == 0xcd then Number fields.Unsigned 2 else
+    (if b == 0xce then Number fields.Unsigned 4 else
+    (if b == 0xcf then Number fields.Unsigned 8 else
+    (if b == 0xd0 then Number fields.Signed 1 else
+    (if b == 0xd1 then Number fields.Signed 2 else
+    (if b == 0xd2 then Number fields.Signed 4 else
+    (if b == 0xd3 then Number fields.Signed 8 else
+    (if b == 0xd9 then Number fields.Raw 1 else
+    (if b == 0xda then Number fields.Raw 2 else
+    (if b == 0xdb then Number fields.Raw 4 else
+    (if b == 0xdc then Number fields.Array 2 else
+    (if b == 0xdd then Number fields.Array 4 else
+    (if b == 0xde then Number fields.Map 2 else
+    (if b == 0xdf then Number fields.Map 4 else
+    (if nat_lt b 0xe0 then Unsupported else Whole (heads.Int (pos b -ℤ pos 256)))))))))))))))))))))))))))
+
+-- what a number of w bytes behind the first byte stands for: "int format family", and the lengths and counts of
+-- "str format family", "bin format family", "array format family" and "map format family", all big-endian
+abbrev pub meaning_of : Field → ℕ → ℕ → Head
+meaning_of fields.Unsigned w x = heads.Int (pos x)
+meaning_of fields.Signed w x = heads.Int (twos_complement w x)
+meaning_of fields.Raw w x = heads.Raw x
+meaning_of fields.Array w x = heads.Array x
+meaning_of fields.Map w x = heads.Map x
+
+-- where a rest of the input begins, of which `total` is the length
+abbrev pub place : ℕ → List ℕ → ℕ
+place total rest = total - length rest
+
+-- what follows a row at place p: nothing more, or the bytes of its number, which may pass the end
+abbrev pub head_by : ℕ → Row → ℕ → List ℕ → Result (Head × List ℕ) PackFault
+head_by p (Whole h) b rest = Ok (h, rest)
+head_by p (Number f w) b rest = if nat_lt (length rest) w then Err (faults.Truncated p) else Ok (meaning_of f w (big_number w rest), drop w rest)
+head_by p Unsupported b rest = Err (faults.Unsupported b p)
+
+-- the head at the front of the bytes, and what follows it
+unfoldable pub head_at : ℕ → List ℕ → Result (Head × List ℕ) PackFault
+head_at total [] = Err (faults.Truncated (place total []))
+head_at total (b ∷ rest) = head_by (place total (b ∷ rest)) (row_of b) b rest
+
+-- a number has one to eight bytes
+abbrev pub HasWidth : Row → Type 0
+HasWidth (Whole h) = Unit {0}
+HasWidth (Number f w) = (1 ≤ w) × (w ≤ 8)
+HasWidth Unsupported = Unit {0}

@@ -1,0 +1,150 @@
+//! What stands before a value's parts: its first byte, and the number behind it. MessagePack
+//! specification, "Formats".
+
+ghost use Rattle.std.specs.Prelude.{◌≡◌, ◌≤◌, ◌+◌, ◌<◌, ◌^◌, length, IfOk};
+ghost use Rattle.byteorder.specs.Endian.{big_number, twos_complement};
+ghost use Rattle.serf_pack.specs.Table.{row_of, meaning_of, head_at, HasWidth};
+ghost use Rattle.serf_pack.specs.Reading.{Gives};
+
+use crate::fault::PackFault;
+use byteorder::{BigEndian, ByteOrder};
+
+/// What the head of a value says.
+#[derive(Clone, Copy)]
+pub enum Head {
+    /// "nil format".
+    Nil,
+    /// "bool format family".
+    Flag(bool),
+    /// "int format family", signed and unsigned.
+    Int(i128),
+    /// "str format family" or "bin format family": this many bytes follow.
+    Raw(u64),
+    /// "array format family": this many values follow.
+    Array(u64),
+    /// "map format family": this many pairs of values follow.
+    Map(u64),
+}
+
+/// What the number behind a first byte stands for.
+#[derive(Clone, Copy)]
+pub enum Field {
+    /// It is the value.
+    Unsigned,
+    /// It is the value, in two's complement.
+    Signed,
+    /// It is the length of a byte string.
+    Raw,
+    /// It is the count of an array's items.
+    Array,
+    /// It is the count of a map's pairs.
+    Map,
+}
+
+/// A row of the table of first bytes.
+#[derive(Clone, Copy)]
+pub enum Row {
+    /// The byte is the whole head.
+    Whole(Head),
+    /// A number of so many bytes follows, the highest byte first.
+    Number(Field, usize),
+    /// No value of the profile begins with this byte.
+    Unsupported,
+}
+
+/// The row of a first byte.
+#[inline(always)]
+pub fn row_for(byte: u8) -> Row
+    ensures row { result ≡ row_of byte }
+    ensures width { HasWidth result }
+{
+    match byte {
+        0..=0x7f => Row::Whole(Head::Int(i128::from(byte))),
+        0x80..=0x8f => Row::Whole(Head::Map(u64::from(byte - 0x80))),
+        0x90..=0x9f => Row::Whole(Head::Array(u64::from(byte - 0x90))),
+        0xa0..=0xbf => Row::Whole(Head::Raw(u64::from(byte - 0xa0))),
+        0xc0 => Row::Whole(Head::Nil),
+        0xc2 => Row::Whole(Head::Flag(false)),
+        0xc3 => Row::Whole(Head::Flag(true)),
+        0xc4 => Row::Number(Field::Raw, 1),
+        0xc5 => Row::Number(Field::Raw, 2),
+        0xc6 => Row::Number(Field::Raw, 4),
+        0xcc => Row::Number(Field::Unsigned, 1),
+        0xcd => Row::Number(Field::Unsigned, 2),
+        0xce => Row::Number(Field::Unsigned, 4),
+        0xcf => Row::Number(Field::Unsigned, 8),
+        0xd0 => Row::Number(Field::Signed, 1),
+        0xd1 => Row::Number(Field::Signed, 2),
+        0xd2 => Row::Number(Field::Signed, 4),
+        0xd3 => Row::Number(Field::Signed, 8),
+        0xd9 => Row::Number(Field::Raw, 1),
+        0xda => Row::Number(Field::Raw, 2),
+        0xdb => Row::Number(Field::Raw, 4),
+        0xdc => Row::Number(Field::Array, 2),
+        0xdd => Row::Number(Field::Array, 4),
+        0xde => Row::Number(Field::Map, 2),
+        0xdf => Row::Number(Field::Map, 4),
+        0xe0..=0xff => Row::Whole(Head::Int(i128::from(byte) - 256)),
+        _ => Row::Unsupported,
+    }
+}
+
+/// The number of so many bytes at their front, the highest first.
+#[inline(always)]
+fn number(width: usize, bytes: &[u8]) -> u64
+    requires low { 1 ≤ width }
+    requires high { width ≤ 8 }
+    requires room { width ≤ length bytes.now }
+    ensures { result ≡ big_number width bytes.now }
+{
+    match width {
+        1 => u64::from(bytes[0]),
+        2 => u64::from(BigEndian::read_u16(bytes)),
+        4 => u64::from(BigEndian::read_u32(bytes)),
+        8 => BigEndian::read_u64(bytes),
+        _ => BigEndian::read_uint(bytes, width),
+    }
+}
+
+/// What the number at the front of the bytes says, which has so many of them.
+#[inline(always)]
+fn meaning(field: Field, width: usize, bytes: &[u8]) -> Head
+    requires low { 1 ≤ width }
+    requires high { width ≤ 8 }
+    requires room { width ≤ length bytes.now }
+    ensures { result ≡ meaning_of field width (big_number width bytes.now) }
+{
+    match field {
+        Field::Unsigned => Head::Int(i128::from(number(width, bytes))),
+        Field::Signed => Head::Int(i128::from(BigEndian::read_int(bytes, width))),
+        Field::Raw => Head::Raw(number(width, bytes)),
+        Field::Array => Head::Array(number(width, bytes)),
+        Field::Map => Head::Map(number(width, bytes)),
+    }
+}
+
+/// The head at the front of the bytes, which are the last of `total`, and what follows it. `Truncated`
+/// where the bytes end before the head does, `Unsupported` at a byte of no format, each with the offset
+/// of the first byte. Takes no memory.
+#[tactic(auto, unfolding(crate::specs::Table::head_at))]
+#[inline(always)]
+pub fn read_head(total: usize, bytes: &[u8]) -> Result<(Head, &[u8]), PackFault>
+    requires { length bytes.now ≤ total }
+    ensures head { Gives (λ x. (x.0, x.1.now)) result (head_at total bytes.now) }
+    ensures within { IfOk result (λ x. length x.1.now ≤ length bytes.now) }
+{
+    let place = total - bytes.len();
+    let [byte, rest @ ..] = bytes else {
+        return Err(PackFault::Truncated(place));
+    };
+    match row_for(*byte) {
+        Row::Whole(head) => Ok((head, rest)),
+        Row::Number(field, width) => {
+            if rest.len() < width {
+                return Err(PackFault::Truncated(place));
+            }
+            Ok((meaning(field, width, rest), &rest[width..]))
+        }
+        Row::Unsupported => Err(PackFault::Unsupported(*byte, place)),
+    }
+}

@@ -1,0 +1,22 @@
+//! Laws of spellings and faults, whichever the bytes. Each function is a law that its clauses state:
+//! it does nothing and takes no memory.
+
+ghost use Rattle.serf_pack.specs.Laws.{OneTree, OneFault, NeverBoth, CanonicalHeads, AppendersPack};
+
+/// A byte list spells at most one value, or has at most one fault, and never both.
+pub fn one_reading()
+    ensures tree { OneTree }
+    ensures fault { OneFault }
+    ensures apart { NeverBoth }
+{}
+
+/// The canonical headers are heads of the counts and lengths that they are given, and the canonical
+/// integers are heads of their numbers.
+pub fn canonical_heads()
+    ensures { CanonicalHeads }
+{}
+
+/// What an appender writes spells the value that it was given, wherever it stands.
+pub fn appenders_pack()
+    ensures { AppendersPack }
+{}

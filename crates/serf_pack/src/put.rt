@@ -1,0 +1,193 @@
+//! Canonical spellings, at the end of a vector: the shortest format of each number, length and count
+//! (byte strings are str, and str 8 is not used). Each function answers `AllocError` only where the
+//! vector's capacity is too small and its growth was refused, and then the vector holds what it held.
+//! MessagePack specification, "Formats" and "Serialization: type to format conversion".
+
+ghost use Rattle.std.specs.Prelude.{◌≡◌, ◌≤◌, ◌<◌, ◌+◌, ◌^◌, ◌++◌, ◌∷◌, [], length, is_ok, OnOk, OnErr, vec_len, vec_capacity, if◌then◌else◌};
+ghost use Rattle.byteorder.specs.Endian.{big_bytes, low_bytes};
+ghost use Rattle.std.specs.Int.{w64};
+ghost use Rattle.serf_pack.specs.Canonical.{map_head, array_head, raw_head, raw_bytes, uint_bytes, int_bytes, flag_bytes, nil_bytes};
+
+use byteorder::{BigEndian, ByteOrder};
+use std::alloc::AllocError;
+
+/// A first byte, and a number of so many bytes, the highest first.
+fn put_number(out: &mut Vec<u8>, format: u8, number: u64, width: usize) -> Result<(), AllocError>
+    requires low { 1 ≤ width }
+    requires high { width ≤ 8 }
+    requires fits { number < 256 ^ width }
+    ensures ok { OnOk result (out.new.items ≡ out.old.items ++ format ∷ big_bytes width number) }
+    ensures err { OnErr result (out.new.items ≡ out.old.items) }
+    ensures full { OnErr result (vec_capacity out.old < vec_len out.old + (1 + width)) }
+    ensures grows { vec_capacity out.old ≤ vec_capacity out.new }
+{
+    let mut bytes = [0u8; 9];
+    bytes[0] = format;
+    BigEndian::write_uint(&mut bytes[1..], number, width);
+    out.extend_from_slice(&bytes[..1 + width])
+}
+
+/// A first byte that is the whole head.
+fn put_byte(out: &mut Vec<u8>, byte: u8) -> Result<(), AllocError>
+    ensures ok { OnOk result (out.new.items ≡ out.old.items ++ byte ∷ []) }
+    ensures err { OnErr result (out.new.items ≡ out.old.items) }
+    ensures full { OnErr result (vec_capacity out.old < vec_len out.old + 1) }
+    ensures grows { vec_capacity out.old ≤ vec_capacity out.new }
+{
+    out.extend_from_slice(&[byte])
+}
+
+/// Appends the header of a map of `count` pairs, in 1, 3 or 5 bytes. The pairs, each a key and its
+/// value, are the caller's to append. On `AllocError` the vector holds what it held.
+///
+/// Source: MessagePack specification, "map format family": fixmap, map 16, map 32.
+pub fn put_map(out: &mut Vec<u8>, count: u32) -> Result<(), AllocError>
+    ensures ok { OnOk result (out.new.items ≡ out.old.items ++ map_head count) }
+    ensures err { OnErr result (out.new.items ≡ out.old.items) }
+    ensures full { OnErr result (vec_capacity out.old < vec_len out.old + length (map_head count)) }
+{
+    if count < 16 {
+        put_byte(out, 0x80 + count as u8)
+    } else if count < 65536 {
+        put_number(out, 0xde, u64::from(count), 2)
+    } else {
+        put_number(out, 0xdf, u64::from(count), 4)
+    }
+}
+
+/// Appends the header of an array of `count` items, in 1, 3 or 5 bytes. The items are the caller's to
+/// append. On `AllocError` the vector holds what it held.
+///
+/// Source: MessagePack specification, "array format family": fixarray, array 16, array 32.
+pub fn put_array(out: &mut Vec<u8>, count: u32) -> Result<(), AllocError>
+    ensures ok { OnOk result (out.new.items ≡ out.old.items ++ array_head count) }
+    ensures err { OnErr result (out.new.items ≡ out.old.items) }
+    ensures full { OnErr result (vec_capacity out.old < vec_len out.old + length (array_head count)) }
+{
+    if count < 16 {
+        put_byte(out, 0x90 + count as u8)
+    } else if count < 65536 {
+        put_number(out, 0xdc, u64::from(count), 2)
+    } else {
+        put_number(out, 0xdd, u64::from(count), 4)
+    }
+}
+
+/// The header of a byte string of so many bytes.
+fn put_raw_head(out: &mut Vec<u8>, len: u32) -> Result<(), AllocError>
+    ensures ok { OnOk result (out.new.items ≡ out.old.items ++ raw_head len) }
+    ensures err { OnErr result (out.new.items ≡ out.old.items) }
+    ensures full { OnErr result (vec_capacity out.old < vec_len out.old + length (raw_head len)) }
+    ensures grows { vec_capacity out.old ≤ vec_capacity out.new }
+{
+    if len < 32 {
+        put_byte(out, 0xa0 + len as u8)
+    } else if len < 65536 {
+        put_number(out, 0xda, u64::from(len), 2)
+    } else {
+        put_number(out, 0xdb, u64::from(len), 4)
+    }
+}
+
+/// Appends a byte string of at most 4,294,967,295 bytes, with its header of 1, 3 or 5 bytes. On
+/// `AllocError` the vector holds what it held.
+///
+/// Source: MessagePack specification, "str format family": fixstr to 31 bytes, str 16 to 65,535, else
+/// str 32. Str 8 is not used, since readers of the older raw family don't know it.
+pub fn put_raw(out: &mut Vec<u8>, bytes: &[u8]) -> Result<(), AllocError>
+    requires { length bytes.now < 2 ^ 32 }
+    ensures ok { OnOk result (out.new.items ≡ out.old.items ++ raw_bytes bytes.now) }
+    ensures err { OnErr result (out.new.items ≡ out.old.items) }
+    ensures full { OnErr result (vec_capacity out.old < vec_len out.old + length (raw_bytes bytes.now)) }
+{
+    let len = out.len();
+    put_raw_head(out, bytes.len() as u32)?;
+    if out.extend_from_slice(bytes).is_err() {
+        out.truncate(len);
+        return Err(AllocError);
+    }
+    Ok(())
+}
+
+/// Appends an integer of 0 or above, in 1, 2, 3, 5 or 9 bytes. On `AllocError` the vector holds what
+/// it held.
+///
+/// Source: MessagePack specification, "int format family": positive fixint, uint 8 to uint 64.
+pub fn put_uint(out: &mut Vec<u8>, n: u64) -> Result<(), AllocError>
+    ensures ok { OnOk result (out.new.items ≡ out.old.items ++ uint_bytes n) }
+    ensures err { OnErr result (out.new.items ≡ out.old.items) }
+    ensures full { OnErr result (vec_capacity out.old < vec_len out.old + length (uint_bytes n)) }
+{
+    if n < 128 {
+        put_byte(out, n as u8)
+    } else if n < 256 {
+        put_number(out, 0xcc, n, 1)
+    } else if n < 65536 {
+        put_number(out, 0xcd, n, 2)
+    } else if n < 4294967296 {
+        put_number(out, 0xce, n, 4)
+    } else {
+        put_number(out, 0xcf, n, 8)
+    }
+}
+
+/// Appends a truth value, in 1 byte. On `AllocError` the vector holds what it held.
+///
+/// Source: MessagePack specification, "bool format family".
+pub fn put_bool(out: &mut Vec<u8>, value: bool) -> Result<(), AllocError>
+    ensures ok { OnOk result (out.new.items ≡ out.old.items ++ flag_bytes value) }
+    ensures err { OnErr result (out.new.items ≡ out.old.items) }
+    ensures full { OnErr result (vec_capacity out.old < vec_len out.old + 1) }
+{
+    put_byte(out, if value { 0xc3 } else { 0xc2 })
+}
+
+/// Appends nil, in 1 byte. On `AllocError` the vector holds what it held.
+///
+/// Source: MessagePack specification, "nil format".
+pub fn put_nil(out: &mut Vec<u8>) -> Result<(), AllocError>
+    ensures ok { OnOk result (out.new.items ≡ out.old.items ++ nil_bytes) }
+    ensures err { OnErr result (out.new.items ≡ out.old.items) }
+    ensures full { OnErr result (vec_capacity out.old < vec_len out.old + 1) }
+{
+    put_byte(out, 0xc0)
+}
+
+/// A first byte, and a number of so many bytes in two's complement, the highest first.
+fn put_signed(out: &mut Vec<u8>, format: u8, number: i64, width: usize) -> Result<(), AllocError>
+    requires low { 1 ≤ width }
+    requires high { width ≤ 8 }
+    ensures ok { OnOk result (out.new.items ≡ out.old.items ++ format ∷ big_bytes width (low_bytes w64 width number)) }
+    ensures err { OnErr result (out.new.items ≡ out.old.items) }
+    ensures full { OnErr result (vec_capacity out.old < vec_len out.old + (1 + width)) }
+{
+    let mut bytes = [0u8; 9];
+    bytes[0] = format;
+    BigEndian::write_int(&mut bytes[1..], number, width);
+    out.extend_from_slice(&bytes[..1 + width])
+}
+
+/// Appends a signed integer, in 1, 2, 3, 5 or 9 bytes; one of 0 or above as `put_uint` does. On
+/// `AllocError` the vector holds what it held.
+///
+/// Source: MessagePack specification, "int format family": the fixints, uint 8 to uint 64, int 8 to
+/// int 64.
+pub fn put_int(out: &mut Vec<u8>, n: i64) -> Result<(), AllocError>
+    ensures ok { OnOk result (out.new.items ≡ out.old.items ++ int_bytes n) }
+    ensures err { OnErr result (out.new.items ≡ out.old.items) }
+    ensures full { OnErr result (vec_capacity out.old < vec_len out.old + length (int_bytes n)) }
+{
+    if n >= 0 {
+        put_uint(out, n as u64)
+    } else if n >= -32 {
+        put_byte(out, (256 + n) as u8)
+    } else if n >= -128 {
+        put_signed(out, 0xd0, n, 1)
+    } else if n >= -32768 {
+        put_signed(out, 0xd1, n, 2)
+    } else if n >= -2147483648 {
+        put_signed(out, 0xd2, n, 4)
+    } else {
+        put_signed(out, 0xd3, n, 8)
+    }
+}

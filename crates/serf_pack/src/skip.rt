@@ -1,0 +1,116 @@
+//! Going over values without keeping them: what a check and the iterators do. Takes no memory.
+
+ghost use Rattle.std.specs.Prelude.{◌≡◌, ◌≤◌, ◌<◌, ◌^◌, ℕ, length, IfOk, IfSome, Ok};
+ghost use Rattle.serf_pack.specs.Reading.{Gives, value_at, items_at, pairs_at, rest_of};
+
+use crate::fault::PackFault;
+use crate::head::{Field, Head, Row, read_head, row_for};
+
+/// What follows a value of the formats that most values of a packet have: nil, a truth value, a
+/// fixint, an unsigned integer, a short byte string. `None` where another value stands, and where
+/// its bytes pass the end. So the walk over a packet is one loop with no call.
+#[inline(always)]
+fn skip_short(bytes: &[u8]) -> Option<&[u8]>
+    ensures rest { IfSome result (λ x. (room : ℕ) → (total : ℕ) → rest_of (value_at room total bytes.now) ≡ Ok x.now) }
+    ensures within { IfSome result (λ x. length x.now ≤ length bytes.now) }
+{
+    let [byte, rest @ ..] = bytes else {
+        return None;
+    };
+    match row_for(*byte) {
+        Row::Whole(Head::Nil) => Some(rest),
+        Row::Whole(Head::Flag(_)) => Some(rest),
+        Row::Whole(Head::Int(_)) => Some(rest),
+        Row::Whole(Head::Raw(n)) => {
+            if (rest.len() as u64) < n {
+                return None;
+            }
+            Some(&rest[n as usize..])
+        }
+        Row::Number(Field::Unsigned, width) => {
+            if rest.len() < width {
+                return None;
+            }
+            Some(&rest[width..])
+        }
+        _ => None,
+    }
+}
+
+/// What follows the value at the front of the bytes, which are the last of `total`, or the value's
+/// first fault. Up to `room` arrays and maps may stand inside one another.
+#[cycle(skip)]
+#[inline(always)]
+pub fn skip(room: u8, total: usize, bytes: &[u8]) -> Result<&[u8], PackFault>
+    requires { length bytes.now ≤ total }
+    ensures rest { Gives (λ x. x.now) result (rest_of (value_at room total bytes.now)) }
+    ensures within { IfOk result (λ x. length x.now ≤ length bytes.now) }
+{
+    match skip_short(bytes) {
+        Some(rest) => Ok(rest),
+        None => skip_any(room, total, bytes),
+    }
+}
+
+/// `skip`, for a value of any format.
+#[cycle(skip)]
+fn skip_any(room: u8, total: usize, bytes: &[u8]) -> Result<&[u8], PackFault>
+    requires { length bytes.now ≤ total }
+    ensures rest { Gives (λ x. x.now) result (rest_of (value_at room total bytes.now)) }
+    ensures within { IfOk result (λ x. length x.now ≤ length bytes.now) }
+{
+    let place = total - bytes.len();
+    let (head, rest) = read_head(total, bytes)?;
+    match head {
+        Head::Nil => Ok(rest),
+        Head::Flag(_) => Ok(rest),
+        Head::Int(_) => Ok(rest),
+        Head::Raw(n) => {
+            if (rest.len() as u64) < n {
+                return Err(PackFault::Truncated(place));
+            }
+            Ok(&rest[n as usize..])
+        }
+        Head::Array(n) => {
+            if room == 0 {
+                return Err(PackFault::TooDeep(place));
+            }
+            skip_items(room - 1, total, n, rest)
+        }
+        Head::Map(n) => {
+            if room == 0 {
+                return Err(PackFault::TooDeep(place));
+            }
+            skip_pairs(room - 1, total, n, rest)
+        }
+    }
+}
+
+/// What follows so many values, or the first fault.
+#[cycle(skip)]
+fn skip_items(room: u8, total: usize, count: u64, bytes: &[u8]) -> Result<&[u8], PackFault>
+    requires { length bytes.now ≤ total }
+    ensures rest { Gives (λ x. x.now) result (rest_of (items_at (value_at room total) count bytes.now)) }
+    ensures within { IfOk result (λ x. length x.now ≤ length bytes.now) }
+{
+    let mut rest = bytes;
+    'items: for _ in 0..count {
+        rest = skip(room, total, rest)?;
+    }
+    Ok(rest)
+}
+
+/// What follows so many pairs, or the first fault.
+#[cycle(skip)]
+fn skip_pairs(room: u8, total: usize, count: u64, bytes: &[u8]) -> Result<&[u8], PackFault>
+    requires { length bytes.now ≤ total }
+    ensures rest { Gives (λ x. x.now) result (rest_of (pairs_at (value_at room total) count bytes.now)) }
+    ensures within { IfOk result (λ x. length x.now ≤ length bytes.now) }
+{
+    let mut rest = bytes;
+    'pairs: for _ in 0..count {
+        let behind_key = skip(room, total, rest)?;
+        rest = skip(room, total, behind_key)?;
+    }
+    Ok(rest)
+}

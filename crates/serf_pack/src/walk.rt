@@ -1,0 +1,165 @@
+//! The parts of a checked value, one after another. Nothing here takes memory.
+
+ghost use Rattle.std.specs.Prelude.{◌≡◌, ◌≤◌, ◌<◌, ◌^◌, length, is_ok, true};
+ghost use Rattle.serf_pack.specs.Reading.{value_at, items_at, pairs_at};
+
+use crate::skip::skip;
+use crate::view::View;
+
+/// The items of an array that are still to come, in order. Made by [`View::items`]. A step goes once
+/// over one item and takes no memory; behind the last item every step answers `None`.
+#[derive(Clone, Copy, Debug)]
+pub struct Items<'a> {
+    // The input from the next item on.
+    pub(crate) rest: &'a [u8],
+    // The length of the whole input, of which `rest` are the last.
+    pub(crate) total: usize,
+    // How many arrays and maps may stand inside one another in an item.
+    pub(crate) room: u8,
+    // How many items are still to come.
+    pub(crate) left: u64,
+    pub ghost within: { length rest.now ≤ total },
+    pub ghost small: { total < 2 ^ 63 },
+    pub ghost checked: { is_ok (items_at (value_at room total) left rest.now) ≡ true },
+}
+
+/// The pairs of a map that are still to come, in order, each a key and its value. Made by
+/// [`View::pairs`]. A step goes once over one pair and takes no memory; behind the last pair every
+/// step answers `None`.
+#[derive(Clone, Copy, Debug)]
+pub struct Pairs<'a> {
+    // The input from the next key on.
+    pub(crate) rest: &'a [u8],
+    // The length of the whole input, of which `rest` are the last.
+    pub(crate) total: usize,
+    // How many arrays and maps may stand inside one another in a key or a value.
+    pub(crate) room: u8,
+    // How many pairs are still to come.
+    pub(crate) left: u64,
+    pub ghost within: { length rest.now ≤ total },
+    pub ghost small: { total < 2 ^ 63 },
+    pub ghost checked: { is_ok (pairs_at (value_at room total) left rest.now) ≡ true },
+}
+
+impl<'a> Items<'a> {
+    ghost use Rattle.serf_pack.specs.View.{item_list};
+    ghost use Rattle.serf_pack.specs.Walk.{items_left};
+    ghost use Rattle.serf_pack.specs.Reading.{items_or_none};
+
+    /// So many items from the front of the bytes on, which were checked.
+    #[tactic(auto, unfolding(crate::specs::Walk::items_left))]
+    #[inline]
+    pub(crate) fn new(rest: &'a [u8], total: usize, room: u8, left: u64) -> Items<'a>
+        requires within { length rest.now ≤ total }
+        requires small { total < 2 ^ 63 }
+        requires checked { is_ok (items_at (value_at room total) left rest.now) ≡ true }
+        ensures left { items_left result ≡ item_list (items_or_none (items_at (value_at room total) left rest.now)) }
+        ensures count { length (items_left result) ≡ left }
+    {
+        Items {
+            rest,
+            total,
+            room,
+            left,
+        }
+    }
+}
+
+impl<'a> Pairs<'a> {
+    ghost use Rattle.serf_pack.specs.View.{pair_list};
+    ghost use Rattle.serf_pack.specs.Walk.{pairs_left};
+    ghost use Rattle.serf_pack.specs.Reading.{pairs_or_none};
+
+    /// So many pairs from the front of the bytes on, which were checked.
+    #[tactic(auto, unfolding(crate::specs::Walk::pairs_left))]
+    #[inline]
+    pub(crate) fn new(rest: &'a [u8], total: usize, room: u8, left: u64) -> Pairs<'a>
+        requires within { length rest.now ≤ total }
+        requires small { total < 2 ^ 63 }
+        requires checked { is_ok (pairs_at (value_at room total) left rest.now) ≡ true }
+        ensures left { pairs_left result ≡ pair_list (pairs_or_none (pairs_at (value_at room total) left rest.now)) }
+        ensures count { length (pairs_left result) ≡ left }
+    {
+        Pairs {
+            rest,
+            total,
+            room,
+            left,
+        }
+    }
+}
+
+impl<'a> Iterator for Items<'a> {
+    ghost use Rattle.std.specs.Iterator.{YieldsFirstBy, item_count};
+    ghost use Rattle.serf_pack.specs.View.{tree_of};
+    ghost use Rattle.serf_pack.specs.Walk.{items_left};
+
+    type Item = View<'a>;
+
+    ghost next_gives = { YieldsFirstBy tree_of items_left };
+
+    ghost remaining = { item_count items_left };
+
+    #[inline]
+    fn next(&mut self) -> Option<View<'a>> {
+        if self.left == 0 {
+            return None;
+        }
+        let Ok(rest) = skip(self.room, self.total, self.rest) else {
+            unreachable!()
+        };
+        let item = View {
+            bytes: self.rest,
+            total: self.total,
+            room: self.room,
+        };
+        *self = Items {
+            rest,
+            total: self.total,
+            room: self.room,
+            left: self.left - 1,
+        };
+        Some(item)
+    }
+}
+
+impl<'a> Iterator for Pairs<'a> {
+    ghost use Rattle.std.specs.Iterator.{YieldsFirstBy, item_count};
+    ghost use Rattle.serf_pack.specs.Walk.{pairs_left, trees_of};
+
+    type Item = (View<'a>, View<'a>);
+
+    ghost next_gives = { YieldsFirstBy trees_of pairs_left };
+
+    ghost remaining = { item_count pairs_left };
+
+    #[inline]
+    fn next(&mut self) -> Option<(View<'a>, View<'a>)> {
+        if self.left == 0 {
+            return None;
+        }
+        let Ok(behind_key) = skip(self.room, self.total, self.rest) else {
+            unreachable!()
+        };
+        let Ok(rest) = skip(self.room, self.total, behind_key) else {
+            unreachable!()
+        };
+        let key = View {
+            bytes: self.rest,
+            total: self.total,
+            room: self.room,
+        };
+        let value = View {
+            bytes: behind_key,
+            total: self.total,
+            room: self.room,
+        };
+        *self = Pairs {
+            rest,
+            total: self.total,
+            room: self.room,
+            left: self.left - 1,
+        };
+        Some((key, value))
+    }
+}
