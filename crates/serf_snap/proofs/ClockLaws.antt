@@ -1,0 +1,418 @@
+-- What appending does to the lines and to the greatest values of a text.
+use Rattle.std.proofs.Common.{◌≡◌, ◌≢◌, ℕ, ◌+◌, ◌*◌, ◌-◌, ◌^◌, ◌<◌, ◌≤◌, min, max, inl, inr, take, drop, get_or, Bool, true, false, cond, subst, ◌&&◌, not, eqb, Option, Some, None, List, [], ◌∷◌, ◌++◌, refl, sym, ap, ◌∙◌, arith, rules, append_assoc, length}
+use Rattle.std.specs.Prelude.{decimal, nat_le, nat_lt, ◌==◌}
+use Rattle.std.specs.Char.{is_ascii_digit}
+use Rattle.std.specs.Str.{all_ascii_digits}
+use Rattle.std.specs.Cmp.Lexicographic.{pointwise, same_text, other_text}
+use Rattle.std.specs.List.{slice_get}
+use Rattle.std.specs.Prelude.{nat_eq}
+use Rattle.std.proofs.lemmas.Bool.{cases_Bool, eq-eqb, eqb-true, ltb-true, cases_lt, and_parts, and_from, and_left, and_right, not-true, cond-true, cond-false, ne_eqb, leb-true, lt-ltb}
+use Rattle.std.proofs.lemmas.Grind.{common_steps}
+use Rattle.std.proofs.lemmas.List.{take-append-drop, drop-drop, drop_more, take_more, get_or-drop, length-drop}
+use Rattle.std.proofs.lemmas.Str.Parse.{IsNumeralModel, numerals_by_fold}
+use Rattle.std.proofs.lemmas.Fmt.{digits_decimal, digits_value-decimal, decimal_nonempty}
+use Rattle.serf_snap.specs.declared.kind.ClockKind.{ClockKind}
+use Rattle.serf_snap.specs.declared.kind.ClockKind.TheVariants.{Member, Event, Query}
+use Rattle.serf_snap.specs.Clocks.{prefix_of, onto_line, lines_of, behind, read_on, is_empty, is_time_text, time_text_value, line_value, greatest, last_clock, clock_line, is_whole, sealed, line_above_zero, compacted_text, of_kind, once_set}
+
+-- a line with no newline in it is one line
+abbrev pub has_no_newline : List ℕ → Bool
+has_no_newline [] = true
+has_no_newline (b ∷ bs) = not (b == 10) && has_no_newline bs
+
+pub greatest-append : (k : ClockKind) (ls ms : List (List ℕ)) → greatest k (ls ++ ms) ≡ max (greatest k ls) (greatest k ms)
+greatest-append k [] ms = omega arith
+greatest-append k (l ∷ ls) ms = omega (arith, greatest-append k ls ms)
+
+onto_front : (b : ℕ) (ls ms : List (List ℕ)) → (rest : List (List ℕ)) × (onto_line b (ls ++ ms) ≡ onto_line b ls ++ rest)
+onto_front b [] ms = (onto_line b ms, refl)
+onto_front b (l ∷ ls) ms = (ms, refl)
+
+-- the lines of a text stay, whatever follows it
+front_lines : (a b : List ℕ) → (rest : List (List ℕ)) × (lines_of (a ++ b) ≡ lines_of a ++ rest)
+front_lines [] b = (lines_of b, refl)
+front_lines (x ∷ a) b = step (eqb x 10) (front_lines a b)
+  where
+    step : (t : Bool) → (rest : List (List ℕ)) × (lines_of (a ++ b) ≡ lines_of a ++ rest)
+        → (rest : List (List ℕ)) × (cond t ([] ∷ lines_of (a ++ b)) (onto_line x (lines_of (a ++ b))) ≡ cond t ([] ∷ lines_of a) (onto_line x (lines_of a)) ++ rest)
+    step true ih = (ih.0, ap (λ (l : List (List ℕ)). [] ∷ l) ih.1)
+    step false ih = let f = onto_front x (lines_of a) ih.0 in (f.0, ap (onto_line x) ih.1 ∙ f.1)
+
+-- no tail lowers the value of a kind
+pub last_clock_grows : (k : ClockKind) (a b : List ℕ) → last_clock k a ≤ last_clock k (a ++ b)
+last_clock_grows k a b =
+    let f = front_lines a b in
+    omega (arith, ap (greatest k) f.1, greatest-append k (lines_of a) f.0)
+
+-- a whole text that is not empty has a line
+whole_has_line : (x : ℕ) (xs : List ℕ) → is_whole (x ∷ xs) ≡ true → (l : List ℕ) × (ls : List (List ℕ)) × (lines_of (x ∷ xs) ≡ l ∷ ls)
+whole_has_line x [] h = ([], [], cond-true (eqb x 10) _ _ h)
+whole_has_line x (y ∷ ys) h = step (eqb x 10) (whole_has_line y ys h)
+  where
+    step : (t : Bool) → (l : List ℕ) × (ls : List (List ℕ)) × (lines_of (y ∷ ys) ≡ l ∷ ls)
+        → (l : List ℕ) × (ls : List (List ℕ)) × (cond t ([] ∷ lines_of (y ∷ ys)) (onto_line x (lines_of (y ∷ ys))) ≡ l ∷ ls)
+    step true ih = ([], lines_of (y ∷ ys), refl)
+    step false ih = (x ∷ ih.0, ih.1, ap (onto_line x) ih.2)
+
+-- behind a whole text the lines go on
+pub lines_of-append : (a b : List ℕ) → is_whole a ≡ true → lines_of (a ++ b) ≡ lines_of a ++ lines_of b
+lines_of-append [] b h = refl
+lines_of-append (x ∷ []) b h = cond-true (eqb x 10) _ _ h ∙ ap (λ (l : List (List ℕ)). l ++ lines_of b) (sym (cond-true (eqb x 10) _ _ h))
+lines_of-append (x ∷ y ∷ a) b h = step (eqb x 10) (lines_of-append (y ∷ a) b h) (whole_has_line y a h)
+  where
+    onto : (ls ms : List (List ℕ)) → (l : List ℕ) × (r : List (List ℕ)) × (ls ≡ l ∷ r) → onto_line x (ls ++ ms) ≡ onto_line x ls ++ ms
+    onto [] ms h = absurd (cc h.2)
+    onto (l ∷ ls) ms h = refl
+
+    step : (t : Bool) → lines_of ((y ∷ a) ++ b) ≡ lines_of (y ∷ a) ++ lines_of b → (l : List ℕ) × (ls : List (List ℕ)) × (lines_of (y ∷ a) ≡ l ∷ ls)
+        → cond t ([] ∷ lines_of ((y ∷ a) ++ b)) (onto_line x (lines_of ((y ∷ a) ++ b))) ≡ cond t ([] ∷ lines_of (y ∷ a)) (onto_line x (lines_of (y ∷ a))) ++ lines_of b
+    step true ih some = ap (λ (l : List (List ℕ)). [] ∷ l) ih
+    step false ih some = ap (onto_line x) ih ∙ onto (lines_of (y ∷ a)) (lines_of b) some
+
+lines_of-one : (line : List ℕ) → has_no_newline line ≡ true → lines_of (line ++ 10 ∷ []) ≡ line ∷ []
+lines_of-one [] h = refl
+lines_of-one (b ∷ bs) h =
+    let p = and_parts (not (eqb b 10)) (has_no_newline bs) h in
+    cond-false (eqb b 10) _ _ (grind (arith, p.0)) ∙ ap (onto_line b) (lines_of-one bs p.1)
+
+own : IsNumeralModel (λ ds. all_ascii_digits ds ≡ true) (read_on 0)
+own = numerals_by_fold _ (search rules) read_on (search rules)
+
+digits_no_newline : (ds : List ℕ) → all_ascii_digits ds ≡ true → has_no_newline ds ≡ true
+digits_no_newline [] h = refl
+digits_no_newline (d ∷ ds) h =
+    let p = and_parts (is_ascii_digit d) (all_ascii_digits ds) h in
+    let range = and_parts (nat_le 48 d) (nat_le d 57) p.0 in
+    let far : d ≢ 10 = omega (arith, leb-true 48 d range.0) in
+    and_from (not (eqb d 10)) (has_no_newline ds) (ap not (ne_eqb d 10 far)) (digits_no_newline ds p.1)
+
+prefix_no_newline : (k : ClockKind) (ds : List ℕ) → has_no_newline ds ≡ true → has_no_newline (prefix_of k ++ ds) ≡ true
+prefix_no_newline Member ds h = h
+prefix_no_newline Event ds h = h
+prefix_no_newline Query ds h = h
+
+decimal_is_time : (n : ℕ) → n < 2 ^ 64 - 1 → is_time_text (decimal n) ≡ true
+decimal_is_time n h =
+    let small : n < 2 ^ 64 = omega arith in
+    let value = digits_value-decimal own n small in
+    and_from _ _ (not_empty (decimal n) (decimal_nonempty n small))
+    (and_from _ _ (digits_decimal own n small) (lt-ltb (read_on 0 (decimal n)) (2 ^ 64 - 1) (omega arith)))
+  where
+    not_empty : (ds : List ℕ) → 0 < length ds → not (is_empty ds) ≡ true
+    not_empty [] l = absurd (omega arith)
+    not_empty (d ∷ ds) l = refl
+
+time_text_value-decimal : (n : ℕ) → n < 2 ^ 64 - 1 → time_text_value (Some (decimal n)) ≡ n
+time_text_value-decimal n h = cond-true _ _ _ (decimal_is_time n h) ∙ digits_value-decimal own n (omega arith)
+
+-- the value of a written line, as a line of its kind and of another
+pub line_value-written : (k : ClockKind) (n : ℕ) → n < 2 ^ 64 - 1 → line_value k (prefix_of k ++ decimal n) ≡ n
+line_value-written Member n h = time_text_value-decimal n h
+line_value-written Event n h = time_text_value-decimal n h
+line_value-written Query n h = time_text_value-decimal n h
+
+pub line_value-other : (k j : ClockKind) (n : ℕ) → k ≢ j → line_value k (prefix_of j ++ decimal n) ≡ 0
+line_value-other Member Member n h = absurd (h refl)
+line_value-other Member Event n h = refl
+line_value-other Member Query n h = refl
+line_value-other Event Member n h = refl
+line_value-other Event Event n h = absurd (h refl)
+line_value-other Event Query n h = refl
+line_value-other Query Member n h = refl
+line_value-other Query Event n h = refl
+line_value-other Query Query n h = absurd (h refl)
+
+pub lines_of-clock_line : (k : ClockKind) (n : ℕ) → n < 2 ^ 64 - 1 → lines_of (clock_line k n) ≡ (prefix_of k ++ decimal n) ∷ []
+lines_of-clock_line k n h =
+    lines_of-one (prefix_of k ++ decimal n) (prefix_no_newline k (decimal n) (digits_no_newline (decimal n) (digits_decimal own n (omega arith))))
+
+-- a written line behind a whole text raises its kind's value, and no other
+pub last_clock-line : (k : ClockKind) (text : List ℕ) (n : ℕ) → is_whole text ≡ true → n < 2 ^ 64 - 1 → last_clock k (text ++ clock_line k n) ≡ max (last_clock k text) n
+last_clock-line k text n whole h =
+    ap (greatest k) (lines_of-append text (clock_line k n) whole ∙ ap (λ (l : List (List ℕ)). lines_of text ++ l) (lines_of-clock_line k n h))
+    ∙ omega (arith, greatest-append k (lines_of text) ((prefix_of k ++ decimal n) ∷ []), line_value-written k n h)
+
+pub last_clock-other_line : (k j : ClockKind) (text : List ℕ) (n : ℕ) → is_whole text ≡ true → n < 2 ^ 64 - 1 → k ≢ j → last_clock k (text ++ clock_line j n) ≡ last_clock k text
+last_clock-other_line k j text n whole h other =
+    ap (greatest k) (lines_of-append text (clock_line j n) whole ∙ ap (λ (l : List (List ℕ)). lines_of text ++ l) (lines_of-clock_line j n h))
+    ∙ omega (arith, greatest-append k (lines_of text) ((prefix_of j ++ decimal n) ∷ []), line_value-other k j n other)
+
+pub is_whole-push : (a : List ℕ) → is_whole (a ++ 10 ∷ []) ≡ true
+is_whole-push [] = refl
+is_whole-push (x ∷ []) = refl
+is_whole-push (x ∷ y ∷ a) = is_whole-push (y ∷ a)
+
+pub is_whole-line : (k : ClockKind) (text : List ℕ) (n : ℕ) → is_whole (text ++ clock_line k n) ≡ true
+is_whole-line k text n = ap is_whole (sym (append_assoc text (prefix_of k ++ decimal n) (10 ∷ []))) ∙ is_whole-push (text ++ (prefix_of k ++ decimal n))
+
+pub is_whole-sealed : (text : List ℕ) → is_whole (sealed text) ≡ true
+is_whole-sealed text = step (is_whole text) refl
+  where
+    step : (t : Bool) → is_whole text ≡ t → is_whole (cond t text (text ++ 35 ∷ 10 ∷ [])) ≡ true
+    step true e = e
+    step false e = ap is_whole (sym (append_assoc text (35 ∷ []) (10 ∷ []))) ∙ is_whole-push (text ++ 35 ∷ [])
+
+-- the seal ends a line that is no clock line
+torn_line : (text : List ℕ) → is_whole text ≡ false → (u : List ℕ) × (lines_of (text ++ 35 ∷ 10 ∷ []) ≡ lines_of text ++ (u ++ 35 ∷ []) ∷ [])
+torn_line [] h = absurd (cc h)
+torn_line (x ∷ []) h = (x ∷ [], cond-false (eqb x 10) _ _ h ∙ sym (ap (λ (l : List (List ℕ)). l ++ (x ∷ 35 ∷ []) ∷ []) (cond-false (eqb x 10) _ _ h)))
+torn_line (x ∷ y ∷ text) h = step (eqb x 10) (torn_line (y ∷ text) h)
+  where
+    onto : (ls : List (List ℕ)) (u : List ℕ) → (v : List ℕ) × (onto_line x (ls ++ (u ++ 35 ∷ []) ∷ []) ≡ onto_line x ls ++ (v ++ 35 ∷ []) ∷ [])
+    onto [] u = (x ∷ u, refl)
+    onto (l ∷ ls) u = (u, refl)
+
+    step : (t : Bool) → (u : List ℕ) × (lines_of ((y ∷ text) ++ 35 ∷ 10 ∷ []) ≡ lines_of (y ∷ text) ++ (u ++ 35 ∷ []) ∷ [])
+        → (u : List ℕ) × (cond t ([] ∷ lines_of ((y ∷ text) ++ 35 ∷ 10 ∷ [])) (onto_line x (lines_of ((y ∷ text) ++ 35 ∷ 10 ∷ []))) ≡ cond t ([] ∷ lines_of (y ∷ text)) (onto_line x (lines_of (y ∷ text))) ++ (u ++ 35 ∷ []) ∷ [])
+    step true ih = (ih.0, ap (λ (l : List (List ℕ)). [] ∷ l) ih.1)
+    step false ih = let f = onto (lines_of (y ∷ text)) ih.0 in (f.0, ap (onto_line x) ih.1 ∙ f.1)
+
+digits_end : (v : List ℕ) → all_ascii_digits (v ++ 35 ∷ []) ≡ false
+digits_end [] = refl
+digits_end (d ∷ v) = and_right (is_ascii_digit d) _ (digits_end v)
+
+torn_value : (v : List ℕ) → time_text_value (Some (v ++ 35 ∷ [])) ≡ 0
+torn_value v = cond-false _ _ _ (and_right (not (is_empty (v ++ 35 ∷ []))) _ (and_left (all_ascii_digits (v ++ 35 ∷ [])) _ (digits_end v)))
+
+has_no_hash : List ℕ → Bool
+has_no_hash [] = true
+has_no_hash (b ∷ bs) = not (eqb b 35) && has_no_hash bs
+
+torn_behind : (p u : List ℕ) → has_no_hash p ≡ true → time_text_value (behind p (u ++ 35 ∷ [])) ≡ 0
+unfolding has_no_hash
+torn_behind [] u h = torn_value u
+torn_behind (b ∷ p) [] h =
+    let parts = and_parts (not (eqb b 35)) (has_no_hash p) h in
+    ap time_text_value (cond-false (eqb b 35) _ _ (not-true (eqb b 35) parts.0))
+torn_behind (b ∷ p) (x ∷ u) h =
+    let parts = and_parts (not (eqb b 35)) (has_no_hash p) h in
+    step (eqb b x) (torn_behind p u parts.1)
+  where
+    step : (t : Bool) → time_text_value (behind p (u ++ 35 ∷ [])) ≡ 0 → time_text_value (cond t (behind p (u ++ 35 ∷ [])) None) ≡ 0
+    step true ih = ih
+    step false ih = refl
+
+line_value-torn : (k : ClockKind) (u : List ℕ) → line_value k (u ++ 35 ∷ []) ≡ 0
+unfolding has_no_hash
+line_value-torn Member u = torn_behind (prefix_of Member) u refl
+line_value-torn Event u = torn_behind (prefix_of Event) u refl
+line_value-torn Query u = torn_behind (prefix_of Query) u refl
+
+pub last_clock-sealed : (k : ClockKind) (text : List ℕ) → last_clock k (sealed text) ≡ last_clock k text
+last_clock-sealed k text = step (is_whole text) refl
+  where
+    step : (t : Bool) → is_whole text ≡ t → last_clock k (cond t text (text ++ 35 ∷ 10 ∷ [])) ≡ last_clock k text
+    step true e = refl
+    step false e =
+        let torn = torn_line text e in
+        omega (arith, ap (greatest k) torn.1, greatest-append k (lines_of text) ((torn.0 ++ 35 ∷ []) ∷ []), line_value-torn k torn.0)
+
+-- a number read on is no less than what it begins with
+read_on-grows : (n : ℕ) (ds : List ℕ) → n ≤ read_on n ds
+read_on-grows n [] = omega arith
+read_on-grows n (d ∷ ds) = let ih : 10 * n + (d - 48) ≤ read_on (10 * n + (d - 48)) ds = read_on-grows (10 * n + (d - 48)) ds in omega arith
+
+-- a number that stands at the top may stay there
+pub read_on-top : (n m top : ℕ) (ds : List ℕ) → min n top ≡ min m top → min (read_on n ds) top ≡ min (read_on m ds) top
+read_on-top n m top ds h = elim (cases_lt n top) [
+  | inl low ↦ let same : n ≡ m = omega arith in ap (λ k. min (read_on k ds) top) same
+  | inr high ↦ let a = read_on-grows n ds in let b = read_on-grows m ds in omega arith
+]
+
+-- the first line, and the rest
+pub last_clock-first : (k : ClockKind) (line rest : List ℕ) → has_no_newline line ≡ true → last_clock k (line ++ 10 ∷ rest) ≡ max (line_value k line) (last_clock k rest)
+last_clock-first k line rest none =
+    ap (last_clock k) (sym (append_assoc line (10 ∷ []) rest))
+    ∙ ap (greatest k) (lines_of-append (line ++ 10 ∷ []) rest (is_whole-push line) ∙ ap (λ (l : List (List ℕ)). l ++ lines_of rest) (lines_of-one line none))
+
+pub last_clock-no_line : (k : ClockKind) (line : List ℕ) → has_no_newline line ≡ true → last_clock k line ≡ 0
+last_clock-no_line k line none = ap (greatest k) (no_lines line none)
+  where
+    no_lines : (l : List ℕ) → has_no_newline l ≡ true → lines_of l ≡ []
+    no_lines [] h = refl
+    no_lines (b ∷ bs) h =
+        let p = and_parts (not (eqb b 10)) (has_no_newline bs) h in
+        cond-false (eqb b 10) _ _ (grind (arith, p.0)) ∙ ap (onto_line b) (no_lines bs p.1)
+
+-- one byte more that is no newline
+pub no_newline-push : (xs : List ℕ) (b : ℕ) → has_no_newline xs ≡ true → (b == 10) ≡ false → has_no_newline (xs ++ b ∷ []) ≡ true
+no_newline-push [] b h other = ap (λ t. not t && true) other
+no_newline-push (x ∷ xs) b h other = let p = and_parts (not (eqb x 10)) (has_no_newline xs) h in and_from _ _ p.0 (no_newline-push xs b p.1 other)
+
+rest-at : (text : List ℕ) (from j : ℕ) → from + j < length text → drop from text ≡ take j (drop from text) ++ get_or text (from + j) 0 ∷ drop (from + j + 1) text
+rest-at text from j h = sym (take-append-drop j (drop from text)) ∙ ap (λ (l : List ℕ). take j (drop from text) ++ l) (drop-drop j from text ∙ drop_more text (from + j) 0 h)
+
+-- a newline at i ends the line that began at from
+pub last_clock-at : (k : ClockKind) (text : List ℕ) (from i best : ℕ) → from ≤ i → i < length text → get_or text i 0 ≡ 10 → has_no_newline (take (i - from) (drop from text)) ≡ true
+    → max best (last_clock k (drop from text)) ≡ max (max best (line_value k (take (i - from) (drop from text)))) (last_clock k (drop (i + 1) text))
+last_clock-at k text from i best low within is none =
+    let same : from + (i - from) ≡ i = omega arith in
+    let at : drop from text ≡ take (i - from) (drop from text) ++ get_or text i 0 ∷ drop (i + 1) text =
+    subst (λ (n : ℕ). drop from text ≡ take (i - from) (drop from text) ++ get_or text n 0 ∷ drop (n + 1) text) same (rest-at text from (i - from) (omega arith)) in
+    let rest : drop from text ≡ take (i - from) (drop from text) ++ 10 ∷ drop (i + 1) text = at ∙ ap (λ (b : ℕ). take (i - from) (drop from text) ++ b ∷ drop (i + 1) text) is in
+    let first : last_clock k (drop from text) ≡ max (line_value k (take (i - from) (drop from text))) (last_clock k (drop (i + 1) text)) = ap (last_clock k) rest ∙ last_clock-first k (take (i - from) (drop from text)) (drop (i + 1) text) none in
+    omega arith
+
+pub no_newline-at : (text : List ℕ) (from i : ℕ) → from ≤ i → i < length text → (get_or text i 0 == 10) ≡ false → has_no_newline (take (i - from) (drop from text)) ≡ true → has_no_newline (take (i + 1 - from) (drop from text)) ≡ true
+no_newline-at text from i low within other none =
+    let one : i + 1 - from ≡ (i - from) + 1 = omega arith in
+    let same : from + (i - from) ≡ i = omega arith in
+    let inside : i - from < length (drop from text) = omega (arith, length-drop from text) in
+    let byte : get_or (drop from text) (i - from) 0 ≡ get_or text i 0 = get_or-drop from text (i - from) 0 ∙ ap (λ (n : ℕ). get_or text n 0) same in
+    let more : take (i + 1 - from) (drop from text) ≡ take (i - from) (drop from text) ++ get_or text i 0 ∷ [] =
+    ap (λ (n : ℕ). take n (drop from text)) one ∙ take_more (drop from text) (i - from) 0 inside ∙ ap (λ (b : ℕ). take (i - from) (drop from text) ++ b ∷ []) byte in
+    rw more (no_newline-push (take (i - from) (drop from text)) (get_or text i 0) none other)
+
+pub last_clock-end : (k : ClockKind) (text : List ℕ) (from i best : ℕ) → i ≡ length text → has_no_newline (take (i - from) (drop from text)) ≡ true → max best (last_clock k (drop from text)) ≡ best
+last_clock-end k text from i best end none =
+    let all : take (i - from) (drop from text) ≡ drop from text = grind (arith, common_steps) in
+    let zero : last_clock k (drop from text) ≡ 0 = last_clock-no_line k (drop from text) (rw all at none) in
+    omega arith
+
+-- one digit more, at the top or below it
+pub read_on-step : (n m top i : ℕ) (ds : List ℕ) → i < length ds → m ≡ min (min (n * 10) top + (get_or ds i 0 - 48)) top → min (read_on m (drop (i + 1) ds)) top ≡ min (read_on n (drop i ds)) top
+read_on-step n m top i ds within is =
+    rw (drop_more ds i 0 within) (read_on-top m (10 * n + (get_or ds i 0 - 48)) top (drop (i + 1) ds) (omega arith))
+
+-- how far the clock of a kind is read: the lines before from count, and from there on no line has ended
+pub record Reads (k : ClockKind) (text : List ℕ) (from i best : ℕ) : Type 0 where
+  pub low : from ≤ i
+  pub none : has_no_newline (take (i - from) (drop from text)) ≡ true
+  pub read : max best (last_clock k (drop from text)) ≡ last_clock k text
+
+pub reads-line : (k : ClockKind) (text : List ℕ) (from i best value : ℕ) → Reads k text from i best → i < length text → get_or text i 0 ≡ 10 → value ≡ line_value k (take (i - from) (drop from text)) → Reads k text (i + 1) (i + 1) (max best value)
+reads-line k text from i best value r within is says =
+    let none : take (i + 1 - (i + 1)) (drop (i + 1) text) ≡ [] = grind (arith, common_steps) in
+    record {
+      low = omega arith;
+      none = rw none refl;
+      read = rw says (sym (last_clock-at k text from i best r.low within is r.none) ∙ r.read);
+    }
+
+pub reads-byte : (k : ClockKind) (text : List ℕ) (from i best : ℕ) → Reads k text from i best → i < length text → get_or text i 0 ≢ 10 → Reads k text from (i + 1) best
+reads-byte k text from i best r within other =
+    record { low = let low : from ≤ i = r.low in omega arith; none = no_newline-at text from i r.low within (ne_eqb _ _ other) r.none; read = r.read }
+
+pub reads-end : (k : ClockKind) (text : List ℕ) (from i best : ℕ) → Reads k text from i best → length text ≤ i → i ≤ length text → best ≡ last_clock k text
+reads-end k text from i best r past within = sym (last_clock-end k text from i best (omega arith) r.none) ∙ r.read
+
+value-below : (r : Option (List ℕ)) → time_text_value r < 2 ^ 64 - 1
+value-below None = omega arith
+value-below (Some ds) = by (is_time_text ds) refl
+  where
+    by : (b : Bool) → is_time_text ds ≡ b → cond b (read_on 0 ds) 0 < 2 ^ 64 - 1
+    by false h = omega arith
+    by true h =
+        let parts = and_parts (not (is_empty ds)) (all_ascii_digits ds && nat_lt (read_on 0 ds) (2 ^ 64 - 1)) h in
+        let more = and_parts (all_ascii_digits ds) (nat_lt (read_on 0 ds) (2 ^ 64 - 1)) parts.1 in
+        ltb-true _ _ more.1
+
+greatest-below : (k : ClockKind) (lines : List (List ℕ)) → greatest k lines < 2 ^ 64 - 1
+greatest-below k [] = omega arith
+greatest-below k (l ∷ ls) = let a : line_value k l < 2 ^ 64 - 1 = value-below (behind (prefix_of k) l) in let b = greatest-below k ls in omega arith
+
+pub last_clock-below : (k : ClockKind) (text : List ℕ) → last_clock k text < 2 ^ 64 - 1
+last_clock-below k text = greatest-below k (lines_of text)
+
+-- a line above zero behind a whole text, as a compaction writes it
+last_clock-above_zero : (k kind : ClockKind) (text : List ℕ) (t : ℕ) → is_whole text ≡ true → t < 2 ^ 64 - 1 → last_clock k (text ++ line_above_zero kind t) ≡ max (last_clock k text) (once_set k kind t 0)
+last_clock-above_zero k kind text t whole small = by (t == 0) refl
+  where
+    value : (a b : ClockKind) → last_clock a (text ++ clock_line b t) ≡ max (last_clock a text) (once_set a b t 0)
+    value Member Member = last_clock-line Member text t whole small
+    value Event Event = last_clock-line Event text t whole small
+    value Query Query = last_clock-line Query text t whole small
+    value Member Event = omega (arith, last_clock-other_line Member Event text t whole small (λ q. cc))
+    value Member Query = omega (arith, last_clock-other_line Member Query text t whole small (λ q. cc))
+    value Event Member = omega (arith, last_clock-other_line Event Member text t whole small (λ q. cc))
+    value Event Query = omega (arith, last_clock-other_line Event Query text t whole small (λ q. cc))
+    value Query Member = omega (arith, last_clock-other_line Query Member text t whole small (λ q. cc))
+    value Query Event = omega (arith, last_clock-other_line Query Event text t whole small (λ q. cc))
+
+    nothing : (a b : ClockKind) (n : ℕ) → n ≡ 0 → once_set a b n 0 ≡ 0
+    nothing Member Member n h = h
+    nothing Event Event n h = h
+    nothing Query Query n h = h
+    nothing Member Event n h = refl
+    nothing Member Query n h = refl
+    nothing Event Member n h = refl
+    nothing Event Query n h = refl
+    nothing Query Member n h = refl
+    nothing Query Event n h = refl
+
+    by : (b : Bool) → (t == 0) ≡ b → last_clock k (text ++ cond b [] (clock_line kind t)) ≡ max (last_clock k text) (once_set k kind t 0)
+    by true zero =
+        let none : text ++ [] ≡ text = grind (arith, common_steps) in
+        let t0 : t ≡ 0 = grind (arith, common_steps) in
+        let z : once_set k kind t 0 ≡ 0 = nothing k kind t t0 in
+        ap (last_clock k) none ∙ omega (arith, z)
+    by false more = value k kind
+
+is_whole-above_zero : (kind : ClockKind) (text : List ℕ) (t : ℕ) → is_whole text ≡ true → is_whole (text ++ line_above_zero kind t) ≡ true
+is_whole-above_zero kind text t whole = by (t == 0)
+  where
+    by : (b : Bool) → is_whole (text ++ cond b [] (clock_line kind t)) ≡ true
+    by true = let none : text ++ [] ≡ text = grind (arith, common_steps) in ap is_whole none ∙ whole
+    by false = is_whole-line kind text t
+
+-- the clocks of a compacted text are the numbers that it is made of
+pub last_clock-compacted : (k : ClockKind) (m e q : ℕ) → m < 2 ^ 64 - 1 → e < 2 ^ 64 - 1 → q < 2 ^ 64 - 1 → last_clock k (compacted_text m e q) ≡ of_kind k m e q
+last_clock-compacted k m e q low_m low_e low_q =
+    let w1 : is_whole (line_above_zero Member m) ≡ true = is_whole-above_zero Member [] m refl in
+    let w2 : is_whole (line_above_zero Member m ++ line_above_zero Event e) ≡ true = is_whole-above_zero Event (line_above_zero Member m) e w1 in
+    let a : last_clock k (line_above_zero Member m) ≡ max 0 (once_set k Member m 0) = last_clock-above_zero k Member [] m refl low_m in
+    let b : last_clock k (line_above_zero Member m ++ line_above_zero Event e) ≡ max (last_clock k (line_above_zero Member m)) (once_set k Event e 0) = last_clock-above_zero k Event (line_above_zero Member m) e w1 low_e in
+    let c : last_clock k ((line_above_zero Member m ++ line_above_zero Event e) ++ line_above_zero Query q) ≡ max (last_clock k (line_above_zero Member m ++ line_above_zero Event e)) (once_set k Query q 0) = last_clock-above_zero k Query (line_above_zero Member m ++ line_above_zero Event e) q w2 low_q in
+    c ∙ ap (λ n. max n (once_set k Query q 0)) (b ∙ ap (λ n. max n (once_set k Event e 0)) a) ∙ all k
+  where
+    all : (at : ClockKind) → max (max (max 0 (once_set at Member m 0)) (once_set at Event e 0)) (once_set at Query q 0) ≡ of_kind at m e q
+    all Member = omega arith
+    all Event = omega arith
+    all Query = omega arith
+
+pub is_whole-compacted : (m e q : ℕ) → is_whole (compacted_text m e q) ≡ true
+is_whole-compacted m e q =
+    is_whole-above_zero Query (line_above_zero Member m ++ line_above_zero Event e) q (is_whole-above_zero Event (line_above_zero Member m) e (is_whole-above_zero Member [] m refl))
+
+-- what follows a prefix, where the text begins with it, and where it doesn't
+behind-append : (p rest : List ℕ) → behind p (p ++ rest) ≡ Some rest
+behind-append [] rest = refl
+behind-append (b ∷ p) rest = cond-true (eqb b b) _ _ (eq-eqb b b refl) ∙ behind-append p rest
+
+behind-other : (p s : List ℕ) → (take (length p) s ≢ p) → behind p s ≡ None
+behind-other [] s h = absurd (h refl)
+behind-other (b ∷ p) [] h = refl
+behind-other (b ∷ p) (x ∷ s) h = elim (cases_Bool (eqb b x)) [
+  | inl same ↦ cond-true (eqb b x) _ _ same ∙ behind-other p s (λ e. h (let same_byte : b ≡ x = eqb-true b x same in cc))
+  | inr other ↦ cond-false (eqb b x) _ _ other
+]
+
+pub behind-prefixed : (p s rest : List ℕ) → pointwise nat_eq (take (length p) s) p ≡ true → rest ≡ drop (length p) s → behind p s ≡ Some rest
+behind-prefixed p s rest same is =
+    let front : take (length p) s ≡ p = same_text (take (length p) s) p (sym same) in
+    let whole : s ≡ p ++ rest = sym (take-append-drop (length p) s) ∙ ap (λ (l : List ℕ). l ++ drop (length p) s) front ∙ ap (λ (l : List ℕ). p ++ l) (sym is) in
+    ap (behind p) whole ∙ behind-append p rest
+
+pub behind-unprefixed : (p s : List ℕ) → pointwise nat_eq (take (length p) s) p ≡ false → behind p s ≡ None
+behind-unprefixed p s other = behind-other p s (other_text (take (length p) s) p (sym other))
+
+-- whether a text is whole shows in its last byte
+pub is_whole-last : (text : List ℕ) (b : ℕ) → Some b ≡ slice_get text (length text - 1) → (b == 10) ≡ is_whole text
+is_whole-last [] b h = absurd (cc h)
+is_whole-last (x ∷ []) b h = let same : b ≡ x = cc h in ap (λ n. n == 10) same
+is_whole-last (x ∷ y ∷ ys) b h =
+    let here : length (x ∷ y ∷ ys) - 1 ≡ length (y ∷ ys) = omega arith in
+    let before : length (y ∷ ys) - 1 ≡ length ys = omega arith in
+    is_whole-last (y ∷ ys) b (h ∙ ap (slice_get (x ∷ y ∷ ys)) here ∙ ap (slice_get (y ∷ ys)) (sym before))
+
+-- a bound on the values stays where the time that is set is below it
+pub once_set-below : (at kind : ClockKind) (time value top : ℕ) → time < top → value < top → once_set at kind time value < top
+once_set-below Member Member time value top new old = new
+once_set-below Member Event time value top new old = old
+once_set-below Member Query time value top new old = old
+once_set-below Event Member time value top new old = old
+once_set-below Event Event time value top new old = new
+once_set-below Event Query time value top new old = old
+once_set-below Query Member time value top new old = old
+once_set-below Query Event time value top new old = old
+once_set-below Query Query time value top new old = new

@@ -1,0 +1,4 @@
+pub mod ClockLaws
+pub mod FailLemmas
+pub mod NoteLaws
+pub mod PlanLaws

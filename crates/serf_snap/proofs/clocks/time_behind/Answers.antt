@@ -1,0 +1,14 @@
+use Rattle.std.proofs.Common.{sym, ap, ◌∙◌}
+use Rattle.serf_snap.specs.Clocks.{time_text_value}
+use Rattle.serf_snap.proofs.ClockLaws.{behind-prefixed, behind-unprefixed}
+use Rattle.serf_snap.proofs.clocks.time_behind.Goals as goal
+
+pub returns-in-Some : goal.returns-in-Some
+returns-in-Some c =
+    let says = c.in-Some.ensures in
+    c.time_of.ensures ∙ sym (ap time_text_value (behind-prefixed c.args.prefix.now c.args.line.now c.in-Some.digits.now says.cases.0 says.cases.1))
+
+pub returns-in-None : goal.returns-in-None
+returns-in-None c =
+    let says = c.in-None.ensures in
+    sym (ap time_text_value (behind-unprefixed c.args.prefix.now c.args.line.now says.cases))

@@ -1,0 +1,13 @@
+use Rattle.std.proofs.Common.{◌^◌, ◌-◌}
+use Rattle.serf_snap.specs.declared.kind.ClockKind.TheVariants.{Member, Event, Query}
+use Rattle.serf_snap.proofs.ClockLaws.{once_set-below}
+use Rattle.serf_snap.proofs.snapshot.Snapshot.note.Goals as goal
+
+pub invariant_of-self-in-Ok : goal.invariant_of-self-in-Ok
+invariant_of-self-in-Ok g c =
+    let top = c.self.invariant in (
+      λ _. c.in-Ok.ensures.clean,
+      rw c.with-self-inside.ensures.member (once_set-below Member c.args.kind c.get-value.result c.self.inside.last.member (2 ^ 64 - 1) c.get-value.ensures.time top.1),
+      rw c.with-self-inside.ensures.event (once_set-below Event c.args.kind c.get-value.result c.self.inside.last.event (2 ^ 64 - 1) c.get-value.ensures.time top.2),
+      rw c.with-self-inside.ensures.query (once_set-below Query c.args.kind c.get-value.result c.self.inside.last.query (2 ^ 64 - 1) c.get-value.ensures.time top.3),
+    )

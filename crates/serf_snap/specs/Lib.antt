@@ -1,0 +1,3 @@
+pub mod Clocks
+pub mod Device
+pub mod Notes

@@ -1,0 +1,33 @@
+//! The clock lines of an agent's snapshot, on a device that may fail.
+//!
+//! An agent writes the time of each event and query before it hands it out, so that no later life hands out
+//! or fires at or below a time that was written (Serf's `snapshot.go`). Serf flushes at intervals, lets the
+//! last line of a kind count, appends behind a torn line, and goes on after a failed append. Here:
+//!
+//! - a note is one append and one flush, and its Ok means that the line is kept ([`Snapshot::note_event`]);
+//! - the greatest line of a kind counts, so no bytes appended can lower a clock ([`read_clocks`]);
+//! - a torn last line is ended by `#` and a newline before anything is written behind it ([`Snapshot::open`]);
+//! - a sink that failed stops the snapshot, and a compaction is one replace ([`Snapshot::compact`]).
+//!
+//! What a sink does is said by the clauses of [`Sink`] and [`ReplaceSink`], over what it tells of its bytes:
+//! [`MemSink`] tells all of them and fails as planned, [`FileSink`] tells nothing.
+#![tactic(auto)]
+
+mod clocks;
+mod file;
+mod kind;
+mod laws;
+mod memory;
+mod sink;
+mod snapshot;
+
+pub use clocks::{Clocks, read_clocks};
+pub use file::FileSink;
+pub use kind::ClockKind;
+pub use laws::{plan_laws, snapshot_laws, text_laws};
+pub use memory::MemSink;
+pub use sink::{ReplaceFault, ReplaceSink, Sink, SinkFault};
+pub use snapshot::{NoteFault, OpenFault, Snapshot};
+
+#[cfg(test)]
+mod tests;

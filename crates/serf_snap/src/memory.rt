@@ -1,0 +1,189 @@
+//! A sink in memory, for tests and for clusters that are run in memory.
+
+ghost use Rattle.std.specs.Prelude.{◌≡◌, [], IfOk, IsSome, Some, false};
+ghost use Rattle.std.specs.Option.{option_map};
+ghost use Rattle.serf_snap.specs.Device.{Told, append_failing, flush_failing, fresh_device, kept_of, planning, replace_failing};
+
+use crate::sink::{ReplaceFault, ReplaceSink, Sink, SinkFault};
+use std::alloc::{AllocError, Global};
+use std::marker::Model;
+
+/// A sink in memory: it tells its bytes, and fails just where it is told to.
+///
+/// A failed append or flush keeps what was kept, and drops what was pending.
+#[derive(Drop)]
+pub struct MemSink {
+    bytes: Vec<u8>,
+    kept: usize,
+    failing_append: u64,
+    failing_flush: u64,
+    failing_replace: u64,
+    keeps_new: bool,
+    failures: u64,
+    append_calls: u64,
+    flush_calls: u64,
+    replace_calls: u64,
+}
+
+impl Model for MemSink {
+    ghost use Rattle.std.specs.Prelude.{◌-◌, ◌≤◌};
+    ghost use Rattle.std.specs.Vec.{vec_len, vec_capacity};
+    ghost use Rattle.serf_snap.specs.Device.{SinkState, Plan, Calls, memory_device};
+
+    ghost Value = { SinkState };
+
+    ghost view = { λ a. record {
+      device = memory_device a.bytes.items a.kept
+          record { appends = a.failing_append; flushes = a.failing_flush; replaces = a.failing_replace; keeps_new = a.keeps_new }
+          a.failures
+          record { appends = a.append_calls; flushes = a.flush_calls; replaces = a.replace_calls };
+      room = vec_capacity a.bytes - vec_len a.bytes;
+    } };
+
+    ghost invariant = { λ a. a.kept ≤ vec_len a.bytes };
+}
+
+impl MemSink {
+    /// A sink that keeps no bytes and is told to fail nowhere. Takes no memory.
+    pub fn new(alloc: Global) -> Self
+        ensures { result.device ≡ fresh_device [] }
+    {
+        MemSink::keeping(Vec::new(alloc))
+    }
+
+    /// A sink that keeps a copy of this text and is told to fail nowhere, or want of memory.
+    pub fn with(alloc: Global, text: &[u8]) -> Result<Self, AllocError>
+        ensures { IfOk result (λ m. m.device ≡ fresh_device text.now) }
+    {
+        Ok(MemSink::keeping(Vec::from_slice(alloc, text)?))
+    }
+
+    /// A sink that keeps these bytes and is told to fail nowhere.
+    fn keeping(bytes: Vec<u8>) -> Self
+        ensures { result.device ≡ fresh_device bytes.items }
+    {
+        let kept = bytes.len();
+        MemSink {
+            bytes,
+            kept,
+            failing_append: 0,
+            failing_flush: 0,
+            failing_replace: 0,
+            keeps_new: false,
+            failures: 0,
+            append_calls: 0,
+            flush_calls: 0,
+            replace_calls: 0,
+        }
+    }
+
+    /// From now on the n-th append fails, and no other; none where n is 0. An earlier number is forgotten.
+    /// Takes no memory.
+    pub fn fail_append(&mut self, n: u64)
+        ensures device { self.new.device ≡ planning (append_failing n) self.old.device }
+        ensures room { self.new.room ≡ self.old.room }
+    {
+        self.failing_append = n;
+    }
+
+    /// From now on the n-th flush fails, and no other; none where n is 0. An earlier number is forgotten.
+    /// Takes no memory.
+    pub fn fail_flush(&mut self, n: u64)
+        ensures device { self.new.device ≡ planning (flush_failing n) self.old.device }
+        ensures room { self.new.room ≡ self.old.room }
+    {
+        self.failing_flush = n;
+    }
+
+    /// From now on the n-th replace fails, and no other; none where n is 0. It keeps the new text where
+    /// `keeps_new` says so, and else the old one. An earlier number is forgotten. Takes no memory.
+    pub fn fail_replace(&mut self, n: u64, keeps_new: bool)
+        ensures device { self.new.device ≡ planning (replace_failing n keeps_new) self.old.device }
+        ensures room { self.new.room ≡ self.old.room }
+    {
+        self.failing_replace = n;
+        self.keeps_new = keeps_new;
+    }
+
+    /// The bytes that are kept: those that were flushed. Takes no memory.
+    pub fn kept(&self) -> &[u8]
+        ensures kept { kept_of self.now.device ≡ Some result.now }
+        ensures plan { IsSome self.now.device.plan }
+    {
+        &self.bytes[..self.kept]
+    }
+
+    /// The bytes that were appended since the last flush. Takes no memory.
+    pub fn pending(&self) -> &[u8]
+        ensures { option_map (λ (t : Told). t.pending) self.now.device.told ≡ Some result.now }
+    {
+        &self.bytes[self.kept..]
+    }
+}
+
+impl Sink for MemSink {
+    ghost device = { λ m. m.device };
+
+    ghost room = { λ m. m.room };
+
+    fn reserve(&mut self, _alloc: Global, n: usize) -> Result<(), AllocError> {
+        self.bytes.reserve(n)
+    }
+
+    fn append(&mut self, bytes: &[u8]) -> Result<(), SinkFault> {
+        self.append_calls = self.append_calls.saturating_add(1);
+        let fails = self.failing_append == 1;
+        self.failing_append = self.failing_append.saturating_sub(1);
+        if fails {
+            self.bytes.truncate(self.kept);
+            self.failures = self.failures.saturating_add(1);
+            return Err(SinkFault);
+        }
+        match self.bytes.extend_from_slice(bytes) {
+            Ok(()) => Ok(()),
+            Err(_) => unreachable!(),
+        }
+    }
+
+    fn flush(&mut self) -> Result<(), SinkFault> {
+        self.flush_calls = self.flush_calls.saturating_add(1);
+        let fails = self.failing_flush == 1;
+        self.failing_flush = self.failing_flush.saturating_sub(1);
+        if fails {
+            self.bytes.truncate(self.kept);
+            self.failures = self.failures.saturating_add(1);
+            return Err(SinkFault);
+        }
+        self.kept = self.bytes.len();
+        Ok(())
+    }
+}
+
+impl ReplaceSink for MemSink {
+    /// The room for the text is made first, so want of memory leaves all as it was, but for the number of calls.
+    fn replace(&mut self, _alloc: Global, text: &[u8]) -> Result<(), ReplaceFault> {
+        self.replace_calls = self.replace_calls.saturating_add(1);
+        let more = text.len().saturating_sub(self.bytes.len());
+        if self.bytes.reserve(more).is_err() {
+            return Err(ReplaceFault::OutOfMemory);
+        }
+        let fails = self.failing_replace == 1;
+        self.failing_replace = self.failing_replace.saturating_sub(1);
+        if fails {
+            self.failures = self.failures.saturating_add(1);
+        }
+        if !fails || self.keeps_new {
+            self.bytes.clear();
+            match self.bytes.extend_from_slice(text) {
+                Ok(()) => {}
+                Err(_) => unreachable!(),
+            }
+            self.kept = self.bytes.len();
+        }
+        if fails {
+            Err(ReplaceFault::SinkFault)
+        } else {
+            Ok(())
+        }
+    }
+}

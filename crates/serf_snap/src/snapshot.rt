@@ -1,0 +1,405 @@
+//! The clock lines of an agent, on a sink (`snapshot.go`).
+
+ghost use Rattle.std.specs.Prelude.{◌≡◌, ◌↔◌, ◌⊎◌, ◌<◌, ◌≤◌, ◌-◌, ◌^◌, ◌++◌, ◌+◌, true, if◌then◌else◌, false, not, is_ok, length, IsTrue, IfOk, IfErr, IsOk, OnOk, OnErr, IfSome, IsErrOf};
+ghost use Rattle.std.specs.Option.{option_map};
+ghost use Rattle.std.specs.Vec.{vec_len};
+ghost use Rattle.serf_snap.specs.declared.kind.ClockKind.TheVariants.{Member, Event, Query};
+ghost use Rattle.serf_snap.specs.Clocks.{clock_line, compacted_text, is_whole, line_above_zero, seal_line, sealed};
+ghost use Rattle.serf_snap.specs.Device.{Told, Fails, FailsReplace, HasFailed, HasText, IsClean, append_failing, appended, flush_failing, flushed, kept_of, replace_called, replace_failing, replaced, unreplaced};
+ghost use Rattle.serf_snap.specs.Notes.{AreTimes, Failed, HasTriedNote, Kept, MayReplace, MayWrite, compacted, compaction_of, last_line, note_fails, note_spent, noted, opened, opened_device, planned_anew, written};
+
+use crate::clocks::{Clocks, ends_whole, read_clocks};
+use crate::kind::ClockKind;
+use crate::memory::MemSink;
+use crate::sink::{ReplaceFault, ReplaceSink, Sink, SinkFault};
+use itoa::Buffer;
+use serf_lamport::Time;
+use std::alloc::{AllocError, Global};
+use std::marker::Model;
+use thiserror::Error;
+
+/// Why a note or a compaction was refused.
+#[derive(Clone, Copy, Debug, PartialEq, Eq, Error)]
+pub enum NoteFault {
+    /// The sink failed in an earlier call. All is as before.
+    #[error("the snapshot is stopped")]
+    Stopped,
+    /// There was no memory. What is kept and the last lines are as before.
+    #[error("out of memory")]
+    OutOfMemory,
+    /// The sink failed. The snapshot is stopped, and its last lines are as before.
+    #[error("the sink failed")]
+    SinkFault,
+}
+
+/// Why a snapshot couldn't be opened.
+#[derive(Clone, Copy, Debug, PartialEq, Eq, Error)]
+pub enum OpenFault {
+    /// There was no memory to end a torn last line. The sink is as before.
+    #[error("out of memory")]
+    OutOfMemory,
+    /// The sink failed when a torn last line was ended. It keeps the text, and perhaps a part of that end.
+    #[error("the sink failed")]
+    SinkFault,
+}
+
+/// The clock lines of an agent on a sink: the last line of each kind, and whether the sink has failed.
+///
+/// While it isn't stopped, nothing is pending in the sink between two calls.
+#[derive(Drop)]
+pub struct Snapshot<S: Sink> {
+    last: Clocks,
+    stopped: bool,
+    sink: S,
+}
+
+impl<S: Sink> Model for Snapshot<S> {
+    ghost use Rattle.std.specs.Prelude.{◌≡◌, ◌<◌, ◌-◌, ◌^◌, false};
+    ghost use Rattle.serf_snap.specs.Notes.{SnapshotState};
+    ghost use Rattle.serf_snap.specs.Device.{IsClean, kept_of};
+
+    ghost Value = { SnapshotState };
+
+    ghost view = { λ a. record {
+      snapshot = record {
+        member = a.last.member;
+        event = a.last.event;
+        query = a.last.query;
+        stopped = a.stopped;
+        kept = kept_of (S.device a.sink);
+        plan = (S.device a.sink).plan;
+      };
+      device = S.device a.sink;
+    } };
+
+    ghost invariant = { λ a.
+        (a.stopped ≡ false → IsClean (S.device a.sink))
+        × (a.last.member < 2 ^ 64 - 1) × (a.last.event < 2 ^ 64 - 1) × (a.last.query < 2 ^ 64 - 1) };
+}
+
+/// The bytes that the longest clock line has: a prefix of 13, 20 digits and a newline.
+const LONGEST_LINE: usize = 34;
+
+/// Appends the clock line of a time. On want of memory the text may have a part of it.
+fn put_line(text: &mut Vec<u8>, kind: ClockKind, time: u64) -> Result<(), AllocError>
+    ensures bytes { OnOk result (text.new.items ≡ text.old.items ++ clock_line kind time) }
+    ensures short { OnOk result (vec_len text.new ≤ vec_len text.old + 34) }
+{
+    let mut buffer = Buffer::new();
+    text.extend_from_slice(kind.prefix())?;
+    text.extend_from_slice(buffer.format(time).as_bytes())?;
+    text.extend_from_slice(b"\n")
+}
+
+/// The clock line of a time.
+fn line_of(alloc: Global, kind: ClockKind, time: u64) -> Result<Vec<u8>, AllocError>
+    ensures bytes { IfOk result (λ line. line.items ≡ clock_line kind time) }
+    ensures short { IfOk result (λ line. vec_len line ≤ 34) }
+{
+    let mut line = Vec::with_capacity(alloc, LONGEST_LINE)?;
+    put_line(&mut line, kind, time)?;
+    Ok(line)
+}
+
+/// Appends the clock line of a time, and nothing at 0.
+fn put_line_above_zero(text: &mut Vec<u8>, kind: ClockKind, time: u64) -> Result<(), AllocError>
+    ensures { OnOk result (text.new.items ≡ text.old.items ++ line_above_zero kind time) }
+{
+    if time == 0 {
+        return Ok(());
+    }
+    put_line(text, kind, time)
+}
+
+/// The text of these last lines.
+fn text_of(alloc: Global, last: Clocks) -> Result<Vec<u8>, AllocError>
+    ensures { IfOk result (λ text. text.items ≡ compacted_text last.member last.event last.query) }
+{
+    let mut text = Vec::new(alloc);
+    put_line_above_zero(&mut text, ClockKind::Member, last.member)?;
+    put_line_above_zero(&mut text, ClockKind::Event, last.event)?;
+    put_line_above_zero(&mut text, ClockKind::Query, last.query)?;
+    Ok(text)
+}
+
+/// One append and one flush.
+fn keep<S: Sink>(sink: &mut S, line: &[u8]) -> Result<(), SinkFault>
+    requires { length line.now ≤ S.room sink.old }
+    ensures ok { OnOk result (S.device sink.new ≡ flushed (appended line.now (S.device sink.old))) }
+    ensures clean { OnOk result (IsClean (S.device sink.new)) }
+    ensures fault { OnErr result (Fails (S.device sink.old) (S.device sink.new) line.now) }
+    ensures spent { OnErr result ((S.device sink.new).plan ≡ option_map note_spent (S.device sink.old).plan) }
+    ensures planned { IfSome (S.device sink.old).plan (λ p. is_ok result ≡ not (note_fails p)) }
+    ensures called { OnErr result (HasTriedNote (S.device sink.old).calls (S.device sink.new).calls) }
+{
+    sink.append(line)?;
+    sink.flush()
+}
+
+/// Ends a torn last line, so that it never becomes a clock line.
+fn seal<S: Sink>(alloc: Global, text: &[u8], sink: &mut S) -> Result<(), OpenFault>
+    requires { HasText text.now (S.device sink.old) }
+    ensures ok { OnOk result (S.device sink.new ≡ opened_device text.now (S.device sink.old)) }
+    ensures kept { OnOk result (kept_of (S.device sink.new) ≡ option_map (λ (t : Told). sealed text.now) (S.device sink.old).told) }
+    ensures plan { OnOk result ((S.device sink.new).plan ≡ (if is_whole text.now then (S.device sink.old).plan else option_map note_spent (S.device sink.old).plan)) }
+    ensures clean { OnOk result (IsClean (S.device sink.new)) }
+    ensures whole { is_whole text.now ≡ true → IsOk result }
+    ensures fault { IsErrOf result OpenFault.SinkFault → Fails (S.device sink.old) (S.device sink.new) seal_line }
+    ensures fault_called { IsErrOf result OpenFault.SinkFault → HasTriedNote (S.device sink.old).calls (S.device sink.new).calls }
+    ensures fault_planned { IsErrOf result OpenFault.SinkFault → IfSome (S.device sink.old).plan (λ p. note_fails p ≡ true) }
+    ensures memory { IsErrOf result OpenFault.OutOfMemory → S.device sink.new ≡ S.device sink.old }
+{
+    if ends_whole(text) {
+        return Ok(());
+    }
+    if sink.reserve(alloc, 2).is_err() {
+        return Err(OpenFault::OutOfMemory);
+    }
+    match keep(sink, b"#\n") {
+        Ok(()) => Ok(()),
+        Err(SinkFault) => Err(OpenFault::SinkFault),
+    }
+}
+
+impl<S: Sink> Snapshot<S> {
+    /// Opens a snapshot on the text that a sink keeps; a sink that tells has just this text, and nothing
+    /// pending.
+    ///
+    /// The last lines are the clocks that the text has. A torn last line, one without its newline, is ended by
+    /// `#` and a newline, appended and flushed, so it never becomes a clock line. The sink comes back with a
+    /// fault. Takes no memory, and succeeds, where the text is empty or ends in a newline.
+    pub fn open(alloc: Global, text: &[u8], sink: S) -> Result<Self, (S, OpenFault)>
+        requires { HasText text.now (S.device sink) }
+        ensures ok { IfOk result (λ s. s.snapshot ≡ opened text.now (S.device sink)) }
+        ensures device { IfOk result (λ s. s.device ≡ opened_device text.now (S.device sink)) }
+        ensures times { IfOk result (λ s. AreTimes s.snapshot) }
+        ensures whole { is_whole text.now ≡ true → IsOk result }
+        ensures fault { IfErr result (λ e. e.1 ≡ OpenFault.SinkFault → Fails (S.device sink) (S.device e.0) seal_line) }
+        ensures fault_called { IfErr result (λ e. e.1 ≡ OpenFault.SinkFault → HasTriedNote (S.device sink).calls (S.device e.0).calls) }
+        ensures fault_planned { IfErr result (λ e. e.1 ≡ OpenFault.SinkFault → IfSome (S.device sink).plan (λ p. note_fails p ≡ true)) }
+        ensures memory { IfErr result (λ e. e.1 ≡ OpenFault.OutOfMemory → S.device e.0 ≡ S.device sink) }
+    {
+        let mut sink = sink;
+        if let Err(fault) = seal(alloc, text, &mut sink) {
+            return Err((sink, fault));
+        }
+        Ok(Snapshot {
+            last: read_clocks(text),
+            stopped: false,
+            sink,
+        })
+    }
+
+    /// Writes the line of a time, where it is above the last one of its kind: the one rule of the three kinds.
+    fn note(&mut self, alloc: Global, kind: ClockKind, time: Time) -> Result<(), NoteFault>
+        ensures stopped { (result ≡ Err NoteFault.Stopped) ↔ IsTrue self.old.snapshot.stopped }
+        ensures none { self.old.snapshot.stopped ≡ false → time ≤ last_line kind self.old.snapshot → (result ≡ Ok tt) × (self.new ≡ self.old) }
+
+        // The line is kept, or the sink fails; with a plan exactly where it says.
+        ensures ok { OnOk result (self.new.snapshot ≡ noted kind time self.old.snapshot Kept) }
+        ensures ok_allowed { OnOk result (last_line kind self.old.snapshot < time → MayWrite self.old.snapshot (clock_line kind time) Kept) }
+        ensures ok_device { OnOk result (last_line kind self.old.snapshot < time → self.new.device ≡ flushed (appended (clock_line kind time) self.old.device)) }
+        ensures fault { IsErrOf result NoteFault.SinkFault → self.new.snapshot ≡ written kind time self.old.snapshot (Failed self.new.snapshot.kept) }
+        ensures fault_allowed { IsErrOf result NoteFault.SinkFault → MayWrite self.old.snapshot (clock_line kind time) (Failed self.new.snapshot.kept) }
+        ensures fault_above { IsErrOf result NoteFault.SinkFault → last_line kind self.old.snapshot < time }
+        ensures fault_device { IsErrOf result NoteFault.SinkFault → Fails self.old.device self.new.device (clock_line kind time) }
+        ensures fault_cause { IsErrOf result NoteFault.SinkFault → HasFailed self.old.device.failures self.new.device.failures }
+        ensures fault_called { IsErrOf result NoteFault.SinkFault → HasTriedNote self.old.device.calls self.new.device.calls }
+
+        ensures stays { IsErrOf result NoteFault.Stopped → self.new ≡ self.old }
+        ensures memory { IsErrOf result NoteFault.OutOfMemory → self.new ≡ self.old }
+        ensures clean { OnOk result (IsClean self.new.device) }
+        ensures calm { OnOk result (self.new.device.failures ≡ self.old.device.failures) }
+    {
+        if self.stopped {
+            return Err(NoteFault::Stopped);
+        }
+        let value = time.get();
+        if value <= self.last.of(kind) {
+            return Ok(());
+        }
+        let line = line_of(alloc, kind, value).map_err(|_| NoteFault::OutOfMemory)?;
+        if self.sink.reserve(alloc, LONGEST_LINE).is_err() {
+            return Err(NoteFault::OutOfMemory);
+        }
+        match keep(&mut self.sink, line.as_slice()) {
+            Ok(()) => {
+                self.last = self.last.with(kind, value);
+                Ok(())
+            }
+            Err(SinkFault) => {
+                self.stopped = true;
+                Err(NoteFault::SinkFault)
+            }
+        }
+    }
+
+    /// Writes the line of an event's time, where it is above the last one: one append, one flush, and the line
+    /// is kept (`snapshot.go`, `processUserEvent`, which leaves the flush for later).
+    ///
+    /// Where the time isn't above the last one, this is Ok, takes no memory and makes no call of the sink.
+    /// Else memory is taken before the sink is touched. After [`NoteFault::SinkFault`] a part of the line may
+    /// be kept, and each later note is [`NoteFault::Stopped`].
+    pub fn note_event(&mut self, alloc: Global, time: Time) -> Result<(), NoteFault>
+        ensures stopped { (result ≡ Err NoteFault.Stopped) ↔ IsTrue self.old.snapshot.stopped }
+        ensures none { self.old.snapshot.stopped ≡ false → time ≤ self.old.snapshot.event → (result ≡ Ok tt) × (self.new ≡ self.old) }
+
+        // The line is kept, or the sink fails; with a plan exactly where it says.
+        ensures ok { OnOk result (self.new.snapshot ≡ noted Event time self.old.snapshot Kept) }
+        ensures ok_allowed { OnOk result (self.old.snapshot.event < time → MayWrite self.old.snapshot (clock_line Event time) Kept) }
+        ensures ok_device { OnOk result (self.old.snapshot.event < time → self.new.device ≡ flushed (appended (clock_line Event time) self.old.device)) }
+        ensures fault { IsErrOf result NoteFault.SinkFault → self.new.snapshot ≡ written Event time self.old.snapshot (Failed self.new.snapshot.kept) }
+        ensures fault_allowed { IsErrOf result NoteFault.SinkFault → MayWrite self.old.snapshot (clock_line Event time) (Failed self.new.snapshot.kept) }
+        ensures fault_above { IsErrOf result NoteFault.SinkFault → self.old.snapshot.event < time }
+        ensures fault_device { IsErrOf result NoteFault.SinkFault → Fails self.old.device self.new.device (clock_line Event time) }
+        ensures fault_cause { IsErrOf result NoteFault.SinkFault → HasFailed self.old.device.failures self.new.device.failures }
+        ensures fault_called { IsErrOf result NoteFault.SinkFault → HasTriedNote self.old.device.calls self.new.device.calls }
+
+        ensures stays { IsErrOf result NoteFault.Stopped → self.new ≡ self.old }
+        ensures memory { IsErrOf result NoteFault.OutOfMemory → self.new ≡ self.old }
+        ensures clean { OnOk result (IsClean self.new.device) }
+        ensures calm { OnOk result (self.new.device.failures ≡ self.old.device.failures) }
+    {
+        self.note(alloc, ClockKind::Event, time)
+    }
+
+    /// Writes the line of a query's time, by the rule of [`Snapshot::note_event`] (`snapshot.go`, `processQuery`).
+    pub fn note_query(&mut self, alloc: Global, time: Time) -> Result<(), NoteFault>
+        ensures stopped { (result ≡ Err NoteFault.Stopped) ↔ IsTrue self.old.snapshot.stopped }
+        ensures none { self.old.snapshot.stopped ≡ false → time ≤ self.old.snapshot.query → (result ≡ Ok tt) × (self.new ≡ self.old) }
+
+        // The line is kept, or the sink fails; with a plan exactly where it says.
+        ensures ok { OnOk result (self.new.snapshot ≡ noted Query time self.old.snapshot Kept) }
+        ensures ok_allowed { OnOk result (self.old.snapshot.query < time → MayWrite self.old.snapshot (clock_line Query time) Kept) }
+        ensures ok_device { OnOk result (self.old.snapshot.query < time → self.new.device ≡ flushed (appended (clock_line Query time) self.old.device)) }
+        ensures fault { IsErrOf result NoteFault.SinkFault → self.new.snapshot ≡ written Query time self.old.snapshot (Failed self.new.snapshot.kept) }
+        ensures fault_allowed { IsErrOf result NoteFault.SinkFault → MayWrite self.old.snapshot (clock_line Query time) (Failed self.new.snapshot.kept) }
+        ensures fault_above { IsErrOf result NoteFault.SinkFault → self.old.snapshot.query < time }
+        ensures fault_device { IsErrOf result NoteFault.SinkFault → Fails self.old.device self.new.device (clock_line Query time) }
+        ensures fault_cause { IsErrOf result NoteFault.SinkFault → HasFailed self.old.device.failures self.new.device.failures }
+        ensures fault_called { IsErrOf result NoteFault.SinkFault → HasTriedNote self.old.device.calls self.new.device.calls }
+
+        ensures stays { IsErrOf result NoteFault.Stopped → self.new ≡ self.old }
+        ensures memory { IsErrOf result NoteFault.OutOfMemory → self.new ≡ self.old }
+        ensures clean { OnOk result (IsClean self.new.device) }
+        ensures calm { OnOk result (self.new.device.failures ≡ self.old.device.failures) }
+    {
+        self.note(alloc, ClockKind::Query, time)
+    }
+
+    /// Writes the line of a time of the member clock, by the rule of [`Snapshot::note_event`] (`snapshot.go`,
+    /// `updateClock`).
+    pub fn note_member(&mut self, alloc: Global, time: Time) -> Result<(), NoteFault>
+        ensures stopped { (result ≡ Err NoteFault.Stopped) ↔ IsTrue self.old.snapshot.stopped }
+        ensures none { self.old.snapshot.stopped ≡ false → time ≤ self.old.snapshot.member → (result ≡ Ok tt) × (self.new ≡ self.old) }
+
+        // The line is kept, or the sink fails; with a plan exactly where it says.
+        ensures ok { OnOk result (self.new.snapshot ≡ noted Member time self.old.snapshot Kept) }
+        ensures ok_allowed { OnOk result (self.old.snapshot.member < time → MayWrite self.old.snapshot (clock_line Member time) Kept) }
+        ensures ok_device { OnOk result (self.old.snapshot.member < time → self.new.device ≡ flushed (appended (clock_line Member time) self.old.device)) }
+        ensures fault { IsErrOf result NoteFault.SinkFault → self.new.snapshot ≡ written Member time self.old.snapshot (Failed self.new.snapshot.kept) }
+        ensures fault_allowed { IsErrOf result NoteFault.SinkFault → MayWrite self.old.snapshot (clock_line Member time) (Failed self.new.snapshot.kept) }
+        ensures fault_above { IsErrOf result NoteFault.SinkFault → self.old.snapshot.member < time }
+        ensures fault_device { IsErrOf result NoteFault.SinkFault → Fails self.old.device self.new.device (clock_line Member time) }
+        ensures fault_cause { IsErrOf result NoteFault.SinkFault → HasFailed self.old.device.failures self.new.device.failures }
+        ensures fault_called { IsErrOf result NoteFault.SinkFault → HasTriedNote self.old.device.calls self.new.device.calls }
+
+        ensures stays { IsErrOf result NoteFault.Stopped → self.new ≡ self.old }
+        ensures memory { IsErrOf result NoteFault.OutOfMemory → self.new ≡ self.old }
+        ensures clean { OnOk result (IsClean self.new.device) }
+        ensures calm { OnOk result (self.new.device.failures ≡ self.old.device.failures) }
+    {
+        self.note(alloc, ClockKind::Member, time)
+    }
+
+    /// The last line written or read of each kind, 0 where there is none. Takes no memory.
+    pub fn clocks(&self) -> Clocks
+        ensures member { result.member ≡ self.now.snapshot.member }
+        ensures event { result.event ≡ self.now.snapshot.event }
+        ensures query { result.query ≡ self.now.snapshot.query }
+        ensures times { AreTimes self.now.snapshot }
+    {
+        self.last
+    }
+
+    /// Whether the sink has failed, so that each note and each compaction is refused. Takes no memory.
+    pub fn is_stopped(&self) -> bool
+        ensures { result ≡ self.now.snapshot.stopped }
+    {
+        self.stopped
+    }
+
+    /// The sink, for reading. Takes no memory.
+    pub fn sink(&self) -> &S
+        ensures device { S.device result.now ≡ self.now.device }
+        ensures kept { kept_of self.now.device ≡ self.now.snapshot.kept }
+        ensures plan { self.now.device.plan ≡ self.now.snapshot.plan }
+        ensures clean { self.now.snapshot.stopped ≡ false → IsClean self.now.device }
+    {
+        &self.sink
+    }
+}
+
+impl<S: ReplaceSink> Snapshot<S> {
+    /// Replaces what the sink keeps by the last line of the member, event and query clock, in this order; a
+    /// kind without a line is left out. It is one replace, and never an append or a flush.
+    ///
+    /// On a stopped snapshot no call is made. After [`NoteFault::SinkFault`] the old text is kept or the new
+    /// one, and the snapshot is stopped. (`snapshot.go`, `compact`, which writes the alive members too.)
+    pub fn compact(&mut self, alloc: Global) -> Result<(), NoteFault>
+        ensures stopped { (result ≡ Err NoteFault.Stopped) ↔ IsTrue self.old.snapshot.stopped }
+
+        // The text is replaced, or the sink fails; with a plan exactly where it says.
+        ensures ok { OnOk result (self.new.snapshot ≡ compacted self.old.snapshot Kept) }
+        ensures ok_allowed { OnOk result (MayReplace self.old.snapshot Kept) }
+        ensures ok_device { OnOk result (self.new.device ≡ replaced (compaction_of self.old.snapshot) self.old.device) }
+        ensures fault { IsErrOf result NoteFault.SinkFault → self.new.snapshot ≡ compacted self.old.snapshot (Failed self.new.snapshot.kept) }
+        ensures fault_allowed { IsErrOf result NoteFault.SinkFault → MayReplace self.old.snapshot (Failed self.new.snapshot.kept) }
+        ensures fault_device { IsErrOf result NoteFault.SinkFault → FailsReplace self.old.device self.new.device (compaction_of self.old.snapshot) }
+        ensures fault_cause { IsErrOf result NoteFault.SinkFault → HasFailed self.old.device.failures self.new.device.failures }
+        ensures fault_called { IsErrOf result NoteFault.SinkFault → self.new.device.calls ≡ replace_called self.old.device.calls }
+
+        ensures stays { IsErrOf result NoteFault.Stopped → self.new ≡ self.old }
+        ensures memory { IsErrOf result NoteFault.OutOfMemory → self.new.snapshot ≡ self.old.snapshot }
+        ensures memory_device { IsErrOf result NoteFault.OutOfMemory → (self.new.device ≡ self.old.device) ⊎ (self.new.device ≡ unreplaced self.old.device) }
+        ensures clean { OnOk result (IsClean self.new.device) }
+        ensures calm { OnOk result (self.new.device.failures ≡ self.old.device.failures) }
+    {
+        if self.stopped {
+            return Err(NoteFault::Stopped);
+        }
+        let text = text_of(alloc, self.last).map_err(|_| NoteFault::OutOfMemory)?;
+        match self.sink.replace(alloc, text.as_slice()) {
+            Ok(()) => Ok(()),
+            Err(ReplaceFault::OutOfMemory) => Err(NoteFault::OutOfMemory),
+            Err(ReplaceFault::SinkFault) => {
+                self.stopped = true;
+                Err(NoteFault::SinkFault)
+            }
+        }
+    }
+}
+
+impl Snapshot<MemSink> {
+    /// Tells the sink to fail its n-th append from now on, or none at 0. Takes no memory.
+    pub fn fail_append(&mut self, n: u64)
+        ensures { self.new ≡ planned_anew (append_failing n) self.old }
+    {
+        self.sink.fail_append(n);
+    }
+
+    /// Tells the sink to fail its n-th flush from now on, or none at 0. Takes no memory.
+    pub fn fail_flush(&mut self, n: u64)
+        ensures { self.new ≡ planned_anew (flush_failing n) self.old }
+    {
+        self.sink.fail_flush(n);
+    }
+
+    /// Tells the sink to fail its n-th replace from now on, and to keep the new text or the old one then, or to
+    /// fail none at 0. Takes no memory.
+    pub fn fail_replace(&mut self, n: u64, keeps_new: bool)
+        ensures { self.new ≡ planned_anew (replace_failing n keeps_new) self.old }
+    {
+        self.sink.fail_replace(n, keeps_new);
+    }
+}
