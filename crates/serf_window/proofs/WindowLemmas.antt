@@ -1,0 +1,129 @@
+use Rattle.std.proofs.Common.{◌≡◌, ◌≢◌, ℕ, ◌+◌, ◌*◌, ◌%◌, ◌<◌, ◌≤◌, inl, inr, cond, Bool, List, [], ◌∷◌, ◌++◌, length, map, refl, sym, ◌∙◌, ap, subst, arith, get_or, set, nat_le, length-append, sum_by}
+use Rattle.std.specs.List.{list_any, range_with_len}
+use Rattle.std.proofs.lemmas.Bool.{cases_eq, cases_order, le-ltb, lt-ltb, lt-leb, eq-eqb, ne_eqb}
+use Rattle.std.proofs.lemmas.List.{get_or-map, get_or-set_same, get_or-set_other, map-set, length-set, length-map}
+use Rattle.std.proofs.lemmas.List.Elements.{All-map, All-set}
+use Rattle.std.proofs.lemmas.List.Folds.{fold-map}
+use Rattle.std.proofs.lemmas.List.FromFn.{get_or-map-range_with_len}
+use Rattle.std.proofs.lemmas.Nat.{mod_below}
+use Rattle.std.proofs.lemmas.List.Sums.{sum_by-le}
+use Rattle.std.proofs.Math.Nat.{mul-le-mul_left}
+use Rattle.serf_window.specs.declared.verdict.Verdict.TheVariants.{Seen, TimeFull, New}
+use Rattle.serf_window.specs.OneSlot.{slot_verdict}
+use Rattle.serf_window.specs.Window.{Timed, SlotOf, count_at, count_in, EachAtMost, IsWindow, empty_slot, held_at, held_count, held_of, room_for, slot_after, slot_for, slot_of, slots_after, slots_of, time_in, TimesBelow, verdict_of, was_entered}
+use Rattle.serf_window.proofs.SlotLemmas.{held_of-slot, slot-not_later, slots_of-append, was_entered-held}
+
+-- What a window's slots say, over plain lists of slots
+
+-- the slot of a time, where the slots are those of entries
+pub slot_for-slots_of : {K : Type 0} (n t : ℕ) (slots : List (SlotOf K)) (es : List (Timed K)) → n ≡ length slots → 0 < n → slots ≡ slots_of n es → slot_for slots t ≡ slot_of n es (t % n)
+slot_for-slots_of {K} n t slots es size pos is =
+    ap (λ m. get_or slots (t % m) empty_slot) (sym size) ∙ ap (λ xs. get_or xs (t % n) empty_slot) is ∙ get_or-map-range_with_len (slot_of n es) 0 n (t % n) (t % n) empty_slot (mod_below t n pos) (omega arith)
+
+-- the slot of a time is below what all are below
+pub slot_for-below : {K : Type 0} (clock t : ℕ) (slots : List (SlotOf K)) → 0 < length slots → TimesBelow clock slots → (slot_for slots t).time < clock
+slot_for-below clock t slots pos below = below (t % length slots) empty_slot (mod_below t (length slots) pos)
+
+-- one slot's verdict, by what it holds of the time
+pub slot_verdict-held : {K : Type 0} (same : K → K → Bool) (k t : ℕ) (what : K) (slot : SlotOf K) → 0 < k → slot.time ≤ t
+    → slot_verdict same k slot t what ≡ cond (list_any (λ h. same h what) (held_of slot t)) Seen (cond (nat_le k (length (held_of slot t))) TimeFull New)
+slot_verdict-held same k t what slot some not_later = elim (cases_order t slot.time) [
+  | inl now ↦ rw (le-ltb t slot.time (omega arith), le-ltb slot.time t (omega arith), eq-eqb slot.time t (sym now)) refl
+  | inr other ↦ elim other [
+    | inl before ↦ absurd (omega arith)
+    | inr after ↦ rw (le-ltb t slot.time (omega arith), lt-ltb slot.time t after, ne_eqb slot.time t (λ q. omega arith), lt-leb k 0 some) refl
+  ]
+]
+
+-- a verdict that is neither below the minimum nor too old
+pub verdict_of-open : {K : Type 0} (same : K → K → Bool) (n k : ℕ) (es : List (Timed K)) (clock minimum t : ℕ) (what : K) → minimum ≤ t → clock ≤ t + n
+    → verdict_of same n k es clock minimum t what ≡ cond (was_entered same es t what) Seen (cond (nat_le k (count_at es t)) TimeFull New)
+verdict_of-open same n k es clock minimum t what low young = rw (le-ltb t minimum low, le-ltb (t + n) clock young) refl
+
+-- what a slot says is what all entries say
+pub slot_verdict-entered : {K : Type 0} (same : K → K → Bool) (n k clock minimum t : ℕ) (what : K) (slots : List (SlotOf K)) (es : List (Timed K)) → n ≡ length slots → 0 < n → 0 < k → slots ≡ slots_of n es
+    → TimesBelow clock slots → minimum ≤ t → clock ≤ t + n → slot_verdict same k (slot_for slots t) t what ≡ verdict_of same n k es clock minimum t what
+slot_verdict-entered {K} same n k clock minimum t what slots es size pos some is below low young =
+    let mine = slot_for-slots_of n t slots es size pos is in
+    let low_slot : (slot_for slots t).time < clock = slot_for-below clock t slots (omega arith) below in
+    let bound : (slot_of n es (t % n)).time < clock = subst (λ (s : SlotOf K). s.time < clock) mine low_slot in
+    let not_later : (slot_for slots t).time ≤ t = subst (λ (s : SlotOf K). s.time ≤ t) (sym mine) (slot-not_later n clock t es bound young) in
+    let held : held_of (slot_for slots t) t ≡ held_at t es = ap (λ s. held_of s t) mine ∙ held_of-slot n clock t es bound young in
+    slot_verdict-held same k t what (slot_for slots t) some not_later
+    ∙ ap (λ hs. cond (list_any (λ h. same h what) hs) Seen (cond (nat_le k (length hs)) TimeFull New)) held
+    ∙ ap (λ b. cond b Seen (cond (nat_le k (length (held_at t es))) TimeFull New)) (sym (was_entered-held same es t what))
+    ∙ sym (verdict_of-open same n k es clock minimum t what low young)
+
+-- the slots after an entry are those of the entries with it at the end
+pub slots_after-entered : {K : Type 0} (n : ℕ) (slots : List (SlotOf K)) (e : Timed K) (es : List (Timed K)) → n ≡ length slots → 0 < n → slots ≡ slots_of n es → time_in slots e.time ≤ e.time → slots_after slots e ≡ slots_of n (es ++ e ∷ [])
+slots_after-entered {K} n slots e es size pos is not_later =
+    let mine = slot_for-slots_of n e.time slots es size pos is in
+    let bound : (slot_of n es (e.time % n)).time ≤ e.time = subst (λ (s : SlotOf K). s.time ≤ e.time) mine not_later in
+    ap (λ m. set slots (e.time % m) (slot_after (slot_for slots e.time) e)) (sym size) ∙ ap (λ xs. set xs (e.time % n) (slot_after (slot_for slots e.time) e)) is ∙ ap (λ s. set (slots_of n es) (e.time % n) (slot_after s e)) mine ∙ slots_of-append n es e pos bound
+
+-- an entry of a time below the clock leaves all below it
+pub TimesBelow-after : {K : Type 0} (clock : ℕ) (slots : List (SlotOf K)) (e : Timed K) → e.time < clock → TimesBelow clock slots → TimesBelow clock (slots_after slots e)
+TimesBelow-after {K} clock slots e low below = All-set (λ (s : SlotOf K). s.time < clock) slots (e.time % length slots) (slot_after (slot_for slots e.time) e) low below
+
+-- an entry where there is a place for it leaves at most k of each time
+pub EachAtMost-after : {K : Type 0} (k : ℕ) (slots : List (SlotOf K)) (e : Timed K) → count_in slots e.time < k → EachAtMost k slots → EachAtMost k (slots_after slots e)
+EachAtMost-after {K} k slots e free each = All-set (λ (s : SlotOf K). length s.held ≤ k) slots (e.time % length slots) (slot_after (slot_for slots e.time) e) (omega (arith, length-append (held_of (slot_for slots e.time) e.time) (e.what ∷ []))) each
+
+-- no slot of no entries holds any
+pub EachAtMost-none : {K : Type 0} (n k : ℕ) → EachAtMost {K = K} k (slots_of n [])
+EachAtMost-none {K} n k = All-map (λ (s : SlotOf K). length s.held ≤ k) (slot_of n []) (range_with_len 0 n) (λ i d within. omega arith)
+
+-- Slots in memory, and how they are shown
+
+-- the slot of a time
+pub slot_for-map : {S K : Type 0} (show : S → SlotOf K) (items : List S) (i t : ℕ) (slot : S) → i < length items → i ≡ t % length items → slot ≡ get_or items i slot → slot_for (map show items) t ≡ show slot
+slot_for-map show items i t slot within place at =
+    ap (λ n. get_or (map show items) (t % n) empty_slot) (length-map items show) ∙ ap (λ k. get_or (map show items) k empty_slot) (sym place) ∙ get_or-map show items i slot empty_slot within ∙ sym (ap show at)
+
+-- the slots after one of them was written
+pub slots_after-map : {S K : Type 0} (show : S → SlotOf K) (items : List S) (i : ℕ) (e : Timed K) (slot after : S) → i < length items → i ≡ e.time % length items → slot ≡ get_or items i slot → show after ≡ slot_after (show slot) e
+    → map show (set items i after) ≡ slots_after (map show items) e
+slots_after-map show items i e slot after within place at becomes =
+    map-set show items i after ∙ ap (set (map show items) i) (becomes ∙ ap (λ s. slot_after s e) (sym (slot_for-map show items i e.time slot within place at)))
+    ∙ ap (λ k. set (map show items) k (slot_after (slot_for (map show items) e.time) e)) (place ∙ ap (λ n. e.time % n) (sym (length-map items show)))
+
+-- the room for a time, where the room of slot i was changed to some
+pub room_for-set : {S K : Type 0} (show : S → SlotOf K) (room : S → ℕ) (items : List S) (k i t : ℕ) (after : S) → i < length items → 0 < room after
+    → 0 < room_for (record { slots = map show items; rooms = map room items; per_time = k }) t → 0 < room_for (record { slots = map show (set items i after); rooms = map room (set items i after); per_time = k }) t
+room_for-set show room items k i t after within some before =
+    let size : length (map show (set items i after)) ≡ length (map show items) = length-map (set items i after) show ∙ length-set items i after ∙ sym (length-map items show) in
+    let inside : i < length (map room items) = subst (λ (n : ℕ). i < n) (sym (length-map items room)) within in
+    rw (size, map-set room items i after) (elim (cases_eq (t % length (map show items)) i) [
+      | inl own ↦ rw own (subst (λ (n : ℕ). 0 < n) (sym (get_or-set_same (map room items) i (room after) 0 inside)) some)
+      | inr other ↦ subst (λ (n : ℕ). 0 < n) (sym (get_or-set_other (map room items) i (t % length (map show items)) (room after) 0 other)) before
+    ])
+
+-- the room for a time of that slot
+pub room_for-set_own : {S K : Type 0} (show : S → SlotOf K) (room : S → ℕ) (items : List S) (k i t : ℕ) (after : S) → i < length items → i ≡ t % length items → 0 < room after
+    → 0 < room_for (record { slots = map show (set items i after); rooms = map room (set items i after); per_time = k }) t
+room_for-set_own show room items k i t after within place some =
+    let size : length (map show (set items i after)) ≡ length items = length-map (set items i after) show ∙ length-set items i after in
+    let inside : i < length (map room items) = subst (λ (n : ℕ). i < n) (sym (length-map items room)) within in
+    rw (size, ← place, map-set room items i after) (subst (λ (n : ℕ). 0 < n) (sym (get_or-set_same (map room items) i (room after) 0 inside)) some)
+
+-- the room for a time of another slot than the one that was written
+pub room_for-set_other : {S K : Type 0} (show : S → SlotOf K) (room : S → ℕ) (items : List S) (k i t : ℕ) (after : S) → t % length (map show items) ≢ i
+    → room_for (record { slots = map show (set items i after); rooms = map room (set items i after); per_time = k }) t ≡ room_for (record { slots = map show items; rooms = map room items; per_time = k }) t
+room_for-set_other show room items k i t after other =
+    let size : length (map show (set items i after)) ≡ length (map show items) = length-map (set items i after) show ∙ length-set items i after ∙ sym (length-map items show) in
+    rw (size, map-set room items i after) (get_or-set_other (map room items) i (t % length (map show items)) (room after) 0 other)
+
+-- a window holds at most n times k
+pub held_count-le : {K : Type 0} (n k : ℕ) (slots : List (SlotOf K)) → IsWindow n k slots → length slots ≡ n → held_count slots ≤ n * k
+held_count-le {K} n k slots is size = subst (λ (m : ℕ). held_count slots ≤ m * k) size (sum_by-le (λ (s : SlotOf K). length s.held) k slots is.each)
+
+-- and so at most 4,294,967,296
+pub held_count-most : {K : Type 0} (n k : ℕ) (slots : List (SlotOf K)) → IsWindow n k slots → length slots ≡ n → held_count slots ≤ 4294967296
+held_count-most {K} n k slots is size =
+    let le = held_count-le n k slots is size in
+    let by_k : n * k ≤ n * 65536 = mul-le-mul_left n is.most_of_time in
+    omega arith
+
+-- how many entries slots in memory hold
+pub held_count-map : {S K : Type 0} (show : S → SlotOf K) (items : List S) → held_count (map show items) ≡ sum_by (λ s. length (show s).held) items
+held_count-map {S} {K} show items = fold-map (λ (a : ℕ) (s : SlotOf K). a + length s.held) show 0 items

@@ -1,0 +1,5 @@
+pub mod Window
+pub mod Laws
+pub mod Texts
+pub mod OneSlot
+pub mod Queries

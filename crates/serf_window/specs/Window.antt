@@ -1,0 +1,133 @@
+-- What a buffer of recent events, or of recent queries, holds and decides. Each definition stands for both:
+-- K is what is entered, an event's texts or a query's ID. The rules are those of Serf's `handleUserEvent` and
+-- `handleQuery` (`serf.go`), which keep the buffers `eventBuffer` and `queryBuffer`; what this project adds is
+-- marked as its own.
+use Rattle.std.specs.Prelude.{◌≡◌, ℕ, ◌+◌, ◌%◌, ◌<◌, ◌≤◌, ◌==◌, ◌&&◌, ◌⊎◌, max, nat_lt, nat_le, Bool, if◌then◌else◌, List, [], ◌∷◌, ◌++◌, length, map, filter, slice_index, slice_index_or, slice_set, sum_by}
+use Rattle.std.specs.List.{list_any, range_with_len, All}
+use Rattle.serf_window.specs.declared.verdict.Verdict.{Verdict}
+use Rattle.serf_window.specs.declared.verdict.Verdict.TheVariants.{BelowMinimum, TooOld, Seen, TimeFull, New}
+
+-- Something that was entered, and its time.
+pub record Timed (K : Type 0) : Type 0 where
+  pub time : ℕ
+  pub what : K
+
+-- A slot: the time that it holds, and what was entered at that time, in order (`serf.go`, `userEvents` and
+-- `queries`). One that nothing was entered into has the time 0.
+pub record SlotOf (K : Type 0) : Type 0 where
+  pub time : ℕ
+  pub held : List K
+
+-- A window: its slots; how many more entries each of them takes without memory; and how many entries of one
+-- time it takes at most.
+pub record WindowOf (K : Type 0) : Type 0 where
+  pub slots : List (SlotOf K)
+  pub rooms : List ℕ
+  pub per_time : ℕ
+
+-- Not a number of slots, or of entries of one time, that a window can have: these are 1 to 65,536.
+abbrev pub IsBadSize : ℕ → Type 0
+IsBadSize n = (n ≡ 0) ⊎ (65536 < n)
+
+-- What entries are held in slots
+
+-- the greatest time of these entries, and 0 where there are none
+abbrev pub greatest_time : {K : Type 0} → List (Timed K) → ℕ
+greatest_time [] = 0
+greatest_time (e ∷ es) = max e.time (greatest_time es)
+
+-- what was entered at a time, in order
+abbrev pub held_at : {K : Type 0} → ℕ → List (Timed K) → List K
+held_at t es = map (λ e. e.what) (filter (λ e. e.time == t) es)
+
+-- the entries whose time is i modulo n
+abbrev pub entries_of : {K : Type 0} → ℕ → ℕ → List (Timed K) → List (Timed K)
+entries_of n i es = filter (λ e. e.time % n == i) es
+
+-- the slot i of n: of the entries whose time is i modulo n, those of the greatest such time, in order
+abbrev pub slot_of : {K : Type 0} → ℕ → List (Timed K) → ℕ → SlotOf K
+slot_of n es i =
+    let t = greatest_time (entries_of n i es) in
+    record { time = t; held = held_at t (entries_of n i es) }
+
+-- the n slots of these entries
+abbrev pub slots_of : {K : Type 0} → ℕ → List (Timed K) → List (SlotOf K)
+slots_of n es = map (slot_of n es) (range_with_len 0 n)
+
+-- What is decided of an offer, by all that was ever entered
+
+-- whether this was entered at this time
+abbrev pub was_entered : {K : Type 0} → (K → K → Bool) → List (Timed K) → ℕ → K → Bool
+was_entered same es t what = list_any (λ e. (e.time == t) && same e.what what) es
+
+-- how many were entered at this time
+abbrev pub count_at : {K : Type 0} → List (Timed K) → ℕ → ℕ
+count_at es t = length (held_at t es)
+
+-- The verdict on what is offered with the time t, where n is the number of slots, k the number of entries of one
+-- time at most, and the clock has observed t. The first that holds of:
+-- BelowMinimum: the time is below the minimum (Serf's `eventMinTime` and `queryMinTime`).
+-- TooOld: the clock is more than n above the time, so that the slot may be another time's by now.
+-- Seen: the same was entered at this time.
+-- TimeFull, a rule of this project's own: k were entered at this time.
+-- Else it is New.
+abbrev pub verdict_of : {K : Type 0} → (K → K → Bool) → ℕ → ℕ → List (Timed K) → ℕ → ℕ → ℕ → K → Verdict
+verdict_of same n k es clock minimum t what =
+    if nat_lt t minimum then BelowMinimum else
+    if nat_lt (t + n) clock then TooOld else
+    if was_entered same es t what then Seen else
+    if nat_le k (count_at es t) then TimeFull else New
+
+-- What slots say of a time
+
+-- a slot that nothing was entered into
+abbrev pub empty_slot : {K : Type 0} → SlotOf K
+empty_slot = record { time = 0; held = [] }
+
+-- the slot of a time: the one of its remainder by the number of slots
+abbrev pub slot_for : {K : Type 0} → List (SlotOf K) → ℕ → SlotOf K
+slot_for slots t = slice_index_or slots (t % length slots) empty_slot
+
+-- the time that stands in the slot of t
+abbrev pub time_in : {K : Type 0} → List (SlotOf K) → ℕ → ℕ
+time_in slots t = (slot_for slots t).time
+
+-- what a slot holds of the time t
+abbrev pub held_of : {K : Type 0} → SlotOf K → ℕ → List K
+held_of slot t = if slot.time == t then slot.held else []
+
+-- how many entries of the time t the slots hold
+abbrev pub count_in : {K : Type 0} → List (SlotOf K) → ℕ → ℕ
+count_in slots t = length (held_of (slot_for slots t) t)
+
+-- how many more entries of the time t go in without memory
+abbrev pub room_for : {K : Type 0} → WindowOf K → ℕ → ℕ
+room_for w t = slice_index w.rooms (t % length w.slots)
+
+-- the slot after an entry: it goes on with the entry's time, or begins anew with it
+abbrev pub slot_after : {K : Type 0} → SlotOf K → Timed K → SlotOf K
+slot_after slot e = record { time = e.time; held = held_of slot e.time ++ e.what ∷ [] }
+
+-- the slots after an entry
+abbrev pub slots_after : {K : Type 0} → List (SlotOf K) → Timed K → List (SlotOf K)
+slots_after slots e = slice_set slots (e.time % length slots) (slot_after (slot_for slots e.time) e)
+
+-- each slot's time is below the clock
+abbrev pub TimesBelow : {K : Type 0} → ℕ → List (SlotOf K) → Type 0
+TimesBelow clock slots = All (λ s. s.time < clock) slots
+
+-- each slot holds k entries at most
+abbrev pub EachAtMost : {K : Type 0} → ℕ → List (SlotOf K) → Type 0
+EachAtMost k slots = All (λ s. length s.held ≤ k) slots
+
+-- how many entries the slots hold
+abbrev pub held_count : {K : Type 0} → List (SlotOf K) → ℕ
+held_count slots = sum_by (λ s. length s.held) slots
+
+-- what is true of every window: it has 1 to 65,536 slots, and each holds k entries at most, k from 1 to 65,536
+pub record IsWindow {K : Type 0} (n k : ℕ) (slots : List (SlotOf K)) : Type 0 where
+  pub some_slot : 0 < n
+  pub most_slots : n ≤ 65536
+  pub some_of_time : 0 < k
+  pub most_of_time : k ≤ 65536
+  pub each : EachAtMost k slots

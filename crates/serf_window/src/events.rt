@@ -1,0 +1,252 @@
+//! The window of events.
+
+ghost use Rattle.std.specs.Prelude.{◌≡◌, ◌≢◌, ℕ, ◌<◌, ◌≤◌, ◌*◌, ◌%◌, ◌^◌, ◌↔◌, ◌⊎◌, List, [], ◌∷◌, ◌++◌, map, length, sum_by, OnOk, OnErr, IfOk, IsErrOf, vec_len};
+ghost use Rattle.std.specs.List.{list_any};
+ghost use Rattle.serf_wire.specs.declared.texts.EventText.{EventText};
+ghost use Rattle.serf_window.specs.OneSlot.{slot_verdict};
+ghost use Rattle.serf_window.specs.Texts.{event_of, same_texts, shown};
+ghost use Rattle.serf_window.specs.Window.{IsBadSize, IsWindow, TimesBelow, Timed, count_in, empty_slot, held_count, room_for, slot_after, slots_after, slots_of, time_in, verdict_of};
+
+use crate::place::place_of;
+use crate::verdict::{MAX_SIZE, NewWindowFault, Verdict};
+use serf_lamport::Time;
+use serf_wire::{Bytes, EventText, EventTexts, Slot};
+use std::alloc::{AllocError, Global};
+use std::marker::Model;
+
+/// An event whose texts are copied, and which enters the window that prepared it without memory.
+#[derive(Debug, Drop)]
+pub struct Entry {
+    time: Time,
+    event: EventText,
+}
+
+impl Model for Entry {
+    ghost use Rattle.serf_wire.specs.declared.texts.EventText.{EventText};
+    ghost use Rattle.serf_window.specs.Window.{Timed};
+
+    ghost Value = { Timed EventText };
+
+    ghost view = { λ e. record { time = e.time; what = e.event } };
+}
+
+/// The events of the last times, in N slots by time modulo N, at most K of one time.
+///
+/// Contracts see the slots, the room in each, and K.
+#[derive(Debug, Drop)]
+pub struct EventWindow {
+    slots: Vec<Slot>,
+    per_time: u64,
+}
+
+impl Model for EventWindow {
+    ghost use Rattle.std.specs.Prelude.{map};
+    ghost use Rattle.std.specs.Vec.{vec_len};
+    ghost use Rattle.serf_wire.specs.declared.texts.EventText.{EventText};
+    ghost use Rattle.serf_window.specs.Window.{IsWindow, WindowOf};
+
+    ghost Value = { WindowOf EventText };
+
+    ghost use Rattle.serf_window.specs.Texts.{shown, room_in};
+
+    ghost view = { λ w. record { slots = map shown w.slots.items; rooms = map room_in w.slots.items; per_time = w.per_time } };
+
+    ghost invariant = { λ w. IsWindow (vec_len w.slots) w.per_time (map shown w.slots.items) };
+}
+
+/// Whether an event has this name and this payload. The lengths and the payload, which mostly differ, come
+/// first.
+fn has_texts(event: &EventText, name: &[u8], payload: &[u8]) -> bool
+    ensures { result ≡ same_texts event.now (event_of name.now payload.now) }
+{
+    let own_name = event.name.as_slice();
+    let own_payload = event.payload.as_slice();
+    if own_payload.len() != payload.len() || own_name.len() != name.len() {
+        return false;
+    }
+    own_payload == payload && own_name == name
+}
+
+/// Whether one of the events has this name and this payload.
+fn is_among(events: &[EventText], name: &[u8], payload: &[u8]) -> bool
+    ensures { result ≡ list_any (λ e. same_texts e (event_of name.now payload.now)) events.now }
+{
+    events.iter().any(|event| has_texts(event, name, payload))
+}
+
+/// The verdict of the slot of an event's time, where that time isn't below the minimum, nor too old.
+fn verdict_in(slot: &Slot, per_time: u64, time: Time, name: &[u8], payload: &[u8]) -> Verdict
+    ensures { result ≡ slot_verdict same_texts per_time (shown slot.now) time (event_of name.now payload.now) }
+{
+    let held = slot.time.get();
+    let events = slot.events.as_slice();
+    if time.get() < held {
+        Verdict::TooOld
+    } else if held < time.get() {
+        Verdict::New
+    } else if is_among(events, name, payload) {
+        Verdict::Seen
+    } else if per_time <= events.len() as u64 {
+        Verdict::TimeFull
+    } else {
+        Verdict::New
+    }
+}
+
+/// Takes an event into the slot of its time. A slot of an older time begins anew, and keeps its memory.
+fn take_in(slot: &mut Slot, time: Time, event: EventText)
+    requires room { 0 < slot.old.events.room }
+    requires not_later { slot.old.time ≤ time }
+    ensures { shown slot.new ≡ slot_after (shown slot.old) (record { time = time; what = event }) }
+{
+    if slot.time.get() < time.get() {
+        slot.events.clear();
+        slot.time = time;
+    }
+    slot.events.add(event);
+}
+
+/// The number of events in these slots.
+fn count_held(slots: &[Slot]) -> u64
+    requires { sum_by (λ slot. length slot.events.items) slots.now < 2 ^ 64 }
+    ensures { result ≡ sum_by (λ slot. length slot.events.items) slots.now }
+{
+    slots
+        .iter()
+        .map(|slot| slot.events.as_slice().len() as u64)
+        .sum()
+}
+
+/// A slot that holds nothing.
+fn empty_slot(alloc: Global) -> Slot
+    ensures { shown result ≡ empty_slot }
+{
+    let Some(time) = Time::new(0) else {
+        unreachable!()
+    };
+    Slot {
+        time,
+        events: EventTexts::new(alloc),
+    }
+}
+
+/// The slots of a window that holds nothing.
+fn empty_slots(alloc: Global, n: u64) -> Result<Vec<Slot>, AllocError>
+    ensures size { IfOk result (λ slots. vec_len slots ≡ n) }
+    ensures empty { IfOk result (λ slots. map shown slots.items ≡ slots_of n []) }
+{
+    let mut slots = Vec::with_capacity(alloc, n as usize)?;
+    for _ in 0..n {
+        slots.push(empty_slot(alloc))?;
+    }
+    Ok(slots)
+}
+
+impl EventWindow {
+    /// A window of n empty slots, which takes k events of one time at most. `BadSize` where n or k is 0 or
+    /// above 65,536, and `OutOfMemory` where there is no memory for the slots.
+    pub fn new(alloc: Global, n: u64, k: u64) -> Result<Self, NewWindowFault>
+        ensures slots { IfOk result (λ window. window.slots ≡ slots_of n []) }
+        ensures per_time { IfOk result (λ window. window.per_time ≡ k) }
+        ensures bad { IsErrOf result NewWindowFault.BadSize ↔ (IsBadSize n ⊎ IsBadSize k) }
+    {
+        if n == 0 || n > MAX_SIZE || k == 0 || k > MAX_SIZE {
+            return Err(NewWindowFault::BadSize);
+        }
+        let slots = empty_slots(alloc, n).map_err(|_| NewWindowFault::OutOfMemory)?;
+        Ok(EventWindow { slots, per_time: k })
+    }
+
+    /// The verdict on an event, by all that was ever entered, though the window holds the last of it alone.
+    /// The caller's clock has observed the event's time, and `minimum` is the least time that the caller
+    /// takes. Takes no memory.
+    #[inline]
+    pub fn offer(
+        &self,
+        clock_after: u64,
+        minimum: u64,
+        time: Time,
+        name: &[u8],
+        payload: &[u8],
+    ) -> Verdict
+        ensures verdict { (entries : List (Timed EventText)) → self.now.slots ≡ slots_of (length self.now.slots) entries
+            → time < clock_after → TimesBelow clock_after self.now.slots
+            → result ≡ verdict_of same_texts (length self.now.slots) self.now.per_time entries clock_after minimum time (event_of name.now payload.now) }
+
+        // What is new may enter.
+        ensures not_later { result ≡ Verdict.New → time_in self.now.slots time ≤ time }
+        ensures not_full { result ≡ Verdict.New → count_in self.now.slots time < self.now.per_time }
+    {
+        if time.get() < minimum {
+            return Verdict::BelowMinimum;
+        }
+        if time.get() < clock_after.saturating_sub(self.slots.len() as u64) {
+            return Verdict::TooOld;
+        }
+        let slot = &self.slots[place_of(time, self.slots.len())];
+        verdict_in(slot, self.per_time, time, name, payload)
+    }
+
+    /// Copies an event's texts and makes room for it, so that it enters without memory. What the window holds
+    /// is unchanged; where there is no memory, the whole window is.
+    pub fn prepare(
+        &mut self,
+        alloc: Global,
+        time: Time,
+        name: &[u8],
+        payload: &[u8],
+    ) -> Result<Entry, AllocError>
+        ensures entry { IfOk result (λ entry. entry ≡ record { time = time; what = event_of name.now payload.now }) }
+        ensures room { OnOk result (0 < room_for self.new time) }
+        ensures slots { self.new.slots ≡ self.old.slots }
+        ensures per_time { self.new.per_time ≡ self.old.per_time }
+        ensures others { (t : ℕ) → 0 < room_for self.old t → 0 < room_for self.new t }
+        ensures err { OnErr result (self.new ≡ self.old) }
+    {
+        let name = Bytes::copy_of(alloc, name)?;
+        let payload = Bytes::copy_of(alloc, payload)?;
+        let place = place_of(time, self.slots.len());
+        let slot = &mut self.slots[place];
+        slot.events.make_room()?;
+        Ok(Entry {
+            time,
+            event: EventText { name, payload },
+        })
+    }
+
+    /// Takes an event in. There is room for its time, its slot holds no later time, and fewer than K events
+    /// of this one: `prepare` makes room, and what `offer` calls `New` meets the rest. Takes no memory.
+    pub fn enter(&mut self, entry: Entry)
+        requires room { 0 < room_for self.old entry.time }
+        requires not_later { time_in self.old.slots entry.time ≤ entry.time }
+        requires not_full { count_in self.old.slots entry.time < self.old.per_time }
+
+        ensures slots { (entries : List (Timed EventText)) → self.old.slots ≡ slots_of (length self.old.slots) entries
+            → self.new.slots ≡ slots_of (length self.old.slots) (entries ++ entry ∷ []) }
+        ensures after { self.new.slots ≡ slots_after self.old.slots entry }
+        ensures below { (clock : ℕ) → entry.time < clock → TimesBelow clock self.old.slots → TimesBelow clock self.new.slots }
+        ensures size { length self.new.slots ≡ length self.old.slots }
+        ensures others { (t : ℕ) → t % length self.old.slots ≢ entry.time % length self.old.slots → room_for self.new t ≡ room_for self.old t }
+        ensures per_time { self.new.per_time ≡ self.old.per_time }
+    {
+        let Entry { time, event } = entry;
+        let place = place_of(time, self.slots.len());
+        take_in(&mut self.slots[place], time, event);
+    }
+
+    /// All N slots, in order. Takes no memory.
+    pub fn slots(&self) -> &[Slot]
+        ensures slots { map shown result.now ≡ self.now.slots }
+        ensures bounds { IsWindow (length self.now.slots) self.now.per_time self.now.slots }
+    {
+        self.slots.as_slice()
+    }
+
+    /// The number of events that the window holds: never more than N * K. Takes no memory.
+    pub fn held(&self) -> u64
+        ensures count { result ≡ held_count self.now.slots }
+        ensures bound { result ≤ length self.now.slots * self.now.per_time }
+    {
+        count_held(self.slots.as_slice())
+    }
+}

@@ -1,0 +1,32 @@
+-- What is written is in range.
+use Rattle.std.proofs.Common.{◌≡◌, ◌<◌, List, [], ◌∷◌, map, ℤ, pos, negsuc, Bool, true, false, ◌&&◌, nat_lt, Some, refl, arith}
+use mir.Val.{SFits}
+use mir.Syntax.{w64}
+use Rattle.std.proofs.lemmas.Bool.Decides.{nat_tests}
+use Rattle.std.specs.List.{list_all, AllByRecursion}
+use Rattle.serf_wire.specs.declared.lists.StatusTime.{StatusTime}
+use Rattle.serf_wire.specs.declared.texts.Slot.{Slot}
+use Rattle.serf_wire.specs.Fields.{fits}
+use Rattle.serf_wire.specs.Ranges.{IsTimed}
+use Rattle.serf_wire.specs.Lists.{status_of}
+use Rattle.serf_wire.specs.Parts.{slot_content}
+
+and_true : (a b : Bool) → (a && b) ≡ true → (a ≡ true) × (b ≡ true)
+and_true true b e = (refl, e)
+and_true false b e = absurd cc
+
+pub status_ranged : (ss : List StatusTime) → list_all (λ s. nat_lt s.time 18446744073709551616) ss ≡ true → AllByRecursion (λ p. p.1 < 18446744073709551616) (map status_of ss)
+status_ranged [] e = tt
+status_ranged (s ∷ ss) e =
+    let both = and_true (nat_lt s.time 18446744073709551616) _ e in
+    (grind (arith, nat_tests, both.0), status_ranged ss both.1)
+
+pub slots_timed : (ss : List Slot) → list_all (λ s. nat_lt s.time 18446744073709551615) ss ≡ true → AllByRecursion IsTimed (map slot_content ss)
+slots_timed [] e = tt
+slots_timed (s ∷ ss) e =
+    let both = and_true (nat_lt s.time 18446744073709551615) _ e in
+    (grind (arith, nat_tests, both.0), slots_timed ss both.1)
+
+pub fits_signed : (z : ℤ) → SFits w64 z → fits z ≡ Some z
+fits_signed (pos n) f = let yes : nat_lt n 9223372036854775808 ≡ true = grind (arith, nat_tests) in rw yes refl
+fits_signed (negsuc k) f = let yes : nat_lt k 9223372036854775808 ≡ true = grind (arith, nat_tests) in rw yes refl

@@ -1,0 +1,40 @@
+-- Lists of which no text is too long.
+use Rattle.std.proofs.Common.{◌≡◌, ℕ, ◌<◌, List, length, Bool, true, false, ◌||◌, arith, refl}
+use Rattle.std.proofs.lemmas.Bool.Decides.{nat_tests}
+use Rattle.std.specs.List.{list_any}
+use Rattle.serf_wire.specs.Canonical.{is_long, has_long}
+use Rattle.serf_wire.specs.Message.{Query, query, user_event_of, response_of}
+
+pub short : {X : Type 0} (xs : List X) → is_long xs ≡ false → length xs < 4294967296
+short xs e = grind (arith, nat_tests)
+
+pub neither : (a b : Bool) → (a || b) ≡ false → (a ≡ false) × (b ≡ false)
+neither true b e = absurd cc
+neither false b e = (refl, e)
+
+-- what a query is of which nothing is too long
+pub record IsShortQuery (q : Query) : Type 0 where
+  pub addr : length q.addr < 4294967296
+  pub source : length q.source < 4294967296
+  pub filters : length q.filters < 4294967296
+  pub each : list_any is_long q.filters ≡ false
+  pub name : length q.name < 4294967296
+  pub payload : length q.payload < 4294967296
+
+pub short_query : (q : Query) → has_long (query q) ≡ false → IsShortQuery q
+unfolding has_long
+short_query q none =
+    let f5 = neither _ _ none in
+    let f4 = neither _ _ f5.0 in
+    let f3 = neither _ _ f4.0 in
+    let f2 = neither _ _ f3.0 in
+    let f1 = neither _ _ f2.0 in
+    record { addr = short _ f1.0; source = short _ f1.1; filters = short _ f2.1; each = f3.1; name = short _ f4.1; payload = short _ f5.1 }
+
+pub short_event_texts : (t : ℕ) (n p : List ℕ) (cc : Bool) → is_long n ≡ false → is_long p ≡ false → has_long (user_event_of t n p cc) ≡ false
+unfolding has_long
+short_event_texts t n p cc none other = rw (none, other) refl
+
+pub short_response_texts : (t id : ℕ) (n : List ℕ) (flags : ℕ) (p : List ℕ) → is_long n ≡ false → is_long p ≡ false → has_long (response_of t id n flags p) ≡ false
+unfolding has_long
+short_response_texts t id n flags p none other = rw (none, other) refl

@@ -1,0 +1,168 @@
+-- Canonical packets are spellings: parts of values, put together.
+use Rattle.std.proofs.Common.{◌≡◌, ℕ, suc, ℤ, pos, negsuc, ◌+◌, ◌<◌, ◌≤◌, List, [], ◌∷◌, ◌++◌, map, length, Bool, true, false, ◌||◌, cond, Option, Some, None, nat_le, nat_lt, refl, sym, ap, subst, arith}
+use Rattle.std.proofs.lemmas.Bool.Decides.{nat_tests}
+use Rattle.std.specs.List.{flat_map, list_any, AllByRecursion}
+use Rattle.serf_pack.specs.Tree.{Tree, flag, int, raw, array, pairs, Items, no_items, item, Pairs, no_pairs, pair}
+use Rattle.serf_pack.specs.Packs.{Packs, PackItems, PackPairs, item_count, pair_count, IsHead}
+use Rattle.serf_pack.specs.declared.head.Head.TheVariants as heads
+use Rattle.serf_pack.specs.Canonical.{map_head, array_head, raw_head, raw_bytes, uint_bytes, int_bytes, flag_bytes}
+use Rattle.serf_pack.specs.View.{item_list}
+use Rattle.serf_pack.proofs.Canonical.{map_head_is, array_head_is, raw_head_is, uint_is, negative_is}
+use Rattle.serf_wire.specs.Canonical.{entry}
+use Rattle.serf_wire.specs.Fields.{all, up_to, fits}
+
+-- a value's bytes, and the value, wherever it stands
+pub record Part : Type 0 where
+  pub bytes : List ℕ
+  pub tree : ℕ → Tree
+
+abbrev pub IsPart : ℕ → Part → Type 0
+IsPart d x = (p : ℕ) → Packs (x.tree p) d p x.bytes
+
+abbrev pub text_part : List ℕ → Part
+text_part s = record { bytes = raw_bytes s; tree = λ p. raw p s }
+
+abbrev pub number_part : ℕ → Part
+number_part n = record { bytes = uint_bytes n; tree = λ p. int p (pos n) }
+
+abbrev pub int_part : ℤ → Part
+int_part z = record { bytes = int_bytes z; tree = λ p. int p z }
+
+abbrev pub flag_part : Bool → Part
+flag_part b = record { bytes = flag_bytes b; tree = λ p. flag p b }
+
+pub text_is_part : (d : ℕ) (s : List ℕ) → length s < 4294967296 → IsPart d (text_part s)
+text_is_part d s lt = λ p. (refl, raw_head (length s), raw_head_is (length s) lt, refl)
+
+pub number_is_part : (d n : ℕ) → n < 18446744073709551616 → IsPart d (number_part n)
+number_is_part d n lt = λ p. (refl, uint_is n lt)
+
+pub flag_is_part : (d : ℕ) (b : Bool) → IsPart d (flag_part b)
+flag_is_part d true = λ p. (refl, (refl, refl))
+flag_is_part d false = λ p. (refl, (refl, refl))
+
+below_by : {A : Type 0} (n m : ℕ) (x y : A) (b : Bool) → nat_lt n m ≡ b → cond b (Some x) None ≡ Some y → n < m
+below_by n m x y true is e = grind (arith, nat_tests)
+below_by n m x y false is e = absurd cc
+
+pub int_is_part : (d : ℕ) (z : ℤ) → fits z ≡ Some z → IsPart d (int_part z)
+int_is_part d (pos n) e = let lt = below_by n 9223372036854775808 (pos n) (pos n) _ refl e in λ p. (refl, uint_is n (omega arith))
+int_is_part d (negsuc k) e = let lt = below_by k 9223372036854775808 (negsuc k) (negsuc k) _ refl e in λ p. (refl, negative_is k (omega arith))
+
+-- ---- arrays
+
+unfoldable pub items_from : {A : Type 0} → (A → Part) → ℕ → List A → Items
+items_from part p [] = no_items
+items_from part p (x ∷ xs) = item ((part x).tree p) (items_from part (p + length (part x).bytes) xs)
+
+abbrev pub array_part : {A : Type 0} → (A → Part) → List A → Part
+array_part part xs = record { bytes = array_head (length xs) ++ flat_map (λ x. (part x).bytes) xs; tree = λ p. array p (items_from part (p + length (array_head (length xs))) xs) }
+
+count_items : {A : Type 0} (part : A → Part) (p : ℕ) (xs : List A) → item_count (items_from part p xs) ≡ length xs
+unfolding items_from
+count_items part p [] = refl
+count_items part p (x ∷ xs) = ap suc (count_items part (p + length (part x).bytes) xs)
+
+items_pack : {A : Type 0} (d : ℕ) (part : A → Part) (ok : A → Type 0) → ((x : A) → ok x → IsPart d (part x)) → (xs : List A) → AllByRecursion ok xs → (p : ℕ) → PackItems (items_from part p xs) d p (flat_map (λ x. (part x).bytes) xs)
+unfolding items_from
+items_pack d part ok are [] oks p = refl
+items_pack d part ok are (x ∷ xs) oks p =
+    ((part x).bytes, flat_map (λ y. (part y).bytes) xs, refl, are x oks.0 p, items_pack d part ok are xs oks.1 (p + length (part x).bytes))
+
+pub array_is_part : {A : Type 0} (d : ℕ) (part : A → Part) (ok : A → Type 0) → d < 8 → ((x : A) → ok x → IsPart (d + 1) (part x)) → (xs : List A) → AllByRecursion ok xs → length xs < 4294967296 → IsPart d (array_part part xs)
+array_is_part d part ok room are xs oks lt = λ p. (
+  refl,
+  room,
+  array_head (length xs),
+  flat_map (λ x. (part x).bytes) xs,
+  subst (λ n. IsHead (array_head (length xs)) (heads.Array n)) (sym (count_items part (p + length (array_head (length xs))) xs)) (array_head_is (length xs) lt),
+  refl,
+  items_pack (d + 1) part ok are xs oks (p + length (array_head (length xs))),
+)
+
+-- ---- maps
+
+pub record Entry : Type 0 where
+  pub name : List ℕ
+  pub value : Part
+
+pub record IsEntry (d : ℕ) (e : Entry) : Type 0 where
+  pub short : length e.name < 4294967296
+  pub is : IsPart d e.value
+
+abbrev pub entry_bytes : Entry → List ℕ
+entry_bytes e = entry e.name e.value.bytes
+
+abbrev pub pairs_from : {A : Type 0} → (A → Entry) → ℕ → List A → Pairs
+pairs_from make p [] = no_pairs
+pairs_from make p (x ∷ xs) =
+    pair (raw p (make x).name) ((make x).value.tree (p + length (raw_bytes (make x).name))) (pairs_from make (p + length (raw_bytes (make x).name) + length (make x).value.bytes) xs)
+
+abbrev pub map_part : {A : Type 0} → (A → Entry) → List A → Part
+map_part make xs = record { bytes = map_head (length xs) ++ flat_map (λ x. entry_bytes (make x)) xs; tree = λ p. pairs p (pairs_from make (p + length (map_head (length xs))) xs) }
+
+count_pairs : {A : Type 0} (make : A → Entry) (p : ℕ) (xs : List A) → pair_count (pairs_from make p xs) ≡ length xs
+count_pairs make p [] = refl
+count_pairs make p (x ∷ xs) = ap suc (count_pairs make (p + length (raw_bytes (make x).name) + length (make x).value.bytes) xs)
+
+pairs_pack : {A : Type 0} (d : ℕ) (make : A → Entry) (ok : A → Type 0) → ((x : A) → ok x → IsEntry d (make x)) → (xs : List A) → AllByRecursion ok xs → (p : ℕ) → PackPairs (pairs_from make p xs) d p (flat_map (λ x. entry_bytes (make x)) xs)
+pairs_pack d make ok are [] oks p = refl
+pairs_pack d make ok are (x ∷ xs) oks p =
+    let e = are x oks.0 in (
+      raw_bytes (make x).name,
+      (make x).value.bytes,
+      flat_map (λ y. entry_bytes (make y)) xs,
+      refl,
+      (refl, raw_head (length (make x).name), raw_head_is (length (make x).name) e.short, refl),
+      e.is (p + length (raw_bytes (make x).name)),
+      pairs_pack d make ok are xs oks.1 (p + length (raw_bytes (make x).name) + length (make x).value.bytes),
+    )
+
+pub map_is_part : {A : Type 0} (d : ℕ) (make : A → Entry) (ok : A → Type 0) → d < 8 → ((x : A) → ok x → IsEntry (d + 1) (make x)) → (xs : List A) → AllByRecursion ok xs → length xs < 4294967296 → IsPart d (map_part make xs)
+map_is_part d make ok room are xs oks lt = λ p. (
+  refl,
+  room,
+  map_head (length xs),
+  flat_map (λ x. entry_bytes (make x)) xs,
+  subst (λ n. IsHead (map_head (length xs)) (heads.Map n)) (sym (count_pairs make (p + length (map_head (length xs))) xs)) (map_head_is (length xs) lt),
+  refl,
+  pairs_pack (d + 1) make ok are xs oks (p + length (map_head (length xs))),
+)
+
+-- a map of just these entries
+abbrev pub entries_part : List Entry → Part
+entries_part es = map_part (λ e. e) es
+
+pub entries_are_part : (d : ℕ) (es : List Entry) → d < 8 → AllByRecursion (IsEntry (d + 1)) es → length es < 4294967296 → IsPart d (entries_part es)
+entries_are_part d es room oks lt = map_is_part d (λ e. e) (IsEntry (d + 1)) room (λ e is. is) es oks lt
+
+-- ---- what the items of a written list are read as
+
+pub all_read : {A B : Type 0} (meaning : Tree → Option B) (part : A → Part) (value : A → B) (ok : A → Type 0) → ((x : A) → ok x → (p : ℕ) → meaning ((part x).tree p) ≡ Some (value x)) → (xs : List A) → AllByRecursion ok xs → (p : ℕ)
+    → all meaning (item_list (items_from part p xs)) ≡ Some (map value xs)
+unfolding items_from
+all_read meaning part value ok reads [] oks p = refl
+all_read meaning part value ok reads (x ∷ xs) oks p = rw (reads x oks.0 p, all_read meaning part value ok reads xs oks.1 (p + length (part x).bytes)) refl
+
+pub map_same : {A : Type 0} (xs : List A) → map (λ x. x) xs ≡ xs
+map_same [] = refl
+map_same (x ∷ xs) = ap (λ ys. x ∷ ys) (map_same xs)
+
+none_by : {A : Type 0} (test : A → Bool) (x : A) (xs : List A) → (list_any test xs ≡ false → AllByRecursion (λ y. test y ≡ false) xs) → (b : Bool) → test x ≡ b → (b || list_any test xs) ≡ false → AllByRecursion (λ y. test y ≡ false) (x ∷ xs)
+none_by test x xs rest true is e = absurd cc
+none_by test x xs rest false is e = (is, rest e)
+
+pub none_all : {A : Type 0} (test : A → Bool) (xs : List A) → list_any test xs ≡ false → AllByRecursion (λ x. test x ≡ false) xs
+none_all test [] none = tt
+none_all test (x ∷ xs) none = none_by test x xs (none_all test xs) (test x) refl none
+
+pub both_all : {A : Type 0} (P Q : A → Type 0) (xs : List A) → AllByRecursion P xs → AllByRecursion Q xs → AllByRecursion (λ x. P x × Q x) xs
+both_all P Q [] p q = tt
+both_all P Q (x ∷ xs) p q = ((p.0, q.0), both_all P Q xs p.1 q.1)
+
+pub all_true : {A : Type 0} (xs : List A) → AllByRecursion (λ x. Unit {0}) xs
+all_true [] = tt
+all_true (x ∷ xs) = (tt, all_true xs)
+
+pub within : (max n : ℕ) → n ≤ max → up_to max (pos n) ≡ Some n
+within max n le = let yes : nat_le n max ≡ true = grind (arith, nat_tests) in rw yes refl

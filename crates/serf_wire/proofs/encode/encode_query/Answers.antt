@@ -1,0 +1,11 @@
+use Rattle.std.proofs.Common.{sym, subst, ◌∙◌}
+use Rattle.serf_wire.specs.Message.{Message, query}
+use Rattle.serf_wire.specs.Parts.{query_of}
+use Rattle.serf_wire.specs.Spells.{Spells}
+use Rattle.serf_wire.proofs.CanonicalPackets.{canonical_spells}
+use Rattle.serf_wire.proofs.encode.encode_query.Goals as goal
+
+pub returns-clause-spells : goal.returns-clause-spells
+returns-clause-spells c =
+    let m : Message = query (query_of c.args.parts.now) in
+    subst (Spells m) (sym c.in_ok-write_query.ensures.bytes) (canonical_spells m c.in_ok-write_query.ensures.ranged (sym c.is_long_query.ensures ∙ c.if-is_long_query.false))

@@ -1,0 +1,10 @@
+use Rattle.std.proofs.Common.{sym, ◌∙◌}
+use Rattle.serf_pack.specs.View.{tree_of}
+use Rattle.serf_wire.proofs.Passing.{names_read, names_faulty}
+use Rattle.serf_wire.proofs.filter.names.Goals as goal
+
+pub returns-in-None : goal.returns-in-None
+returns-in-None c = c.has_text.ensures ∙ sym (names_read c.args.node.now (tree_of c.args.value.now) (sym c.in-Array.ensures) (sym c.texts_fault.ensures ∙ c.in-None.is))
+
+pub returns-in-Some : goal.returns-in-Some
+returns-in-Some c = sym (names_faulty c.args.node.now (tree_of c.args.value.now) c.in-Some.field-0 (sym c.texts_fault.ensures ∙ c.in-Some.is))

@@ -1,0 +1,7 @@
+use Rattle.std.proofs.Common.{◌≡◌, ◌≤◌, ◌*◌, ◌^◌, take, length}
+use Rattle.std.specs.List.{flat_map}
+use Rattle.serf_pack.specs.Canonical.{raw_bytes}
+use Rattle.serf_wire.proofs.length.filters_len.Given as goal
+
+abbrev pub invariant-loop-filter : goal.invariant-loop-filter
+invariant-loop-filter l = record { value : l.total ≡ length (flat_map raw_bytes (take l.filter-index l.filters)); small : l.total ≤ l.filter-index * 2 ^ 64 }

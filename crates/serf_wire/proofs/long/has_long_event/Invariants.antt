@@ -1,0 +1,7 @@
+use Rattle.std.proofs.Common.{◌≡◌, take, false}
+use Rattle.std.specs.List.{list_any}
+use Rattle.serf_wire.specs.Canonical.{is_long_event}
+use Rattle.serf_wire.proofs.long.has_long_event.Given as goal
+
+abbrev pub invariant-loop-event : goal.invariant-loop-event
+invariant-loop-event l = list_any is_long_event (take l.event-index l.events) ≡ false

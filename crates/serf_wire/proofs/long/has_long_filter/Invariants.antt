@@ -1,0 +1,7 @@
+use Rattle.std.proofs.Common.{◌≡◌, take, false}
+use Rattle.std.specs.List.{list_any}
+use Rattle.serf_wire.specs.Canonical.{is_long}
+use Rattle.serf_wire.proofs.long.has_long_filter.Given as goal
+
+abbrev pub invariant-loop-filter : goal.invariant-loop-filter
+invariant-loop-filter l = list_any is_long (take l.filter-index l.filters) ≡ false

@@ -1,0 +1,7 @@
+use Rattle.std.proofs.Common.{◌≡◌, take, false}
+use Rattle.std.specs.List.{list_any}
+use Rattle.serf_wire.specs.Canonical.{is_long}
+use Rattle.serf_wire.proofs.long.has_long_name.Given as goal
+
+abbrev pub invariant-loop-entry : goal.invariant-loop-entry
+invariant-loop-entry l = list_any (λ s. is_long s.name.now) (take l.entry-index l.status) ≡ false

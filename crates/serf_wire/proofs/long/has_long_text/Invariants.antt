@@ -1,0 +1,7 @@
+use Rattle.std.proofs.Common.{◌≡◌, take, false}
+use Rattle.std.specs.List.{list_any}
+use Rattle.serf_wire.specs.Canonical.{is_long}
+use Rattle.serf_wire.proofs.long.has_long_text.Given as goal
+
+abbrev pub invariant-loop-text : goal.invariant-loop-text
+invariant-loop-text l = list_any (λ t. is_long t.now) (take l.text-index l.texts) ≡ false

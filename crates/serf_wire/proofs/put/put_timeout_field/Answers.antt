@@ -1,0 +1,25 @@
+use Rattle.std.proofs.Common.{◌≡◌, ℕ, ℤ, List, ◌++◌, Result, Ok, Err, OnOk, ap, ◌∙◌, append_assoc, codes}
+use Rattle.std.proofs.Math.Facts.{to_z-of_z}
+use mir.Val.{SFits}
+use mir.Syntax.{w64}
+use Rattle.serf_pack.specs.Canonical.{raw_bytes, int_bytes}
+use Rattle.serf_wire.proofs.Ranged.{fits_signed}
+use Rattle.serf_wire.proofs.put.put_timeout_field.Goals as goal
+
+behind : {A E : Type 0} (r : Result A E) (new mid old a : List ℕ) (z w : ℤ) → OnOk r (new ≡ mid ++ int_bytes w) → w ≡ z → mid ≡ old ++ a → OnOk r (new ≡ old ++ (a ++ int_bytes z))
+behind (Ok x) new mid old a z w e same f = e ∙ ap (λ y. mid ++ int_bytes y) same ∙ ap (λ m. m ++ int_bytes z) f ∙ append_assoc old a (int_bytes z)
+behind (Err x) new mid old a z w e same f = tt
+
+pub returns-clause-bytes : goal.returns-clause-bytes
+returns-clause-bytes c =
+    let fits : SFits w64 c.args.parts.now.timeout = assumption in
+    behind c.put_int.result c.put_int.new.out.items c.put_raw.new.out.items c.args.out.now.items (raw_bytes (codes "Timeout")) c.args.parts.now.timeout _ c.put_int.ensures.ok (to_z-of_z fits) c.in_ok-put_raw.ensures.ok
+
+on_ok : {A E : Type 0} (r : Result A E) (P : Type 0) → P → OnOk r P
+on_ok (Ok x) P p = p
+on_ok (Err x) P p = tt
+
+pub returns-clause-timeout : goal.returns-clause-timeout
+returns-clause-timeout c =
+    let range : SFits w64 c.args.parts.now.timeout = assumption in
+    on_ok c.put_int.result _ (fits_signed c.args.parts.now.timeout range)

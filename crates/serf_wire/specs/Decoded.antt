@@ -1,0 +1,29 @@
+-- What a packet decodes to: its message, or its first fault.
+use Rattle.std.specs.Prelude.{ℕ, List, [], ◌∷◌, Result, Ok, Err}
+use Rattle.serf_pack.specs.declared.fault.PackFault.{PackFault}
+use Rattle.serf_pack.specs.Tree.{Tree}
+use Rattle.serf_pack.specs.Reading.{whole_at}
+use Rattle.serf_wire.specs.declared.fault.WireFault.{WireFault}
+use Rattle.serf_wire.specs.declared.fault.WireFault.TheVariants as faults
+use Rattle.serf_wire.specs.declared.layout.MessageType.{MessageType}
+use Rattle.serf_wire.specs.declared.layout.Class.{Class}
+use Rattle.serf_wire.specs.declared.layout.Class.TheVariants as classes
+use Rattle.serf_wire.specs.Layout.{class_of}
+use Rattle.serf_wire.specs.Message.{Message, foreign}
+use Rattle.serf_wire.specs.Reading.{read_tree}
+use Rattle.serf_wire.specs.Spells.{shifted}
+
+abbrev pub read_value : MessageType → Result Tree PackFault → Result Message WireFault
+read_value message (Ok v) = read_tree message v
+read_value message (Err f) = Err (faults.Pack (shifted f))
+
+-- what the bytes behind a type byte of this class decode to
+abbrev pub decoded_behind : Class → ℕ → List ℕ → Result Message WireFault
+decoded_behind (classes.Read message) kind bytes = read_value message (whole_at 8 bytes)
+decoded_behind classes.Foreign kind bytes = Ok (foreign kind)
+decoded_behind classes.Unknown kind bytes = Err (faults.UnknownType kind)
+
+-- Ok of the message that a packet spells, or Err of its first fault
+unfoldable pub decoded : List ℕ → Result Message WireFault
+decoded [] = Err faults.Empty
+decoded (kind ∷ bytes) = decoded_behind (class_of kind) kind bytes

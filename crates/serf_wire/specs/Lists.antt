@@ -1,0 +1,58 @@
+-- Lists that are walked where they lie: what is still to come.
+use Rattle.std.specs.Prelude.{ℕ, List, [], map, Option, Some, None}
+use Rattle.serf_pack.specs.declared.walk.Items.{Items}
+use Rattle.serf_pack.specs.declared.walk.Pairs.{Pairs}
+use Rattle.serf_pack.specs.Walk.{items_left, pairs_left}
+use Rattle.serf_wire.specs.declared.texts.EventText.{EventText}
+use Rattle.serf_wire.specs.declared.lists.Texts.{Texts}
+use Rattle.serf_wire.specs.declared.lists.StatusTime.{StatusTime}
+use Rattle.serf_wire.specs.declared.lists.StatusTimes.{StatusTimes}
+use Rattle.serf_wire.specs.declared.lists.EventView.{EventView}
+use Rattle.serf_wire.specs.declared.lists.EventViews.{EventViews}
+use Rattle.serf_wire.specs.declared.lists.SlotView.{SlotView}
+use Rattle.serf_wire.specs.declared.lists.SlotView.TheVariants.{Empty, Held}
+use Rattle.serf_wire.specs.declared.lists.SlotViews.{SlotViews}
+use Rattle.serf_wire.specs.Slots.{SlotContent, empty, held}
+use Rattle.serf_wire.specs.Lookups.{text_in, status_time_in, event_text_in, slot_in}
+
+abbrev pub texts_walk : Option Items → List (List ℕ)
+texts_walk None = []
+texts_walk (Some walk) = map text_in (items_left walk)
+
+-- the texts that are still to come
+abbrev pub texts_left : Texts → List (List ℕ)
+texts_left texts = texts_walk texts.items
+
+abbrev pub status_walk : Option Pairs → List (List ℕ × ℕ)
+status_walk None = []
+status_walk (Some walk) = map status_time_in (pairs_left walk)
+
+-- the names with their times that are still to come
+abbrev pub status_left : StatusTimes → List (List ℕ × ℕ)
+status_left status = status_walk status.pairs
+
+abbrev pub status_of : StatusTime → List ℕ × ℕ
+status_of s = (s.name.now, s.time)
+
+abbrev pub events_walk : Option Items → List EventText
+events_walk None = []
+events_walk (Some walk) = map event_text_in (items_left walk)
+
+-- the events that are still to come
+abbrev pub events_left : EventViews → List EventText
+events_left events = events_walk events.items
+
+abbrev pub event_of : EventView → EventText
+event_of e = record { name = e.name.now; payload = e.payload.now }
+
+abbrev pub slots_walk : Option Items → List SlotContent
+slots_walk None = []
+slots_walk (Some walk) = map slot_in (items_left walk)
+
+-- the slots that are still to come
+abbrev pub slots_left : SlotViews → List SlotContent
+slots_left slots = slots_walk slots.items
+
+abbrev pub slot_of : SlotView → SlotContent
+slot_of Empty = empty
+slot_of (Held time events) = held time (events_left events)

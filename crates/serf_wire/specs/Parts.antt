@@ -1,0 +1,46 @@
+-- What the parts of a message mean that are handed in for writing it.
+use Rattle.std.specs.Prelude.{ℕ, List, [], ◌∷◌, ◌++◌, length, codes, map}
+use Rattle.std.specs.List.{flat_map}
+use Rattle.serf_pack.specs.Canonical.{map_head, raw_bytes, uint_bytes}
+use Rattle.serf_wire.specs.declared.texts.Slot.{Slot}
+use Rattle.serf_wire.specs.declared.parts.QueryParts.{QueryParts}
+use Rattle.serf_wire.specs.declared.parts.PushPullParts.{PushPullParts}
+use Rattle.serf_wire.specs.Slots.{SlotContent, held}
+use Rattle.serf_wire.specs.Lists.{status_of}
+use Rattle.serf_wire.specs.Message.{Query, PushPull}
+use Rattle.serf_wire.specs.Canonical.{entry, list_bytes, status_time_bytes, slot_bytes}
+
+abbrev pub query_of : QueryParts → Query
+query_of p = record {
+  time = p.time;
+  id = p.id;
+  addr = p.addr.now;
+  port = p.port;
+  source = p.source.now;
+  filters = p.filters.now;
+  flags = p.flags;
+  relay_factor = p.relay_factor;
+  timeout = p.timeout;
+  name = p.name.now;
+  payload = p.payload.now;
+}
+
+abbrev pub slot_content : Slot → SlotContent
+slot_content s = held s.time s.events.items
+
+abbrev pub push_pull_of : PushPullParts → PushPull
+push_pull_of p = record {
+  member = p.member;
+  status = map status_of p.status.now;
+  left = map (λ t. t.now) p.left.now;
+  event = p.event;
+  slots = map slot_content p.slots.now;
+  query = p.query;
+}
+
+-- the canonical packet of a push/pull, written from its parts
+abbrev pub parts_bytes : PushPullParts → List ℕ
+parts_bytes p =
+    2 ∷ [] ++ map_head 6 ++ entry (codes "LTime") (uint_bytes p.member) ++ entry (codes "StatusLTimes") (map_head (length p.status.now) ++ flat_map (λ s. status_time_bytes (status_of s)) p.status.now)
+    ++ entry (codes "LeftMembers") (list_bytes (λ t. raw_bytes t.now) p.left.now) ++ entry (codes "EventLTime") (uint_bytes p.event)
+    ++ entry (codes "Events") (list_bytes (λ s. slot_bytes (slot_content s)) p.slots.now) ++ entry (codes "QueryLTime") (uint_bytes p.query)

@@ -1,0 +1,40 @@
+-- The numbers that a message's fields can hold.
+use Rattle.std.specs.Prelude.{◌≡◌, ◌<◌, ◌^◌, Some}
+use Rattle.std.specs.List.{AllByRecursion}
+use Rattle.serf_wire.specs.declared.layout.Class.TheVariants.{Foreign}
+use Rattle.serf_wire.specs.Layout.{class_of}
+use Rattle.serf_wire.specs.Fields.{fits}
+use Rattle.serf_wire.specs.Slots.{SlotContent, empty, held}
+use Rattle.serf_wire.specs.Message.{Message, Query, QueryResponse, PushPull, user_event, query, query_response, push_pull, foreign}
+
+pub record IsRangedQuery (q : Query) : Type 0 where
+  pub time : q.time < 18446744073709551615
+  pub id : q.id < 2 ^ 32
+  pub port : q.port < 2 ^ 16
+  pub flags : q.flags < 2 ^ 32
+  pub relay_factor : q.relay_factor < 2 ^ 8
+  -- 64 bits, with a sign
+  pub timeout : fits q.timeout ≡ Some q.timeout
+
+pub record IsRangedResponse (r : QueryResponse) : Type 0 where
+  pub time : r.time < 2 ^ 64
+  pub id : r.id < 2 ^ 32
+  pub flags : r.flags < 2 ^ 32
+
+abbrev pub IsTimed : SlotContent → Type 0
+IsTimed empty = Unit {0}
+IsTimed (held t es) = t < 18446744073709551615
+
+pub record IsRangedPushPull (m : PushPull) : Type 0 where
+  pub member : m.member < 2 ^ 64
+  pub status : AllByRecursion (λ p. p.1 < 18446744073709551616) m.status
+  pub event : m.event < 2 ^ 64
+  pub slots : AllByRecursion IsTimed m.slots
+  pub query : m.query < 2 ^ 64
+
+abbrev pub InRange : Message → Type 0
+InRange (user_event e) = e.time < 18446744073709551615
+InRange (query q) = IsRangedQuery q
+InRange (query_response r) = IsRangedResponse r
+InRange (push_pull m) = IsRangedPushPull m
+InRange (foreign k) = class_of k ≡ Foreign

@@ -1,0 +1,116 @@
+-- Which bytes spell which message, and what else they are.
+use Rattle.std.specs.Prelude.{◌≡◌, ◌+◌, ℕ, List, [], ◌∷◌, Some, codes, IsSome}
+use Rattle.serf_pack.specs.declared.fault.PackFault.{PackFault}
+use Rattle.serf_pack.specs.declared.fault.PackFault.TheVariants as pack
+use Rattle.serf_pack.specs.Tree.{Tree, pairs, Pairs}
+use Rattle.serf_pack.specs.Packs.{Packs}
+use Rattle.serf_pack.specs.Breaks.{IsFaulty}
+use Rattle.serf_pack.specs.View.{raw_of, pair_list, kind_of}
+use Rattle.serf_pack.specs.declared.view.Kind.TheVariants.{Map}
+use Rattle.serf_wire.specs.declared.fault.WireFault.{WireFault}
+use Rattle.serf_wire.specs.declared.fault.WireFault.TheVariants as faults
+use Rattle.serf_wire.specs.declared.layout.MessageType.{MessageType}
+use Rattle.serf_wire.specs.declared.layout.MessageType.TheVariants as types
+use Rattle.serf_wire.specs.declared.layout.Class.{Class}
+use Rattle.serf_wire.specs.declared.layout.Class.TheVariants as classes
+use Rattle.serf_wire.specs.Layout.{class_of}
+use Rattle.serf_wire.specs.Fields.{field, text, truth, number, time, signed, list, status, slot}
+use Rattle.serf_wire.specs.Faults.{message_faults, first}
+use Rattle.serf_wire.specs.Message.{Message, UserEvent, Query, QueryResponse, PushPull, user_event, query, query_response, push_pull, foreign}
+
+abbrev pub HasRawKeys : List (Tree × Tree) → Type 0
+HasRawKeys [] = Unit {0}
+HasRawKeys (p ∷ ps) = IsSome (raw_of p.0) × HasRawKeys ps
+
+-- the map's fields are the event's
+pub record IsUserEvent (e : UserEvent) (ps : List (Tree × Tree)) : Type 0 where
+  pub keys : HasRawKeys ps
+  pub time : field time (codes "LTime") ps ≡ Some e.time
+  pub name : field text (codes "Name") ps ≡ Some e.name
+  pub payload : field text (codes "Payload") ps ≡ Some e.payload
+  pub cc : field truth (codes "CC") ps ≡ Some e.cc
+
+pub record IsQuery (q : Query) (ps : List (Tree × Tree)) : Type 0 where
+  pub keys : HasRawKeys ps
+  pub time : field time (codes "LTime") ps ≡ Some q.time
+  pub id : field (number 0xffff_ffff) (codes "ID") ps ≡ Some q.id
+  pub addr : field text (codes "Addr") ps ≡ Some q.addr
+  pub port : field (number 0xffff) (codes "Port") ps ≡ Some q.port
+  pub source : field text (codes "SourceNode") ps ≡ Some q.source
+  pub filters : field (list text) (codes "Filters") ps ≡ Some q.filters
+  pub flags : field (number 0xffff_ffff) (codes "Flags") ps ≡ Some q.flags
+  pub relay_factor : field (number 0xff) (codes "RelayFactor") ps ≡ Some q.relay_factor
+  pub timeout : field signed (codes "Timeout") ps ≡ Some q.timeout
+  pub name : field text (codes "Name") ps ≡ Some q.name
+  pub payload : field text (codes "Payload") ps ≡ Some q.payload
+
+pub record IsQueryResponse (r : QueryResponse) (ps : List (Tree × Tree)) : Type 0 where
+  pub keys : HasRawKeys ps
+  pub time : field (number 0xffff_ffff_ffff_ffff) (codes "LTime") ps ≡ Some r.time
+  pub id : field (number 0xffff_ffff) (codes "ID") ps ≡ Some r.id
+  pub from : field text (codes "From") ps ≡ Some r.from
+  pub flags : field (number 0xffff_ffff) (codes "Flags") ps ≡ Some r.flags
+  pub payload : field text (codes "Payload") ps ≡ Some r.payload
+
+pub record IsPushPull (m : PushPull) (ps : List (Tree × Tree)) : Type 0 where
+  pub keys : HasRawKeys ps
+  pub member : field (number 0xffff_ffff_ffff_ffff) (codes "LTime") ps ≡ Some m.member
+  pub status : field status (codes "StatusLTimes") ps ≡ Some m.status
+  pub left : field (list text) (codes "LeftMembers") ps ≡ Some m.left
+  pub event : field (number 0xffff_ffff_ffff_ffff) (codes "EventLTime") ps ≡ Some m.event
+  pub slots : field (list slot) (codes "Events") ps ≡ Some m.slots
+  pub query : field (number 0xffff_ffff_ffff_ffff) (codes "QueryLTime") ps ≡ Some m.query
+
+-- the map's fields are the message's
+abbrev pub HasFields : MessageType → Message → List (Tree × Tree) → Type 0
+HasFields types.UserEvent (user_event e) ps = IsUserEvent e ps
+HasFields types.Query (query q) ps = IsQuery q ps
+HasFields types.QueryResponse (query_response r) ps = IsQueryResponse r ps
+HasFields types.PushPull (push_pull m) ps = IsPushPull m ps
+HasFields _ _ ps = ⊥
+
+-- the bytes are a map with the message's fields
+abbrev pub SpellsMap : MessageType → Message → List ℕ → Type 0
+SpellsMap message m bytes = (ps : Pairs) × Packs (pairs 0 ps) 0 0 bytes × HasFields message m (pair_list ps)
+
+abbrev pub SpellsBehind : Class → ℕ → Message → List ℕ → Type 0
+SpellsBehind (classes.Read message) kind m bytes = SpellsMap message m bytes
+SpellsBehind classes.Foreign kind m bytes = m ≡ foreign kind
+SpellsBehind classes.Unknown kind m bytes = ⊥
+
+-- the packet spells the message
+abbrev pub Spells : Message → List ℕ → Type 0
+Spells m [] = ⊥
+Spells m (kind ∷ bytes) = SpellsBehind (class_of kind) kind m bytes
+
+-- a fault of what stands behind the type byte
+abbrev pub shifted : PackFault → PackFault
+shifted (pack.Truncated p) = pack.Truncated (p + 1)
+shifted (pack.Unsupported b p) = pack.Unsupported b (p + 1)
+shifted (pack.TooDeep p) = pack.TooDeep (p + 1)
+shifted (pack.Trailing p) = pack.Trailing (p + 1)
+
+abbrev pub fault_place : PackFault → ℕ
+fault_place (pack.Truncated p) = p
+fault_place (pack.Unsupported b p) = p
+fault_place (pack.TooDeep p) = p
+fault_place (pack.Trailing p) = p
+
+-- The first fault of bytes that are to be a map of such fields.
+pub data IsFirstMapFault : MessageType → List ℕ → WireFault → Type 0 where
+  -- they are no value
+  no_value : (message : MessageType) (bytes : List ℕ) (f : WireFault) (g : PackFault) → IsFaulty bytes g → f ≡ faults.Pack (shifted g) → IsFirstMapFault message bytes f
+  -- the value is no map
+  no_map : (message : MessageType) (bytes : List ℕ) (f : WireFault) (v : Tree) → Packs v 0 0 bytes → (kind_of v ≡ Map → ⊥) → f ≡ faults.NotAMap → IsFirstMapFault message bytes f
+  -- a place of the map has the fault, and no place before it has one
+  in_map : (message : MessageType) (bytes : List ℕ) (f : WireFault) (ps : Pairs) → Packs (pairs 0 ps) 0 0 bytes → first (message_faults message (pair_list ps)) ≡ Some f → IsFirstMapFault message bytes f
+
+abbrev pub IsFirstFaultBehind : Class → ℕ → List ℕ → WireFault → Type 0
+IsFirstFaultBehind (classes.Read message) kind bytes f = IsFirstMapFault message bytes f
+IsFirstFaultBehind classes.Foreign kind bytes f = ⊥
+IsFirstFaultBehind classes.Unknown kind bytes f = f ≡ faults.UnknownType kind
+
+-- the first fault of a packet that spells no message
+abbrev pub IsFirstFault : List ℕ → WireFault → Type 0
+IsFirstFault [] f = f ≡ faults.Empty
+IsFirstFault (kind ∷ bytes) f = IsFirstFaultBehind (class_of kind) kind bytes f

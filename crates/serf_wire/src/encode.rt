@@ -1,0 +1,230 @@
+//! Messages to canonical packets.
+
+ghost use Rattle.std.specs.Prelude.{◌≡◌, ◌<◌, ◌^◌, ◌++◌, ◌↔◌, IsTrue, false, true, length, map, codes, nat_lt, IfOk, OnOk, Some};
+ghost use Rattle.std.specs.List.{list_any, list_all};
+ghost use Rattle.serf_pack.specs.Canonical.{raw_bytes, uint_bytes, int_bytes};
+ghost use Rattle.serf_wire.specs.Message.{query, push_pull, user_event_of, response_of};
+ghost use Rattle.serf_wire.specs.Lists.{status_of};
+ghost use Rattle.serf_wire.specs.Parts.{query_of, push_pull_of, parts_bytes};
+ghost use Rattle.serf_wire.specs.Canonical.{entry, list_bytes, canonical, without_empty_slots, is_long, is_long_slot, has_long};
+ghost use Rattle.serf_wire.specs.Spells.{Spells};
+ghost use Rattle.serf_wire.specs.Fields.{fits};
+ghost use Rattle.serf_wire.specs.Ranges.{IsRangedQuery, IsRangedPushPull};
+
+use crate::long::{is_long_push_pull, is_long_query, is_long_text};
+use crate::parts::{PushPullParts, QueryParts};
+use crate::put::{
+    put_filters_field, put_flag_field, put_number_field, put_slots_field, put_status_field,
+    put_text_field, put_texts_field, put_timeout_field,
+};
+use serf_lamport::Time;
+use serf_pack::put_map;
+use std::alloc::{AllocError, Global};
+use thiserror::Error;
+
+/// Why a message has no packet.
+#[derive(Clone, Copy, Debug, PartialEq, Eq, Error)]
+pub enum EncodeFault {
+    /// A text or a list is longer than 4,294,967,295.
+    #[error("a text or a list is longer than 4,294,967,295")]
+    TooLong,
+    /// There is no memory for the packet.
+    #[error("out of memory")]
+    OutOfMemory,
+}
+
+impl From<AllocError> for EncodeFault {
+    ghost use Rattle.std.specs.Prelude.{◌≡◌};
+    ghost use Rattle.serf_wire.specs.declared.encode.EncodeFault.TheVariants.{OutOfMemory};
+
+    ghost from_gives = { λ _ e. e ≡ OutOfMemory };
+
+    fn from(_: AllocError) -> EncodeFault {
+        EncodeFault::OutOfMemory
+    }
+}
+
+#[tactic(auto, unfolding(crate::specs::Canonical::canonical))]
+fn write_user_event(
+    alloc: Global,
+    time: Time,
+    name: &[u8],
+    payload: &[u8],
+    cc: bool,
+) -> Result<Vec<u8>, AllocError>
+    requires name { length name.now < 2 ^ 32 }
+    requires payload { length payload.now < 2 ^ 32 }
+    ensures bytes { IfOk result (λ packet. packet.items ≡ canonical (user_event_of time name.now payload.now cc)) }
+    ensures time { OnOk result (time < 18446744073709551615) }
+{
+    let mut out = Vec::new(alloc);
+    out.extend_from_slice(&[3])?;
+    put_map(&mut out, 4)?;
+    put_number_field(&mut out, b"LTime", time.get())?;
+    put_text_field(&mut out, b"Name", name)?;
+    put_text_field(&mut out, b"Payload", payload)?;
+    put_flag_field(&mut out, b"CC", cc)?;
+    Ok(out)
+}
+
+/// Whom the query is from, and who is asked.
+fn put_query_route(out: &mut Vec<u8>, parts: &QueryParts) -> Result<(), AllocError>
+    requires addr { length parts.now.addr.now < 2 ^ 32 }
+    requires source { length parts.now.source.now < 2 ^ 32 }
+    requires filters { length parts.now.filters.now < 2 ^ 32 }
+    requires each { list_any is_long parts.now.filters.now ≡ false }
+    ensures port { OnOk result (parts.now.port < 2 ^ 16) }
+    ensures bytes { OnOk result (out.new.items ≡ out.old.items ++ entry (codes "Addr") (raw_bytes parts.now.addr.now) ++ entry (codes "Port") (uint_bytes parts.now.port) ++ entry (codes "SourceNode") (raw_bytes parts.now.source.now) ++ entry (codes "Filters") (list_bytes raw_bytes parts.now.filters.now)) }
+{
+    put_text_field(out, b"Addr", parts.addr)?;
+    put_number_field(out, b"Port", parts.port as u64)?;
+    put_text_field(out, b"SourceNode", parts.source)?;
+    put_filters_field(out, b"Filters", parts.filters)
+}
+
+/// How the query is to be answered.
+fn put_query_terms(out: &mut Vec<u8>, parts: &QueryParts) -> Result<(), AllocError>
+    ensures flags { OnOk result (parts.now.flags < 2 ^ 32) }
+    ensures relay_factor { OnOk result (parts.now.relay_factor < 2 ^ 8) }
+    ensures timeout { OnOk result (fits parts.now.timeout ≡ Some parts.now.timeout) }
+    ensures bytes { OnOk result (out.new.items ≡ out.old.items ++ entry (codes "Flags") (uint_bytes parts.now.flags) ++ entry (codes "RelayFactor") (uint_bytes parts.now.relay_factor) ++ entry (codes "Timeout") (int_bytes parts.now.timeout)) }
+{
+    put_number_field(out, b"Flags", parts.flags as u64)?;
+    put_number_field(out, b"RelayFactor", parts.relay_factor as u64)?;
+    put_timeout_field(out, parts)
+}
+
+/// What is asked.
+fn put_question(out: &mut Vec<u8>, parts: &QueryParts) -> Result<(), AllocError>
+    requires name { length parts.now.name.now < 2 ^ 32 }
+    requires payload { length parts.now.payload.now < 2 ^ 32 }
+    ensures { OnOk result (out.new.items ≡ out.old.items ++ entry (codes "Name") (raw_bytes parts.now.name.now) ++ entry (codes "Payload") (raw_bytes parts.now.payload.now)) }
+{
+    put_text_field(out, b"Name", parts.name)?;
+    put_text_field(out, b"Payload", parts.payload)
+}
+
+#[tactic(auto, unfolding(crate::specs::Canonical::canonical, crate::specs::Canonical::has_long))]
+fn write_query(alloc: Global, parts: &QueryParts) -> Result<Vec<u8>, AllocError>
+    requires { has_long (query (query_of parts.now)) ≡ false }
+    ensures bytes { IfOk result (λ packet. packet.items ≡ canonical (query (query_of parts.now))) }
+    ensures ranged { OnOk result (IsRangedQuery (query_of parts.now)) }
+{
+    let mut out = Vec::new(alloc);
+    out.extend_from_slice(&[4])?;
+    put_map(&mut out, 11)?;
+    put_number_field(&mut out, b"LTime", parts.time.get())?;
+    put_number_field(&mut out, b"ID", parts.id as u64)?;
+    put_query_route(&mut out, parts)?;
+    put_query_terms(&mut out, parts)?;
+    put_question(&mut out, parts)?;
+    Ok(out)
+}
+
+#[tactic(auto, unfolding(crate::specs::Canonical::canonical))]
+fn write_response(
+    alloc: Global,
+    time: u64,
+    id: u32,
+    from: &[u8],
+    flags: u32,
+    answer: &[u8],
+) -> Result<Vec<u8>, AllocError>
+    requires from { length from.now < 2 ^ 32 }
+    requires answer { length answer.now < 2 ^ 32 }
+    ensures { IfOk result (λ packet. packet.items ≡ canonical (response_of time id from.now flags answer.now)) }
+{
+    let mut out = Vec::new(alloc);
+    out.extend_from_slice(&[5])?;
+    put_map(&mut out, 5)?;
+    put_number_field(&mut out, b"LTime", time)?;
+    put_number_field(&mut out, b"ID", u64::from(id))?;
+    put_text_field(&mut out, b"From", from)?;
+    put_number_field(&mut out, b"Flags", u64::from(flags))?;
+    put_text_field(&mut out, b"Payload", answer)?;
+    Ok(out)
+}
+
+fn write_push_pull(alloc: Global, parts: &PushPullParts) -> Result<Vec<u8>, AllocError>
+    requires { has_long (push_pull (push_pull_of parts.now)) ≡ false }
+    ensures bytes { IfOk result (λ packet. packet.items ≡ parts_bytes parts.now) }
+    ensures ranged { OnOk result (IsRangedPushPull (push_pull_of parts.now)) }
+{
+    let mut out = Vec::new(alloc);
+    out.extend_from_slice(&[2])?;
+    put_map(&mut out, 6)?;
+    put_number_field(&mut out, b"LTime", parts.member)?;
+    put_status_field(&mut out, b"StatusLTimes", parts.status)?;
+    put_texts_field(&mut out, b"LeftMembers", parts.left)?;
+    put_number_field(&mut out, b"EventLTime", parts.event)?;
+    put_slots_field(&mut out, b"Events", parts.slots)?;
+    put_number_field(&mut out, b"QueryLTime", parts.query)?;
+    Ok(out)
+}
+
+/// The canonical packet of a user event. `TooLong` comes where the name or the payload is longer than
+/// 4,294,967,295 bytes, and then `OutOfMemory` where the packet couldn't grow.
+#[tactic(auto, unfolding(crate::specs::Canonical::has_long))]
+pub fn encode_user_event(
+    alloc: Global,
+    time: Time,
+    name: &[u8],
+    payload: &[u8],
+    cc: bool,
+) -> Result<Vec<u8>, EncodeFault>
+    ensures canonical { IfOk result (λ packet. packet.items ≡ canonical (user_event_of time name.now payload.now cc)) }
+    ensures spells { IfOk result (λ packet. Spells (user_event_of time name.now payload.now cc) packet.items) }
+    ensures too_long { (result ≡ Err EncodeFault.TooLong) ↔ IsTrue (has_long (user_event_of time name.now payload.now cc)) }
+{
+    if is_long_text(name) || is_long_text(payload) {
+        return Err(EncodeFault::TooLong);
+    }
+    Ok(write_user_event(alloc, time, name, payload, cc)?)
+}
+
+/// The canonical packet of a query. `TooLong` comes where a text or the list of filters is longer than
+/// 4,294,967,295, and then `OutOfMemory` where the packet couldn't grow.
+pub fn encode_query(alloc: Global, parts: &QueryParts) -> Result<Vec<u8>, EncodeFault>
+    ensures canonical { IfOk result (λ packet. packet.items ≡ canonical (query (query_of parts.now))) }
+    ensures spells { IfOk result (λ packet. Spells (query (query_of parts.now)) packet.items) }
+    ensures too_long { (result ≡ Err EncodeFault.TooLong) ↔ IsTrue (has_long (query (query_of parts.now))) }
+{
+    if is_long_query(parts) {
+        return Err(EncodeFault::TooLong);
+    }
+    Ok(write_query(alloc, parts)?)
+}
+
+/// The canonical packet of a query's response. `TooLong` comes where the name or the payload is longer than
+/// 4,294,967,295 bytes, and then `OutOfMemory` where the packet couldn't grow.
+#[tactic(auto, unfolding(crate::specs::Canonical::has_long))]
+pub fn encode_response(
+    alloc: Global,
+    time: u64,
+    id: u32,
+    from: &[u8],
+    flags: u32,
+    payload: &[u8],
+) -> Result<Vec<u8>, EncodeFault>
+    ensures canonical { IfOk result (λ packet. packet.items ≡ canonical (response_of time id from.now flags payload.now)) }
+    ensures spells { IfOk result (λ packet. Spells (response_of time id from.now flags payload.now) packet.items) }
+    ensures too_long { (result ≡ Err EncodeFault.TooLong) ↔ IsTrue (has_long (response_of time id from.now flags payload.now)) }
+{
+    if is_long_text(from) || is_long_text(payload) {
+        return Err(EncodeFault::TooLong);
+    }
+    Ok(write_response(alloc, time, id, from, flags, payload)?)
+}
+
+/// The canonical packet of a push/pull, in which a slot without events is nil. `TooLong` comes where a text or
+/// a list is longer than 4,294,967,295, and then `OutOfMemory` where the packet couldn't grow.
+pub fn encode_push_pull(alloc: Global, parts: &PushPullParts) -> Result<Vec<u8>, EncodeFault>
+    ensures canonical { IfOk result (λ packet. packet.items ≡ canonical (push_pull (push_pull_of parts.now))) }
+    ensures spells { IfOk result (λ packet. Spells (without_empty_slots (push_pull (push_pull_of parts.now))) packet.items) }
+    ensures too_long { (result ≡ Err EncodeFault.TooLong) ↔ IsTrue (has_long (push_pull (push_pull_of parts.now))) }
+{
+    if is_long_push_pull(parts) {
+        return Err(EncodeFault::TooLong);
+    }
+    Ok(write_push_pull(alloc, parts)?)
+}

@@ -1,0 +1,102 @@
+//! Filters: which nodes a query asks (Serf's `query.go`).
+
+ghost use Rattle.std.specs.Prelude.{◌≡◌, ◌<◌, ◌^◌, ◌++◌, ◌∷◌, [], ◌↔◌, ◌||◌, ℕ, List, IsTrue, false, map, length, IfOk};
+ghost use Rattle.std.specs.List.{list_any, flat_map, Contains};
+ghost use Rattle.std.specs.Str.{bytes_eq};
+ghost use Rattle.serf_pack.specs.View.{tree_of};
+ghost use Rattle.serf_pack.specs.Canonical.{raw_bytes};
+ghost use Rattle.serf_wire.specs.Canonical.{is_long, list_bytes};
+ghost use Rattle.serf_wire.specs.Lookups.{text_in, list_in};
+ghost use Rattle.serf_wire.specs.Passes.{Passes, passes_of, names_node, value_names_node, canonical_filter};
+ghost use Rattle.serf_pack.specs.Reading.{whole_at};
+
+use crate::encode::EncodeFault;
+use crate::faults::texts_fault;
+use crate::lists::Texts;
+use crate::long::{LONGEST, has_long_text};
+use crate::put::put_texts;
+use serf_pack::{Kind, View, check, put_array};
+use std::alloc::{AllocError, Global};
+
+/// The type byte of a node filter.
+const NODE_FILTER: u8 = 0;
+
+/// Whether this is one of the texts of a list.
+fn has_text(list: &View, text: &[u8]) -> bool
+    ensures { result ≡ list_any (λ t. bytes_eq t text.now) (list_in text_in (tree_of list.now)) }
+{
+    for name in Texts::of(Some(*list)) {
+        if name == text {
+            return true;
+        }
+    }
+    false
+}
+
+fn names(value: &View, node: &[u8]) -> bool
+    ensures { result ≡ names_node node.now (tree_of value.now) }
+{
+    match value.kind() {
+        Kind::Array => match texts_fault(value) {
+            None => has_text(value, node),
+            Some(_) => false,
+        },
+        _ => false,
+    }
+}
+
+fn value_names(bytes: &[u8], node: &[u8]) -> bool
+    ensures { result ≡ value_names_node node.now (whole_at 8 bytes.now) }
+{
+    match check(bytes) {
+        Ok(value) => names(&value, node),
+        Err(_) => false,
+    }
+}
+
+#[tactic(auto, unfolding(crate::specs::Passes::passes_of))]
+fn lets_pass(filter: &[u8], node: &[u8]) -> bool
+    ensures { result ≡ passes_of filter.now node.now }
+{
+    let [kind, body @ ..] = filter else {
+        return false;
+    };
+    *kind == NODE_FILTER && value_names(body, node)
+}
+
+/// Whether a filter lets the node of this name pass.
+///
+/// A node filter does where its bytes are one array of names, each raw or nil (the empty name), and the node's is
+/// one of them. Every other filter excludes every node: a tag filter, one of an unknown type, an empty one
+/// (at which Serf panics), and one whose bytes are no such array. Takes no memory.
+pub fn passes(filter: &[u8], node: &[u8]) -> bool
+    ensures passes { IsTrue result ↔ Passes filter.now node.now }
+    ensures exact { result ≡ passes_of filter.now node.now }
+{
+    lets_pass(filter, node)
+}
+
+fn write_node_filter(alloc: Global, names: &[&[u8]]) -> Result<Vec<u8>, AllocError>
+    requires list { length names.now < 2 ^ 32 }
+    requires items { list_any (λ t. is_long t.now) names.now ≡ false }
+    ensures { IfOk result (λ filter. filter.items ≡ 0 ∷ list_bytes (λ t. raw_bytes t.now) names.now) }
+{
+    let mut out = Vec::new(alloc);
+    out.extend_from_slice(&[NODE_FILTER])?;
+    put_array(&mut out, names.len() as u32)?;
+    put_texts(&mut out, names)?;
+    Ok(out)
+}
+
+/// The filter that lets the nodes of these names pass, and no others. `TooLong` comes where a name is longer than
+/// 4,294,967,295 bytes or there are more names than that, and then `OutOfMemory` where the filter couldn't grow.
+pub fn node_filter(alloc: Global, names: &[&[u8]]) -> Result<Vec<u8>, EncodeFault>
+    ensures canonical { IfOk result (λ filter. filter.items ≡ canonical_filter (map (λ t. t.now) names.now)) }
+    ensures passes { IfOk result (λ filter. (node : List ℕ) → Passes filter.items node ↔ Contains (map (λ t. t.now) names.now) node) }
+    ensures too_long { (result ≡ Err EncodeFault.TooLong) ↔ IsTrue (is_long names.now || list_any (λ t. is_long t.now) names.now) }
+{
+    if names.len() > LONGEST || has_long_text(names) {
+        return Err(EncodeFault::TooLong);
+    }
+    Ok(write_node_filter(alloc, names)?)
+}

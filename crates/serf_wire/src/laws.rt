@@ -1,0 +1,16 @@
+//! What holds of packets, whichever they are.
+
+ghost use Rattle.serf_wire.specs.Laws.{DecodesSpelled, DecodesFaulty, OneMessage, CanonicalSpells};
+
+/// Decoding, as a function of a byte list, is exact: it gives just the message that the bytes spell, and just
+/// the first fault of bytes that spell none. So a byte list spells at most one message.
+pub fn exact_decoding()
+    ensures spells { DecodesSpelled }
+    ensures fault { DecodesFaulty }
+    ensures one { OneMessage }
+{}
+
+/// The canonical packet of a message spells it, but that slots without events are empty.
+pub fn canonical_packets()
+    ensures { CanonicalSpells }
+{}

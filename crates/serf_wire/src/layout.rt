@@ -1,0 +1,178 @@
+//! Which messages there are, and which fields their maps have (Serf's `messages.go`).
+
+ghost use Rattle.std.specs.Prelude.{◌≡◌};
+ghost use Rattle.serf_wire.specs.Layout.{class_of, fields_of, kind_in, layout_of};
+
+/// A map with known keys.
+#[derive(Clone, Copy)]
+pub enum Layout {
+    UserEvent,
+    Query,
+    QueryResponse,
+    PushPull,
+    Slot,
+    Event,
+}
+
+/// A message that is read.
+#[derive(Clone, Copy)]
+pub enum MessageType {
+    UserEvent,
+    Query,
+    QueryResponse,
+    PushPull,
+}
+
+/// What a packet's type byte says of what follows.
+#[derive(Clone, Copy)]
+pub enum Class {
+    /// A map with these fields.
+    Read(MessageType),
+    /// Anything: the message is not read.
+    Foreign,
+    /// No message has this type.
+    Unknown,
+}
+
+/// What stands in a field.
+#[derive(Clone, Copy)]
+pub enum Kind {
+    /// A time.
+    Time,
+    /// An integer from 0 to this one.
+    Natural(u64),
+    /// An integer of 64 bits.
+    Signed,
+    /// A text, or other bytes.
+    Text,
+    /// A truth value.
+    Flag,
+    /// A list of texts.
+    Texts,
+    /// A map from names to times.
+    Status,
+    /// A list of maps with these fields, or nils.
+    Maps(Layout),
+}
+
+pub fn class_for(kind: u8) -> Class
+    ensures { result ≡ class_of kind }
+{
+    match kind {
+        2 => Class::Read(MessageType::PushPull),
+        3 => Class::Read(MessageType::UserEvent),
+        4 => Class::Read(MessageType::Query),
+        5 => Class::Read(MessageType::QueryResponse),
+        0 | 1 | 6..=9 => Class::Foreign,
+        _ => Class::Unknown,
+    }
+}
+
+pub fn layout_for(message: MessageType) -> Layout
+    ensures { result ≡ layout_of message }
+{
+    match message {
+        MessageType::UserEvent => Layout::UserEvent,
+        MessageType::Query => Layout::Query,
+        MessageType::QueryResponse => Layout::QueryResponse,
+        MessageType::PushPull => Layout::PushPull,
+    }
+}
+
+/// The kind of the field with this name.
+pub fn kind_of(layout: Layout, name: &[u8]) -> Option<Kind>
+    ensures { result ≡ kind_in name.now (fields_of layout) }
+{
+    match layout {
+        Layout::UserEvent => {
+            if name == b"LTime".as_slice() {
+                Some(Kind::Time)
+            } else if name == b"Name".as_slice() {
+                Some(Kind::Text)
+            } else if name == b"Payload".as_slice() {
+                Some(Kind::Text)
+            } else if name == b"CC".as_slice() {
+                Some(Kind::Flag)
+            } else {
+                None
+            }
+        }
+        Layout::Query => {
+            if name == b"LTime".as_slice() {
+                Some(Kind::Time)
+            } else if name == b"ID".as_slice() {
+                Some(Kind::Natural(0xffff_ffff))
+            } else if name == b"Addr".as_slice() {
+                Some(Kind::Text)
+            } else if name == b"Port".as_slice() {
+                Some(Kind::Natural(0xffff))
+            } else if name == b"SourceNode".as_slice() {
+                Some(Kind::Text)
+            } else if name == b"Filters".as_slice() {
+                Some(Kind::Texts)
+            } else if name == b"Flags".as_slice() {
+                Some(Kind::Natural(0xffff_ffff))
+            } else if name == b"RelayFactor".as_slice() {
+                Some(Kind::Natural(0xff))
+            } else if name == b"Timeout".as_slice() {
+                Some(Kind::Signed)
+            } else if name == b"Name".as_slice() {
+                Some(Kind::Text)
+            } else if name == b"Payload".as_slice() {
+                Some(Kind::Text)
+            } else {
+                None
+            }
+        }
+        Layout::QueryResponse => {
+            if name == b"LTime".as_slice() {
+                Some(Kind::Natural(u64::MAX))
+            } else if name == b"ID".as_slice() {
+                Some(Kind::Natural(0xffff_ffff))
+            } else if name == b"From".as_slice() {
+                Some(Kind::Text)
+            } else if name == b"Flags".as_slice() {
+                Some(Kind::Natural(0xffff_ffff))
+            } else if name == b"Payload".as_slice() {
+                Some(Kind::Text)
+            } else {
+                None
+            }
+        }
+        Layout::PushPull => {
+            if name == b"LTime".as_slice() {
+                Some(Kind::Natural(u64::MAX))
+            } else if name == b"StatusLTimes".as_slice() {
+                Some(Kind::Status)
+            } else if name == b"LeftMembers".as_slice() {
+                Some(Kind::Texts)
+            } else if name == b"EventLTime".as_slice() {
+                Some(Kind::Natural(u64::MAX))
+            } else if name == b"Events".as_slice() {
+                Some(Kind::Maps(Layout::Slot))
+            } else if name == b"QueryLTime".as_slice() {
+                Some(Kind::Natural(u64::MAX))
+            } else {
+                None
+            }
+        }
+        Layout::Slot => {
+            if name == b"LTime".as_slice() {
+                Some(Kind::Time)
+            } else if name == b"Events".as_slice() {
+                Some(Kind::Maps(Layout::Event))
+            } else {
+                None
+            }
+        }
+        Layout::Event => {
+            if name == b"Name".as_slice() {
+                Some(Kind::Text)
+            } else if name == b"Payload".as_slice() {
+                Some(Kind::Text)
+            } else {
+                None
+            }
+        }
+    }
+}

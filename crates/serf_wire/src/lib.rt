@@ -1,0 +1,39 @@
+//! Messages of the gossip that carry user events and queries (Serf's `messages.go`).
+//!
+//! A packet is a type byte and one value of MessagePack. `decode` reads it where it lies, without memory, in
+//! every spelling that MessagePack has, and answers the message or the packet's first fault. The encoders write
+//! the one canonical packet of a message. `passes` says which nodes a query asks.
+#![tactic(auto)]
+
+mod encode;
+mod fault;
+mod faults;
+mod fields;
+mod filter;
+mod flat;
+mod key;
+mod laws;
+mod layout;
+mod length;
+mod lists;
+mod long;
+mod message;
+mod packet;
+mod parts;
+mod plain;
+mod put;
+mod texts;
+
+pub use encode::{EncodeFault, encode_push_pull, encode_query, encode_response, encode_user_event};
+pub use fault::WireFault;
+pub use filter::{node_filter, passes};
+pub use laws::{canonical_packets, exact_decoding};
+pub use length::{query_len, response_len, user_event_len};
+pub use lists::{EventView, EventViews, SlotView, SlotViews, StatusTime, StatusTimes, Texts};
+pub use message::Message;
+pub use packet::decode;
+pub use parts::{PushPullParts, QueryParts};
+pub use texts::{Bytes, EventText, EventTexts, Slot};
+
+#[cfg(test)]
+mod tests;

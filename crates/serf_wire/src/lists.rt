@@ -1,0 +1,254 @@
+//! Lists of a packet, which are walked where they lie and never copied.
+
+ghost use Rattle.std.specs.Prelude.{◌≡◌};
+ghost use Rattle.serf_pack.specs.View.{tree_of};
+ghost use Rattle.serf_wire.specs.Lookups.{status_time_in};
+ghost use Rattle.serf_wire.specs.Lists.{status_of};
+
+use crate::fields::{find_value, natural_of, text_at, text_of, time_at};
+use serf_lamport::Time;
+use serf_pack::{Items, Kind, Pairs, View};
+
+/// The texts of a list that are still to come.
+#[derive(Clone, Copy)]
+pub struct Texts<'a> {
+    items: Option<Items<'a>>,
+}
+
+/// A member's name, and the member clock's time of its status.
+#[derive(Clone, Copy)]
+pub struct StatusTime<'a> {
+    pub name: &'a [u8],
+    pub time: u64,
+}
+
+/// The names with their times that are still to come. A name may come twice.
+#[derive(Clone, Copy)]
+pub struct StatusTimes<'a> {
+    pairs: Option<Pairs<'a>>,
+}
+
+/// An event in a slot.
+#[derive(Clone, Copy)]
+pub struct EventView<'a> {
+    pub name: &'a [u8],
+    pub payload: &'a [u8],
+}
+
+/// The events of a slot that are still to come.
+#[derive(Clone, Copy)]
+pub struct EventViews<'a> {
+    items: Option<Items<'a>>,
+}
+
+/// A slot of an event buffer: nothing, or a time and its events.
+#[derive(Clone, Copy)]
+pub enum SlotView<'a> {
+    Empty,
+    Held(Time, EventViews<'a>),
+}
+
+/// The slots that are still to come.
+#[derive(Clone, Copy)]
+pub struct SlotViews<'a> {
+    items: Option<Items<'a>>,
+}
+
+impl<'a> Texts<'a> {
+    ghost use Rattle.std.specs.Prelude.{◌≡◌};
+    ghost use Rattle.std.specs.Option.{option_map};
+    ghost use Rattle.serf_pack.specs.View.{tree_of};
+    ghost use Rattle.serf_wire.specs.Lookups.{text_in, list_in, tree_or_nil};
+    ghost use Rattle.serf_wire.specs.Lists.{texts_left};
+
+    /// The texts of a list, where each item is one.
+    pub(crate) fn of(list: Option<View<'a>>) -> Texts<'a>
+        ensures { texts_left result ≡ list_in text_in (tree_or_nil (option_map tree_of list.entry)) }
+    {
+        match list {
+            None => Texts { items: None },
+            Some(list) => Texts {
+                items: Some(list.items()),
+            },
+        }
+    }
+}
+
+impl<'a> StatusTimes<'a> {
+    ghost use Rattle.std.specs.Prelude.{◌≡◌};
+    ghost use Rattle.std.specs.Option.{option_map};
+    ghost use Rattle.serf_pack.specs.View.{tree_of};
+    ghost use Rattle.serf_wire.specs.Lookups.{status_in, tree_or_nil};
+    ghost use Rattle.serf_wire.specs.Lists.{status_left};
+
+    /// The names and times of a map, where each pair is such.
+    pub(crate) fn of(map: Option<View<'a>>) -> StatusTimes<'a>
+        ensures { status_left result ≡ status_in (tree_or_nil (option_map tree_of map.entry)) }
+    {
+        match map {
+            None => StatusTimes { pairs: None },
+            Some(map) => StatusTimes {
+                pairs: Some(map.pairs()),
+            },
+        }
+    }
+}
+
+impl<'a> EventViews<'a> {
+    ghost use Rattle.std.specs.Prelude.{◌≡◌};
+    ghost use Rattle.std.specs.Option.{option_map};
+    ghost use Rattle.serf_pack.specs.View.{tree_of};
+    ghost use Rattle.serf_wire.specs.Lookups.{list_in, tree_or_nil, event_text_in};
+    ghost use Rattle.serf_wire.specs.Lists.{events_left};
+
+    fn of(list: Option<View<'a>>) -> EventViews<'a>
+        ensures { events_left result ≡ list_in event_text_in (tree_or_nil (option_map tree_of list.entry)) }
+    {
+        match list {
+            None => EventViews { items: None },
+            Some(list) => EventViews {
+                items: Some(list.items()),
+            },
+        }
+    }
+}
+
+impl<'a> SlotViews<'a> {
+    ghost use Rattle.std.specs.Prelude.{◌≡◌};
+    ghost use Rattle.std.specs.Option.{option_map};
+    ghost use Rattle.serf_pack.specs.View.{tree_of};
+    ghost use Rattle.serf_wire.specs.Lookups.{list_in, tree_or_nil, slot_in};
+    ghost use Rattle.serf_wire.specs.Lists.{slots_left};
+
+    /// The slots of a list, where each item is one.
+    pub(crate) fn of(list: Option<View<'a>>) -> SlotViews<'a>
+        ensures { slots_left result ≡ list_in slot_in (tree_or_nil (option_map tree_of list.entry)) }
+    {
+        match list {
+            None => SlotViews { items: None },
+            Some(list) => SlotViews {
+                items: Some(list.items()),
+            },
+        }
+    }
+}
+
+impl<'a> EventView<'a> {
+    ghost use Rattle.std.specs.Prelude.{◌≡◌};
+    ghost use Rattle.serf_pack.specs.View.{tree_of};
+    ghost use Rattle.serf_wire.specs.Lookups.{event_text_in};
+    ghost use Rattle.serf_wire.specs.Lists.{event_of};
+
+    fn of(value: &View<'a>) -> EventView<'a>
+        ensures { event_of result ≡ event_text_in (tree_of value.now) }
+    {
+        EventView {
+            name: text_at(value, b"Name"),
+            payload: text_at(value, b"Payload"),
+        }
+    }
+}
+
+impl<'a> SlotView<'a> {
+    ghost use Rattle.std.specs.Prelude.{◌≡◌};
+    ghost use Rattle.serf_pack.specs.View.{tree_of};
+    ghost use Rattle.serf_wire.specs.Lookups.{slot_in};
+    ghost use Rattle.serf_wire.specs.Lists.{slot_of};
+
+    fn of(value: &View<'a>) -> SlotView<'a>
+        ensures { slot_of result ≡ slot_in (tree_of value.now) }
+    {
+        match value.kind() {
+            Kind::Map => SlotView::Held(
+                time_at(value, b"LTime"),
+                EventViews::of(find_value(value, b"Events")),
+            ),
+            _ => SlotView::Empty,
+        }
+    }
+}
+
+/// The name and the time of a pair.
+fn status_time_at<'a>(name: &View<'a>, time: &View<'a>) -> StatusTime<'a>
+    ensures { status_of result ≡ status_time_in (tree_of name.now, tree_of time.now) }
+{
+    StatusTime {
+        name: text_of(name),
+        time: natural_of(time, u64::MAX),
+    }
+}
+
+impl<'a> Iterator for Texts<'a> {
+    ghost use Rattle.std.specs.Iterator.{YieldsFirstRef, item_count};
+    ghost use Rattle.serf_wire.specs.Lists.{texts_left};
+
+    type Item = &'a [u8];
+
+    ghost next_gives = { YieldsFirstRef texts_left };
+
+    ghost remaining = { item_count texts_left };
+
+    fn next(&mut self) -> Option<&'a [u8]> {
+        let mut items = self.items?;
+        let item = items.next()?;
+        *self = Texts { items: Some(items) };
+        match item.raw() {
+            Some(text) => Some(text),
+            None => Some(b""),
+        }
+    }
+}
+
+impl<'a> Iterator for StatusTimes<'a> {
+    ghost use Rattle.std.specs.Iterator.{YieldsFirstBy, item_count};
+    ghost use Rattle.serf_wire.specs.Lists.{status_left, status_of};
+
+    type Item = StatusTime<'a>;
+
+    ghost next_gives = { YieldsFirstBy status_of status_left };
+
+    ghost remaining = { item_count status_left };
+
+    fn next(&mut self) -> Option<StatusTime<'a>> {
+        let mut pairs = self.pairs?;
+        let (name, time) = pairs.next()?;
+        *self = StatusTimes { pairs: Some(pairs) };
+        Some(status_time_at(&name, &time))
+    }
+}
+
+impl<'a> Iterator for EventViews<'a> {
+    ghost use Rattle.std.specs.Iterator.{YieldsFirstBy, item_count};
+    ghost use Rattle.serf_wire.specs.Lists.{events_left, event_of};
+
+    type Item = EventView<'a>;
+
+    ghost next_gives = { YieldsFirstBy event_of events_left };
+
+    ghost remaining = { item_count events_left };
+
+    fn next(&mut self) -> Option<EventView<'a>> {
+        let mut items = self.items?;
+        let item = items.next()?;
+        *self = EventViews { items: Some(items) };
+        Some(EventView::of(&item))
+    }
+}
+
+impl<'a> Iterator for SlotViews<'a> {
+    ghost use Rattle.std.specs.Iterator.{YieldsFirstBy, item_count};
+    ghost use Rattle.serf_wire.specs.Lists.{slots_left, slot_of};
+
+    type Item = SlotView<'a>;
+
+    ghost next_gives = { YieldsFirstBy slot_of slots_left };
+
+    ghost remaining = { item_count slots_left };
+
+    fn next(&mut self) -> Option<SlotView<'a>> {
+        let mut items = self.items?;
+        let item = items.next()?;
+        *self = SlotViews { items: Some(items) };
+        Some(SlotView::of(&item))
+    }
+}

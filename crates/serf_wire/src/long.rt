@@ -1,0 +1,104 @@
+//! Texts and lists that are too long for any packet.
+
+ghost use Rattle.std.specs.Prelude.{◌≡◌, ◌||◌};
+ghost use Rattle.std.specs.List.{list_any};
+ghost use Rattle.serf_wire.specs.Canonical.{is_long, is_long_event, is_long_slot, has_long};
+ghost use Rattle.serf_wire.specs.Message.{query, push_pull};
+ghost use Rattle.serf_wire.specs.Parts.{query_of, push_pull_of, slot_content};
+
+use crate::lists::StatusTime;
+use crate::parts::{PushPullParts, QueryParts};
+use crate::texts::{Bytes, EventText, Slot};
+
+/// The longest text or list whose length a header can say.
+pub const LONGEST: usize = 4_294_967_295;
+
+/// Whether a text is longer than 4,294,967,295 bytes.
+pub fn is_long_text(text: &[u8]) -> bool
+    ensures { result ≡ is_long text.now }
+{
+    text.len() > LONGEST
+}
+
+fn has_long_filter(filters: &[Bytes]) -> bool
+    ensures { result ≡ list_any is_long filters.now }
+{
+    for filter in filters {
+        if is_long_text(filter.as_slice()) {
+            return true;
+        }
+    }
+    false
+}
+
+/// Whether one of the texts is too long.
+pub fn has_long_text(texts: &[&[u8]]) -> bool
+    ensures { result ≡ list_any (λ t. is_long t.now) texts.now }
+{
+    for text in texts {
+        if is_long_text(text) {
+            return true;
+        }
+    }
+    false
+}
+
+fn has_long_name(status: &[StatusTime]) -> bool
+    ensures { result ≡ list_any (λ s. is_long s.name.now) status.now }
+{
+    for entry in status {
+        if is_long_text(entry.name) {
+            return true;
+        }
+    }
+    false
+}
+
+fn has_long_event(events: &[EventText]) -> bool
+    ensures { result ≡ list_any is_long_event events.now }
+{
+    for event in events {
+        if is_long_text(event.name.as_slice()) || is_long_text(event.payload.as_slice()) {
+            return true;
+        }
+    }
+    false
+}
+
+fn has_long_slot(slots: &[Slot]) -> bool
+    ensures { result ≡ list_any (λ s. is_long_slot (slot_content s)) slots.now }
+{
+    for slot in slots {
+        let events = slot.events.as_slice();
+        if events.len() > LONGEST || has_long_event(events) {
+            return true;
+        }
+    }
+    false
+}
+
+/// Whether a text or a list of the query is too long.
+#[tactic(auto, unfolding(crate::specs::Canonical::has_long))]
+pub fn is_long_query(parts: &QueryParts) -> bool
+    ensures { result ≡ has_long (query (query_of parts.now)) }
+{
+    is_long_text(parts.addr)
+        || is_long_text(parts.source)
+        || parts.filters.len() > LONGEST
+        || has_long_filter(parts.filters)
+        || is_long_text(parts.name)
+        || is_long_text(parts.payload)
+}
+
+/// Whether a text or a list of the push/pull is too long.
+#[tactic(auto, unfolding(crate::specs::Canonical::has_long))]
+pub fn is_long_push_pull(parts: &PushPullParts) -> bool
+    ensures { result ≡ has_long (push_pull (push_pull_of parts.now)) }
+{
+    parts.status.len() > LONGEST
+        || has_long_name(parts.status)
+        || parts.left.len() > LONGEST
+        || has_long_text(parts.left)
+        || parts.slots.len() > LONGEST
+        || has_long_slot(parts.slots)
+}

@@ -1,0 +1,155 @@
+//! Packets to messages.
+
+ghost use Rattle.std.specs.Prelude.{◌≡◌, ◌<◌, ◌^◌, Err, IfOk, IfErr, IfSome, IsOkAnd};
+ghost use Rattle.serf_pack.specs.Reading.{Gives, whole_at};
+ghost use Rattle.serf_pack.specs.View.{tree_of, pairs_of};
+ghost use Rattle.serf_wire.specs.Message.{Message as Meaning, message_of};
+ghost use Rattle.serf_wire.specs.declared.fault.WireFault.{WireFault as Fault};
+ghost use Rattle.serf_wire.specs.Reading.{message_in, read_tree};
+ghost use Rattle.serf_wire.specs.Spells.{Spells, SpellsMap, IsFirstFault, shifted, fault_place};
+ghost use Rattle.serf_wire.specs.Decoded.{read_value, decoded};
+
+use crate::fault::WireFault;
+use crate::faults::find_fault;
+use crate::fields::{
+    flag_at, natural_at, signed_at, slots_at, status_at, text_at, texts_at, time_at,
+};
+use crate::flat::{read_query, read_response, read_user_event};
+use crate::layout::{Class, MessageType, class_for};
+use crate::message::Message;
+use serf_pack::{Kind, PackFault, View, check};
+
+/// The fault of the bytes behind the type byte, as one of the packet.
+fn shift(fault: PackFault) -> PackFault
+    requires { fault_place fault < 2 ^ 63 }
+    ensures { result ≡ shifted fault }
+{
+    match fault {
+        PackFault::Truncated(place) => PackFault::Truncated(place + 1),
+        PackFault::Unsupported(byte, place) => PackFault::Unsupported(byte, place + 1),
+        PackFault::TooDeep(place) => PackFault::TooDeep(place + 1),
+        PackFault::Trailing(place) => PackFault::Trailing(place + 1),
+    }
+}
+
+/// The message of a sound map.
+fn message_at<'a>(message: MessageType, map: &View<'a>) -> Message<'a>
+    ensures { message_of result ≡ message_in message (pairs_of (tree_of map.now)) }
+{
+    match message {
+        MessageType::UserEvent => Message::UserEvent {
+            time: time_at(map, b"LTime"),
+            name: text_at(map, b"Name"),
+            payload: text_at(map, b"Payload"),
+            cc: flag_at(map, b"CC"),
+        },
+        MessageType::Query => Message::Query {
+            time: time_at(map, b"LTime"),
+            id: natural_at(map, b"ID", 0xffff_ffff) as u32,
+            addr: text_at(map, b"Addr"),
+            port: natural_at(map, b"Port", 0xffff) as u16,
+            source: text_at(map, b"SourceNode"),
+            filters: texts_at(map, b"Filters"),
+            flags: natural_at(map, b"Flags", 0xffff_ffff) as u32,
+            relay_factor: natural_at(map, b"RelayFactor", 0xff) as u8,
+            timeout: signed_at(map, b"Timeout"),
+            name: text_at(map, b"Name"),
+            payload: text_at(map, b"Payload"),
+        },
+        MessageType::QueryResponse => Message::QueryResponse {
+            time: natural_at(map, b"LTime", u64::MAX),
+            id: natural_at(map, b"ID", 0xffff_ffff) as u32,
+            from: text_at(map, b"From"),
+            flags: natural_at(map, b"Flags", 0xffff_ffff) as u32,
+            payload: text_at(map, b"Payload"),
+        },
+        MessageType::PushPull => Message::PushPull {
+            member: natural_at(map, b"LTime", u64::MAX),
+            status: status_at(map, b"StatusLTimes"),
+            left: texts_at(map, b"LeftMembers"),
+            event: natural_at(map, b"EventLTime", u64::MAX),
+            slots: slots_at(map, b"Events"),
+            query: natural_at(map, b"QueryLTime", u64::MAX),
+        },
+    }
+}
+
+/// The message of a value, or its first fault.
+fn read<'a>(message: MessageType, value: &View<'a>) -> Result<Message<'a>, WireFault>
+    ensures { Gives message_of result (read_tree message (tree_of value.now)) }
+{
+    if value.kind() != Kind::Map {
+        return Err(WireFault::NotAMap);
+    }
+    if let Some(fault) = find_fault(message, value) {
+        return Err(fault);
+    }
+    Ok(message_at(message, value))
+}
+
+/// The message of a map with such fields, or the bytes' first fault.
+fn read_checked(message: MessageType, bytes: &[u8]) -> Result<Message<'_>, WireFault>
+    ensures { Gives message_of result (read_value message (whole_at 8 bytes.now)) }
+{
+    match check(bytes) {
+        Ok(value) => read(message, &value),
+        Err(fault) => Err(WireFault::Pack(shift(fault))),
+    }
+}
+
+/// The message of a flat map in plain spellings, which is read in one pass. Every other map is left to
+/// `read_checked`.
+fn read_flat(message: MessageType, bytes: &[u8]) -> Option<Message<'_>>
+    ensures { IfSome result (λ m. SpellsMap message (message_of m) bytes.now) }
+{
+    match message {
+        MessageType::UserEvent => read_user_event(bytes),
+        MessageType::Query => read_query(bytes),
+        MessageType::QueryResponse => read_response(bytes),
+        MessageType::PushPull => None,
+    }
+}
+
+/// The same, in one pass where that can be.
+fn read_map(message: MessageType, bytes: &[u8]) -> Result<Message<'_>, WireFault>
+    ensures { Gives message_of result (read_value message (whole_at 8 bytes.now)) }
+{
+    match read_flat(message, bytes) {
+        Some(found) => Ok(found),
+        None => read_checked(message, bytes),
+    }
+}
+
+#[tactic(auto, unfolding(crate::specs::Decoded::decoded))]
+fn read_packet(packet: &[u8]) -> Result<Message<'_>, WireFault>
+    ensures { Gives message_of result (decoded packet.now) }
+{
+    let [kind, body @ ..] = packet else {
+        return Err(WireFault::Empty);
+    };
+    match class_for(*kind) {
+        Class::Read(message) => read_map(message, body),
+        Class::Foreign => Ok(Message::Foreign(*kind)),
+        Class::Unknown => Err(WireFault::UnknownType(*kind)),
+    }
+}
+
+/// The message that a packet spells, in whatever order of keys and spelling of values, or the packet's first
+/// fault in reading order.
+///
+/// `Empty` comes where there is no byte, then `UnknownType`, then `Pack` where the bytes behind the type are no
+/// value of MessagePack, then `NotAMap`, then the fault of the map's first faulty place. Of the types 0, 1
+/// and 6 to 9 the answer is `Foreign`, whatever follows. Takes no memory.
+pub fn decode(packet: &[u8]) -> Result<Message<'_>, WireFault>
+    // What is read is spelled so.
+    ensures spells { IfOk result (λ m. Spells (message_of m) packet.now) }
+    // What is spelled so is read.
+    ensures only { (m : Meaning) → Spells m packet.now → IsOkAnd result (λ r. message_of r ≡ m) }
+    // Which fault it is.
+    ensures fault { IfErr result (IsFirstFault packet.now) }
+    ensures only_fault { (f : Fault) → IsFirstFault packet.now f → result ≡ Err f }
+    // The same as a function.
+    ensures exact { Gives message_of result (decoded packet.now) }
+{
+    read_packet(packet)
+}
