@@ -48,6 +48,40 @@ def examples(count):
         exactly(count, name + " on standard input", ["replay"], 0, trace, b"", read("examples", name + ".schedule"))
 
 
+def packets_and_snapshots(count):
+    folder = os.path.join(TOP, "examples", "packets")
+    names = sorted(name[:-4] for name in os.listdir(folder) if name.endswith(".hex"))
+    count.check("packets as Serf sends them", len(names) >= 7)
+    for name in names:
+        digits = read("examples", "packets", name + ".hex").decode().strip()
+        exactly(count, name, ["decode", digits], 0, read("examples", "packets", name + ".text"), b"")
+        exactly(count, name + " in capitals", ["decode", digits.upper()], 0, read("examples", "packets", name + ".text"), b"")
+    snapshot = os.path.join(TOP, "examples", "snapshots", "after_a_crash")
+    exactly(count, "the clocks after a crash", ["clocks", snapshot + ".snapshot"], 0, read("examples", "snapshots", "after_a_crash.clocks"), b"")
+
+
+def refused_packets(count):
+    for digits, words in (
+        ("", b"Empty"),
+        ("0a", b"UnknownType 10"),
+        ("0390", b"NotAMap"),
+        ("0382a24343c2a24343c3", b"Twice 6"),
+        ("0381a2434301", b"WrongKind 5"),
+        ("03810101", b"BadKey 2"),
+        ("0381a54c54696d65ff", b"OutOfRange 8"),
+        ("0381a54c54696d65cfffffffffffffffff", b"GreatestTime 8"),
+        ("0381a178ca00000000", b"Unsupported 202 4"),
+        ("03919191919191919191c0", b"TooDeep 9"),
+        ("0384a5", b"Truncated 2"),
+        ("0380c0", b"Trailing 2"),
+        # an array that says it has four billion items, in a few bytes
+        ("0381a64576656e7473ddffffffff", b"Truncated 14"),
+    ):
+        exactly(count, f"decode {digits}", ["decode", digits], 1, b"", b"refused " + words + b"\n")
+    for digits in ("-", "0", "0x00", "0g", "00 00"):
+        exactly(count, f"decode {digits}", ["decode", digits], 1, b"", b"bad hex\n")
+
+
 def faults(count):
     longest = 16_777_216
     exactly(count, "an empty schedule", ["replay"], 0, b"", b"")
@@ -58,6 +92,9 @@ def faults(count):
     exactly(count, "one byte more, with a fault before it", ["replay"], 1, b"", b"too long\n", b"!" + b"\n" * longest)
     exactly(count, "a missing file", ["replay", os.path.join(TOP, "no_such_file")], 3, b"", b"read fault\n")
     exactly(count, "a folder", ["replay", TOP], 3, b"", b"read fault\n")
+    exactly(count, "a missing snapshot", ["clocks", os.path.join(TOP, "no_such_file")], 3, b"", b"read fault\n")
+    exactly(count, "the longest snapshot", ["clocks", "-"], 0, b"clock 0\nevent-clock 0\nquery-clock 0\n", b"", b"x" * longest)
+    exactly(count, "a longer one", ["clocks", "-"], 1, b"", b"too long\n", b"x" * (longest + 1))
 
 
 def full_device(count):
@@ -70,11 +107,13 @@ def full_device(count):
 
 
 def command_line(count):
-    for words in (["--help"], ["replay", "--help"], ["--version"]):
+    for words in (["--help"], ["replay", "--help"], ["decode", "--help"], ["clocks", "--help"], ["--version"]):
         ran = run(words)
         count.check(" ".join(words), ran.returncode == 0 and ran.stdout and not ran.stderr, str(ran))
-    count.check("an example in the help", b"Example: serf-replay replay" in run(["replay", "--help"]).stdout)
-    for words in ([], ["first"], ["replay", "a", "b"]):
+    for command in ("replay", "decode", "clocks"):
+        example = b"Example: serf-replay " + command.encode()
+        count.check(f"an example in the help of {command}", example in run([command, "--help"]).stdout)
+    for words in ([], ["first"], ["replay", "a", "b"], ["decode"], ["clocks"]):
         ran = run(words)
         count.check("refused: " + " ".join(words), ran.returncode == 2 and ran.stderr and not ran.stdout, str(ran))
 
@@ -86,7 +125,7 @@ def main():
         print("0 passed, 1 failed")
         return 1
     count = Count()
-    for part in (examples, faults, full_device, command_line):
+    for part in (examples, packets_and_snapshots, refused_packets, faults, full_device, command_line):
         part(count)
     print(f"{count.passed} passed, {count.failed} failed")
     return 1 if count.failed else 0

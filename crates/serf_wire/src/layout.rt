@@ -1,6 +1,7 @@
 //! Which messages there are, and which fields their maps have (Serf's `messages.go`).
 
 ghost use Rattle.std.specs.Prelude.{◌≡◌};
+ghost use Rattle.serf_wire.specs.declared.layout.Layout.TheVariants as layouts;
 ghost use Rattle.serf_wire.specs.Layout.{class_of, fields_of, kind_in, layout_of};
 
 /// A map with known keys.
@@ -79,100 +80,130 @@ pub fn layout_for(message: MessageType) -> Layout
     }
 }
 
+/// The kind of the field of a user event with this name.
+fn user_event_kind(name: &[u8]) -> Option<Kind>
+    ensures { result ≡ kind_in name.now (fields_of layouts.UserEvent) }
+{
+    if name == b"LTime".as_slice() {
+        Some(Kind::Time)
+    } else if name == b"Name".as_slice() {
+        Some(Kind::Text)
+    } else if name == b"Payload".as_slice() {
+        Some(Kind::Text)
+    } else if name == b"CC".as_slice() {
+        Some(Kind::Flag)
+    } else {
+        None
+    }
+}
+
+/// The kind of the field of a query with this name.
+fn query_kind(name: &[u8]) -> Option<Kind>
+    ensures { result ≡ kind_in name.now (fields_of layouts.Query) }
+{
+    if name == b"LTime".as_slice() {
+        Some(Kind::Time)
+    } else if name == b"ID".as_slice() {
+        Some(Kind::Natural(0xffff_ffff))
+    } else if name == b"Addr".as_slice() {
+        Some(Kind::Text)
+    } else if name == b"Port".as_slice() {
+        Some(Kind::Natural(0xffff))
+    } else if name == b"SourceNode".as_slice() {
+        Some(Kind::Text)
+    } else if name == b"Filters".as_slice() {
+        Some(Kind::Texts)
+    } else if name == b"Flags".as_slice() {
+        Some(Kind::Natural(0xffff_ffff))
+    } else if name == b"RelayFactor".as_slice() {
+        Some(Kind::Natural(0xff))
+    } else if name == b"Timeout".as_slice() {
+        Some(Kind::Signed)
+    } else if name == b"Name".as_slice() {
+        Some(Kind::Text)
+    } else if name == b"Payload".as_slice() {
+        Some(Kind::Text)
+    } else {
+        None
+    }
+}
+
+/// The kind of the field of a response with this name.
+fn response_kind(name: &[u8]) -> Option<Kind>
+    ensures { result ≡ kind_in name.now (fields_of layouts.QueryResponse) }
+{
+    if name == b"LTime".as_slice() {
+        Some(Kind::Natural(u64::MAX))
+    } else if name == b"ID".as_slice() {
+        Some(Kind::Natural(0xffff_ffff))
+    } else if name == b"From".as_slice() {
+        Some(Kind::Text)
+    } else if name == b"Flags".as_slice() {
+        Some(Kind::Natural(0xffff_ffff))
+    } else if name == b"Payload".as_slice() {
+        Some(Kind::Text)
+    } else {
+        None
+    }
+}
+
+/// The kind of the field of a push/pull with this name.
+fn push_pull_kind(name: &[u8]) -> Option<Kind>
+    ensures { result ≡ kind_in name.now (fields_of layouts.PushPull) }
+{
+    if name == b"LTime".as_slice() {
+        Some(Kind::Natural(u64::MAX))
+    } else if name == b"StatusLTimes".as_slice() {
+        Some(Kind::Status)
+    } else if name == b"LeftMembers".as_slice() {
+        Some(Kind::Texts)
+    } else if name == b"EventLTime".as_slice() {
+        Some(Kind::Natural(u64::MAX))
+    } else if name == b"Events".as_slice() {
+        Some(Kind::Maps(Layout::Slot))
+    } else if name == b"QueryLTime".as_slice() {
+        Some(Kind::Natural(u64::MAX))
+    } else {
+        None
+    }
+}
+
+/// The kind of the field of a slot with this name.
+fn slot_kind(name: &[u8]) -> Option<Kind>
+    ensures { result ≡ kind_in name.now (fields_of layouts.Slot) }
+{
+    if name == b"LTime".as_slice() {
+        Some(Kind::Time)
+    } else if name == b"Events".as_slice() {
+        Some(Kind::Maps(Layout::Event))
+    } else {
+        None
+    }
+}
+
+/// The kind of the field of an event in a slot with this name.
+fn event_kind(name: &[u8]) -> Option<Kind>
+    ensures { result ≡ kind_in name.now (fields_of layouts.Event) }
+{
+    if name == b"Name".as_slice() {
+        Some(Kind::Text)
+    } else if name == b"Payload".as_slice() {
+        Some(Kind::Text)
+    } else {
+        None
+    }
+}
+
 /// The kind of the field with this name.
 pub fn kind_of(layout: Layout, name: &[u8]) -> Option<Kind>
     ensures { result ≡ kind_in name.now (fields_of layout) }
 {
     match layout {
-        Layout::UserEvent => {
-            if name == b"LTime".as_slice() {
-                Some(Kind::Time)
-            } else if name == b"Name".as_slice() {
-                Some(Kind::Text)
-            } else if name == b"Payload".as_slice() {
-                Some(Kind::Text)
-            } else if name == b"CC".as_slice() {
-                Some(Kind::Flag)
-            } else {
-                None
-            }
-        }
-        Layout::Query => {
-            if name == b"LTime".as_slice() {
-                Some(Kind::Time)
-            } else if name == b"ID".as_slice() {
-                Some(Kind::Natural(0xffff_ffff))
-            } else if name == b"Addr".as_slice() {
-                Some(Kind::Text)
-            } else if name == b"Port".as_slice() {
-                Some(Kind::Natural(0xffff))
-            } else if name == b"SourceNode".as_slice() {
-                Some(Kind::Text)
-            } else if name == b"Filters".as_slice() {
-                Some(Kind::Texts)
-            } else if name == b"Flags".as_slice() {
-                Some(Kind::Natural(0xffff_ffff))
-            } else if name == b"RelayFactor".as_slice() {
-                Some(Kind::Natural(0xff))
-            } else if name == b"Timeout".as_slice() {
-                Some(Kind::Signed)
-            } else if name == b"Name".as_slice() {
-                Some(Kind::Text)
-            } else if name == b"Payload".as_slice() {
-                Some(Kind::Text)
-            } else {
-                None
-            }
-        }
-        Layout::QueryResponse => {
-            if name == b"LTime".as_slice() {
-                Some(Kind::Natural(u64::MAX))
-            } else if name == b"ID".as_slice() {
-                Some(Kind::Natural(0xffff_ffff))
-            } else if name == b"From".as_slice() {
-                Some(Kind::Text)
-            } else if name == b"Flags".as_slice() {
-                Some(Kind::Natural(0xffff_ffff))
-            } else if name == b"Payload".as_slice() {
-                Some(Kind::Text)
-            } else {
-                None
-            }
-        }
-        Layout::PushPull => {
-            if name == b"LTime".as_slice() {
-                Some(Kind::Natural(u64::MAX))
-            } else if name == b"StatusLTimes".as_slice() {
-                Some(Kind::Status)
-            } else if name == b"LeftMembers".as_slice() {
-                Some(Kind::Texts)
-            } else if name == b"EventLTime".as_slice() {
-                Some(Kind::Natural(u64::MAX))
-            } else if name == b"Events".as_slice() {
-                Some(Kind::Maps(Layout::Slot))
-            } else if name == b"QueryLTime".as_slice() {
-                Some(Kind::Natural(u64::MAX))
-            } else {
-                None
-            }
-        }
-        Layout::Slot => {
-            if name == b"LTime".as_slice() {
-                Some(Kind::Time)
-            } else if name == b"Events".as_slice() {
-                Some(Kind::Maps(Layout::Event))
-            } else {
-                None
-            }
-        }
-        Layout::Event => {
-            if name == b"Name".as_slice() {
-                Some(Kind::Text)
-            } else if name == b"Payload".as_slice() {
-                Some(Kind::Text)
-            } else {
-                None
-            }
-        }
+        Layout::UserEvent => user_event_kind(name),
+        Layout::Query => query_kind(name),
+        Layout::QueryResponse => response_kind(name),
+        Layout::PushPull => push_pull_kind(name),
+        Layout::Slot => slot_kind(name),
+        Layout::Event => event_kind(name),
     }
 }

@@ -147,6 +147,19 @@ fn put_events(out: &mut Vec<u8>, events: &[EventText]) -> Result<(), AllocError>
     Ok(())
 }
 
+/// A slot with events.
+fn put_held(out: &mut Vec<u8>, time: u64, events: &[EventText]) -> Result<(), AllocError>
+    requires list { length events.now < 2 ^ 32 }
+    requires items { list_any is_long_event events.now ≡ false }
+    ensures { OnOk result (out.new.items ≡ out.old.items ++ (map_head 2 ++ entry (codes "LTime") (uint_bytes time) ++ entry (codes "Events") (list_bytes event_bytes events.now))) }
+{
+    put_map(out, 2)?;
+    put_number_field(out, b"LTime", time)?;
+    put_raw(out, b"Events")?;
+    put_array(out, events.len() as u32)?;
+    put_events(out, events)
+}
+
 /// A slot, which is nil where it has no events.
 fn put_slot(out: &mut Vec<u8>, slot: &Slot) -> Result<(), AllocError>
     requires { is_long_slot (slot_content slot.now) ≡ false }
@@ -158,11 +171,7 @@ fn put_slot(out: &mut Vec<u8>, slot: &Slot) -> Result<(), AllocError>
     if events.is_empty() {
         return put_nil(out);
     }
-    put_map(out, 2)?;
-    put_number_field(out, b"LTime", time)?;
-    put_raw(out, b"Events")?;
-    put_array(out, events.len() as u32)?;
-    put_events(out, events)
+    put_held(out, time, events)
 }
 
 /// The items of a list of slots.

@@ -1,0 +1,107 @@
+-- Lists of open queries by time.
+use Rattle.std.proofs.Common.{◌≡◌, ◌≢◌, ℕ, zero, suc, ◌+◌, ◌-◌, ◌<◌, ◌≤◌, ◌==◌, nat_eq, nat_lt, not, cond, ◌⊎◌, inl, inr, Bool, true, false, List, [], ◌∷◌, ◌++◌, length, filter, get_or, Option, Some, None, Result, Ok, Err, OnErr, refl, sym, ◌∙◌, ap, subst, arith}
+use Rattle.std.specs.Prelude.{All, AllPairs}
+use Rattle.std.specs.List.{list_any}
+use Rattle.std.specs.Map.{lookup, set_value}
+use Rattle.std.specs.Str.{bytes_eq}
+use Rattle.std.proofs.lemmas.Slice.Eq.{bytes_eq-Decides}
+use Rattle.std.proofs.lemmas.Bool.{ne_eqb, or_parts, true≢false}
+use Rattle.std.proofs.lemmas.List.Elements.{All-nil, All-cons, All-head, All-tail}
+use Rattle.indexmap.specs.IndexMap.{insert_entry}
+
+-- a key above all others goes last
+pub insert-later : {X : Type 0} (es : List (ℕ × X)) (t : ℕ) (x : X) → All (λ e. e.0 < t) es → insert_entry nat_eq es t x ≡ es ++ (t, x) ∷ []
+insert-later [] t x below = refl
+insert-later {X} (e ∷ es) t x below =
+    let low : e.0 < t = All-head (λ (p : ℕ × X). p.0 < t) e es below in
+    let other : nat_eq t e.0 ≡ false = ne_eqb t e.0 (λ q. omega arith) in
+    rw other (ap (λ (l : List (ℕ × X)). e ∷ l) (insert-later es t x (All-tail (λ (p : ℕ × X). p.0 < t) e es below)))
+
+-- what passes a test and what doesn't are all
+pub count-rest : {X : Type 0} (test : X → Bool) (xs : List X) → length (filter test xs) + length (filter (λ x. not (test x)) xs) ≡ length xs
+count-rest test [] = refl
+count-rest {X} test (x ∷ xs) = by (test x) (count-rest test xs)
+  where
+    by : (b : Bool) → length (filter test xs) + length (filter (λ y. not (test y)) xs) ≡ length xs → length (cond b (x ∷ filter test xs) (filter test xs)) + length (cond (not b) (x ∷ filter (λ y. not (test y)) xs) (filter (λ y. not (test y)) xs)) ≡ length (x ∷ xs)
+    by true ih = omega arith
+    by false ih = omega arith
+
+-- the value that is there, written in its place, changes nothing
+pub set_value-same : {X : Type 0} (test : ℕ → Bool) (es : List (ℕ × X)) (x : X) → lookup test es ≡ Some x → set_value test es x ≡ es
+set_value-same test [] x is = refl
+set_value-same {X} test (e ∷ es) x is = by (test e.0) is (set_value-same test es x)
+  where
+    by : (b : Bool) → cond b (Some e.1) (lookup test es) ≡ Some x → (lookup test es ≡ Some x → set_value test es x ≡ es) → cond b ((e.0, x) ∷ es) (e ∷ set_value test es x) ≡ e ∷ es
+    by true is ih = let same : e.1 ≡ x = cc in ap (λ (v : X). (e.0, v) ∷ es) (sym same)
+    by false is ih = ap (λ (l : List (ℕ × X)). e ∷ l) (ih is)
+
+pub on_err-map : {A E : Type 0} (r : Result A E) {P Q : Type 0} → (P → Q) → OnErr r P → OnErr r Q
+on_err-map (Ok x) f h = h
+on_err-map (Err e) f h = f h
+
+-- writing a value keeps what holds of the keys, and of the values
+pub set_value-keys : {X : Type 0} (P : ℕ → Type 0) (test : ℕ → Bool) (es : List (ℕ × X)) (x : X) → All (λ e. P e.0) es → All (λ e. P e.0) (set_value test es x)
+set_value-keys P test [] x all = all
+set_value-keys {X} P test (e ∷ es) x all =
+    by (test e.0) (set_value-keys P test es x rest)
+  where
+    head : P e.0
+    head = All-head (λ (p : ℕ × X). P p.0) e es all
+
+    rest : All (λ (p : ℕ × X). P p.0) es
+    rest = All-tail (λ (p : ℕ × X). P p.0) e es all
+
+    by : (b : Bool) → All (λ (p : ℕ × X). P p.0) (set_value test es x) → All (λ (p : ℕ × X). P p.0) (cond b ((e.0, x) ∷ es) (e ∷ set_value test es x))
+    by true ih = All-cons (λ (p : ℕ × X). P p.0) (e.0, x) es head rest
+    by false ih = All-cons (λ (p : ℕ × X). P p.0) e (set_value test es x) head ih
+
+pub set_value-values : {X : Type 0} (P : X → Type 0) (test : ℕ → Bool) (es : List (ℕ × X)) (x : X) → P x → All (λ e. P e.1) es → All (λ e. P e.1) (set_value test es x)
+set_value-values P test [] x px all = all
+set_value-values {X} P test (e ∷ es) x px all =
+    by (test e.0) (set_value-values P test es x px rest)
+  where
+    rest : All (λ (p : ℕ × X). P p.1) es
+    rest = All-tail (λ (p : ℕ × X). P p.1) e es all
+
+    by : (b : Bool) → All (λ (p : ℕ × X). P p.1) (set_value test es x) → All (λ (p : ℕ × X). P p.1) (cond b ((e.0, x) ∷ es) (e ∷ set_value test es x))
+    by true ih = All-cons (λ (p : ℕ × X). P p.1) (e.0, x) es px rest
+    by false ih = All-cons (λ (p : ℕ × X). P p.1) e (set_value test es x) (All-head (λ (p : ℕ × X). P p.1) e es all) ih
+
+-- what holds of all values holds of the one that is found
+pub lookup-each : {X : Type 0} (P : X → Type 0) (test : ℕ → Bool) (es : List (ℕ × X)) (x : X) → All (λ e. P e.1) es → lookup test es ≡ Some x → P x
+lookup-each P test [] x all is = absurd cc
+lookup-each {X} P test (e ∷ es) x all is = by (test e.0) is (lookup-each P test es x (All-tail (λ (p : ℕ × X). P p.1) e es all))
+  where
+    by : (b : Bool) → cond b (Some e.1) (lookup test es) ≡ Some x → (lookup test es ≡ Some x → P x) → P x
+    by true found ih = let same : e.1 ≡ x = cc in subst P same (All-head (λ (p : ℕ × X). P p.1) e es all)
+    by false found ih = ih found
+
+-- keys and length stay
+set_value-length : {X : Type 0} (test : ℕ → Bool) (es : List (ℕ × X)) (x : X) → length (set_value test es x) ≡ length es
+set_value-length test [] x = refl
+set_value-length {X} test (e ∷ es) x = by (test e.0) (set_value-length test es x)
+  where
+    by : (b : Bool) → length (set_value test es x) ≡ length es → length (cond b ((e.0, x) ∷ es) (e ∷ set_value test es x)) ≡ length (e ∷ es)
+    by true ih = refl
+    by false ih = ap (λ (n : ℕ). suc n) ih
+
+set_value-key : {X : Type 0} (test : ℕ → Bool) (es : List (ℕ × X)) (x : X) (k : ℕ) (d : ℕ × X) → (get_or (set_value test es x) k d).0 ≡ (get_or es k d).0
+set_value-key test [] x k d = refl
+set_value-key {X} test (e ∷ es) x k d = by (test e.0) k (λ j. set_value-key test es x j d)
+  where
+    by : (b : Bool) (k : ℕ) → ((j : ℕ) → (get_or (set_value test es x) j d).0 ≡ (get_or es j d).0) → (get_or (cond b ((e.0, x) ∷ es) (e ∷ set_value test es x)) k d).0 ≡ (get_or (e ∷ es) k d).0
+    by true zero ih = refl
+    by true (suc j) ih = refl
+    by false zero ih = refl
+    by false (suc j) ih = ih j
+
+pub set_value-distinct : {X : Type 0} (test : ℕ → Bool) (es : List (ℕ × X)) (x : X) → AllPairs (λ a b. a.0 ≢ b.0) es → AllPairs (λ a b. a.0 ≢ b.0) (set_value test es x)
+set_value-distinct test es x distinct i j d before within same =
+    distinct i j d before (omega (arith, set_value-length test es x)) (sym (set_value-key test es x i d) ∙ same ∙ set_value-key test es x j d)
+
+-- a name that is not among these differs from each
+pub unlike-each : {X : Type 0} (name_of : X → List ℕ) (xs : List X) (name : List ℕ) → list_any (λ x. bytes_eq (name_of x) name) xs ≡ false → All (λ x. name_of x ≢ name) xs
+unlike-each name_of [] name none = All-nil (λ x. name_of x ≢ name)
+unlike-each {X} name_of (x ∷ xs) name none =
+    let parts = or_parts (bytes_eq (name_of x) name) (list_any (λ y. bytes_eq (name_of y) name) xs) none in
+    All-cons (λ y. name_of y ≢ name) x xs (λ same. true≢false (sym ((bytes_eq-Decides (name_of x) name).1 same) ∙ parts.0)) (unlike-each name_of xs name parts.1)

@@ -1,0 +1,12 @@
+pub mod AskedLaws
+pub mod ConfigLaws
+pub mod LineLaws
+pub mod MergeLaws
+pub mod NoteLaws
+pub mod PlanLaws
+pub mod SendLaws
+pub mod SoundLaws
+pub mod StepLaws
+pub mod TrackLaws
+pub mod ViewLaws
+pub mod WireLaws

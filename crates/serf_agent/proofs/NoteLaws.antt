@@ -1,0 +1,17 @@
+-- What a note's answer says of the sink's choice.
+use Rattle.std.proofs.Common.{◌≡◌, ℕ, ◌<◌, ◌≤◌, nat_le, Bool, true, false, MatchBool, List, Option, refl, sym, subst, ap}
+use Rattle.std.proofs.lemmas.Bool.{leb-false, lt-leb}
+use Rattle.serf_snap.specs.declared.kind.ClockKind.{ClockKind}
+use Rattle.serf_snap.specs.Clocks.{clock_line}
+use Rattle.serf_snap.specs.Notes.{SnapshotView, Writing, Kept, Failed, last_line, MayWrite}
+use Rattle.serf_agent.specs.Calls.{MayNote}
+
+pub may-kept : (kind : ClockKind) (t : ℕ) (s : SnapshotView) → (last_line kind s < t → MayWrite s (clock_line kind t) Kept) → MayNote kind t s Kept
+may-kept kind t s may = by (nat_le t (last_line kind s)) refl
+  where
+    by : (b : Bool) → nat_le t (last_line kind s) ≡ b → MatchBool b (Kept ≡ Kept) (MayWrite s (clock_line kind t) Kept)
+    by true low = refl
+    by false high = may (leb-false t (last_line kind s) high)
+
+pub may-failed : (kind : ClockKind) (t : ℕ) (s : SnapshotView) (kept : Option (List ℕ)) → last_line kind s < t → MayWrite s (clock_line kind t) (Failed kept) → MayNote kind t s (Failed kept)
+may-failed kind t s kept above may = let high : nat_le t (last_line kind s) ≡ false = lt-leb t (last_line kind s) above in subst (λ (b : Bool). MatchBool b (Failed kept ≡ Kept) (MayWrite s (clock_line kind t) (Failed kept))) (sym high) may

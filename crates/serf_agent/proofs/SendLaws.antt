@@ -1,0 +1,37 @@
+-- What an agent sends of itself.
+use Rattle.std.proofs.Common.{◌≡◌, ◌≢◌, ◌↔◌, ℕ, Bool, true, false, cond, IsTrue, List, [], ◌∷◌, map, Result, Ok, Err, refl, sym, ap, subst, ◌∙◌}
+use Rattle.serf_wire.specs.declared.encode.EncodeFault.{EncodeFault}
+use Rattle.serf_wire.specs.declared.encode.EncodeFault.TheVariants as encodes
+use Rattle.serf_wire.specs.declared.texts.Slot.{Slot}
+use Rattle.serf_wire.specs.Canonical.{canonical, has_long}
+use Rattle.serf_wire.specs.Message.{PushPull, push_pull}
+use Rattle.serf_wire.specs.Parts.{slot_content}
+use Rattle.serf_wire.specs.Slots.{SlotContent}
+use Rattle.serf_window.specs.Texts.{shown}
+use Rattle.serf_agent.specs.declared.outcome.PushPullFault.{PushPullFault}
+use Rattle.serf_agent.specs.declared.outcome.PushPullFault.TheVariants as states
+use Rattle.serf_agent.specs.States.{send_state, slot_sent, state_of}
+use Rattle.serf_agent.specs.View.{Stored}
+
+-- slots mean what is sent of them
+pub slots-sent : (slots : List Slot) → map slot_content slots ≡ map slot_sent (map shown slots)
+slots-sent [] = refl
+slots-sent (s ∷ ss) = ap (λ (l : List SlotContent). slot_content s ∷ l) (slots-sent ss)
+
+pub sends : (a : Stored) (status : List (List ℕ × ℕ)) (left : List (List ℕ)) (m : PushPull) (packet : List ℕ) → a.snapshot.stopped ≡ false → m ≡ state_of a status left → has_long (push_pull m) ≡ false → packet ≡ canonical (push_pull m) → Ok packet ≡ send_state a status left
+sends a status left m packet runs is fits gives =
+    let fits_too : has_long (push_pull (state_of a status left)) ≡ false = ap (λ (x : PushPull). has_long (push_pull x)) (sym is) ∙ fits in
+    let packet_is : packet ≡ canonical (push_pull (state_of a status left)) = gives ∙ ap (λ (x : PushPull). canonical (push_pull x)) is in
+    let ok : Result (List ℕ) PushPullFault = Ok (canonical (push_pull (state_of a status left))) in
+    ap (λ (p : List ℕ). Ok p) packet_is ∙ sym (ap (λ (b : Bool). cond b (Err states.Stopped) (cond (has_long (push_pull (state_of a status left))) (Err states.TooLong) ok)) runs ∙ ap (λ (b : Bool). cond b (Err states.TooLong) ok) fits_too)
+
+pub sends-not : (a : Stored) (status : List (List ℕ × ℕ)) (left : List (List ℕ)) (m : PushPull) → a.snapshot.stopped ≡ false → m ≡ state_of a status left → has_long (push_pull m) ≡ true → Err states.TooLong ≡ send_state a status left
+sends-not a status left m runs is long =
+    let long_too : has_long (push_pull (state_of a status left)) ≡ true = ap (λ (x : PushPull). has_long (push_pull x)) (sym is) ∙ long in
+    let ok : Result (List ℕ) PushPullFault = Ok (canonical (push_pull (state_of a status left))) in
+    sym (ap (λ (b : Bool). cond b (Err states.Stopped) (cond (has_long (push_pull (state_of a status left))) (Err states.TooLong) ok)) runs ∙ ap (λ (b : Bool). cond b (Err states.TooLong) ok) long_too)
+
+-- an encoder that gives a packet found nothing too long
+pub fits-by : {R : Type 0} (long : Bool) (r : Result R EncodeFault) → ((r ≡ Err encodes.TooLong) ↔ IsTrue long) → r ≢ Err encodes.TooLong → long ≡ false
+fits-by true r when other = absurd (other (when.1 refl))
+fits-by false r when other = refl

@@ -1,0 +1,312 @@
+-- Each change of a sound agent leaves a sound agent.
+use Rattle.std.proofs.Common.{◌≡◌, ◌≢◌, ℕ, ◌+◌, ◌-◌, ◌^◌, ◌<◌, ◌≤◌, ◌==◌, ◌&&◌, nat_lt, nat_le, nat_eq, max, not, cond, Bool, true, false, List, [], ◌∷◌, ◌++◌, length, filter, get_or, Option, Some, None, MatchBool, refl, sym, ◌∙◌, ap, subst, arith, ◌⊎◌, inl, inr}
+use Rattle.std.specs.Prelude.{All, AllPairs}
+use Rattle.std.specs.List.{list_any}
+use Rattle.std.specs.Str.{bytes_eq}
+use Rattle.std.proofs.lemmas.Bool.{cases_Bool, leb-true, leb-false, and_from, eq-eqb, true≢false}
+use Rattle.std.proofs.lemmas.List.Elements.{All-nil, All-push, All-weaker, All-filter}
+use Rattle.std.proofs.lemmas.List.Kept.{AllPairs-filter}
+use Rattle.std.proofs.lemmas.List.Quantifiers.{all_pairs_push}
+use Rattle.std.proofs.lemmas.Slice.Eq.{bytes_eq-Decides}
+use Rattle.serf_wire.specs.declared.texts.EventText.{EventText}
+use Rattle.serf_wire.specs.Message.{PushPull, Query, QueryResponse}
+use Rattle.serf_window.specs.Texts.{same_texts}
+use Rattle.serf_window.specs.Queries.{same_id}
+use Rattle.serf_snap.specs.declared.kind.ClockKind.{ClockKind}
+use Rattle.serf_snap.specs.declared.kind.ClockKind.TheVariants as kinds
+use Rattle.serf_snap.specs.Clocks.{clock_line}
+use Rattle.serf_snap.specs.Device.{Device}
+use Rattle.serf_snap.specs.Notes.{SnapshotView, Writing, Kept, Failed, last_line, noted, written, compacted, KeepsPart, KeepsEither, compaction_of, MayWrite, MayReplace, opened}
+use Rattle.serf_snap.proofs.NoteLaws.{sound-noted, sound-failed, sound-opened, sound-compacted, sound-compaction_failed}
+use Rattle.serf_agent.specs.Calls.{MayNote}
+use Rattle.serf_agent.specs.Config.{is_sound}
+use Rattle.serf_agent.specs.declared.config.Config.{Config}
+use Rattle.serf_agent.specs.declared.open_query.OpenQuery.{OpenQuery}
+use Rattle.serf_agent.specs.Events.{admission, event_observed, event_entered, texts_len}
+use Rattle.serf_agent.specs.Queries.{query_admission, query_observed, query_entered, query_asked, opened_query, is_due, asked_at, with_asked_at, close_due, counted, is_ack, answer_refusal, ack_refusal, response_refusal, has_acked, has_responded}
+use Rattle.serf_agent.specs.Ideal.{IdealAgent, Past, Track, with_snapshot, with_asked}
+use Rattle.serf_agent.specs.Restart.{restarted, IsInText, unborn}
+use Rattle.serf_agent.specs.Sound.{IsSound, IsOpenQuerySound}
+use Rattle.serf_agent.specs.States.{joined}
+use Rattle.serf_agent.specs.Tracks.{track_reason, was_ever_entered, IsTrackSound}
+use Rattle.serf_agent.proofs.TrackLaws.{track-entered, track-observed, track-raised, track-reopened, track-noted, unknown-fresh, later-fresh, no-reason, none-from}
+use Rattle.serf_agent.specs.declared.outcome.Reason.{Reason}
+use Rattle.serf_agent.specs.declared.outcome.Reason.TheVariants.{Oversize, OtherId, Closed, AckNotAsked, AckTwice, ResponseTwice}
+use Rattle.serf_agent.specs.declared.lists.Response.{Response as ResponseText}
+use Rattle.serf_agent.proofs.AskedLaws.{set_value-keys, set_value-values, set_value-distinct, lookup-each, unlike-each}
+use Rattle.std.proofs.lemmas.Bool.{ltb-false}
+
+-- ---- what a note does to the last lines
+
+pub event-noted : (t : ℕ) (s : SnapshotView) → (noted kinds.Event t s Kept).event ≡ max s.event t
+event-noted t s = elim (cases_Bool (nat_le t s.event)) [
+  | inl low ↦ rw low (let h : t ≤ s.event = leb-true _ _ low in omega arith)
+  | inr high ↦ rw high (let h : s.event < t = leb-false _ _ high in omega arith)
+]
+
+query-noted_event : (t : ℕ) (s : SnapshotView) → (noted kinds.Event t s Kept).query ≡ s.query
+query-noted_event t s = elim (cases_Bool (nat_le t s.event)) [ inl low ↦ rw low refl | inr high ↦ rw high refl ]
+
+pub query-noted : (t : ℕ) (s : SnapshotView) → (noted kinds.Query t s Kept).query ≡ max s.query t
+query-noted t s = elim (cases_Bool (nat_le t s.query)) [
+  | inl low ↦ rw low (let h : t ≤ s.query = leb-true _ _ low in omega arith)
+  | inr high ↦ rw high (let h : s.query < t = leb-false _ _ high in omega arith)
+]
+
+event-noted_query : (t : ℕ) (s : SnapshotView) → (noted kinds.Query t s Kept).event ≡ s.event
+event-noted_query t s = elim (cases_Bool (nat_le t s.query)) [ inl low ↦ rw low refl | inr high ↦ rw high refl ]
+
+event-noted_member : (t : ℕ) (s : SnapshotView) → (noted kinds.Member t s Kept).event ≡ s.event
+event-noted_member t s = elim (cases_Bool (nat_le t s.member)) [ inl low ↦ rw low refl | inr high ↦ rw high refl ]
+
+query-noted_member : (t : ℕ) (s : SnapshotView) → (noted kinds.Member t s Kept).query ≡ s.query
+query-noted_member t s = elim (cases_Bool (nat_le t s.member)) [ inl low ↦ rw low refl | inr high ↦ rw high refl ]
+
+pub stopped-noted : (kind : ClockKind) (t : ℕ) (s : SnapshotView) → (noted kind t s Kept).stopped ≡ s.stopped
+stopped-noted kind t s = elim (cases_Bool (nat_le t (last_line kind s))) [ inl low ↦ rw low refl | inr high ↦ rw high refl ]
+
+-- ---- what a sink that fails at a note leaves
+
+may-part : (kind : ClockKind) (s : SnapshotView) (t : ℕ) (kept : Option (List ℕ)) → MayNote kind t s (Failed kept) → KeepsPart s.kept (clock_line kind t) kept
+may-part kind s t kept may = by (nat_le t (last_line kind s)) may
+  where
+    by : (b : Bool) → MatchBool b (Failed kept ≡ Kept) (MayWrite s (clock_line kind t) (Failed kept)) → KeepsPart s.kept (clock_line kind t) kept
+    by true kept_is = absurd (let k : Failed kept ≡ Kept = kept_is in cc)
+    by false m = m.0
+
+-- the agent stopped by a failed note
+pub sound-note_failed : (kind : ClockKind) (t : ℕ) (kept : Option (List ℕ)) (i : IdealAgent) → IsSound i → MayNote kind t i.snapshot (Failed kept) → IsSound (with_snapshot (written kind t i.snapshot (Failed kept)) i)
+sound-note_failed kind t kept i s may = record {
+  config = s.config;
+  member = s.member;
+  events = s.events;
+  queries = s.queries;
+  short = s.short;
+  snapshot = sound-failed kind i.snapshot t (clock_line kind t) kept s.snapshot (may-part kind i.snapshot t kept may);
+  asked_below = s.asked_below;
+  asked_distinct = s.asked_distinct;
+  asked_sound = s.asked_sound;
+}
+
+-- ---- events
+
+pub sound-event_observed : (t : ℕ) (i : IdealAgent) → IsSound i → IsSound (event_observed t i)
+sound-event_observed t i s = record {
+  config = s.config;
+  member = s.member;
+  events = track-observed i.events i.life i.snapshot.event t s.events;
+  queries = s.queries;
+  short = s.short;
+  snapshot = s.snapshot;
+  asked_below = s.asked_below;
+  asked_distinct = s.asked_distinct;
+  asked_sound = s.asked_sound;
+}
+
+same_texts-refl : (x : EventText) → same_texts x x ≡ true
+same_texts-refl x = and_from _ _ ((bytes_eq-Decides x.name x.name).1 refl) ((bytes_eq-Decides x.payload x.payload).1 refl)
+
+-- what an agent admits has short texts and was never entered
+pub admission-new : (i : IdealAgent) (t : ℕ) (what : EventText) → admission i t what ≡ None → (texts_len what ≤ 9216) × All (λ p. p.entry ≢ record { time = t; what = what }) i.events.history
+admission-new i t what new =
+    let parts = none-from (nat_lt 9216 (texts_len what)) Oversize (track_reason same_texts i.config.event_buffer i.config.per_time i.life i.events t what) new in
+    (ltb-false _ _ parts.0, unknown-fresh same_texts same_texts-refl i.events.history t what (no-reason same_texts i.config.event_buffer i.config.per_time i.life i.events t what parts.1))
+
+pub sound-event_entered : (t : ℕ) (what : EventText) (i : IdealAgent) → IsSound i → i.snapshot.stopped ≡ false → t < 2 ^ 64 - 1 → texts_len what ≤ 9216 → All (λ p. p.entry ≢ record { time = t; what = what }) i.events.history
+    → IsSound (with_snapshot (noted kinds.Event t i.snapshot Kept) (event_entered t what i))
+sound-event_entered t what i s runs small short fresh = record {
+  config = s.config;
+  member = s.member;
+  events = track-entered i.events i.life i.snapshot.event (noted kinds.Event t i.snapshot Kept).event t what s.events (omega (arith, event-noted t i.snapshot)) (omega (arith, event-noted t i.snapshot)) fresh;
+  queries = subst (λ (n : ℕ). IsTrackSound i.queries i.life n) (sym (query-noted_event t i.snapshot)) s.queries;
+  short = All-push (λ p. texts_len p.entry.what ≤ 9216) i.events.history (record { life = i.life; entry = record { time = t; what = what } }) s.short short;
+  snapshot = sound-noted kinds.Event i.snapshot t s.snapshot runs small;
+  asked_below = s.asked_below;
+  asked_distinct = s.asked_distinct;
+  asked_sound = s.asked_sound;
+}
+
+-- ---- queries
+
+pub sound-query_observed : (t : ℕ) (i : IdealAgent) → IsSound i → IsSound (query_observed t i)
+sound-query_observed t i s = record {
+  config = s.config;
+  member = s.member;
+  events = s.events;
+  queries = track-observed i.queries i.life i.snapshot.query t s.queries;
+  short = s.short;
+  snapshot = s.snapshot;
+  asked_below = All-weaker (λ q. q.0 < i.queries.clock) (λ q. q.0 < max i.queries.clock (t + 1)) (λ q h. omega arith) i.asked s.asked_below;
+  asked_distinct = s.asked_distinct;
+  asked_sound = s.asked_sound;
+}
+
+pub query_admission-new : (i : IdealAgent) (t id : ℕ) → query_admission i t id ≡ None → All (λ p. p.entry ≢ record { time = t; what = id }) i.queries.history
+query_admission-new i t id new = unknown-fresh same_id (λ x. eq-eqb x x refl) i.queries.history t id (no-reason same_id i.config.query_buffer i.config.per_time i.life i.queries t id new)
+
+pub sound-query_entered : (t id : ℕ) (i : IdealAgent) → IsSound i → i.snapshot.stopped ≡ false → t < 2 ^ 64 - 1 → All (λ p. p.entry ≢ record { time = t; what = id }) i.queries.history
+    → IsSound (with_snapshot (noted kinds.Query t i.snapshot Kept) (query_entered t id i))
+sound-query_entered t id i s runs small fresh = record {
+  config = s.config;
+  member = s.member;
+  events = subst (λ (n : ℕ). IsTrackSound i.events i.life n) (sym (event-noted_query t i.snapshot)) s.events;
+  queries = track-entered i.queries i.life i.snapshot.query (noted kinds.Query t i.snapshot Kept).query t id s.queries (omega (arith, query-noted t i.snapshot)) (omega (arith, query-noted t i.snapshot)) fresh;
+  short = s.short;
+  snapshot = sound-noted kinds.Query i.snapshot t s.snapshot runs small;
+  asked_below = All-weaker (λ q. q.0 < i.queries.clock) (λ q. q.0 < max i.queries.clock (t + 1)) (λ q h. omega arith) i.asked s.asked_below;
+  asked_distinct = s.asked_distinct;
+  asked_sound = s.asked_sound;
+}
+
+no-pairs : {X : Type 0} (R : X → X → Type 0) → AllPairs R []
+no-pairs R i j d lt within = absurd (omega arith)
+
+-- a query of this agent's own enters at its clock's time, and is open
+pub sound-query_asked : (now : ℕ) (q : Query) (i : IdealAgent) → IsSound i → i.snapshot.stopped ≡ false → q.time ≡ i.queries.clock → q.time < 2 ^ 64 - 1
+    → IsSound (with_snapshot (noted kinds.Query q.time i.snapshot Kept) (query_asked now q i))
+sound-query_asked now q i s runs at small =
+    let lower : All (λ p. p.entry.time < q.time) i.queries.history = subst (λ (t : ℕ). All (λ p. p.entry.time < t) i.queries.history) (sym at) s.queries.below_clock in
+    let e = sound-query_entered q.time q.id i s runs small (later-fresh i.queries.history q.time q.id lower) in
+    let new : ℕ × OpenQuery = (q.time, opened_query now q) in
+    record {
+      config = e.config;
+      member = e.member;
+      events = e.events;
+      queries = e.queries;
+      short = e.short;
+      snapshot = e.snapshot;
+      asked_below = All-push (λ p. p.0 < max i.queries.clock (q.time + 1)) i.asked new e.asked_below (omega arith);
+      asked_distinct = all_pairs_push (λ a b. a.0 ≢ b.0) i.asked new s.asked_distinct (All-weaker (λ p. p.0 < i.queries.clock) (λ p. p.0 ≢ q.time) (λ p h r. omega arith) i.asked s.asked_below);
+      asked_sound = All-push (λ p. IsOpenQuerySound p.1) i.asked new s.asked_sound (record { acks = no-pairs (λ a b. a ≢ b); responses = no-pairs (λ a b. a.from ≢ b.from) });
+    }
+
+-- ---- other agents' clocks
+
+pub sound-joined : (m : PushPull) (is_join : Bool) (i : IdealAgent) → IsSound i → m.member ≤ 2 ^ 64 - 1 → IsSound (joined m is_join i)
+sound-joined m is_join i s small = record {
+  config = s.config;
+  member = omega (arith, s.member);
+  events = by (is_join && i.config.ignore_old);
+  queries = track-raised i.queries i.life i.snapshot.query m.query 0 s.queries (omega arith);
+  short = s.short;
+  snapshot = s.snapshot;
+  asked_below = All-weaker (λ q. q.0 < i.queries.clock) (λ q. q.0 < max i.queries.clock m.query) (λ q h. omega arith) i.asked s.asked_below;
+  asked_distinct = s.asked_distinct;
+  asked_sound = s.asked_sound;
+}
+  where
+    by : (b : Bool) → IsTrackSound (record { clock = max i.events.clock m.event; minimum = max i.events.minimum (cond b m.event 0); history = i.events.history }) i.life i.snapshot.event
+    by true = track-raised i.events i.life i.snapshot.event m.event m.event s.events (omega arith)
+    by false = track-raised i.events i.life i.snapshot.event m.event 0 s.events (omega arith)
+
+-- ---- the member clock's line, and a compaction
+
+pub sound-saved : (t : ℕ) (i : IdealAgent) → IsSound i → i.snapshot.stopped ≡ false → t < 2 ^ 64 - 1 → IsSound (with_snapshot (noted kinds.Member t i.snapshot Kept) i)
+sound-saved t i s runs small = record {
+  config = s.config;
+  member = s.member;
+  events = subst (λ (n : ℕ). IsTrackSound i.events i.life n) (sym (event-noted_member t i.snapshot)) s.events;
+  queries = subst (λ (n : ℕ). IsTrackSound i.queries i.life n) (sym (query-noted_member t i.snapshot)) s.queries;
+  short = s.short;
+  snapshot = sound-noted kinds.Member i.snapshot t s.snapshot runs small;
+  asked_below = s.asked_below;
+  asked_distinct = s.asked_distinct;
+  asked_sound = s.asked_sound;
+}
+
+may-either : (s : SnapshotView) (kept : Option (List ℕ)) → MayReplace s (Failed kept) → KeepsEither s.kept (compaction_of s) kept
+may-either s kept may = may.0
+
+pub sound-compact : (w : Writing) (i : IdealAgent) → IsSound i → MayReplace i.snapshot w → IsSound (with_snapshot (compacted i.snapshot w) i)
+sound-compact w i s may = by w may
+  where
+    by : (w : Writing) → MayReplace i.snapshot w → IsSound (with_snapshot (compacted i.snapshot w) i)
+    by Kept may = record { config = s.config; member = s.member; events = s.events; queries = s.queries; short = s.short; snapshot = sound-compacted i.snapshot s.snapshot; asked_below = s.asked_below; asked_distinct = s.asked_distinct; asked_sound = s.asked_sound }
+    by (Failed kept) may = record { config = s.config; member = s.member; events = s.events; queries = s.queries; short = s.short; snapshot = sound-compaction_failed i.snapshot kept s.snapshot may.0; asked_below = s.asked_below; asked_distinct = s.asked_distinct; asked_sound = s.asked_sound }
+
+-- ---- a new life
+
+pub sound-restarted : (i : IdealAgent) (text : List ℕ) (d : Device) → IsSound i → IsInText i text → (opened text d).member < 2 ^ 64 - 1 → IsSound (restarted (opened text d) i)
+sound-restarted i text d s within small = record {
+  config = s.config;
+  member = omega arith;
+  events = track-reopened i.events i.life i.snapshot.event (opened text d).event s.events within.events;
+  queries = track-reopened i.queries i.life i.snapshot.query (opened text d).query s.queries within.queries;
+  short = s.short;
+  snapshot = sound-opened text d;
+  asked_below = All-nil (λ q. q.0 < (opened text d).query + 1);
+  asked_distinct = no-pairs (λ a b. a.0 ≢ b.0);
+  asked_sound = All-nil (λ q. IsOpenQuerySound q.1);
+}
+
+-- an agent that has entered nothing
+pub sound-unborn : (config : Config) (text : List ℕ) (d : Device) → is_sound config ≡ true → (opened text d).member < 2 ^ 64 - 1 → IsSound (unborn config (opened text d))
+sound-unborn config text d ok small = record {
+  config = ok;
+  member = omega arith;
+  events = none-sound ((opened text d).event);
+  queries = none-sound ((opened text d).query);
+  short = All-nil (λ p. texts_len p.entry.what ≤ 9216);
+  snapshot = sound-opened text d;
+  asked_below = All-nil (λ q. q.0 < (opened text d).query + 1);
+  asked_distinct = no-pairs (λ a b. a.0 ≢ b.0);
+  asked_sound = All-nil (λ q. IsOpenQuerySound q.1);
+}
+  where
+    none-sound : {K : Type 0} (value : ℕ) → IsTrackSound {K = K} (record { clock = value + 1; minimum = value + 1; history = [] }) 0 value
+    none-sound {K} value = record {
+      lives = All-nil (λ p. p.life ≤ 0);
+      below_clock = All-nil (λ p. p.entry.time < value + 1);
+      noted = All-nil (λ p. p.entry.time ≤ value);
+      earlier = All-nil (λ p. p.life < 0 → p.entry.time < value + 1);
+      distinct = no-pairs (λ p q. p.entry ≢ q.entry);
+      minimum = omega arith;
+    }
+
+-- ---- answers that are counted
+
+-- an answer that is not refused is the first of its name
+counted-sound : (now : ℕ) (r : QueryResponse) (q : OpenQuery) → IsOpenQuerySound q → answer_refusal now r q ≡ None → IsOpenQuerySound (counted r q)
+counted-sound now r q s none =
+    let rest : Option Reason = cond (is_ack r) (ack_refusal r.from q) (response_refusal r.from q) in
+    let id = none-from (not (q.id == r.id)) OtherId (cond (nat_lt q.deadline now) (Some Closed) rest) none in
+    let open_ = none-from (nat_lt q.deadline now) Closed rest id.1 in
+    by (is_ack r) open_.1
+  where
+    by : (b : Bool) → cond b (ack_refusal r.from q) (response_refusal r.from q) ≡ None
+        → IsOpenQuerySound (cond b (record { id = q.id; deadline = q.deadline; wants_ack = q.wants_ack; acks = q.acks ++ r.from ∷ []; responses = q.responses }) (record { id = q.id; deadline = q.deadline; wants_ack = q.wants_ack; acks = q.acks; responses = q.responses ++ record { from = r.from; payload = r.payload } ∷ [] }))
+    by true none =
+        let asked = none-from (not q.wants_ack) AckNotAsked (cond (has_acked q r.from) (Some AckTwice) None) none in
+        let new = none-from (has_acked q r.from) AckTwice None asked.1 in
+        record { acks = all_pairs_push (λ a b. a ≢ b) q.acks r.from s.acks (unlike-each (λ a. a) q.acks r.from new.0); responses = s.responses }
+    by false none =
+        let new = none-from (has_responded q r.from) ResponseTwice None none in
+        record { acks = s.acks; responses = all_pairs_push (λ a b. a.from ≢ b.from) q.responses (record { from = r.from; payload = r.payload }) s.responses (unlike-each (λ (x : ResponseText). x.from) q.responses r.from new.0) }
+
+pub sound-counted : (now : ℕ) (r : QueryResponse) (q : OpenQuery) (i : IdealAgent) → IsSound i → asked_at r.time i.asked ≡ Some q → answer_refusal now r q ≡ None → IsSound (with_asked (with_asked_at r.time (counted r q) i.asked) i)
+sound-counted now r q i s at none = record {
+  config = s.config;
+  member = s.member;
+  events = s.events;
+  queries = s.queries;
+  short = s.short;
+  snapshot = s.snapshot;
+  asked_below = set_value-keys (λ t. t < i.queries.clock) (nat_eq r.time) i.asked (counted r q) s.asked_below;
+  asked_distinct = set_value-distinct (nat_eq r.time) i.asked (counted r q) s.asked_distinct;
+  asked_sound = set_value-values IsOpenQuerySound (nat_eq r.time) i.asked (counted r q) (counted-sound now r q (lookup-each IsOpenQuerySound (nat_eq r.time) i.asked q s.asked_sound at) none) s.asked_sound;
+}
+
+-- ---- closing
+
+pub sound-closed : (now : ℕ) (i : IdealAgent) → IsSound i → IsSound (close_due i now).agent
+sound-closed now i s = record {
+  config = s.config;
+  member = s.member;
+  events = s.events;
+  queries = s.queries;
+  short = s.short;
+  snapshot = s.snapshot;
+  asked_below = All-filter (λ q. not (is_due now q)) (λ q. q.0 < i.queries.clock) i.asked s.asked_below;
+  asked_distinct = AllPairs-filter (λ a b. a.0 ≢ b.0) (λ q. not (is_due now q)) i.asked s.asked_distinct;
+  asked_sound = All-filter (λ q. not (is_due now q)) (λ q. IsOpenQuerySound q.1) i.asked s.asked_sound;
+}

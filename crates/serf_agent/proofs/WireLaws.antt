@@ -1,0 +1,51 @@
+-- Short packets have short texts, which fit their headers.
+use Rattle.std.proofs.Common.{◌≡◌, ℕ, ◌+◌, ◌<◌, ◌≤◌, ◌||◌, ◌⊎◌, inl, inr, nat_lt, nat_le, length, Bool, true, false, List, [], ◌∷◌, ◌++◌, refl, sym, ◌∙◌, ap, arith, length-append}
+use Rattle.std.specs.List.{list_any, flat_map}
+use Rattle.std.proofs.lemmas.Bool.{cases_Bool, lt-leb}
+use Rattle.serf_pack.specs.Canonical.{raw_head, raw_bytes}
+use Rattle.serf_wire.specs.Canonical.{canonical, has_long, is_long, list_bytes}
+use Rattle.serf_wire.specs.Message.{Query, query, user_event_of, response_of}
+
+short-fits : {X : Type 0} (xs : List X) → length xs ≤ 9216 → is_long xs ≡ false
+short-fits xs short = lt-leb 4294967296 (length xs) (omega arith)
+
+pub event-not_long : (t : ℕ) (name payload : List ℕ) (flag : Bool) → length name + length payload ≤ 9216 → has_long (user_event_of t name payload flag) ≡ false
+unfolding has_long
+event-not_long t name payload flag short = rw (short-fits name (omega arith), short-fits payload (omega arith)) refl
+
+pub response-not_long : (t id : ℕ) (from : List ℕ) (flags : ℕ) (payload : List ℕ) → length from ≤ 9216 → length payload ≤ 9216 → has_long (response_of t id from flags payload) ≡ false
+unfolding has_long
+response-not_long t id from flags payload short small = rw (short-fits from short, short-fits payload small) refl
+
+pub response-short : (t id : ℕ) (from : List ℕ) (flags : ℕ) (payload : List ℕ) → length (canonical (response_of t id from flags payload)) ≤ 1024 → (length from ≤ 9216) × (length payload ≤ 9216)
+unfolding canonical
+response-short t id from flags payload short =
+    let parts = simp length-append at short in
+    (omega arith, omega arith)
+
+-- a text's header has a byte at least
+head-some : (n : ℕ) → 0 < length (raw_head n)
+head-some n = elim (cases_Bool (nat_lt n 32)) [
+  | inl short ↦ rw short (omega arith)
+  | inr long ↦ rw long (elim (cases_Bool (nat_lt n 65536)) [ inl middle ↦ rw middle (omega arith) | inr great ↦ rw great (omega arith) ])
+]
+
+raw-longer : (s : List ℕ) → length s < length (raw_bytes s)
+raw-longer s = omega (arith, length-append (raw_head (length s)) s, head-some (length s))
+
+-- a list of texts is no longer than their bytes, and neither is each of its texts
+texts-short : (ts : List (List ℕ)) → length (flat_map raw_bytes ts) ≤ 9216 → (length ts ≤ length (flat_map raw_bytes ts)) × (list_any is_long ts ≡ false)
+texts-short [] short = (omega arith, refl)
+texts-short (t ∷ ts) short =
+    let parts : length (flat_map raw_bytes (t ∷ ts)) ≡ length (raw_bytes t) + length (flat_map raw_bytes ts) = length-append (raw_bytes t) (flat_map raw_bytes ts) in
+    let longer = raw-longer t in
+    let rest = texts-short ts (omega arith) in
+    let fits : is_long t ≡ false = short-fits t (omega arith) in
+    (omega (arith, rest.0), rw (fits, rest.1) refl)
+
+pub query-not_long : (q : Query) → length (canonical (query q)) ≤ 1024 → has_long (query q) ≡ false
+unfolding canonical has_long
+query-not_long q short =
+    let parts = simp length-append at short in
+    let filters = texts-short q.filters (omega arith) in
+    rw (short-fits q.addr (omega arith), short-fits q.source (omega arith), short-fits q.filters (omega (arith, filters.0)), filters.1, short-fits q.name (omega arith), short-fits q.payload (omega arith)) refl

@@ -1,0 +1,30 @@
+use Rattle.std.proofs.Common.{◌≡◌, ◌<◌, ℕ, List, All, filter, length, not, ap, sym, subst, ◌∙◌}
+use Rattle.std.proofs.lemmas.List.Elements.{All-filter}
+use Rattle.serf_agent.specs.declared.open_query.OpenQuery.{OpenQuery}
+use Rattle.serf_agent.specs.Queries.{is_due}
+use Rattle.serf_agent.specs.View.{AgentState, Stored}
+use Rattle.serf_agent.proofs.SoundLaws.{sound-closed}
+use Rattle.serf_agent.proofs.agent.Agent.close_due.Goals as goal
+
+pub invariant_of-self : goal.invariant_of-self
+invariant_of-self g c =
+    let built = c.self.invariant in
+    record {
+      config_sound = built.config_sound;
+      event_size = built.event_size;
+      event_per_time = built.event_per_time;
+      query_size = built.query_size;
+      query_per_time = built.query_per_time;
+      asked_below = subst (λ (l : List (ℕ × OpenQuery)). All (λ q. q.0 < c.self.inside.queries.clock) l) (sym c.close_due.ensures.left)
+          (All-filter (λ (q : ℕ × OpenQuery). not (is_due c.args.now q)) (λ q. q.0 < c.self.inside.queries.clock) c.self.inside.asked built.asked_below);
+    }
+
+pub returns-clause-step : goal.returns-clause-step
+returns-clause-step g c = λ i sound is.
+    let was = ap (λ (a : AgentState). a.stored) c.self.view_is ∙ is in
+    let asked = ap (λ (s : Stored). s.asked) was in
+    let left = c.close_due.ensures.left ∙ ap (λ (l : List (ℕ × OpenQuery)). filter (λ q. not (is_due c.args.now q)) l) asked in (
+      c.close_due.ensures.count ∙ ap (λ (l : List (ℕ × OpenQuery)). length (filter (is_due c.args.now) l)) asked,
+      λ k. record { config = (was k).config; member = (was k).member; events = (was k).events; queries = (was k).queries; snapshot = (was k).snapshot; asked = left k },
+      sound-closed c.args.now i sound,
+    )

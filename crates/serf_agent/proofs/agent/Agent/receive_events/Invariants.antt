@@ -1,0 +1,15 @@
+use Rattle.std.proofs.Common.{◌≡◌, false}
+use Rattle.serf_wire.specs.Lists.{events_left}
+use Rattle.serf_agent.specs.Ideal.{IdealAgent}
+use Rattle.serf_agent.specs.Merging.{HasReceived}
+use Rattle.serf_agent.specs.Sound.{IsSound}
+use Rattle.serf_agent.specs.States.{at_time}
+use Rattle.serf_agent.specs.View.{view_of}
+use Rattle.serf_agent.proofs.agent.Agent.receive_events.Given as goal
+
+abbrev pub invariant-loop-event : goal.invariant-loop-event
+invariant-loop-event g l = record {
+  received : (i : IdealAgent) → IsSound i → l.initial.self.stored ≡ view_of i → HasReceived i (at_time l.time (events_left l.fn.events)) (at_time l.time (events_left l.event-iterator)) l.initial.out.items l.out.items l.self.stored;
+  runs : l.self.stored.snapshot.stopped ≡ false;
+  calm : l.self.device.failures ≡ l.initial.self.device.failures;
+}

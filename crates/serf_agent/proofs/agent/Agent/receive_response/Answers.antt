@@ -1,0 +1,42 @@
+use Rattle.std.proofs.Common.{◌≡◌, ◌<◌, ℕ, List, All, Option, Some, None, IfSome, false, nat_eq, ap, sym, subst, refl, ◌∙◌, Ok}
+use Rattle.std.specs.Option.{option_copied}
+use Rattle.serf_agent.specs.declared.open_query.OpenQuery.{OpenQuery}
+use Rattle.serf_agent.specs.declared.outcome.Outcome.{Outcome}
+use Rattle.serf_agent.specs.Lent.{response_in}
+use Rattle.serf_agent.specs.Queries.{answer_refusal, asked_at, counted, is_full, with_asked_at}
+use Rattle.serf_agent.specs.View.{AgentState, Stored}
+use Rattle.serf_agent.proofs.AskedLaws.{set_value-keys}
+use Rattle.serf_agent.proofs.StepLaws.{steps-counted}
+use Rattle.serf_agent.proofs.agent.Agent.receive_response.Goals as goal
+
+pub invariant_of-self-2 : goal.invariant_of-self-2
+invariant_of-self-2 g c =
+    let t = c.args.answer.now.time in
+    let r = response_in c.args.answer.now in
+    let there : asked_at t c.self.inside.asked ≡ Some c.in-Some.query.now = sym c.get.ensures ∙ ap option_copied c.in-Some.is in
+    let new = subst (λ (o : Option OpenQuery). IfSome o (λ q. c.count.new.self ≡ with_asked_at t (counted r q) c.self.inside.asked)) there c.in-Ok.ensures.ok in
+    let built = c.self.invariant in
+    record {
+      config_sound = built.config_sound;
+      event_size = built.event_size;
+      event_per_time = built.event_per_time;
+      query_size = built.query_size;
+      query_per_time = built.query_per_time;
+      asked_below = subst (λ (l : List (ℕ × OpenQuery)). All (λ q. q.0 < c.self.inside.queries.clock) l) (sym new) (set_value-keys (λ n. n < c.self.inside.queries.clock) (nat_eq t) c.self.inside.asked (counted r c.in-Some.query.now) built.asked_below);
+    }
+
+pub returns-clause-step : goal.returns-clause-step
+returns-clause-step g c = λ i sound is _.
+    let t = c.args.answer.now.time in
+    let r = response_in c.args.answer.now in
+    let q = c.in-Some.query.now in
+    let was = ap (λ (a : AgentState). a.stored) c.self.view_is ∙ is in
+    let asked = ap (λ (s : Stored). s.asked) was in
+    let there : asked_at t c.self.inside.asked ≡ Some q = sym c.get.ensures ∙ ap option_copied c.in-Some.is in
+    let new = subst (λ (o : Option OpenQuery). IfSome o (λ p. c.count.new.self ≡ with_asked_at t (counted r p) c.self.inside.asked)) there c.in-Ok.ensures.ok in
+    let at : asked_at t i.asked ≡ Some q = ap (λ (l : List (ℕ × OpenQuery)). asked_at t l) (sym asked) ∙ there in
+    let none : answer_refusal c.args.now r q ≡ None = sym c.refusal.ensures ∙ c.in-None.is in
+    let room : is_full i.config.responders r q ≡ false = ap (λ (s : Stored). is_full s.config.responders r q) (sym was) ∙ sym c.if-is_full.ensures in
+    let left = new ∙ ap (λ (l : List (ℕ × OpenQuery)). with_asked_at t (counted r q) l) asked in
+    steps-counted i c.args.now r q _ _ sound at none room (ap (λ (o : Outcome). Ok o) c.outcome_of.ensures)
+    (λ k. record { config = (was k).config; member = (was k).member; events = (was k).events; queries = (was k).queries; snapshot = (was k).snapshot; asked = left k })

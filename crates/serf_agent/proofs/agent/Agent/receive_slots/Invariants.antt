@@ -1,0 +1,15 @@
+use Rattle.std.proofs.Common.{◌≡◌, false}
+use Rattle.serf_wire.specs.Lists.{slots_left}
+use Rattle.serf_agent.specs.Ideal.{IdealAgent}
+use Rattle.serf_agent.specs.Merging.{HasReceived}
+use Rattle.serf_agent.specs.Sound.{IsSound}
+use Rattle.serf_agent.specs.States.{events_of}
+use Rattle.serf_agent.specs.View.{view_of}
+use Rattle.serf_agent.proofs.agent.Agent.receive_slots.Given as goal
+
+abbrev pub invariant-loop-slot : goal.invariant-loop-slot
+invariant-loop-slot g l = record {
+  received : (i : IdealAgent) → IsSound i → l.initial.self.stored ≡ view_of i → HasReceived i (events_of (slots_left l.fn.slots)) (events_of (slots_left l.slot-iterator)) l.initial.out.items l.out.items l.self.stored;
+  runs : l.self.stored.snapshot.stopped ≡ false;
+  calm : l.self.device.failures ≡ l.initial.self.device.failures;
+}

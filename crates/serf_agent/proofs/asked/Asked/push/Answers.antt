@@ -1,0 +1,9 @@
+use Rattle.std.proofs.Common.{◌≡◌, ◌<◌, ◌++◌, ◌∷◌, [], ℕ, List, All, ap, sym, subst, ◌∙◌}
+use Rattle.serf_agent.specs.declared.open_query.OpenQuery.{OpenQuery}
+use Rattle.serf_agent.proofs.AskedLaws.{insert-later}
+use Rattle.serf_agent.proofs.asked.Asked.push.Goals as goal
+
+pub returns-in-Ok-clause-ok : goal.returns-in-Ok-clause-ok
+returns-in-Ok-clause-ok c =
+    c.in-Ok.ensures.entries ∙ insert-later c.self.inside.queries.entries c.args.time c.args.query (subst (λ (l : List (ℕ × OpenQuery)). All (λ q. q.0 < c.args.time) l) (sym c.self.view_is) c.requires)
+    ∙ ap (λ (l : List (ℕ × OpenQuery)). l ++ (c.args.time, c.args.query) ∷ []) c.self.view_is

@@ -1,0 +1,11 @@
+use Rattle.std.proofs.Common.{◌≡◌, ap, sym, ◌∙◌, Err}
+use Rattle.std.proofs.lemmas.Bool.{true≢false}
+use Rattle.serf_wire.specs.declared.encode.EncodeFault.{EncodeFault}
+use Rattle.serf_wire.specs.Parts.{query_of}
+use Rattle.serf_agent.proofs.WireLaws.{query-not_long}
+use Rattle.serf_agent.proofs.queries.packet_of.Goals as goal
+
+pub unreachable-requires : goal.unreachable-requires
+unreachable-requires c =
+    let is_long = c.in-Err-TooLong.ensures.too_long.0 (ap (λ (x : EncodeFault). Err x) c.in-Err-TooLong.field-0-is) in
+    true≢false (sym is_long ∙ query-not_long (query_of c.args.parts.now) c.requires)

@@ -1,0 +1,15 @@
+-- What a query that is handed out says.
+use Rattle.std.specs.Prelude.{ℕ, List}
+
+-- a query that was handed out: what it says, until when it can be answered, and the node that it was handed to
+pub record Handed : Type 0 where
+  pub time : ℕ
+  pub id : ℕ
+  pub name : List ℕ
+  pub payload : List ℕ
+  pub source : List ℕ
+  pub addr : List ℕ
+  pub port : ℕ
+  pub relay_factor : ℕ
+  pub deadline : ℕ
+  pub node : List ℕ

@@ -1,0 +1,17 @@
+pub mod Config
+pub mod Handed
+pub mod Ideal
+pub mod Tracks
+pub mod Calls
+pub mod View
+pub mod Sound
+pub mod Steps
+pub mod Events
+pub mod States
+pub mod Queries
+pub mod Receive
+pub mod Restart
+pub mod Reasons
+pub mod Inside
+pub mod Lent
+pub mod Merging

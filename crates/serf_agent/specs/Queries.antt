@@ -1,0 +1,254 @@
+-- What the ideal agent does with queries, their acks and their responses (`serf.go`, `Query`, `handleQuery` and
+-- `handleQueryResponse`; `query.go`).
+use Rattle.std.specs.Prelude.{◌≡◌, ℕ, ℤ, pos, negsuc, ◌+◌, ◌-◌, ◌^◌, ◌==◌, ◌&&◌, min, nat_lt, nat_le, nat_eq, bit_and, not, Bool, true, false, if◌then◌else◌, List, [], ◌∷◌, ◌++◌, length, map, filter, Option, Some, None, Result, Ok, Err}
+use Rattle.std.specs.List.{list_any, list_all}
+use Rattle.std.specs.Map.{lookup, set_value}
+use Rattle.std.specs.Str.{bytes_eq}
+use Rattle.serf_wire.specs.Canonical.{canonical}
+use Rattle.serf_wire.specs.Message.{Query, QueryResponse, query, query_response, response_of}
+use Rattle.serf_wire.specs.Passes.{passes_of}
+use Rattle.serf_window.specs.Queries.{same_id}
+use Rattle.serf_snap.specs.declared.kind.ClockKind.TheVariants as kinds
+use Rattle.serf_agent.specs.declared.lists.Response.{Response as ResponseText}
+use Rattle.serf_agent.specs.declared.open_query.OpenQuery.{OpenQuery}
+use Rattle.serf_agent.specs.declared.outcome.FiredQuery.{FiredQuery}
+use Rattle.serf_agent.specs.declared.outcome.QueryFault.{QueryFault}
+use Rattle.serf_agent.specs.declared.outcome.QueryFault.TheVariants as faults
+use Rattle.serf_agent.specs.declared.outcome.QueryParams.{QueryParams}
+use Rattle.serf_agent.specs.declared.outcome.Outcome.{Outcome}
+use Rattle.serf_agent.specs.declared.outcome.Outcome.TheVariants as outcomes
+use Rattle.serf_agent.specs.declared.outcome.Reason.{Reason}
+use Rattle.serf_agent.specs.declared.outcome.Reason.TheVariants.{NotOpen, OtherId, Closed, AckNotAsked, AckTwice, ResponseTwice}
+use Rattle.serf_agent.specs.declared.outcome.ReceiveFault.{ReceiveFault}
+use Rattle.serf_agent.specs.declared.outcome.ReceiveFault.TheVariants.{RespondersFull, SinkFault}
+use Rattle.serf_agent.specs.declared.outcome.RespondFault.{RespondFault}
+use Rattle.serf_agent.specs.declared.outcome.RespondFault.TheVariants as responds
+use Rattle.serf_agent.specs.Handed.{Handed}
+use Rattle.serf_agent.specs.Ideal.{IdealAgent, with_queries, with_asked}
+use Rattle.serf_agent.specs.Tracks.{track_reason, track_observed, track_entered}
+use Rattle.serf_agent.specs.Calls.{Call, Ends, Notes, Step, answers}
+use Rattle.serf_agent.specs.Events.{drawn}
+
+-- A query and what is handed out of it
+
+-- the flags that ask for acks, and for no rebroadcast (`messages.go`, `queryFlagAck` and `queryFlagNoBroadcast`)
+abbrev pub ack_flag : ℕ
+ack_flag = 1
+
+abbrev pub no_broadcast_flag : ℕ
+no_broadcast_flag = 2
+
+abbrev pub has_flag : ℕ → ℕ → Bool
+has_flag flag flags = not (bit_and flags flag == 0)
+
+-- whether every filter lets a node pass
+abbrev pub all_pass : List (List ℕ) → List ℕ → Bool
+all_pass filters node = list_all (λ f. passes_of f node) filters
+
+-- the last moment at which a query of this timeout can be answered: no later than 2^64 - 1, and now where the
+-- timeout is 0 or below
+abbrev pub deadline_of : ℕ → ℤ → ℕ
+deadline_of now (pos timeout) = min (now + timeout) (2 ^ 64 - 1)
+deadline_of now (negsuc timeout) = now
+
+-- what a node hands out of a query
+abbrev pub handed_query : List ℕ → ℕ → Query → Handed
+handed_query node now q =
+    record {
+      time = q.time;
+      id = q.id;
+      name = q.name;
+      payload = q.payload;
+      source = q.source;
+      addr = q.addr;
+      port = q.port;
+      relay_factor = q.relay_factor;
+      deadline = deadline_of now q.timeout;
+      node = node;
+    }
+
+-- a node's ack of a query
+abbrev pub ack_packet : List ℕ → Query → List ℕ
+ack_packet node q = canonical (response_of q.time q.id node ack_flag [])
+
+-- what is handed out, and the ack that is sent, where the filters let the node pass
+abbrev pub handed_if_passed : List ℕ → ℕ → Query → Option Handed
+handed_if_passed node now q = if all_pass q.filters node then Some (handed_query node now q) else None
+
+abbrev pub ack_if_passed : List ℕ → Query → Option (List ℕ)
+ack_if_passed node q = if all_pass q.filters node then (if has_flag ack_flag q.flags then Some (ack_packet node q) else None) else None
+
+-- Answering a query that was handed out
+
+-- the packet of a response, which has no flags
+abbrev pub response_packet : Handed → List ℕ → List ℕ
+response_packet h payload = canonical (response_of h.time h.id h.node 0 payload)
+
+-- why it can't be answered so at this moment: the first that holds
+abbrev pub respond_fault : Handed → ℕ → List ℕ → Option RespondFault
+respond_fault h now payload =
+    if nat_lt h.deadline now then Some responds.PastDeadline else
+    if nat_lt 1024 (length (response_packet h payload)) then Some responds.TooLarge else None
+
+-- A query that comes
+
+-- why it is ignored; None where it is new: what tells two queries of one time apart is the ID alone
+abbrev pub query_admission : IdealAgent → ℕ → ℕ → Option Reason
+query_admission i t id = track_reason same_id i.config.query_buffer i.config.per_time i.life i.queries t id
+
+abbrev pub query_observed : ℕ → IdealAgent → IdealAgent
+query_observed t i = with_queries (track_observed t i.queries) i
+
+abbrev pub query_entered : ℕ → ℕ → IdealAgent → IdealAgent
+query_entered t id i = with_queries (track_entered i.life t id i.queries) i
+
+-- where it is new its line is written, though the filters exclude this node, and then it enters
+abbrev pub query_received_as : Option Reason → IdealAgent → ℕ → Query → Call (Result Outcome ReceiveFault)
+query_received_as (Some reason) i now q = Ends record { agent = query_observed q.time i; answer = Ok (outcomes.Ignored reason) }
+query_received_as None i now q =
+    Notes kinds.Query q.time (record {
+      agent = query_entered q.time q.id i;
+      answer = Ok (outcomes.Query (handed_if_passed i.config.name now q) (ack_if_passed i.config.name q) (not (has_flag no_broadcast_flag q.flags)));
+    }) (Err SinkFault)
+
+abbrev pub receive_query : IdealAgent → ℕ → Query → Call (Result Outcome ReceiveFault)
+receive_query i now q = query_received_as (query_admission i q.time q.id) i now q
+
+-- A query that is fired
+
+-- the flags of a query that is fired
+abbrev pub flags_of : Bool → Bool → ℕ
+flags_of want_ack no_broadcast = (if want_ack then ack_flag else 0) + (if no_broadcast then no_broadcast_flag else 0)
+
+-- the query that an agent of this name fires at a time
+abbrev pub query_at : ℕ → List ℕ → ℕ → List ℕ → List ℕ → QueryParams → Query
+query_at t node id name payload params =
+    record {
+      time = t;
+      id = id;
+      addr = params.addr;
+      port = params.port;
+      source = node;
+      filters = params.filters;
+      flags = flags_of params.want_ack params.no_broadcast;
+      relay_factor = params.relay_factor;
+      timeout = params.timeout;
+      name = name;
+      payload = payload;
+    }
+
+-- a timeout of 0 or below
+abbrev pub is_no_timeout : ℤ → Bool
+is_no_timeout (pos timeout) = timeout == 0
+is_no_timeout (negsuc timeout) = true
+
+-- whether the packet of a query is too large to be fired
+abbrev pub is_too_large_query : List ℕ → ℕ → ℕ → List ℕ → List ℕ → QueryParams → Bool
+is_too_large_query node clock id name payload params = nat_lt 1024 (length (canonical (query (query_at (drawn clock) node id name payload params))))
+
+-- why a query isn't fired: the first that holds
+abbrev pub query_fault : IdealAgent → ℕ → List ℕ → List ℕ → QueryParams → Option QueryFault
+query_fault i id name payload params =
+    if i.snapshot.stopped then Some faults.Stopped else
+    if is_too_large_query i.config.name i.queries.clock id name payload params then Some faults.TooLarge else
+    if is_no_timeout params.timeout then Some faults.ZeroTimeout else
+    if nat_le (2 ^ 64 - 1) i.queries.clock then Some faults.Exhausted else None
+
+-- a query that takes answers from now on, and has none
+abbrev pub opened_query : ℕ → Query → OpenQuery
+opened_query now q = record { id = q.id; deadline = deadline_of now q.timeout; wants_ack = has_flag ack_flag q.flags; acks = []; responses = [] }
+
+-- the agent once a query of its own has entered, and is open
+abbrev pub query_asked : ℕ → Query → IdealAgent → IdealAgent
+query_asked now q i = with_asked (i.asked ++ (q.time, opened_query now q) ∷ []) (query_entered q.time q.id i)
+
+-- what a node answers that fires a query
+abbrev pub fired_query : List ℕ → ℕ → Query → FiredQuery
+fired_query node now q = record { time = q.time; packet = canonical (query q); handed = handed_if_passed node now q; ack = ack_if_passed node q }
+
+abbrev pub asks : IdealAgent → ℕ → Query → Call (Result FiredQuery QueryFault)
+asks i now q =
+    Notes kinds.Query q.time (record {
+      agent = query_asked now q i;
+      answer = Ok (fired_query i.config.name now q);
+    }) (Err faults.SinkFault)
+
+abbrev pub query_fired_as : Option QueryFault → IdealAgent → ℕ → Query → Call (Result FiredQuery QueryFault)
+query_fired_as (Some fault) i now q = answers i (Err fault)
+query_fired_as None i now q = asks i now q
+
+abbrev pub fire_query : IdealAgent → ℕ → ℕ → List ℕ → List ℕ → QueryParams → Call (Result FiredQuery QueryFault)
+fire_query i now id name payload params =
+    query_fired_as (query_fault i id name payload params) i now (query_at i.queries.clock i.config.name id name payload params)
+
+-- Responses and acks
+
+-- the open query of a time
+abbrev pub asked_at : ℕ → List (ℕ × OpenQuery) → Option OpenQuery
+asked_at t asked = lookup (nat_eq t) asked
+
+-- the open queries, with another in the place of that of a time
+abbrev pub with_asked_at : ℕ → OpenQuery → List (ℕ × OpenQuery) → List (ℕ × OpenQuery)
+with_asked_at t q asked = set_value (nat_eq t) asked q
+
+abbrev pub is_ack : QueryResponse → Bool
+is_ack r = has_flag ack_flag r.flags
+
+abbrev pub has_acked : OpenQuery → List ℕ → Bool
+has_acked q name = list_any (λ a. bytes_eq a name) q.acks
+
+abbrev pub has_responded : OpenQuery → List ℕ → Bool
+has_responded q name = list_any (λ a. bytes_eq a.from name) q.responses
+
+-- why an ack, or a response, of a node is ignored
+abbrev pub ack_refusal : List ℕ → OpenQuery → Option Reason
+ack_refusal from q = if not q.wants_ack then Some AckNotAsked else if has_acked q from then Some AckTwice else None
+
+abbrev pub response_refusal : List ℕ → OpenQuery → Option Reason
+response_refusal from q = if has_responded q from then Some ResponseTwice else None
+
+-- why an answer to an open query is ignored: the first that holds
+abbrev pub answer_refusal : ℕ → QueryResponse → OpenQuery → Option Reason
+answer_refusal now r q =
+    if not (q.id == r.id) then Some OtherId else
+    if nat_lt q.deadline now then Some Closed else
+    if is_ack r then ack_refusal r.from q else response_refusal r.from q
+
+-- whether as many names are counted already as the settings allow
+abbrev pub is_full : ℕ → QueryResponse → OpenQuery → Bool
+is_full responders r q = if is_ack r then nat_le responders (length q.acks) else nat_le responders (length q.responses)
+
+-- the open query once an answer is counted
+abbrev pub counted : QueryResponse → OpenQuery → OpenQuery
+counted r q =
+    if is_ack r then record { id = q.id; deadline = q.deadline; wants_ack = q.wants_ack; acks = q.acks ++ r.from ∷ []; responses = q.responses }
+    else record { id = q.id; deadline = q.deadline; wants_ack = q.wants_ack; acks = q.acks; responses = q.responses ++ record { from = r.from; payload = r.payload } ∷ [] }
+
+-- what is answered where it is counted
+abbrev pub counted_as : QueryResponse → Outcome
+counted_as r = if is_ack r then outcomes.Ack else outcomes.Response
+
+abbrev pub counts : IdealAgent → QueryResponse → OpenQuery → Call (Result Outcome ReceiveFault)
+counts i r q =
+    if is_full i.config.responders r q then answers i (Err RespondersFull) else
+    Ends record { agent = with_asked (with_asked_at r.time (counted r q) i.asked) i; answer = Ok (counted_as r) }
+
+abbrev pub response_received_as : Option Reason → IdealAgent → QueryResponse → OpenQuery → Call (Result Outcome ReceiveFault)
+response_received_as (Some reason) i r q = answers i (Ok (outcomes.Ignored reason))
+response_received_as None i r q = counts i r q
+
+abbrev pub response_received_at : Option OpenQuery → IdealAgent → ℕ → QueryResponse → Call (Result Outcome ReceiveFault)
+response_received_at None i now r = answers i (Ok (outcomes.Ignored NotOpen))
+response_received_at (Some q) i now r = response_received_as (answer_refusal now r q) i r q
+
+abbrev pub receive_response : IdealAgent → ℕ → QueryResponse → Call (Result Outcome ReceiveFault)
+receive_response i now r = response_received_at (asked_at r.time i.asked) i now r
+
+-- Closing
+
+abbrev pub is_due : ℕ → ℕ × OpenQuery → Bool
+is_due now q = nat_lt q.1.deadline now
+
+-- the open queries whose deadline is past are taken out, and the answer is how many they are
+abbrev pub close_due : IdealAgent → ℕ → Step ℕ
+close_due i now = record { agent = with_asked (filter (λ q. not (is_due now q)) i.asked) i; answer = length (filter (is_due now) i.asked) }

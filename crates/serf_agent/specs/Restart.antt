@@ -1,0 +1,41 @@
+-- What the ideal agent is once it is opened again, or for the first time (`serf.go`, `Create`; `snapshot.go`, `NewSnapshotter`).
+use Rattle.std.specs.Prelude.{ℕ, ◌+◌, ◌≤◌, List, [], All}
+use Rattle.serf_snap.specs.declared.kind.ClockKind.TheVariants.{Event, Query}
+use Rattle.serf_snap.specs.Clocks.{last_clock}
+use Rattle.serf_snap.specs.Device.{Device}
+use Rattle.serf_snap.specs.Notes.{SnapshotView, opened}
+use Rattle.serf_agent.specs.declared.config.Config.{Config}
+use Rattle.serf_agent.specs.Ideal.{IdealAgent}
+use Rattle.serf_agent.specs.Tracks.{track_reopened}
+
+-- The agent in a new life, with this snapshot: each clock is one above its kind's last line, and so are the least times
+-- that it takes. It remembers all that was entered in earlier lives, and has no open query.
+abbrev pub restarted : SnapshotView → IdealAgent → IdealAgent
+restarted s i =
+    record {
+      config = i.config;
+      life = i.life + 1;
+      member = s.member + 1;
+      events = track_reopened s.event i.events;
+      queries = track_reopened s.query i.queries;
+      snapshot = s;
+      asked = [];
+    }
+
+-- a text has each time that was entered, or a later one
+pub record IsInText (i : IdealAgent) (text : List ℕ) : Type 0 where
+  pub events : All (λ p. p.entry.time ≤ last_clock Event text) i.events.history
+  pub queries : All (λ p. p.entry.time ≤ last_clock Query text) i.queries.history
+
+-- the agent before its first life, which has entered nothing
+abbrev pub unborn : Config → SnapshotView → IdealAgent
+unborn config s =
+    record {
+      config = config;
+      life = 0;
+      member = s.member + 1;
+      events = record { clock = s.event + 1; minimum = s.event + 1; history = [] };
+      queries = record { clock = s.query + 1; minimum = s.query + 1; history = [] };
+      snapshot = s;
+      asked = [];
+    }

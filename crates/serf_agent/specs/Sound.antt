@@ -1,0 +1,28 @@
+-- What is true of every ideal agent, whatever it was called to do.
+use Rattle.std.specs.Prelude.{◌≡◌, ◌≢◌, ℕ, ◌+◌, ◌-◌, ◌^◌, ◌<◌, ◌≤◌, true, length, All, AllPairs}
+use Rattle.serf_snap.specs.Notes.{IsSnapshotSound}
+use Rattle.serf_agent.specs.declared.open_query.OpenQuery.{OpenQuery}
+use Rattle.serf_agent.specs.Config.{is_sound}
+use Rattle.serf_agent.specs.Ideal.{IdealAgent}
+use Rattle.serf_agent.specs.Tracks.{IsTrackSound}
+
+-- each name stands once among an open query's acks, and once among its responses
+pub record IsOpenQuerySound (q : OpenQuery) : Type 0 where
+  pub acks : AllPairs (λ a b. a ≢ b) q.acks
+  pub responses : AllPairs (λ a b. a.from ≢ b.from) q.responses
+
+pub record IsSound (i : IdealAgent) : Type 0 where
+  -- its settings are within their bounds
+  pub config : is_sound i.config ≡ true
+  -- the member clock is a u64
+  pub member : i.member ≤ 2 ^ 64 - 1
+  pub events : IsTrackSound i.events i.life i.snapshot.event
+  pub queries : IsTrackSound i.queries i.life i.snapshot.query
+  -- each event's texts are short
+  pub short : All (λ p. length p.entry.what.name + length p.entry.what.payload ≤ 9216) i.events.history
+  -- what the sink keeps has the last lines
+  pub snapshot : IsSnapshotSound i.snapshot
+  -- the open queries have distinct times, each below the query clock
+  pub asked_below : All (λ q. q.0 < i.queries.clock) i.asked
+  pub asked_distinct : AllPairs (λ p q. p.0 ≢ q.0) i.asked
+  pub asked_sound : All (λ q. IsOpenQuerySound q.1) i.asked

@@ -1,0 +1,163 @@
+//! One agent.
+
+ghost use Rattle.std.specs.Prelude.{◌≡◌, ◌≢◌, ◌↔◌, ◌<◌, ◌≤◌, ◌+◌, ◌-◌, ◌^◌, false, true, List, [], ◌∷◌, ◌++◌, map, length, OnOk, OnErr, IfOk, IfErr, IsErrOf};
+ghost use Rattle.serf_snap.specs.Device.{HasText, Fails};
+ghost use Rattle.serf_snap.specs.Clocks.{seal_line};
+ghost use Rattle.serf_snap.specs.Notes.{opened, opened_device};
+ghost use Rattle.serf_window.specs.Window.{slots_of};
+ghost use Rattle.serf_agent.specs.Config.{is_sound};
+ghost use Rattle.serf_agent.specs.Ideal.{IdealAgent};
+ghost use Rattle.serf_agent.specs.Inside.{first_stored, stored_of};
+ghost use Rattle.serf_agent.specs.Restart.{IsInText, restarted};
+ghost use Rattle.serf_agent.specs.Sound.{IsSound};
+ghost use Rattle.serf_agent.specs.View.{view_of};
+
+use crate::asked::Asked;
+use crate::config::Config;
+use crate::event_track::EventTrack;
+use crate::outcome::{NotOpened, OpenFault};
+use crate::query_track::QueryTrack;
+use serf_lamport::Clock;
+use serf_snap::{OpenFault as SnapshotFault, Sink, Snapshot};
+use std::alloc::{AllocError, Global};
+use std::marker::Model;
+
+/// An agent: its clocks, what it knows of events and queries, and its snapshot on a sink.
+#[derive(Drop)]
+pub struct Agent<S: Sink> {
+    pub(crate) config: Config,
+    pub(crate) member: Clock,
+    pub(crate) events: EventTrack,
+    pub(crate) queries: QueryTrack,
+    pub(crate) asked: Asked,
+    pub(crate) snapshot: Snapshot<S>,
+}
+
+impl<S: Sink> Model for Agent<S> {
+    ghost use Rattle.serf_agent.specs.View.{AgentState};
+
+    ghost Value = { AgentState };
+
+    ghost use Rattle.serf_agent.specs.Inside.{IsBuilt, stored_of};
+
+    ghost view = { λ a. record {
+      stored = record { config = a.config; member = a.member; events = stored_of a.events; queries = stored_of a.queries; snapshot = a.snapshot.snapshot; asked = a.asked };
+      device = a.snapshot.device;
+    } };
+
+    ghost invariant = { λ a. IsBuilt a.config a.events a.queries a.asked };
+}
+
+/// Two tracks that have nothing.
+fn new_tracks(alloc: Global, config: &Config) -> Result<(EventTrack, QueryTrack), AllocError>
+    requires { is_sound config.now ≡ true }
+    ensures events { IfOk result (λ t. stored_of t.0 ≡ record { clock = 1; minimum = 1; slots = slots_of config.now.event_buffer [] }) }
+    ensures event_per_time { IfOk result (λ t. t.0.window.per_time ≡ config.now.per_time) }
+    ensures queries { IfOk result (λ t. stored_of t.1 ≡ record { clock = 1; minimum = 1; slots = slots_of config.now.query_buffer [] }) }
+    ensures query_per_time { IfOk result (λ t. t.1.window.per_time ≡ config.now.per_time) }
+{
+    let events = EventTrack::new(alloc, config.event_buffer, config.per_time)?;
+    let queries = QueryTrack::new(alloc, config.query_buffer, config.per_time)?;
+    Ok((events, queries))
+}
+
+/// A snapshot that isn't opened, as an agent that isn't.
+fn fault_of(fault: SnapshotFault) -> OpenFault
+    ensures memory { result ≡ OpenFault.OutOfMemory → fault ≡ SnapshotFault.OutOfMemory }
+    ensures sink { result ≡ OpenFault.SinkFault → fault ≡ SnapshotFault.SinkFault }
+    ensures config { result ≢ OpenFault.BadConfig }
+{
+    match fault {
+        SnapshotFault::OutOfMemory => OpenFault::OutOfMemory,
+        SnapshotFault::SinkFault => OpenFault::SinkFault,
+    }
+}
+
+impl<S: Sink> Agent<S> {
+    /// An agent over a sink that keeps this text: the first agent of a node where the text is empty, else the node's
+    /// agent in a new life. It goes on from the text as the agent would whose lines the text has: its clocks, and the
+    /// least times that it takes, are above all that was handed out before.
+    ///
+    /// `BadConfig` where the settings are out of bounds, `OutOfMemory`, or `SinkFault` where the sink failed as the torn
+    /// last line of the text was ended; each hands back the settings and the sink, and the first two left the sink alone.
+    pub fn open(alloc: Global, config: Config, text: &[u8], sink: S) -> Result<Self, NotOpened<S>>
+        requires { HasText text.now (S.device sink) }
+
+        // For each agent whose times the text has, it is that agent in its next life.
+        ensures restarted { (i : IdealAgent) → IsSound i → i.config ≡ config → IsInText i text.now
+            → IfOk result (λ a. (a.stored ≡ view_of (restarted (opened text.now (S.device sink)) i)) × IsSound (restarted (opened text.now (S.device sink)) i)) }
+        ensures device { IfOk result (λ a. a.device ≡ opened_device text.now (S.device sink)) }
+        ensures ok { OnOk result (is_sound config ≡ true) }
+
+        // What is handed back.
+        ensures config { IfErr result (λ e. e.config ≡ config) }
+        ensures bad { IfErr result (λ e. (e.fault ≡ OpenFault.BadConfig) ↔ (is_sound config ≡ false)) }
+        ensures untouched { IfErr result (λ e. e.fault ≢ OpenFault.SinkFault → S.device e.sink ≡ S.device sink) }
+        ensures cause { IfErr result (λ e. e.fault ≡ OpenFault.SinkFault → Fails (S.device sink) (S.device e.sink) seal_line) }
+    {
+        if !config.is_sound() {
+            let fault = OpenFault::BadConfig;
+            return Err(NotOpened {
+                config,
+                sink,
+                fault,
+            });
+        }
+        let (events, queries) = match new_tracks(alloc, &config) {
+            Ok(tracks) => tracks,
+            Err(_) => {
+                let fault = OpenFault::OutOfMemory;
+                return Err(NotOpened {
+                    config,
+                    sink,
+                    fault,
+                });
+            }
+        };
+        match Snapshot::open(alloc, text, sink) {
+            Ok(snapshot) => Ok(Agent::behind(alloc, config, events, queries, snapshot)),
+            Err((sink, fault)) => {
+                let fault = fault_of(fault);
+                Err(NotOpened {
+                    config,
+                    sink,
+                    fault,
+                })
+            }
+        }
+    }
+
+    /// The agent that has entered nothing in this life, behind the last lines of a snapshot.
+    fn behind(
+        alloc: Global,
+        config: Config,
+        events: EventTrack,
+        queries: QueryTrack,
+        snapshot: Snapshot<S>,
+    ) -> Self
+        requires config_sound { is_sound config ≡ true }
+        requires events { stored_of events ≡ record { clock = 1; minimum = 1; slots = slots_of config.event_buffer [] } }
+        requires event_per_time { events.window.per_time ≡ config.per_time }
+        requires queries { stored_of queries ≡ record { clock = 1; minimum = 1; slots = slots_of config.query_buffer [] } }
+        requires query_per_time { queries.window.per_time ≡ config.per_time }
+
+        ensures stored { result.stored ≡ first_stored config snapshot.snapshot }
+        ensures device { result.device ≡ snapshot.device }
+    {
+        let last = snapshot.clocks();
+        let mut member = Clock::new();
+        member.observe_before(last.member + 1);
+        let mut events = events;
+        events.raise(last.event + 1, last.event + 1);
+        let mut queries = queries;
+        queries.raise(last.query + 1, last.query + 1);
+        Agent {
+            config,
+            member,
+            events,
+            queries,
+            asked: Asked::new(alloc),
+            snapshot,
+        }
+    }
+}

@@ -1,0 +1,46 @@
+//! An agent's settings.
+
+ghost use Rattle.std.specs.Prelude.{◌≡◌};
+ghost use Rattle.serf_agent.specs.Config.{is_sound};
+
+use serf_wire::Bytes;
+
+/// What an agent is set to (Serf's `config.go`). The bounds are this project's own; settings outside them are refused
+/// when an agent is opened.
+#[derive(Debug, Drop)]
+pub struct Config {
+    /// The node's name: 1 to 128 bytes.
+    pub name: Bytes,
+    /// The number of slots for events: 1 to 65,536. Serf has 512.
+    pub event_buffer: u64,
+    /// The number of slots for queries: 1 to 65,536. Serf has 512.
+    pub query_buffer: u64,
+    /// The greatest length of a fired event's packet, and of its texts together: at most 9,216. Serf has 512.
+    pub event_limit: u64,
+    /// How many names are counted at most among the acks of a query, and among its responses: 1 to 65,536.
+    pub responders: u64,
+    /// How many events, or queries, of one time are taken at most: 1 to 65,536.
+    pub per_time: u64,
+    /// Whether joining lifts the least time of events to the other agent's clock.
+    pub ignore_old: bool,
+}
+
+impl Config {
+    /// Whether an agent can have these settings. Takes no memory.
+    pub fn is_sound(&self) -> bool
+        ensures { result ≡ is_sound self.now }
+    {
+        let name = self.name.as_slice().len();
+        name >= 1
+            && name <= 128
+            && self.event_buffer >= 1
+            && self.event_buffer <= 65536
+            && self.query_buffer >= 1
+            && self.query_buffer <= 65536
+            && self.event_limit <= 9216
+            && self.responders >= 1
+            && self.responders <= 65536
+            && self.per_time >= 1
+            && self.per_time <= 65536
+    }
+}

@@ -1,0 +1,195 @@
+//! User events: firing them, and taking those that come.
+
+ghost use Rattle.std.specs.Prelude.{◌≡◌, ◌≢◌, ◌<◌, ◌≤◌, ◌+◌, ◌-◌, ◌^◌, false, List, None, length, OnOk, IfOk, IsErrOf};
+ghost use Rattle.serf_wire.specs.Canonical.{canonical};
+ghost use Rattle.serf_wire.specs.Message.{user_event_of};
+ghost use Rattle.serf_window.specs.Texts.{event_of};
+ghost use Rattle.serf_window.specs.Window.{count_in, time_in};
+ghost use Rattle.serf_snap.specs.declared.kind.ClockKind.TheVariants as kinds;
+ghost use Rattle.serf_snap.specs.Device.{HasFailed};
+ghost use Rattle.serf_snap.specs.Notes.{Kept, Failed, noted, written};
+ghost use Rattle.serf_agent.specs.Calls.{AsksSink, MayNote};
+ghost use Rattle.serf_agent.specs.Events.{admission, drawn, event_entered, event_out, event_packet, fire, is_too_large, receive_event};
+ghost use Rattle.serf_agent.specs.Ideal.{IdealAgent, with_snapshot};
+ghost use Rattle.serf_agent.specs.Sound.{IsSound};
+ghost use Rattle.serf_agent.specs.Steps.{Steps};
+ghost use Rattle.serf_agent.specs.View.{stored_with, view_of};
+
+use crate::agent::Agent;
+use crate::outcome::{EventOut, FireFault, Fired, LineFault, Outcome, Reason, ReceiveFault};
+use serf_lamport::Time;
+use serf_snap::{NoteFault, Sink};
+use serf_wire::{Bytes, EncodeFault, encode_user_event, user_event_len};
+use std::alloc::{AllocError, Global};
+
+/// The greatest length of an event's name and payload together, wherever it comes from.
+const LONGEST_TEXTS: usize = 9216;
+
+/// A copy of an event, to hand out.
+fn handed_out(
+    alloc: Global,
+    time: Time,
+    name: &[u8],
+    payload: &[u8],
+    cc: bool,
+) -> Result<EventOut, AllocError>
+    ensures { IfOk result (λ out. out ≡ event_out time (event_of name.now payload.now) cc) }
+{
+    Ok(EventOut {
+        time,
+        name: Bytes::copy_of(alloc, name)?,
+        payload: Bytes::copy_of(alloc, payload)?,
+        cc,
+    })
+}
+
+/// The packet of an event whose texts are short.
+fn packet_of(
+    alloc: Global,
+    time: Time,
+    name: &[u8],
+    payload: &[u8],
+    cc: bool,
+) -> Result<Bytes, AllocError>
+    requires { length name.now + length payload.now ≤ 9216 }
+    ensures { IfOk result (λ packet. packet ≡ event_packet time (event_of name.now payload.now) cc) }
+{
+    match encode_user_event(alloc, time, name, payload, cc) {
+        Ok(packet) => Ok(Bytes::from_vec(packet)),
+        Err(EncodeFault::TooLong) => unreachable!(),
+        Err(EncodeFault::OutOfMemory) => Err(AllocError),
+    }
+}
+
+/// Whether an event is too large to be fired under a limit.
+fn is_too_large(limit: u64, time: Time, name: &[u8], payload: &[u8], cc: bool) -> bool
+    ensures { result ≡ is_too_large limit time (event_of name.now payload.now) cc }
+{
+    let limit = limit as u128;
+    name.len() as u128 + payload.len() as u128 > limit
+        || user_event_len(time, name, payload, cc) > limit
+}
+
+impl<S: Sink> Agent<S> {
+    /// Fires an event at the event clock's time: its clock line is kept, it enters the buffer and is handed out here, and
+    /// its packet is to be sent (Serf's `serf.go`, `UserEvent`).
+    ///
+    /// Of the refusals the first that holds is answered. All of them leave the agent as it was, but that `SinkFault` stops
+    /// it.
+    pub fn fire(
+        &mut self,
+        alloc: Global,
+        name: &[u8],
+        payload: &[u8],
+        cc: bool,
+    ) -> Result<Fired, FireFault>
+        ensures step { (i : IdealAgent) → IsSound i → self.old.stored ≡ view_of i → result ≢ Err FireFault.OutOfMemory
+            → Steps i (fire i (event_of name.now payload.now) cc) result self.new.stored }
+
+        // Memory is wanted only where the event is fired, and its want changes nothing.
+        ensures only_fired { (i : IdealAgent) → IsSound i → self.old.stored ≡ view_of i → IsErrOf result FireFault.OutOfMemory → AsksSink (fire i (event_of name.now payload.now) cc) }
+        ensures memory { IsErrOf result FireFault.OutOfMemory → self.new ≡ self.old }
+        ensures cause { IsErrOf result FireFault.SinkFault → HasFailed self.old.device.failures self.new.device.failures }
+    {
+        if self.snapshot.is_stopped() {
+            return Err(FireFault::Stopped);
+        }
+        let measured = self.events.measured();
+        if is_too_large(self.config.event_limit, measured, name, payload, cc) {
+            return Err(FireFault::TooLarge);
+        }
+        let Some(time) = self.events.next_time() else {
+            return Err(FireFault::Exhausted);
+        };
+        let Ok(packet) = packet_of(alloc, time, name, payload, cc) else {
+            return Err(FireFault::OutOfMemory);
+        };
+        match self.take_in(alloc, time, name, payload, cc) {
+            Ok(handed) => Ok(Fired { packet, handed }),
+            Err(LineFault::OutOfMemory) => Err(FireFault::OutOfMemory),
+            Err(LineFault::SinkFault) => Err(FireFault::SinkFault),
+        }
+    }
+
+    /// Why an event is ignored, if it is. Takes no memory.
+    pub(crate) fn admission(&self, time: Time, name: &[u8], payload: &[u8]) -> Option<Reason>
+        ensures reason { (i : IdealAgent) → IsSound i → self.now.stored ≡ view_of i → result ≡ admission i time (event_of name.now payload.now) }
+        ensures not_later { result ≡ None → time_in self.now.stored.events.slots time ≤ time }
+        ensures not_full { result ≡ None → count_in self.now.stored.events.slots time < self.now.stored.config.per_time }
+        ensures small { result ≡ None → time < 2 ^ 64 - 1 }
+    {
+        if name.len() > LONGEST_TEXTS || payload.len() > LONGEST_TEXTS - name.len() {
+            return Some(Reason::Oversize);
+        }
+        self.events.reason(time, name, payload)
+    }
+
+    /// Takes an event that comes.
+    pub(crate) fn receive_event(
+        &mut self,
+        alloc: Global,
+        time: Time,
+        name: &[u8],
+        payload: &[u8],
+        cc: bool,
+    ) -> Result<Outcome, ReceiveFault>
+        requires { self.old.stored.snapshot.stopped ≡ false }
+        ensures step { (i : IdealAgent) → IsSound i → self.old.stored ≡ view_of i → result ≢ Err ReceiveFault.OutOfMemory
+            → Steps i (receive_event i time (event_of name.now payload.now) cc) result self.new.stored }
+        ensures only_new { (i : IdealAgent) → IsSound i → self.old.stored ≡ view_of i → IsErrOf result ReceiveFault.OutOfMemory → AsksSink (receive_event i time (event_of name.now payload.now) cc) }
+        ensures memory { IsErrOf result ReceiveFault.OutOfMemory → self.new ≡ self.old }
+        ensures cause { IsErrOf result ReceiveFault.SinkFault → HasFailed self.old.device.failures self.new.device.failures }
+    {
+        match self.admission(time, name, payload) {
+            Some(reason) => {
+                self.events.observe(time);
+                Ok(Outcome::Ignored(reason))
+            }
+            None => match self.take_in(alloc, time, name, payload, cc) {
+                Ok(handed) => Ok(Outcome::Event(handed)),
+                Err(LineFault::OutOfMemory) => Err(ReceiveFault::OutOfMemory),
+                Err(LineFault::SinkFault) => Err(ReceiveFault::SinkFault),
+            },
+        }
+    }
+
+    /// Takes in an event, once its line is kept.
+    pub(crate) fn take_in(
+        &mut self,
+        alloc: Global,
+        time: Time,
+        name: &[u8],
+        payload: &[u8],
+        cc: bool,
+    ) -> Result<EventOut, LineFault>
+        requires runs { self.old.stored.snapshot.stopped ≡ false }
+        requires not_later { time_in self.old.stored.events.slots time ≤ time }
+        requires not_full { count_in self.old.stored.events.slots time < self.old.stored.config.per_time }
+
+        ensures out { IfOk result (λ out. out ≡ event_out time (event_of name.now payload.now) cc) }
+        ensures entered { OnOk result ((i : IdealAgent) → self.old.stored ≡ view_of i
+            → self.new.stored ≡ view_of (with_snapshot (noted kinds.Event time i.snapshot Kept) (event_entered time (event_of name.now payload.now) i))) }
+        ensures allowed { OnOk result (MayNote kinds.Event time self.old.stored.snapshot Kept) }
+        ensures runs { OnOk result (self.new.stored.snapshot.stopped ≡ false) }
+        ensures calm { OnOk result (self.new.device.failures ≡ self.old.device.failures) }
+
+        ensures failed { IsErrOf result LineFault.SinkFault → self.new.stored ≡ stored_with (written kinds.Event time self.old.stored.snapshot (Failed self.new.stored.snapshot.kept)) self.old.stored }
+        ensures fault_allowed { IsErrOf result LineFault.SinkFault → MayNote kinds.Event time self.old.stored.snapshot (Failed self.new.stored.snapshot.kept) }
+        ensures cause { IsErrOf result LineFault.SinkFault → HasFailed self.old.device.failures self.new.device.failures }
+        ensures memory { IsErrOf result LineFault.OutOfMemory → self.new ≡ self.old }
+    {
+        let Ok(handed) = handed_out(alloc, time, name, payload, cc) else {
+            return Err(LineFault::OutOfMemory);
+        };
+        let Ok(entry) = self.events.prepare(alloc, time, name, payload) else {
+            return Err(LineFault::OutOfMemory);
+        };
+        match self.snapshot.note_event(alloc, time) {
+            Ok(()) => {}
+            Err(NoteFault::SinkFault) => return Err(LineFault::SinkFault),
+            Err(_) => return Err(LineFault::OutOfMemory),
+        }
+        self.events.enter(time, entry);
+        Ok(handed)
+    }
+}

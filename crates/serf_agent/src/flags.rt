@@ -1,0 +1,24 @@
+//! The flags of queries and their responses (Serf's `messages.go`).
+
+ghost use Rattle.std.specs.Prelude.{◌≡◌};
+ghost use Rattle.serf_agent.specs.Queries.{flags_of, has_flag};
+
+/// A query that asks for acks; a response that is one.
+pub(crate) const ACK: u32 = 1;
+
+/// A query that nodes don't send on.
+pub(crate) const NO_BROADCAST: u32 = 2;
+
+/// Whether flags have this one.
+pub(crate) fn has_flag(flag: u32, flags: u32) -> bool
+    ensures { result ≡ has_flag flag flags }
+{
+    flags & flag != 0
+}
+
+/// The flags of a query that is fired.
+pub(crate) fn flags_of(want_ack: bool, no_broadcast: bool) -> u32
+    ensures { result ≡ flags_of want_ack no_broadcast }
+{
+    (if want_ack { ACK } else { 0 }) + (if no_broadcast { NO_BROADCAST } else { 0 })
+}

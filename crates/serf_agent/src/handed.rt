@@ -1,0 +1,213 @@
+//! A query that is handed out, and its answer.
+
+ghost use Rattle.std.specs.Prelude.{◌≡◌, ◌≢◌, ◌≤◌, length, if◌then◌else◌, Some, None, IfOk, IfErr};
+ghost use Rattle.serf_wire.specs.Parts.{query_of};
+ghost use Rattle.serf_agent.specs.Queries.{ack_packet, deadline_of, handed_query, respond_fault, response_packet};
+
+use crate::flags::ACK;
+use crate::outcome::{Reply, RespondFault};
+use serf_lamport::Time;
+use serf_wire::{Bytes, EncodeFault, QueryParts, encode_response, response_len};
+use std::alloc::{AllocError, Global};
+use std::marker::Model;
+
+/// The greatest length of a packet that answers a query.
+const LONGEST_RESPONSE: u128 = 1024;
+
+/// A query that was handed out, which can be answered once: a response spends it. It has no clone.
+#[derive(Debug, Drop)]
+pub struct HandedQuery {
+    time: Time,
+    id: u32,
+    name: Bytes,
+    payload: Bytes,
+    source: Bytes,
+    addr: Bytes,
+    port: u16,
+    relay_factor: u8,
+    deadline: u64,
+    node: Bytes,
+}
+
+impl Model for HandedQuery {
+    ghost use Rattle.serf_agent.specs.Handed.{Handed};
+
+    ghost Value = { Handed };
+
+    ghost view = { λ q. record { time = q.time; id = q.id; name = q.name; payload = q.payload; source = q.source; addr = q.addr; port = q.port; relay_factor = q.relay_factor; deadline = q.deadline; node = q.node } };
+}
+
+/// The last moment at which a query of this timeout can be answered.
+pub(crate) fn deadline_of(now: u64, timeout: i64) -> u64
+    ensures { result ≡ deadline_of now timeout }
+{
+    if timeout <= 0 {
+        now
+    } else {
+        now.saturating_add(timeout as u64)
+    }
+}
+
+/// A node's ack of a query.
+pub(crate) fn ack_of(alloc: Global, query: &QueryParts, node: &[u8]) -> Result<Bytes, AllocError>
+    requires { length node.now ≤ 128 }
+    ensures { IfOk result (λ ack. ack ≡ ack_packet node.now (query_of query.now)) }
+{
+    match encode_response(alloc, query.time.get(), query.id, node, ACK, b"") {
+        Ok(packet) => Ok(Bytes::from_vec(packet)),
+        Err(EncodeFault::TooLong) => unreachable!(),
+        Err(EncodeFault::OutOfMemory) => Err(AllocError),
+    }
+}
+
+impl HandedQuery {
+    /// What a node hands out of a query.
+    pub(crate) fn of(
+        alloc: Global,
+        query: &QueryParts,
+        now: u64,
+        node: &[u8],
+    ) -> Result<HandedQuery, AllocError>
+        ensures { IfOk result (λ handed. handed ≡ handed_query node.now now (query_of query.now)) }
+    {
+        let name = Bytes::copy_of(alloc, query.name)?;
+        let payload = Bytes::copy_of(alloc, query.payload)?;
+        let source = Bytes::copy_of(alloc, query.source)?;
+        let addr = Bytes::copy_of(alloc, query.addr)?;
+        let node = Bytes::copy_of(alloc, node)?;
+        Ok(HandedQuery {
+            time: query.time,
+            id: query.id,
+            name,
+            payload,
+            source,
+            addr,
+            port: query.port,
+            relay_factor: query.relay_factor,
+            deadline: deadline_of(now, query.timeout),
+            node,
+        })
+    }
+
+    /// The query's time. Takes no memory, as all reading calls.
+    pub fn time(&self) -> Time
+        ensures { result ≡ self.now.time }
+    {
+        self.time
+    }
+
+    /// The query's ID, which tells it apart from others of its time.
+    pub fn id(&self) -> u32
+        ensures { result ≡ self.now.id }
+    {
+        self.id
+    }
+
+    /// What is asked.
+    pub fn name(&self) -> &[u8]
+        ensures { result.now ≡ self.now.name }
+    {
+        self.name.as_slice()
+    }
+
+    /// What is asked about.
+    pub fn payload(&self) -> &[u8]
+        ensures { result.now ≡ self.now.payload }
+    {
+        self.payload.as_slice()
+    }
+
+    /// The asking node's name.
+    pub fn source(&self) -> &[u8]
+        ensures { result.now ≡ self.now.source }
+    {
+        self.source.as_slice()
+    }
+
+    /// The asking node's address, where a response is to be sent.
+    pub fn addr(&self) -> &[u8]
+        ensures { result.now ≡ self.now.addr }
+    {
+        self.addr.as_slice()
+    }
+
+    /// The asking node's port.
+    pub fn port(&self) -> u16
+        ensures { result ≡ self.now.port }
+    {
+        self.port
+    }
+
+    /// How many nodes are to relay the response; this project relays none.
+    pub fn relay_factor(&self) -> u8
+        ensures { result ≡ self.now.relay_factor }
+    {
+        self.relay_factor
+    }
+
+    /// The last moment, in nanoseconds, at which it can be answered.
+    pub fn deadline(&self) -> u64
+        ensures { result ≡ self.now.deadline }
+    {
+        self.deadline
+    }
+
+    /// The name of the node that it was handed to.
+    pub fn node(&self) -> &[u8]
+        ensures { result.now ≡ self.now.node }
+    {
+        self.node.as_slice()
+    }
+
+    /// The packet of a response that fits.
+    fn packet_of(&self, alloc: Global, payload: &[u8]) -> Result<Bytes, AllocError>
+        requires { length (response_packet self.now payload.now) ≤ 1024 }
+        ensures { IfOk result (λ packet. packet ≡ response_packet self.now payload.now) }
+    {
+        match encode_response(
+            alloc,
+            self.time.get(),
+            self.id,
+            self.node.as_slice(),
+            0,
+            payload,
+        ) {
+            Ok(packet) => Ok(Bytes::from_vec(packet)),
+            Err(EncodeFault::TooLong) => unreachable!(),
+            Err(EncodeFault::OutOfMemory) => Err(AllocError),
+        }
+    }
+
+    /// Answers the query (Serf's `query.go`, `Respond`): the packet is to be sent to the address and the port. A success
+    /// spends the query; a refusal hands it back as it was, and it can be answered later.
+    ///
+    /// `PastDeadline` where the moment is after the deadline, `TooLarge` where the packet has more than 1,024 bytes, and
+    /// `OutOfMemory`; the first that holds.
+    pub fn respond(
+        self,
+        alloc: Global,
+        now: u64,
+        payload: &[u8],
+    ) -> Result<Reply, (HandedQuery, RespondFault)>
+        ensures reply { IfOk result (λ reply. reply ≡ record { addr = self.addr; port = self.port; packet = response_packet self payload.now }) }
+        ensures answered { IfOk result (λ reply. respond_fault self now payload.now ≡ None) }
+        ensures back { IfErr result (λ e. e.0 ≡ self) }
+        ensures fault { IfErr result (λ e. e.1 ≢ RespondFault.OutOfMemory → respond_fault self now payload.now ≡ Some e.1) }
+        ensures memory { IfErr result (λ e. e.1 ≡ RespondFault.OutOfMemory → respond_fault self now payload.now ≡ None) }
+    {
+        if self.deadline < now {
+            return Err((self, RespondFault::PastDeadline));
+        }
+        let node = self.node.as_slice();
+        if response_len(self.time.get(), self.id, node, 0, payload) > LONGEST_RESPONSE {
+            return Err((self, RespondFault::TooLarge));
+        }
+        match self.packet_of(alloc, payload) {
+            Ok(packet) => {
+                let HandedQuery { addr, port, .. } = self;
+                Ok(Reply { addr, port, packet })
+            }
+            Err(_) => Err((self, RespondFault::OutOfMemory)),
+        }
+    }
+}

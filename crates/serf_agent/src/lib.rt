@@ -1,0 +1,51 @@
+//! One agent of a Serf cluster, whose every call is a step of an agent that forgets nothing.
+//!
+//! [`Agent`] has three Lamport clocks, two windows of what came last (user events and queries), the queries of its own
+//! that still take answers, and a snapshot of clock lines on a sink. Its contracts set it beside an ideal agent: one that
+//! keeps every event and query of all its lives and decides by that history alone. Each public call answers what the
+//! ideal agent answers, with the writing that the sink chose, and the agent afterwards is what can be seen of the next
+//! ideal agent.
+//!
+//! Serf hands an event out before its clock line is written, and goes on after a failed line (`serf.go`, `delegate.go`,
+//! `snapshot.go`, `query.go`). Here:
+//!
+//! - an event or a query is handed out only once its line is kept ([`Agent::receive`], [`Agent::fire`], [`Agent::query`]);
+//! - the least times never fall ([`Agent::merge`]), and a new life begins above all that was noted ([`Agent::open`]);
+//! - a sink that failed stops the agent, which fires and takes nothing until it is opened anew;
+//! - a call that wants memory in vain changes nothing, but that a merge keeps what it took before, and may be made again.
+//!
+//! There is no clock of its own and no network: the moment, in nanoseconds, and the packets are given.
+#![tactic(auto)]
+
+mod agent;
+mod answer;
+mod asked;
+mod config;
+mod event_track;
+mod events;
+mod flags;
+mod handed;
+mod lists;
+mod open_query;
+mod outcome;
+mod push_pull;
+mod queries;
+mod query_track;
+mod reading;
+mod reason;
+mod receive;
+mod states;
+
+pub use agent::Agent;
+pub use config::Config;
+pub use handed::HandedQuery;
+pub use lists::{BytesList, Response, Responses};
+pub use open_query::OpenQuery;
+pub use outcome::{
+    EventOut, FireFault, Fired, FiredQuery, MergeFault, NotOpened, OpenFault, Outcome,
+    PushPullFault, QueryFault, QueryParams, Reason, ReceiveFault, Reply, RespondFault,
+};
+pub use push_pull::PushPull;
+
+#[cfg(test)]
+mod tests;

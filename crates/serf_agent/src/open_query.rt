@@ -1,0 +1,109 @@
+//! A query that its agent fired and that still takes answers.
+
+ghost use Rattle.std.specs.Prelude.{◌≡◌, OnOk, OnErr};
+ghost use Rattle.std.specs.List.{list_any};
+ghost use Rattle.std.specs.Str.{bytes_eq};
+ghost use Rattle.serf_agent.specs.Lent.{response_in};
+ghost use Rattle.serf_agent.specs.Queries.{ack_refusal, answer_refusal, response_refusal, counted, is_full};
+
+use crate::answer::Answer;
+use crate::flags::{ACK, has_flag};
+use crate::lists::{BytesList, Response, Responses};
+use crate::outcome::Reason;
+use serf_wire::Bytes;
+use std::alloc::{AllocError, Global};
+
+/// A query that this agent fired, while it takes answers (Serf's `query.go`, `QueryResponse`).
+#[derive(Debug, Drop)]
+pub struct OpenQuery {
+    /// The query's ID, which an answer has to name.
+    pub id: u32,
+    /// The last moment, in nanoseconds, at which an answer is counted.
+    pub deadline: u64,
+    /// Whether acks were asked for.
+    pub wants_ack: bool,
+    /// The names of the nodes that acked it, in order of arrival; each stands once.
+    pub acks: BytesList,
+    /// The responses, in order of arrival; each node has one at most.
+    pub responses: Responses,
+}
+
+/// Whether a name is among these.
+fn has_name(names: &[Bytes], name: &[u8]) -> bool
+    ensures { result ≡ list_any (λ a. bytes_eq a name.now) names.now }
+{
+    names.iter().any(|n| n.as_slice() == name)
+}
+
+/// Whether one of the responses is of this node.
+fn has_responded(responses: &[Response], name: &[u8]) -> bool
+    ensures { result ≡ list_any (λ a. bytes_eq a.from name.now) responses.now }
+{
+    responses.iter().any(|r| r.from.as_slice() == name)
+}
+
+impl OpenQuery {
+    /// Why an answer is ignored, if it is.
+    pub(crate) fn refusal(&self, now: u64, answer: &Answer) -> Option<Reason>
+        ensures { result ≡ answer_refusal now (response_in answer.now) self.now }
+    {
+        if self.id != answer.id {
+            return Some(Reason::OtherId);
+        }
+        if self.deadline < now {
+            return Some(Reason::Closed);
+        }
+        if has_flag(ACK, answer.flags) {
+            self.ack_refusal(answer.from)
+        } else {
+            self.response_refusal(answer.from)
+        }
+    }
+
+    /// Why an ack of a node is ignored, if it is.
+    fn ack_refusal(&self, from: &[u8]) -> Option<Reason>
+        ensures { result ≡ ack_refusal from.now self.now }
+    {
+        if !self.wants_ack {
+            return Some(Reason::AckNotAsked);
+        }
+        if has_name(self.acks.as_slice(), from) {
+            return Some(Reason::AckTwice);
+        }
+        None
+    }
+
+    /// Why a response of a node is ignored, if it is.
+    fn response_refusal(&self, from: &[u8]) -> Option<Reason>
+        ensures { result ≡ response_refusal from.now self.now }
+    {
+        if has_responded(self.responses.as_slice(), from) {
+            return Some(Reason::ResponseTwice);
+        }
+        None
+    }
+
+    /// Whether as many names are counted already as the settings allow.
+    pub(crate) fn is_full(&self, responders: u64, answer: &Answer) -> bool
+        ensures { result ≡ is_full responders (response_in answer.now) self.now }
+    {
+        if has_flag(ACK, answer.flags) {
+            self.acks.as_slice().len() as u64 >= responders
+        } else {
+            self.responses.as_slice().len() as u64 >= responders
+        }
+    }
+
+    /// Counts an answer, or changes nothing where there is no memory for it.
+    pub(crate) fn count(&mut self, alloc: Global, answer: &Answer) -> Result<(), AllocError>
+        ensures ok { OnOk result (self.new ≡ counted (response_in answer.now) self.old) }
+        ensures err { OnErr result (self.new ≡ self.old) }
+    {
+        let from = Bytes::copy_of(alloc, answer.from)?;
+        if has_flag(ACK, answer.flags) {
+            return self.acks.push(from);
+        }
+        let payload = Bytes::copy_of(alloc, answer.payload)?;
+        self.responses.push(Response { from, payload })
+    }
+}

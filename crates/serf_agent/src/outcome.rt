@@ -1,0 +1,234 @@
+//! What the calls of an agent answer.
+
+use crate::config::Config;
+use crate::handed::HandedQuery;
+use crate::lists::BytesList;
+use serf_lamport::Time;
+use serf_wire::{Bytes, WireFault};
+use thiserror::Error;
+
+/// An event that is handed out to the agent's user.
+#[derive(Debug, Drop)]
+pub struct EventOut {
+    pub time: Time,
+    pub name: Bytes,
+    pub payload: Bytes,
+    /// Whether it may be coalesced with others of its name. An event that comes in a push/pull never says so.
+    pub cc: bool,
+}
+
+/// An event that was fired: the packet to send, and the event as it is handed out here.
+#[derive(Debug, Drop)]
+pub struct Fired {
+    pub packet: Bytes,
+    pub handed: EventOut,
+}
+
+/// Why a packet is ignored: of those that can hold, the first.
+#[derive(Clone, Copy, Debug, PartialEq, Eq)]
+pub enum Reason {
+    /// An event whose name and payload have together more than 9,216 bytes.
+    Oversize,
+    /// Its time is below the least that the agent takes.
+    BelowMinimum,
+    /// Its time is too far below the clock.
+    TooOld,
+    /// The same was taken at its time.
+    Seen,
+    /// As many as are taken of one time were taken at its time.
+    TimeFull,
+    /// A response to no query that is open here.
+    NotOpen,
+    /// A response to another query of the same time.
+    OtherId,
+    /// A response after the deadline.
+    Closed,
+    /// An ack, though none was asked for.
+    AckNotAsked,
+    /// A second ack of one node.
+    AckTwice,
+    /// A second response of one node.
+    ResponseTwice,
+}
+
+/// What came of a packet.
+#[derive(Debug, Drop)]
+pub enum Outcome {
+    /// The event is new: it is handed out, and the packet is to be sent on unchanged.
+    Event(EventOut),
+    /// The query is new.
+    Query {
+        /// The query, where every filter lets this node pass.
+        handed: Option<HandedQuery>,
+        /// The ack to send, where it is handed out and acks are asked for.
+        ack: Option<Bytes>,
+        /// Whether the packet is to be sent on unchanged.
+        rebroadcast: bool,
+    },
+    /// An ack was counted.
+    Ack,
+    /// A response was counted.
+    Response,
+    /// Nothing came of it, for this reason.
+    Ignored(Reason),
+    /// A message of this type, which isn't read.
+    Foreign(u8),
+    /// A push/pull, which is for `merge`.
+    UsePushPull,
+}
+
+/// Why an agent isn't opened.
+#[derive(Clone, Copy, Debug, PartialEq, Eq, Error)]
+pub enum OpenFault {
+    #[error("the settings are out of bounds")]
+    BadConfig,
+    #[error("out of memory")]
+    OutOfMemory,
+    #[error("the sink failed")]
+    SinkFault,
+}
+
+/// The settings and the sink of an agent that isn't opened, and why.
+#[derive(Debug, Drop)]
+pub struct NotOpened<S> {
+    pub config: Config,
+    pub sink: S,
+    pub fault: OpenFault,
+}
+
+/// Why an event isn't fired: the first that holds.
+#[derive(Clone, Copy, Debug, PartialEq, Eq, Error)]
+pub enum FireFault {
+    #[error("the agent is stopped")]
+    Stopped,
+    /// The name and the payload together, or the packet, are longer than the event limit.
+    #[error("the event is too large")]
+    TooLarge,
+    /// The event clock stands at 2^64 - 1, which is no time.
+    #[error("the event clock is exhausted")]
+    Exhausted,
+    #[error("out of memory")]
+    OutOfMemory,
+    #[error("the sink failed")]
+    SinkFault,
+}
+
+/// Why a packet isn't taken: the first that holds.
+#[derive(Clone, Copy, Debug, PartialEq, Eq, Error)]
+pub enum ReceiveFault {
+    #[error("the agent is stopped")]
+    Stopped,
+    #[error("the packet is no message")]
+    Wire(WireFault),
+    /// A new name, where as many as the settings allow are counted already.
+    #[error("the query has as many answers as it takes")]
+    RespondersFull,
+    #[error("out of memory")]
+    OutOfMemory,
+    #[error("the sink failed")]
+    SinkFault,
+}
+
+/// Why an agent's state isn't sent: the first that holds.
+#[derive(Clone, Copy, Debug, PartialEq, Eq, Error)]
+pub enum PushPullFault {
+    #[error("the agent is stopped")]
+    Stopped,
+    /// A text or a list is longer than 4,294,967,295.
+    #[error("a text or a list is too long")]
+    TooLong,
+    #[error("out of memory")]
+    OutOfMemory,
+}
+
+/// Why a packet isn't merged, or not all of it: the first that holds.
+#[derive(Clone, Copy, Debug, PartialEq, Eq, Error)]
+pub enum MergeFault {
+    #[error("the agent is stopped")]
+    Stopped,
+    #[error("the packet is no message")]
+    Wire(WireFault),
+    /// A message of another kind.
+    #[error("the packet is no push/pull")]
+    NotPushPull,
+    #[error("out of memory")]
+    OutOfMemory,
+    #[error("the sink failed")]
+    SinkFault,
+}
+
+/// How a query is fired.
+#[derive(Debug, Drop)]
+pub struct QueryParams {
+    /// Which nodes are asked: those that every filter lets pass.
+    pub filters: BytesList,
+    /// Whether each node that is asked shall send an ack.
+    pub want_ack: bool,
+    /// Whether nodes shall not send the query on.
+    pub no_broadcast: bool,
+    /// How long answers are taken, in nanoseconds.
+    pub timeout: i64,
+    /// Where answers are to be sent.
+    pub addr: Bytes,
+    pub port: u16,
+    pub relay_factor: u8,
+}
+
+/// A query that was fired: the packet to send, and what this node hands out and sends as its own ack.
+#[derive(Debug, Drop)]
+pub struct FiredQuery {
+    pub time: Time,
+    pub packet: Bytes,
+    /// The query, where every filter lets this node pass.
+    pub handed: Option<HandedQuery>,
+    /// The ack to send, where it is handed out and acks are asked for.
+    pub ack: Option<Bytes>,
+}
+
+/// Why a query isn't fired: the first that holds.
+#[derive(Clone, Copy, Debug, PartialEq, Eq, Error)]
+pub enum QueryFault {
+    #[error("the agent is stopped")]
+    Stopped,
+    /// The packet has more than 1,024 bytes.
+    #[error("the query is too large")]
+    TooLarge,
+    /// The timeout is 0 or below.
+    #[error("the query has no time")]
+    ZeroTimeout,
+    /// The query clock stands at 2^64 - 1, which is no time.
+    #[error("the query clock is exhausted")]
+    Exhausted,
+    #[error("out of memory")]
+    OutOfMemory,
+    #[error("the sink failed")]
+    SinkFault,
+}
+
+/// A response to send to an address and a port.
+#[derive(Debug, Drop)]
+pub struct Reply {
+    pub addr: Bytes,
+    pub port: u16,
+    pub packet: Bytes,
+}
+
+/// Why a query isn't answered: the first that holds.
+#[derive(Clone, Copy, Debug, PartialEq, Eq, Error)]
+pub enum RespondFault {
+    /// The moment is after the query's deadline.
+    #[error("the query takes no more answers")]
+    PastDeadline,
+    /// The packet has more than 1,024 bytes.
+    #[error("the response is too large")]
+    TooLarge,
+    #[error("out of memory")]
+    OutOfMemory,
+}
+
+/// Why a line isn't kept.
+#[derive(Clone, Copy, Debug, PartialEq, Eq)]
+pub(crate) enum LineFault {
+    OutOfMemory,
+    SinkFault,
+}

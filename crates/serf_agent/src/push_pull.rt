@@ -1,0 +1,20 @@
+//! A push/pull that is lent from its packet.
+
+use serf_wire::{SlotViews, StatusTimes, Texts};
+
+/// The whole state of another agent, as its packet says it.
+#[derive(Clone, Copy)]
+pub struct PushPull<'a> {
+    /// The member clock.
+    pub member: u64,
+    /// The members' status times.
+    pub status: StatusTimes<'a>,
+    /// The members that left.
+    pub left: Texts<'a>,
+    /// The event clock.
+    pub event: u64,
+    /// The event buffer.
+    pub slots: SlotViews<'a>,
+    /// The query clock.
+    pub query: u64,
+}

@@ -1,0 +1,19 @@
+//! A window's verdict as a reason to ignore.
+
+ghost use Rattle.std.specs.Prelude.{◌≡◌};
+ghost use Rattle.serf_agent.specs.Reasons.{reason_for};
+
+use crate::outcome::Reason;
+use serf_window::Verdict;
+
+pub(crate) fn reason_of(verdict: Verdict) -> Option<Reason>
+    ensures { result ≡ reason_for verdict }
+{
+    match verdict {
+        Verdict::BelowMinimum => Some(Reason::BelowMinimum),
+        Verdict::TooOld => Some(Reason::TooOld),
+        Verdict::Seen => Some(Reason::Seen),
+        Verdict::TimeFull => Some(Reason::TimeFull),
+        Verdict::New => None,
+    }
+}

@@ -1,0 +1,116 @@
+//! Packets that come.
+
+ghost use Rattle.std.specs.Prelude.{◌≡◌, ◌≢◌, false, IsErrOf};
+ghost use Rattle.serf_wire.specs.Message.{message_of};
+ghost use Rattle.serf_snap.specs.Device.{HasFailed};
+ghost use Rattle.serf_agent.specs.Ideal.{IdealAgent};
+ghost use Rattle.serf_agent.specs.Receive.{TakesMemory, receive, receive_message};
+ghost use Rattle.serf_agent.specs.Sound.{IsSound};
+ghost use Rattle.serf_agent.specs.Steps.{Steps};
+ghost use Rattle.serf_agent.specs.View.{view_of};
+
+use crate::agent::Agent;
+use crate::answer::Answer;
+use crate::outcome::{Outcome, ReceiveFault};
+use serf_snap::Sink;
+use serf_wire::{Message, QueryParts, decode};
+use std::alloc::Global;
+
+impl<S: Sink> Agent<S> {
+    /// Takes a packet that comes at a moment, in nanoseconds (Serf's `delegate.go`, `NotifyMsg`).
+    ///
+    /// Of the refusals the first that holds is answered. All of them leave the agent as it was, but that `SinkFault` stops
+    /// it. Takes no memory where the packet is faulty, foreign or ignored, and where it is a push/pull.
+    pub fn receive(
+        &mut self,
+        alloc: Global,
+        now: u64,
+        packet: &[u8],
+    ) -> Result<Outcome, ReceiveFault>
+        ensures step { (i : IdealAgent) → IsSound i → self.old.stored ≡ view_of i → result ≢ Err ReceiveFault.OutOfMemory
+            → Steps i (receive i now packet.now) result self.new.stored }
+
+        // Memory is wanted only where an event or a query is new, or an answer is counted; its want changes nothing.
+        ensures only_new { (i : IdealAgent) → IsSound i → self.old.stored ≡ view_of i → IsErrOf result ReceiveFault.OutOfMemory → TakesMemory (receive i now packet.now) }
+        ensures memory { IsErrOf result ReceiveFault.OutOfMemory → self.new ≡ self.old }
+        ensures cause { IsErrOf result ReceiveFault.SinkFault → HasFailed self.old.device.failures self.new.device.failures }
+    {
+        if self.snapshot.is_stopped() {
+            return Err(ReceiveFault::Stopped);
+        }
+        match decode(packet) {
+            Ok(message) => self.receive_message(alloc, now, &message),
+            Err(fault) => Err(ReceiveFault::Wire(fault)),
+        }
+    }
+
+    /// Takes a message that comes.
+    fn receive_message(
+        &mut self,
+        alloc: Global,
+        now: u64,
+        message: &Message,
+    ) -> Result<Outcome, ReceiveFault>
+        requires { self.old.stored.snapshot.stopped ≡ false }
+        ensures step { (i : IdealAgent) → IsSound i → self.old.stored ≡ view_of i → result ≢ Err ReceiveFault.OutOfMemory
+            → Steps i (receive_message i now (message_of message.now)) result self.new.stored }
+        ensures only_new { (i : IdealAgent) → IsSound i → self.old.stored ≡ view_of i → IsErrOf result ReceiveFault.OutOfMemory → TakesMemory (receive_message i now (message_of message.now)) }
+        ensures memory { IsErrOf result ReceiveFault.OutOfMemory → self.new ≡ self.old }
+        ensures cause { IsErrOf result ReceiveFault.SinkFault → HasFailed self.old.device.failures self.new.device.failures }
+    {
+        match *message {
+            Message::UserEvent {
+                time,
+                name,
+                payload,
+                cc,
+            } => self.receive_event(alloc, time, name, payload, cc),
+            Message::Query {
+                time,
+                id,
+                addr,
+                port,
+                source,
+                filters,
+                flags,
+                relay_factor,
+                timeout,
+                name,
+                payload,
+            } => {
+                let query = QueryParts {
+                    time,
+                    id,
+                    addr,
+                    port,
+                    source,
+                    filters: &[],
+                    flags,
+                    relay_factor,
+                    timeout,
+                    name,
+                    payload,
+                };
+                self.receive_query(alloc, now, &query, filters)
+            }
+            Message::QueryResponse {
+                time,
+                id,
+                from,
+                flags,
+                payload,
+            } => {
+                let answer = Answer {
+                    time,
+                    id,
+                    from,
+                    flags,
+                    payload,
+                };
+                self.receive_response(alloc, now, &answer)
+            }
+            Message::PushPull { .. } => Ok(Outcome::UsePushPull),
+            Message::Foreign(kind) => Ok(Outcome::Foreign(kind)),
+        }
+    }
+}

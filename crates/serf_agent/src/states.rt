@@ -1,0 +1,325 @@
+//! The whole states that agents exchange, the member clock's line, and compaction.
+
+ghost use Rattle.std.specs.Prelude.{◌≡◌, ◌≢◌, ◌<◌, ◌≤◌, ◌-◌, ◌^◌, ◌⊎◌, false, List, [], ◌∷◌, ◌++◌, None, Some, map, Ok, Err, OnOk, IfOk, IfSome, IsErrOf, vec_len, vec_capacity};
+ghost use Rattle.serf_wire.specs.declared.texts.EventText.{EventText};
+ghost use Rattle.serf_wire.specs.Decoded.{decoded};
+ghost use Rattle.serf_wire.specs.Lists.{event_of as text_of, events_left, slot_of, slots_left, status_of};
+ghost use Rattle.serf_wire.specs.Message.{PushPull as State, message_of, push_pull};
+ghost use Rattle.serf_window.specs.Window.{Timed, count_in, time_in};
+ghost use Rattle.serf_snap.specs.Device.{HasFailed, replace_called, unreplaced};
+ghost use Rattle.serf_agent.specs.Calls.{AsksSink};
+ghost use Rattle.serf_agent.specs.declared.outcome.MergeFault.{MergeFault as Fault};
+ghost use Rattle.serf_agent.specs.Events.{admission};
+ghost use Rattle.serf_agent.specs.Ideal.{IdealAgent};
+ghost use Rattle.serf_agent.specs.Lent.{push_pull_in};
+ghost use Rattle.serf_agent.specs.Merging.{Received};
+ghost use Rattle.serf_agent.specs.Sound.{IsSound};
+ghost use Rattle.serf_agent.specs.States.{Merges, at_time, compact, events_of, events_of_slot, fault_in, joined, merge_refusal, save, send_state};
+ghost use Rattle.serf_agent.specs.Steps.{Steps};
+ghost use Rattle.serf_agent.specs.View.{view_of};
+
+use crate::agent::Agent;
+use crate::outcome::{EventOut, LineFault, MergeFault, PushPullFault};
+use crate::push_pull::PushPull;
+use serf_lamport::Time;
+use serf_snap::{NoteFault, ReplaceSink, Sink};
+use serf_wire::{
+    Bytes, EncodeFault, EventView, EventViews, Message, PushPullParts, SlotView, SlotViews,
+    StatusTime, decode, encode_push_pull,
+};
+use std::alloc::Global;
+
+/// The push/pull that a message is.
+fn push_pull_of<'a>(message: &Message<'a>) -> Option<PushPull<'a>>
+    ensures some { IfSome result (λ p. message_of message.now ≡ push_pull (push_pull_in p)) }
+    ensures none { result ≡ None → (m : State) → message_of message.now ≢ push_pull m }
+{
+    match *message {
+        Message::PushPull {
+            member,
+            status,
+            left,
+            event,
+            slots,
+            query,
+        } => Some(PushPull {
+            member,
+            status,
+            left,
+            event,
+            slots,
+            query,
+        }),
+        Message::UserEvent { .. }
+        | Message::Query { .. }
+        | Message::QueryResponse { .. }
+        | Message::Foreign(_) => None,
+    }
+}
+
+/// Adds an event where there is room for it.
+fn add(out: &mut Vec<EventOut>, event: EventOut)
+    requires { vec_len out.old < vec_capacity out.old }
+    ensures { out.new.items ≡ out.old.items ++ event ∷ [] }
+{
+    match out.push(event) {
+        Ok(()) => {}
+        Err(_) => unreachable!(),
+    }
+}
+
+impl<S: Sink> Agent<S> {
+    /// The packet of this agent's whole state, to send (Serf's `delegate.go`, `LocalState`): its clocks, its event buffer,
+    /// and these status times and members that left. The agent is unchanged.
+    ///
+    /// `Stopped`, `TooLong` where a text or a list is longer than 4,294,967,295, and `OutOfMemory`; the first that holds.
+    pub fn push_pull<'a>(
+        &'a self,
+        alloc: Global,
+        status: &'a [StatusTime<'a>],
+        left: &'a [&'a [u8]],
+    ) -> Result<Bytes, PushPullFault>
+        ensures state { result ≢ Err PushPullFault.OutOfMemory → result ≡ send_state self.now.stored (map status_of status.now) (map (λ t. t.now) left.now) }
+        ensures memory { IsErrOf result PushPullFault.OutOfMemory → self.now.stored.snapshot.stopped ≡ false }
+    {
+        if self.snapshot.is_stopped() {
+            return Err(PushPullFault::Stopped);
+        }
+        let parts = PushPullParts {
+            member: self.member.time(),
+            status,
+            left,
+            event: self.events.time(),
+            slots: self.events.slots(),
+            query: self.queries.time(),
+        };
+        match encode_push_pull(alloc, &parts) {
+            Ok(packet) => Ok(Bytes::from_vec(packet)),
+            Err(EncodeFault::TooLong) => Err(PushPullFault::TooLong),
+            Err(EncodeFault::OutOfMemory) => Err(PushPullFault::OutOfMemory),
+        }
+    }
+
+    /// Notes the time before the member clock, so that a restart goes on from there (Serf's `snapshot.go`, `updateClock`).
+    ///
+    /// `Stopped`, `OutOfMemory` (the agent is unchanged) or `SinkFault`, which stops the agent. Where the last such line
+    /// says the same or more there is no call of the sink, and it takes no memory.
+    pub fn update_member_clock(&mut self, alloc: Global) -> Result<(), NoteFault>
+        ensures step { (i : IdealAgent) → IsSound i → self.old.stored ≡ view_of i → result ≢ Err NoteFault.OutOfMemory → Steps i (save i) result self.new.stored }
+        ensures only_noted { (i : IdealAgent) → self.old.stored ≡ view_of i → IsErrOf result NoteFault.OutOfMemory → AsksSink (save i) }
+        ensures memory { IsErrOf result NoteFault.OutOfMemory → self.new ≡ self.old }
+        ensures cause { IsErrOf result NoteFault.SinkFault → HasFailed self.old.device.failures self.new.device.failures }
+    {
+        let Some(time) = Time::new(self.member.time().saturating_sub(1)) else {
+            unreachable!()
+        };
+        self.snapshot.note_member(alloc, time)
+    }
+
+    /// Makes the clocks at least those of another agent; where this one joins and its settings say so, the least time of
+    /// events too.
+    fn join(&mut self, state: &PushPull, is_join: bool)
+        ensures joined { (i : IdealAgent) → IsSound i → self.old.stored ≡ view_of i
+            → (self.new.stored ≡ view_of (joined (push_pull_in state.now) is_join i)) × IsSound (joined (push_pull_in state.now) is_join i) }
+        ensures snapshot { (self.new.stored.snapshot ≡ self.old.stored.snapshot) × (self.new.device ≡ self.old.device) }
+    {
+        let minimum = if is_join && self.config.ignore_old {
+            state.event
+        } else {
+            0
+        };
+        self.member.observe_before(state.member);
+        self.events.raise(state.event, minimum);
+        self.queries.raise(state.query, 0);
+    }
+
+    /// Merges the whole state of another agent (Serf's `delegate.go`, `MergeRemoteState`): its clocks, the least time of
+    /// events where this agent joins and is set to ignore what is old, and its events, of which those that are new are added
+    /// to `out` in order. What the packet says is lent.
+    ///
+    /// Of the refusals the first that holds is answered. `Stopped`, `Wire` and `NotPushPull` leave all as it was. After
+    /// `OutOfMemory` and `SinkFault`, which stops the agent, the clocks were heard of, and `out` has just what was handed out
+    /// before; after `OutOfMemory` the same merge may be called again.
+    pub fn merge<'a>(
+        &mut self,
+        alloc: Global,
+        packet: &'a [u8],
+        is_join: bool,
+        out: &mut Vec<EventOut>,
+    ) -> Result<PushPull<'a>, MergeFault>
+        ensures refused { (fault : Fault) → merge_refusal self.old.stored (decoded packet.now) ≡ Some fault
+            → (result ≡ Err fault) × (out.new.items ≡ out.old.items) × (self.new ≡ self.old) }
+        ensures merged { (i : IdealAgent) (m : State) → IsSound i → self.old.stored ≡ view_of i → i.snapshot.stopped ≡ false → decoded packet.now ≡ Ok (push_pull m)
+            → Merges i m is_join out.old.items out.new.items self.new.stored (fault_in result) }
+        ensures lent { IfOk result (λ p. decoded packet.now ≡ Ok (push_pull (push_pull_in p))) }
+        ensures cause { IsErrOf result MergeFault.SinkFault → HasFailed self.old.device.failures self.new.device.failures }
+    {
+        if self.snapshot.is_stopped() {
+            return Err(MergeFault::Stopped);
+        }
+        match decode(packet) {
+            Ok(message) => self.merge_message(alloc, &message, is_join, out),
+            Err(fault) => Err(MergeFault::Wire(fault)),
+        }
+    }
+
+    /// Merges a message.
+    fn merge_message<'a>(
+        &mut self,
+        alloc: Global,
+        message: &Message<'a>,
+        is_join: bool,
+        out: &mut Vec<EventOut>,
+    ) -> Result<PushPull<'a>, MergeFault>
+        requires { self.old.stored.snapshot.stopped ≡ false }
+        ensures refused { ((m : State) → message_of message.now ≢ push_pull m) → (result ≡ Err MergeFault.NotPushPull) × (out.new.items ≡ out.old.items) × (self.new ≡ self.old) }
+        ensures merged { (i : IdealAgent) (m : State) → IsSound i → self.old.stored ≡ view_of i → message_of message.now ≡ push_pull m
+            → Merges i m is_join out.old.items out.new.items self.new.stored (fault_in result) }
+        ensures lent { IfOk result (λ p. message_of message.now ≡ push_pull (push_pull_in p)) }
+        ensures cause { IsErrOf result MergeFault.SinkFault → HasFailed self.old.device.failures self.new.device.failures }
+    {
+        let Some(state) = push_pull_of(message) else {
+            return Err(MergeFault::NotPushPull);
+        };
+        self.join(&state, is_join);
+        match self.receive_slots(alloc, state.slots, out) {
+            Ok(()) => Ok(state),
+            Err(fault) => Err(fault),
+        }
+    }
+
+    /// Receives the events of slots, one after another.
+    fn receive_slots(
+        &mut self,
+        alloc: Global,
+        slots: SlotViews,
+        out: &mut Vec<EventOut>,
+    ) -> Result<(), MergeFault>
+        requires { self.old.stored.snapshot.stopped ≡ false }
+        ensures received { (i : IdealAgent) → IsSound i → self.old.stored ≡ view_of i → Received i (events_of (slots_left slots.entry)) out.old.items out.new.items self.new.stored result }
+        ensures cause { IsErrOf result MergeFault.SinkFault → HasFailed self.old.device.failures self.new.device.failures }
+    {
+        for slot in slots {
+            match self.receive_slot(alloc, &slot, out) {
+                Ok(()) => {}
+                Err(fault) => return Err(fault),
+            }
+        }
+        Ok(())
+    }
+
+    /// Receives the events of a slot, one after another.
+    fn receive_slot(
+        &mut self,
+        alloc: Global,
+        slot: &SlotView,
+        out: &mut Vec<EventOut>,
+    ) -> Result<(), MergeFault>
+        requires { self.old.stored.snapshot.stopped ≡ false }
+        ensures received { (i : IdealAgent) → IsSound i → self.old.stored ≡ view_of i → Received i (events_of_slot (slot_of slot.now)) out.old.items out.new.items self.new.stored result }
+        ensures runs { OnOk result (self.new.stored.snapshot.stopped ≡ false) }
+        ensures calm { OnOk result (self.new.device.failures ≡ self.old.device.failures) }
+        ensures cause { IsErrOf result MergeFault.SinkFault → HasFailed self.old.device.failures self.new.device.failures }
+    {
+        match *slot {
+            SlotView::Empty => Ok(()),
+            SlotView::Held(time, events) => self.receive_events(alloc, time, events, out),
+        }
+    }
+
+    /// Receives the events of one time, one after another.
+    fn receive_events(
+        &mut self,
+        alloc: Global,
+        time: Time,
+        events: EventViews,
+        out: &mut Vec<EventOut>,
+    ) -> Result<(), MergeFault>
+        requires { self.old.stored.snapshot.stopped ≡ false }
+        ensures received { (i : IdealAgent) → IsSound i → self.old.stored ≡ view_of i → Received i (at_time time (events_left events.entry)) out.old.items out.new.items self.new.stored result }
+        ensures runs { OnOk result (self.new.stored.snapshot.stopped ≡ false) }
+        ensures calm { OnOk result (self.new.device.failures ≡ self.old.device.failures) }
+        ensures cause { IsErrOf result MergeFault.SinkFault → HasFailed self.old.device.failures self.new.device.failures }
+    {
+        for event in events {
+            match self.receive_one(alloc, time, &event, out) {
+                Ok(()) => {}
+                Err(fault) => return Err(fault),
+            }
+        }
+        Ok(())
+    }
+
+    /// Receives one event of a push/pull.
+    fn receive_one(
+        &mut self,
+        alloc: Global,
+        time: Time,
+        event: &EventView,
+        out: &mut Vec<EventOut>,
+    ) -> Result<(), MergeFault>
+        requires { self.old.stored.snapshot.stopped ≡ false }
+        ensures received { (i : IdealAgent) → IsSound i → self.old.stored ≡ view_of i
+            → Received i (record { time = time; what = text_of event.now } ∷ []) out.old.items out.new.items self.new.stored result }
+        ensures runs { OnOk result (self.new.stored.snapshot.stopped ≡ false) }
+        ensures calm { OnOk result (self.new.device.failures ≡ self.old.device.failures) }
+        ensures cause { IsErrOf result MergeFault.SinkFault → HasFailed self.old.device.failures self.new.device.failures }
+    {
+        match self.admission(time, event.name, event.payload) {
+            Some(_) => {
+                self.events.observe(time);
+                Ok(())
+            }
+            None => self.take_one(alloc, time, event, out),
+        }
+    }
+
+    /// Takes in one event of a push/pull that is new.
+    fn take_one(
+        &mut self,
+        alloc: Global,
+        time: Time,
+        event: &EventView,
+        out: &mut Vec<EventOut>,
+    ) -> Result<(), MergeFault>
+        requires runs { self.old.stored.snapshot.stopped ≡ false }
+        requires not_later { time_in self.old.stored.events.slots time ≤ time }
+        requires not_full { count_in self.old.stored.events.slots time < self.old.stored.config.per_time }
+        requires small { time < 2 ^ 64 - 1 }
+        ensures received { (i : IdealAgent) → IsSound i → self.old.stored ≡ view_of i → admission i time (text_of event.now) ≡ None
+            → Received i (record { time = time; what = text_of event.now } ∷ []) out.old.items out.new.items self.new.stored result }
+        ensures runs { OnOk result (self.new.stored.snapshot.stopped ≡ false) }
+        ensures calm { OnOk result (self.new.device.failures ≡ self.old.device.failures) }
+        ensures cause { IsErrOf result MergeFault.SinkFault → HasFailed self.old.device.failures self.new.device.failures }
+    {
+        if out.reserve(1).is_err() {
+            return Err(MergeFault::OutOfMemory);
+        }
+        match self.take_in(alloc, time, event.name, event.payload, false) {
+            Ok(handed) => {
+                add(out, handed);
+                Ok(())
+            }
+            Err(LineFault::OutOfMemory) => Err(MergeFault::OutOfMemory),
+            Err(LineFault::SinkFault) => Err(MergeFault::SinkFault),
+        }
+    }
+}
+
+impl<S: ReplaceSink> Agent<S> {
+    /// Replaces what the sink keeps by the last line of each clock. The rest of the agent is unchanged.
+    ///
+    /// `Stopped`, `OutOfMemory` (the agent is unchanged) or `SinkFault`, which stops the agent; what is kept is then the old
+    /// text or the new one.
+    pub fn compact(&mut self, alloc: Global) -> Result<(), NoteFault>
+        ensures step { (i : IdealAgent) → IsSound i → self.old.stored ≡ view_of i → result ≢ Err NoteFault.OutOfMemory → Steps i (compact i) result self.new.stored }
+        ensures only_replaced { (i : IdealAgent) → self.old.stored ≡ view_of i → IsErrOf result NoteFault.OutOfMemory → AsksSink (compact i) }
+        ensures memory { IsErrOf result NoteFault.OutOfMemory → self.new.stored ≡ self.old.stored }
+        ensures memory_device { IsErrOf result NoteFault.OutOfMemory → (self.new.device ≡ self.old.device) ⊎ (self.new.device ≡ unreplaced self.old.device) }
+        ensures cause { IsErrOf result NoteFault.SinkFault → HasFailed self.old.device.failures self.new.device.failures }
+        ensures called { OnOk result (self.new.device.calls ≡ replace_called self.old.device.calls) }
+        ensures fault_called { IsErrOf result NoteFault.SinkFault → self.new.device.calls ≡ replace_called self.old.device.calls }
+    {
+        self.snapshot.compact(alloc)
+    }
+}

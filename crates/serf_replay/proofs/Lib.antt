@@ -1,0 +1,5 @@
+pub mod ConfigLemmas
+pub mod CutLemmas
+pub mod NumberLemmas
+pub mod SlotLemmas
+pub mod WordLemmas

@@ -1,0 +1,11 @@
+-- A slot's lines.
+use Rattle.std.proofs.Common.{ℕ, ◌<◌, length, arith}
+use Rattle.serf_wire.specs.Slots.{SlotContent, empty, held}
+use Rattle.serf_replay.specs.TextParts.{with_number}
+use Rattle.serf_replay.specs.MessageText.{slot_lines}
+
+-- they have a byte at least
+pub some_lines : (n : ℕ) (slot : SlotContent) → 0 < length (slot_lines n slot)
+unfolding slot_lines with_number
+some_lines n empty = omega arith
+some_lines n (held time events) = omega arith

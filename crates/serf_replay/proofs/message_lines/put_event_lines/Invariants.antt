@@ -1,0 +1,9 @@
+use Rattle.std.proofs.Common.{◌≡◌, ◌++◌}
+use Rattle.std.specs.List.{flat_map}
+use Rattle.serf_wire.specs.Lists.{events_left}
+use Rattle.serf_replay.specs.MessageText.{event_line}
+use Rattle.serf_replay.proofs.message_lines.put_event_lines.Given as goal
+
+-- the lines so far, and then those of what is left
+abbrev pub invariant-loop-event : goal.invariant-loop-event
+invariant-loop-event l = l.out.items ++ flat_map event_line (events_left l.event-iterator) ≡ l.fn.out.items ++ flat_map event_line (events_left l.fn.events)

@@ -1,0 +1,9 @@
+use Rattle.std.proofs.Common.{◌≡◌, ◌++◌}
+use Rattle.std.specs.List.{flat_map}
+use Rattle.serf_wire.specs.Lists.{status_left}
+use Rattle.serf_replay.specs.MessageText.{status_line}
+use Rattle.serf_replay.proofs.message_lines.put_status_lines.Given as goal
+
+-- the lines so far, and then those of what is left
+abbrev pub invariant-loop-entry : goal.invariant-loop-entry
+invariant-loop-entry l = l.out.items ++ flat_map status_line (status_left l.entry-iterator) ≡ l.fn.out.items ++ flat_map status_line (status_left l.fn.status)

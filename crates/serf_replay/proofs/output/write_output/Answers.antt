@@ -1,0 +1,17 @@
+use Rattle.std.proofs.Common.{◌≡◌, ◌≤◌, ◌+◌, ◌-◌, ◌++◌, ℕ, List, length, take, drop, sym, arith}
+use Rattle.std.proofs.lemmas.Grind.{common_steps}
+use Rattle.std.proofs.Math.Seq.{take-add}
+use Rattle.std.proofs.KnownBytes.{Appends-trans}
+use Rattle.serf_replay.proofs.output.write_output.Goals as goal
+
+-- the front of a text, and then the front of the rest
+front_grows : (text : List ℕ) (at n : ℕ) → at ≤ length text
+    → take at text ++ take n (take (length text - at) (drop at text)) ≡ take (at + n) text
+front_grows text at n h =
+    let whole : take (length text - at) (drop at text) ≡ drop at text = grind (arith, common_steps) in
+    rw whole (sym (take-add at n text))
+
+pub loop-at-preserved : goal.loop-at-preserved
+loop-at-preserved g c =
+    let written = Appends-trans _ _ _ _ _ c.loop-at.invariant.1 c.in-Ok.ensures.bytes in
+    (grind (arith, common_steps, c.in-Ok.ensures.bound), rw (front_grows c.args.text.now c.loop-at.at c.in-Ok.n c.loop-at.invariant.0) at written)

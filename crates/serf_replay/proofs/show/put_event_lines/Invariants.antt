@@ -1,0 +1,7 @@
+use Rattle.std.proofs.Common.{◌≡◌, ◌++◌, take}
+use Rattle.std.specs.List.{flat_map}
+use Rattle.serf_replay.specs.Show.{event_line}
+use Rattle.serf_replay.proofs.show.put_event_lines.Given as goal
+
+abbrev pub invariant-loop-event : goal.invariant-loop-event
+invariant-loop-event l = l.out.items ≡ l.fn.out.items ++ flat_map (event_line l.number) (take l.event-index l.events)

@@ -1,0 +1,7 @@
+-- What is known of a reader's and a writer's bytes.
+use Rattle.std.specs.Prelude.{ℕ, List, take, Option}
+use Rattle.std.specs.Io.KnownBytes.{Appends}
+
+-- the known bytes grew by a front of the text
+abbrev pub AppendsFront : Option (List ℕ) → Option (List ℕ) → List ℕ → Type 0
+AppendsFront old new text = (n : ℕ) × Appends old new (take n text)

@@ -1,0 +1,15 @@
+pub mod CauseText
+pub mod ClocksText
+pub mod Command
+pub mod Gives
+pub mod Io
+pub mod Line
+pub mod MessageText
+pub mod Names
+pub mod Output
+pub mod Parts
+pub mod Schedule
+pub mod Show
+pub mod TextParts
+pub mod WireText
+pub mod Words

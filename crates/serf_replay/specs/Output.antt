@@ -1,0 +1,23 @@
+-- What is written for the bytes that are read.
+use Rattle.std.specs.Prelude.{◌≡◌, ℕ, List, Result, Ok, Err}
+use Rattle.std.specs.declared.vec.Vec.{Vec}
+use Rattle.serf_replay.specs.declared.parse.ScheduleFault.{ScheduleFault}
+use Rattle.serf_replay.specs.declared.parse.ScheduleFault.TheVariants as faults
+use Rattle.serf_replay.specs.Line.{Parsed}
+use Rattle.serf_replay.specs.Schedule.{BadLine, schedule_of}
+use Rattle.serf_world.specs.Cluster.{run_of, trace_of}
+use Rattle.serf_replay.specs.Show.{trace_text}
+
+abbrev pub text_of : Result Parsed BadLine → Result (List ℕ) BadLine
+text_of (Ok schedule) = Ok (trace_text (trace_of (run_of schedule.configs schedule.actions)))
+text_of (Err bad) = Err bad
+
+-- the text of the trace of the schedule that a text stands for, or its first bad line
+abbrev pub output_of : List ℕ → Result (List ℕ) BadLine
+output_of text = text_of (schedule_of text)
+
+-- the text is as said, unless memory runs out
+abbrev pub GivesText : {A : Type 0} → Result (Vec ℕ A) ScheduleFault → Result (List ℕ) BadLine → Type 0
+GivesText (Ok text) said = said ≡ Ok text.items
+GivesText (Err (faults.BadLine line cause)) said = said ≡ Err (record { line = line; cause = cause })
+GivesText (Err faults.OutOfMemory) said = Unit {0}

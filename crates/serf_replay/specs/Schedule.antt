@@ -1,0 +1,41 @@
+-- The schedule that a text stands for, or its first bad line.
+use Rattle.std.specs.Prelude.{◌≡◌, ℕ, ◌==◌, ◌+◌, List, [], ◌∷◌, Result, Ok, Err}
+use Rattle.std.specs.List.{slice_split}
+use Rattle.serf_replay.specs.Line.{Parsed, after_line}
+use Rattle.serf_replay.specs.declared.cause.Cause.{Cause}
+use Rattle.serf_replay.specs.declared.schedule.Schedule.{Schedule}
+use Rattle.serf_replay.specs.declared.parsed.Parsed.{Parsed as SoFar}
+use Rattle.serf_replay.specs.declared.parse.ScheduleFault.{ScheduleFault}
+use Rattle.serf_replay.specs.declared.parse.ScheduleFault.TheVariants as faults
+
+-- a line, counted from 1, and what is wrong with it
+pub record BadLine : Type 0 where
+  pub line : ℕ
+  pub cause : Cause
+
+-- what a schedule has
+abbrev pub parsed_of : Schedule → Parsed
+parsed_of s = record { configs = s.configs.items; actions = s.actions.items }
+
+-- what the code has of the lines so far
+abbrev pub parsed_so_far : SoFar → Parsed
+parsed_so_far s = record { configs = s.agents; actions = s.actions.items }
+
+-- the next step, where the line at this number is sound
+abbrev pub at_line : {A : Type 0} → ℕ → Result A Cause → (A → Result A BadLine) → Result A BadLine
+at_line number (Ok after) next = next after
+at_line number (Err cause) next = Err (record { line = number; cause = cause })
+
+-- the lines from this number on, after what came before
+abbrev pub after_lines : ℕ → Parsed → List (List ℕ) → Result Parsed BadLine
+after_lines number before [] = Ok before
+after_lines number before (line ∷ lines) = at_line number (after_line before line) (λ after. after_lines (number + 1) after lines)
+
+abbrev pub schedule_of : List ℕ → Result Parsed BadLine
+schedule_of text = after_lines 1 (record { configs = []; actions = [] }) (slice_split (λ b. b == 10) text)
+
+-- what `parse_schedule` answers, unless memory runs out
+abbrev pub Reads : Result Schedule ScheduleFault → Result Parsed BadLine → Type 0
+Reads (Ok schedule) said = said ≡ Ok (parsed_of schedule)
+Reads (Err (faults.BadLine line cause)) said = said ≡ Err (record { line = line; cause = cause })
+Reads (Err faults.OutOfMemory) said = Unit {0}

@@ -1,0 +1,58 @@
+//! Reading a whole input of bounded length.
+
+ghost use Rattle.std.specs.Prelude.{◌≡◌, ◌+◌, ◌<◌, ◌≤◌, length, IfOk, IfSome, OnErr, IsErrOf, List, ℕ};
+ghost use Rattle.std.specs.Io.KnownBytes.{Consumes};
+
+use std::alloc::Global;
+use std::io::Read;
+use thiserror::Error;
+
+/// The greatest length of a schedule's text, in bytes.
+pub const MAX_SCHEDULE_BYTES: usize = 16_777_216;
+
+/// How many bytes are asked of the reader at once.
+const CHUNK: usize = 4096;
+
+/// Why an input was not read to its end.
+#[derive(Clone, Copy, Debug, PartialEq, Eq, Error)]
+pub enum InputFault {
+    /// A read failed.
+    #[error("a read failed")]
+    ReadFault,
+    /// There are more than 16,777,216 bytes to read; 16,777,217 were read.
+    #[error("the input is too long")]
+    ReadTooLong,
+    #[error("out of memory")]
+    OutOfMemory,
+}
+
+/// All that the reader has left, where that isn't too long. A read of no bytes is the end, so each read gives a byte
+/// or is the last one.
+pub fn read_input<R: Read>(alloc: Global, reader: &mut R) -> Result<Vec<u8>, InputFault>
+    ensures short { IfOk result (λ v. length v.items ≤ MAX_SCHEDULE_BYTES) }
+    ensures all { IfOk result (λ v. IfSome (R.remaining reader.old) (λ bytes. v.items ≡ bytes)) }
+    ensures too_long { IsErrOf result InputFault.ReadTooLong
+        → IfSome (R.remaining reader.old) (λ bytes. MAX_SCHEDULE_BYTES < length bytes) }
+    // At most one byte more than the greatest length is read.
+    ensures bounded { (bytes : List ℕ) × Consumes (R.remaining reader.old) (R.remaining reader.new) bytes
+        × (length bytes ≤ MAX_SCHEDULE_BYTES + 1) }
+{
+    let mut input = Vec::new(alloc);
+    let mut chunk = [0u8; CHUNK];
+    for _turn in 0..MAX_SCHEDULE_BYTES + 1 {
+        let room = (MAX_SCHEDULE_BYTES + 1 - input.len()).min(CHUNK);
+        match reader.read(&mut chunk[..room]) {
+            Err(_) => return Err(InputFault::ReadFault),
+            Ok(0) => return Ok(input),
+            Ok(n) => {
+                if input.extend_from_slice(&chunk[..n]).is_err() {
+                    return Err(InputFault::OutOfMemory);
+                }
+            }
+        }
+        if input.len() > MAX_SCHEDULE_BYTES {
+            return Err(InputFault::ReadTooLong);
+        }
+    }
+    unreachable!()
+}

@@ -1,0 +1,108 @@
+//! The whole job: a schedule in, its trace out.
+
+ghost use Rattle.std.specs.Prelude.{◌≡◌, ◌<◌, ◌≤◌, ◌+◌, List, ℕ, length, OnOk, IfOk, IfErr, IfSome, IsErrOf};
+ghost use Rattle.std.specs.Io.KnownBytes.{Appends, Consumes};
+ghost use Rattle.serf_world.specs.Cluster.{run_of, trace_of};
+ghost use Rattle.serf_world.specs.Runs.{AreConfigs};
+ghost use Rattle.serf_world.specs.Trace.{outcome_of};
+ghost use Rattle.serf_replay.specs.Io.{AppendsFront};
+ghost use Rattle.serf_replay.specs.Output.{output_of, GivesText};
+
+use crate::cause::Cause;
+use crate::input::{InputFault, MAX_SCHEDULE_BYTES, read_input};
+use crate::output::write_output;
+use crate::parse::{ScheduleFault, parse_schedule};
+use crate::schedule::Schedule;
+use crate::show::show_trace;
+use serf_world::{RunFault, Trace, run};
+use std::alloc::{AllocError, Global};
+use std::io::{Read, Write};
+use thiserror::Error;
+
+/// Why a schedule was not replayed.
+#[derive(Clone, Copy, Debug, Drop, Error, PartialEq, Eq)]
+pub enum ReplayFault {
+    /// A read failed. Nothing was written.
+    #[error("a read failed")]
+    ReadFault,
+    /// There are more than 16,777,216 bytes to read. Nothing was written.
+    #[error("the schedule is too long")]
+    ReadTooLong,
+    /// The first line, counted from 1, that is not sound, and what is wrong with it. Nothing was written.
+    #[error("line {line} of the schedule is bad: {cause}")]
+    BadLine { line: u64, cause: Cause },
+    /// Memory ran out. Nothing was written.
+    #[error("out of memory")]
+    OutOfMemory,
+    /// A write failed, or took no byte. What was written is a front of the trace's text.
+    #[error("a write failed")]
+    WriteFault,
+}
+
+/// The trace of a schedule, of which nothing is left then.
+fn trace_of_schedule(alloc: Global, schedule: Schedule) -> Result<Trace, AllocError>
+    requires { AreConfigs schedule.configs.items }
+    ensures { IfOk result (λ trace. outcome_of trace ≡ trace_of (run_of schedule.configs.items schedule.actions.items)) }
+{
+    let Schedule { configs, actions } = schedule;
+    match run(alloc, configs, &actions) {
+        Ok(trace) => Ok(trace),
+        Err(RunFault::OutOfMemory(_)) => Err(AllocError),
+        Err(RunFault::NameTwice(_) | RunFault::BadConfig(_)) => unreachable!(),
+    }
+}
+
+/// The text of the trace of a schedule's text, of which nothing is left then.
+fn output_text(alloc: Global, input: Vec<u8>) -> Result<Vec<u8>, ScheduleFault>
+    ensures { GivesText result (output_of input.items) }
+{
+    let schedule = parse_schedule(alloc, &input)?;
+    drop(input);
+    let Ok(trace) = trace_of_schedule(alloc, schedule) else {
+        return Err(ScheduleFault::OutOfMemory);
+    };
+    match show_trace(alloc, &trace) {
+        Ok(text) => Ok(text),
+        Err(_) => Err(ScheduleFault::OutOfMemory),
+    }
+}
+
+/// Reads a schedule to its end, and writes the trace of its cluster.
+///
+/// At most 16,777,217 bytes are read, and nothing is written before all is read, parsed and run. On `Ok` just the
+/// trace's text was written.
+pub fn replay<R: Read, W: Write>(
+    alloc: Global,
+    reader: &mut R,
+    writer: &mut W,
+) -> Result<(), ReplayFault>
+    // Just the text of the input's trace was written.
+    ensures done { OnOk result (IfSome (R.remaining reader.old) (λ input. (text : List ℕ)
+        × (output_of input ≡ Ok text) × (length input ≤ MAX_SCHEDULE_BYTES)
+        × Appends (W.contents writer.old) (W.contents writer.new) text)) }
+    ensures too_long { IsErrOf result ReplayFault.ReadTooLong
+        → IfSome (R.remaining reader.old) (λ input. MAX_SCHEDULE_BYTES < length input) }
+    ensures bad_line { (line : ℕ) (cause : Cause) → IsErrOf result (ReplayFault.BadLine line cause)
+        → IfSome (R.remaining reader.old) (λ input. (length input ≤ MAX_SCHEDULE_BYTES)
+        × (output_of input ≡ Err (record { line = line; cause = cause }))) }
+    // A write that failed leaves a front of that text, and every other fault nothing.
+    ensures front { IsErrOf result ReplayFault.WriteFault
+        → IfSome (R.remaining reader.old) (λ input. (text : List ℕ)
+        × (output_of input ≡ Ok text) × (length input ≤ MAX_SCHEDULE_BYTES)
+        × AppendsFront (W.contents writer.old) (W.contents writer.new) text) }
+    ensures nothing { IfErr result (λ fault. (fault ≡ ReplayFault.WriteFault → ⊥) → writer.new ≡ writer.old) }
+    // At most one byte more than the greatest length is read.
+    ensures bounded { (bytes : List ℕ) × Consumes (R.remaining reader.old) (R.remaining reader.new) bytes
+        × (length bytes ≤ MAX_SCHEDULE_BYTES + 1) }
+{
+    let input = read_input(alloc, reader).map_err(|fault| match fault {
+        InputFault::ReadFault => ReplayFault::ReadFault,
+        InputFault::ReadTooLong => ReplayFault::ReadTooLong,
+        InputFault::OutOfMemory => ReplayFault::OutOfMemory,
+    })?;
+    let text = output_text(alloc, input).map_err(|fault| match fault {
+        ScheduleFault::BadLine { line, cause } => ReplayFault::BadLine { line, cause },
+        ScheduleFault::OutOfMemory => ReplayFault::OutOfMemory,
+    })?;
+    write_output(writer, &text).map_err(|_| ReplayFault::WriteFault)
+}

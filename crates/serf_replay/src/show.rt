@@ -1,0 +1,251 @@
+//! The text of a trace.
+
+ghost use Rattle.std.specs.Prelude.{◌≡◌, ◌+◌, ◌++◌, OnOk, IfOk, decimal};
+ghost use Rattle.std.specs.List.{flat_map};
+ghost use Rattle.std.specs.Option.{option_to_list};
+ghost use Rattle.serf_world.specs.Trace.{outcome_of};
+ghost use Rattle.serf_replay.specs.Show.{reason_text, refusal_text, answer_text, packet_of, answer_line, sent_line, event_tail, event_line, spaced, texts_text, identity_text, handed_line, action_text, trace_text};
+
+use crate::put::{flag, put_hex, put_number, put_with_number, put_with_numbers};
+use crate::wire_words::put_wire_fault;
+use serf_agent::Reason;
+use serf_wire::Bytes;
+use serf_world::{Answer, EventLine, HandedLine, Line, Refusal, Trace};
+use std::alloc::{AllocError, Global};
+
+fn reason_name(reason: Reason) -> &'static [u8]
+    ensures { result.now ≡ reason_text reason }
+{
+    match reason {
+        Reason::Oversize => b"Oversize",
+        Reason::BelowMinimum => b"BelowMinimum",
+        Reason::TooOld => b"TooOld",
+        Reason::Seen => b"Seen",
+        Reason::TimeFull => b"TimeFull",
+        Reason::NotOpen => b"NotOpen",
+        Reason::OtherId => b"OtherId",
+        Reason::Closed => b"Closed",
+        Reason::AckNotAsked => b"AckNotAsked",
+        Reason::AckTwice => b"AckTwice",
+        Reason::ResponseTwice => b"ResponseTwice",
+    }
+}
+
+fn put_refusal(out: &mut Vec<u8>, refusal: Refusal) -> Result<(), AllocError>
+    ensures { OnOk result (out.new.items ≡ out.old.items ++ refusal_text refusal) }
+{
+    match refusal {
+        Refusal::NoAgent => out.extend_from_slice(b"NoAgent"),
+        Refusal::NoMessage => out.extend_from_slice(b"NoMessage"),
+        Refusal::NoQuery => out.extend_from_slice(b"NoQuery"),
+        Refusal::Stopped => out.extend_from_slice(b"Stopped"),
+        Refusal::TooLarge => out.extend_from_slice(b"TooLarge"),
+        Refusal::TooLong => out.extend_from_slice(b"TooLong"),
+        Refusal::Exhausted => out.extend_from_slice(b"Exhausted"),
+        Refusal::ZeroTimeout => out.extend_from_slice(b"ZeroTimeout"),
+        Refusal::PastDeadline => out.extend_from_slice(b"PastDeadline"),
+        Refusal::NotPushPull => out.extend_from_slice(b"NotPushPull"),
+        Refusal::RespondersFull => out.extend_from_slice(b"RespondersFull"),
+        Refusal::SinkFault => out.extend_from_slice(b"SinkFault"),
+        Refusal::Wire(fault) => {
+            out.extend_from_slice(b"Wire ")?;
+            put_wire_fault(out, fault)
+        }
+    }
+}
+
+/// Appends `restarted` and the three clocks.
+#[tactic(auto, unfolding(crate::specs::TextParts::with_number))]
+fn put_restarted(out: &mut Vec<u8>, member: u64, event: u64, query: u64) -> Result<(), AllocError>
+    ensures { OnOk result (out.new.items ≡ out.old.items ++ answer_text (Answer.Restarted member event query)) }
+{
+    put_with_numbers(out, b"restarted", member, event)?;
+    out.extend_from_slice(b" ")?;
+    put_number(out, query)
+}
+
+fn put_answer(out: &mut Vec<u8>, answer: Answer) -> Result<(), AllocError>
+    ensures { OnOk result (out.new.items ≡ out.old.items ++ answer_text answer) }
+{
+    match answer {
+        Answer::Fired(time) => put_with_number(out, b"fired", time.get()),
+        Answer::New => out.extend_from_slice(b"new"),
+        Answer::Query => out.extend_from_slice(b"query"),
+        Answer::Ack => out.extend_from_slice(b"ack"),
+        Answer::Response => out.extend_from_slice(b"response"),
+        Answer::Ignored(reason) => {
+            out.extend_from_slice(b"ignored ")?;
+            out.extend_from_slice(reason_name(reason))
+        }
+        Answer::Foreign(kind) => put_with_number(out, b"foreign", u64::from(kind)),
+        Answer::PushPull => out.extend_from_slice(b"push-pull"),
+        Answer::State => out.extend_from_slice(b"state"),
+        Answer::Merged => out.extend_from_slice(b"merged"),
+        Answer::Queried(time) => put_with_number(out, b"queried", time.get()),
+        Answer::Replied => out.extend_from_slice(b"replied"),
+        Answer::Broken => out.extend_from_slice(b"broken"),
+        Answer::Injected => out.extend_from_slice(b"injected"),
+        Answer::Saved => out.extend_from_slice(b"saved"),
+        Answer::Compacted => out.extend_from_slice(b"compacted"),
+        Answer::Restarted {
+            member,
+            event,
+            query,
+        } => put_restarted(out, member, event, query),
+        Answer::Closed(count) => put_with_number(out, b"closed", count),
+        Answer::Refused(refusal) => {
+            out.extend_from_slice(b"refused ")?;
+            put_refusal(out, refusal)
+        }
+    }
+}
+
+#[tactic(auto, unfolding(crate::specs::Show::answer_line))]
+fn put_answer_line(out: &mut Vec<u8>, number: u64, answer: Answer) -> Result<(), AllocError>
+    ensures { OnOk result (out.new.items ≡ out.old.items ++ answer_line number answer) }
+{
+    put_number(out, number)?;
+    out.extend_from_slice(b" ")?;
+    put_answer(out, answer)?;
+    out.extend_from_slice(b"\n")
+}
+
+fn packet(sent: &[Bytes], k: u64) -> &[u8]
+    ensures { result.now ≡ packet_of sent.now k }
+{
+    match sent.get(k as usize) {
+        Some(bytes) => bytes.as_slice(),
+        None => &[],
+    }
+}
+
+#[tactic(auto, unfolding(crate::specs::Show::sent_line))]
+fn put_sent_line(out: &mut Vec<u8>, sent: &[Bytes], number: u64, k: u64) -> Result<(), AllocError>
+    ensures { OnOk result (out.new.items ≡ out.old.items ++ sent_line sent.now number k) }
+{
+    put_number(out, number)?;
+    out.extend_from_slice(b" sent ")?;
+    put_number(out, k)?;
+    out.extend_from_slice(b" ")?;
+    put_hex(out, packet(sent, k))?;
+    out.extend_from_slice(b"\n")
+}
+
+/// Appends a number and a space.
+#[tactic(auto, unfolding(crate::specs::Show::spaced))]
+fn put_spaced(out: &mut Vec<u8>, n: u64) -> Result<(), AllocError>
+    ensures { OnOk result (out.new.items ≡ out.old.items ++ spaced n) }
+{
+    put_number(out, n)?;
+    out.extend_from_slice(b" ")
+}
+
+#[tactic(auto, unfolding(crate::specs::Show::texts_text))]
+fn put_texts(out: &mut Vec<u8>, name: &[u8], payload: &[u8]) -> Result<(), AllocError>
+    ensures { OnOk result (out.new.items ≡ out.old.items ++ texts_text name.now payload.now) }
+{
+    put_hex(out, name)?;
+    out.extend_from_slice(b" ")?;
+    put_hex(out, payload)
+}
+
+#[tactic(auto, unfolding(crate::specs::Show::event_tail))]
+fn put_event_tail(out: &mut Vec<u8>, event: &EventLine) -> Result<(), AllocError>
+    ensures { OnOk result (out.new.items ≡ out.old.items ++ event_tail event.now) }
+{
+    put_texts(out, event.name.as_slice(), event.payload.as_slice())?;
+    out.extend_from_slice(b" ")?;
+    out.extend_from_slice(flag(event.cc))
+}
+
+#[tactic(auto, unfolding(crate::specs::Show::event_line))]
+fn put_event_line(out: &mut Vec<u8>, number: u64, event: &EventLine) -> Result<(), AllocError>
+    ensures { OnOk result (out.new.items ≡ out.old.items ++ event_line number event.now) }
+{
+    put_number(out, number)?;
+    out.extend_from_slice(b" event ")?;
+    put_spaced(out, event.agent)?;
+    put_spaced(out, event.time.get())?;
+    put_event_tail(out, event)?;
+    out.extend_from_slice(b"\n")
+}
+
+#[tactic(auto, unfolding(crate::specs::Show::identity_text))]
+fn put_identity(out: &mut Vec<u8>, query: &HandedLine) -> Result<(), AllocError>
+    ensures { OnOk result (out.new.items ≡ out.old.items ++ identity_text query.now) }
+{
+    put_spaced(out, query.agent)?;
+    put_spaced(out, query.index)?;
+    put_spaced(out, query.time.get())?;
+    put_spaced(out, u64::from(query.id))
+}
+
+#[tactic(auto, unfolding(crate::specs::Show::handed_line))]
+fn put_handed_line(out: &mut Vec<u8>, number: u64, query: &HandedLine) -> Result<(), AllocError>
+    ensures { OnOk result (out.new.items ≡ out.old.items ++ handed_line number query.now) }
+{
+    put_number(out, number)?;
+    out.extend_from_slice(b" handed ")?;
+    put_identity(out, query)?;
+    put_texts(out, query.name.as_slice(), query.payload.as_slice())?;
+    out.extend_from_slice(b"\n")
+}
+
+fn put_sent_lines(
+    out: &mut Vec<u8>,
+    sent: &[Bytes],
+    number: u64,
+    packets: &[u64],
+) -> Result<(), AllocError>
+    ensures { OnOk result (out.new.items ≡ out.old.items ++ flat_map (sent_line sent.now number) packets.now) }
+{
+    for k in packets {
+        put_sent_line(out, sent, number, *k)?;
+    }
+    Ok(())
+}
+
+fn put_event_lines(out: &mut Vec<u8>, number: u64, events: &[EventLine]) -> Result<(), AllocError>
+    ensures { OnOk result (out.new.items ≡ out.old.items ++ flat_map (event_line number) events.now) }
+{
+    for event in events {
+        put_event_line(out, number, event)?;
+    }
+    Ok(())
+}
+
+fn put_handed(out: &mut Vec<u8>, number: u64, handed: &Option<HandedLine>) -> Result<(), AllocError>
+    ensures { OnOk result (out.new.items ≡ out.old.items ++ flat_map (handed_line number) (option_to_list handed.now)) }
+{
+    match handed {
+        Some(query) => put_handed_line(out, number, query),
+        None => Ok(()),
+    }
+}
+
+#[tactic(auto, unfolding(crate::specs::Show::action_text))]
+fn put_action(out: &mut Vec<u8>, sent: &[Bytes], number: u64, line: &Line) -> Result<(), AllocError>
+    ensures { OnOk result (out.new.items ≡ out.old.items ++ action_text sent.now number line.now) }
+{
+    put_answer_line(out, number, line.answer)?;
+    put_sent_lines(out, sent, number, line.sent.as_slice())?;
+    put_event_lines(out, number, line.events.as_slice())?;
+    put_handed(out, number, &line.handed)
+}
+
+/// The text of a trace: the lines of its actions, which are counted from 1.
+///
+/// An action has a line for its answer, one for each packet that it sent, one for each event that it handed out, and
+/// one for the query that it handed out. Each begins with the action's number. Bytes are in lower case hex, `-` for
+/// none. It is an `AllocError` only where there is no memory for the text.
+pub fn show_trace(alloc: Global, trace: &Trace) -> Result<Vec<u8>, AllocError>
+    ensures { IfOk result (λ text. text.items ≡ trace_text (outcome_of trace.now)) }
+{
+    let mut out = Vec::new(alloc);
+    let mut number: u64 = 0;
+    for line in trace.lines.as_slice() {
+        number += 1;
+        put_action(&mut out, trace.sent.as_slice(), number, line)?;
+    }
+    Ok(out)
+}

@@ -1,0 +1,212 @@
+//! The words of a line, and what they stand for.
+
+ghost use Rattle.std.specs.Prelude.{◌≡◌, ◌<◌, ◌≤◌, ◌+◌, ◌++◌, ◌==◌, ◌∷◌, [], length, map, position, false, All, MatchOption, IfNone, IfOk, OnOk, Ok, Err};
+ghost use Rattle.std.specs.List.{slice_split};
+ghost use Rattle.serf_replay.specs.Words.{words_of, number_of, between, bytes_of, word_at, choice_of, sink_call_of, number_in, number_between, bytes_in, choice_in, sink_call_in};
+ghost use Rattle.serf_replay.specs.Gives.{Gives};
+
+use crate::cause::{Cause, LineFault};
+use crate::command::is_word;
+use hex::FromHexError;
+use serf_wire::Bytes;
+use serf_world::SinkCall;
+use std::alloc::{AllocError, Global};
+
+fn place_of(text: &[u8], separator: u8) -> Option<usize>
+    ensures place { result ≡ position (λ b. b == separator) text.now }
+    ensures none { IfNone result (All (λ b. (b == separator) ≡ false) text.now) }
+{
+    text.iter().position(|b| *b == separator)
+}
+
+/// The text before the first separator, and what follows the separator where there is one.
+pub(crate) fn cut(text: &[u8], separator: u8) -> (&[u8], Option<&[u8]>)
+    ensures parts { MatchOption result.1
+        (slice_split (λ b. b == separator) text.now ≡ result.0.now ∷ [])
+        (λ rest. slice_split (λ b. b == separator) text.now ≡ result.0.now ∷ slice_split (λ b. b == separator) rest.now) }
+    ensures shorter { MatchOption result.1 (length result.0.now ≡ length text.now)
+        (λ rest. length result.0.now + 1 + length rest.now ≡ length text.now) }
+{
+    match place_of(text, separator) {
+        Some(at) => (&text[..at], Some(&text[at + 1..])),
+        None => (text, None),
+    }
+}
+
+/// How many words stand before those of which a line may have any number.
+pub(crate) const FIXED_WORDS: usize = 8;
+
+/// Puts the words of a line, in order and at most eight, in place of those that were there. Gives what is left of
+/// the line: the ninth word and all behind it, or nothing.
+pub(crate) fn take_words<'a>(
+    line: &'a [u8],
+    words: &mut Vec<&'a [u8]>,
+) -> Result<&'a [u8], AllocError>
+    ensures joined { IfOk result (λ rest. map (λ w. w.now) words.new.items ++ words_of rest.now ≡ words_of line.entry.now) }
+    ensures few { OnOk result (length words.new.items ≤ FIXED_WORDS) }
+    ensures full { IfOk result (λ rest. 0 < length rest.now → (length words.new.items ≡ FIXED_WORDS) × (0 < length (words_of rest.now))) }
+{
+    words.clear();
+    let mut rest = line;
+    'words: loop {
+        let (word, more) = cut(rest, b' ');
+        if !word.is_empty() {
+            if words.len() == FIXED_WORDS {
+                return Ok(rest);
+            }
+            words.push(word)?;
+        }
+        match more {
+            Some(next) => rest = next,
+            None => return Ok(&[]),
+        }
+    }
+}
+
+/// A number below 2^64 in decimal digits.
+fn number(word: &[u8]) -> Option<u64>
+    ensures { result ≡ number_of word.now }
+{
+    if word.is_empty() {
+        return None;
+    }
+    let mut value: u64 = 0;
+    for byte in word {
+        if !byte.is_ascii_digit() {
+            return None;
+        }
+        let digit = u64::from(*byte - b'0');
+        let Some(tens) = value.checked_mul(10) else {
+            return None;
+        };
+        let Some(sum) = tens.checked_add(digit) else {
+            return None;
+        };
+        value = sum;
+    }
+    Some(value)
+}
+
+/// The bytes that a word spells in hex, and none for `-`.
+pub(crate) fn bytes(alloc: Global, word: &[u8]) -> Result<Option<Bytes>, AllocError>
+    ensures { IfOk result (λ found. found ≡ bytes_of word.now) }
+{
+    if let [b'-'] = word {
+        return Ok(Some(Bytes::from_vec(Vec::new(alloc))));
+    }
+    match hex::decode(alloc, word) {
+        Ok(found) => Ok(Some(Bytes::from_vec(found))),
+        Err(FromHexError::OutOfMemory) => Err(AllocError),
+        Err(_) => Ok(None),
+    }
+}
+
+/// Which of two words a word is: true for the second.
+fn choice(word: &[u8], first: &[u8], second: &[u8]) -> Option<bool>
+    ensures { result ≡ choice_of first.now second.now word.now }
+{
+    if is_word(word, first) {
+        Some(false)
+    } else if is_word(word, second) {
+        Some(true)
+    } else {
+        None
+    }
+}
+
+/// The call of a sink that a word names.
+fn sink_call(word: &[u8]) -> Option<SinkCall>
+    ensures { result ≡ sink_call_of word.now }
+{
+    if is_word(word, b"append") {
+        Some(SinkCall::Append)
+    } else if is_word(word, b"flush") {
+        Some(SinkCall::Flush)
+    } else if is_word(word, b"replace-old") {
+        Some(SinkCall::ReplaceOld)
+    } else if is_word(word, b"replace-new") {
+        Some(SinkCall::ReplaceNew)
+    } else {
+        None
+    }
+}
+
+/// The number at a place of a line, counting from 1.
+#[tactic(auto, unfolding(crate::specs::Words::number_in))]
+pub(crate) fn number_at(words: &[&[u8]], place: usize) -> Result<u64, LineFault>
+    requires { (1 ≤ place) × (place ≤ length words.now) }
+    ensures { Gives (λ n. n) result (number_in place (map (λ w. w.now) words.now)) }
+{
+    match number(words[place - 1]) {
+        Some(found) => Ok(found),
+        None => Err(LineFault::Bad(Cause::BadWord(place as u64))),
+    }
+}
+
+fn keep_between(found: Option<u64>, low: u64, high: u64) -> Option<u64>
+    ensures { result ≡ between low high found }
+{
+    match found {
+        Some(n) => { if low <= n && n <= high { Some(n) } else { None } }
+        None => None,
+    }
+}
+
+/// The number at a place, which is to be between these two or one of them.
+#[tactic(auto, unfolding(crate::specs::Words::number_between))]
+pub(crate) fn number_from_to(
+    words: &[&[u8]],
+    place: usize,
+    low: u64,
+    high: u64,
+) -> Result<u64, LineFault>
+    requires { (1 ≤ place) × (place ≤ length words.now) }
+    ensures value { Gives (λ n. n) result (number_between low high place (map (λ w. w.now) words.now)) }
+    ensures range { IfOk result (λ n. (low ≤ n) × (n ≤ high)) }
+{
+    match keep_between(number(words[place - 1]), low, high) {
+        Some(found) => Ok(found),
+        None => Err(LineFault::Bad(Cause::BadWord(place as u64))),
+    }
+}
+
+/// The bytes at a place of a line, counting from 1.
+#[tactic(auto, unfolding(crate::specs::Words::bytes_in))]
+pub(crate) fn bytes_at(alloc: Global, words: &[&[u8]], place: usize) -> Result<Bytes, LineFault>
+    requires { (1 ≤ place) × (place ≤ length words.now) }
+    ensures { Gives (λ b. b) result (bytes_in place (map (λ w. w.now) words.now)) }
+{
+    match bytes(alloc, words[place - 1])? {
+        Some(found) => Ok(found),
+        None => Err(LineFault::Bad(Cause::BadWord(place as u64))),
+    }
+}
+
+/// Which of two words stands at a place, counting from 1.
+#[tactic(auto, unfolding(crate::specs::Words::choice_in))]
+pub(crate) fn choice_at(
+    words: &[&[u8]],
+    place: usize,
+    first: &[u8],
+    second: &[u8],
+) -> Result<bool, LineFault>
+    requires { (1 ≤ place) × (place ≤ length words.now) }
+    ensures { Gives (λ b. b) result (choice_in first.now second.now place (map (λ w. w.now) words.now)) }
+{
+    match choice(words[place - 1], first, second) {
+        Some(found) => Ok(found),
+        None => Err(LineFault::Bad(Cause::BadWord(place as u64))),
+    }
+}
+
+/// The call of a sink at a place, counting from 1.
+#[tactic(auto, unfolding(crate::specs::Words::sink_call_in))]
+pub(crate) fn sink_call_at(words: &[&[u8]], place: usize) -> Result<SinkCall, LineFault>
+    requires { (1 ≤ place) × (place ≤ length words.now) }
+    ensures { Gives (λ c. c) result (sink_call_in place (map (λ w. w.now) words.now)) }
+{
+    match sink_call(words[place - 1]) {
+        Some(found) => Ok(found),
+        None => Err(LineFault::Bad(Cause::BadWord(place as u64))),
+    }
+}

@@ -1,0 +1,164 @@
+//! The three jobs, their statuses and their fault lines.
+
+use crate::command::{Job, job_in};
+use clap::Error;
+use clap::error::ErrorKind;
+use hex::FromHexError;
+use serf_replay::{
+    DecodeTextFault, InputFault, ReplayFault, clocks_text, decode_text, read_input, replay,
+    write_output,
+};
+use std::io::Read;
+use std::rt::Files;
+use std::{fs, io};
+
+/// The job is done, or help was asked for.
+const DONE: u8 = 0;
+
+/// The input was refused.
+const REFUSED: u8 = 1;
+
+/// The command line was refused.
+pub const COMMAND_LINE: u8 = 2;
+
+/// A device failed, or memory ran out.
+pub const DEVICE: u8 = 3;
+
+fn no_memory(rt: &impl Eprint) -> u8 {
+    let _ = eprintln!(rt; "no memory");
+    DEVICE
+}
+
+fn read_failed(rt: &impl Eprint) -> u8 {
+    let _ = eprintln!(rt; "read fault");
+    DEVICE
+}
+
+fn too_long(rt: &impl Eprint) -> u8 {
+    let _ = eprintln!(rt; "too long");
+    REFUSED
+}
+
+/// Writes a text to standard output, and gives the status.
+fn finish<R: Print + Eprint>(rt: &R, text: &[u8]) -> u8 {
+    match write_output(&mut io::writer(rt), text) {
+        Ok(()) => DONE,
+        Err(_) => write_failed(rt),
+    }
+}
+
+fn write_failed(rt: &impl Eprint) -> u8 {
+    let _ = eprintln!(rt; "write fault");
+    DEVICE
+}
+
+/// The status of a replay, whose fault gets a line on standard error.
+fn replayed(rt: &impl Eprint, outcome: Result<(), ReplayFault>) -> u8 {
+    match outcome {
+        Ok(()) => DONE,
+        Err(ReplayFault::BadLine { line, cause }) => {
+            let _ = eprintln!(rt; "bad line {line} {cause}");
+            REFUSED
+        }
+        Err(ReplayFault::ReadTooLong) => too_long(rt),
+        Err(ReplayFault::ReadFault) => read_failed(rt),
+        Err(ReplayFault::WriteFault) => write_failed(rt),
+        Err(ReplayFault::OutOfMemory) => no_memory(rt),
+    }
+}
+
+fn run_replay<F: Files, R: Input + Print + Eprint + AllocGlobal>(
+    files: &F,
+    rt: &R,
+    file: Option<&str>,
+) -> u8 {
+    let mut writer = io::writer(rt);
+    let outcome = match file {
+        None | Some("-") => replay(rt.alloc(), &mut rt.reader(), &mut writer),
+        Some(path) => match fs::open(files, path) {
+            Ok(mut reader) => replay(rt.alloc(), &mut reader, &mut writer),
+            Err(_) => Err(ReplayFault::ReadFault),
+        },
+    };
+    replayed(rt, outcome)
+}
+
+fn run_decode<R: Print + Eprint + AllocGlobal>(rt: &R, text: &str) -> u8 {
+    let packet = match hex::decode(rt.alloc(), text) {
+        Ok(packet) => packet,
+        Err(FromHexError::OutOfMemory) => return no_memory(rt),
+        Err(_) => {
+            let _ = eprintln!(rt; "bad hex");
+            return REFUSED;
+        }
+    };
+    match decode_text(rt.alloc(), &packet) {
+        Ok(text) => finish(rt, &text),
+        Err(DecodeTextFault::Refused(fault)) => {
+            let _ = eprintln!(rt; "refused {fault}");
+            REFUSED
+        }
+        Err(DecodeTextFault::OutOfMemory) => no_memory(rt),
+    }
+}
+
+fn clocks_of<R: Print + Eprint + AllocGlobal>(rt: &R, input: Result<Vec<u8>, InputFault>) -> u8 {
+    let text = match input {
+        Ok(text) => text,
+        Err(InputFault::ReadFault) => return read_failed(rt),
+        Err(InputFault::ReadTooLong) => return too_long(rt),
+        Err(InputFault::OutOfMemory) => return no_memory(rt),
+    };
+    match clocks_text(rt.alloc(), &text) {
+        Ok(text) => finish(rt, &text),
+        Err(_) => no_memory(rt),
+    }
+}
+
+fn run_clocks<F: Files, R: Input + Print + Eprint + AllocGlobal>(
+    files: &F,
+    rt: &R,
+    file: &str,
+) -> u8 {
+    let input = match file {
+        "-" => read_input(rt.alloc(), &mut rt.reader()),
+        path => match fs::open(files, path) {
+            Ok(mut reader) => read_input(rt.alloc(), &mut reader),
+            Err(_) => Err(InputFault::ReadFault),
+        },
+    };
+    clocks_of(rt, input)
+}
+
+/// Prints clap's text, and gives its status: help and the version go to standard output.
+fn refuse_command_line<R: Print + Eprint>(rt: &R, error: &Error) -> u8 {
+    if error.kind() == ErrorKind::OutOfMemory {
+        return no_memory(rt);
+    }
+    if error.print(rt).is_err() {
+        return write_failed(rt);
+    }
+    if error.use_stderr() {
+        COMMAND_LINE
+    } else {
+        DONE
+    }
+}
+
+/// Does what the words ask for, and gives the status: 0 done, 1 refused input, 2 command line, 3 device or memory.
+pub fn run<F: Files, R: Input + Print + Eprint + AllocGlobal>(
+    files: &F,
+    rt: &R,
+    words: &[String],
+) -> u8 {
+    match job_in(rt.alloc(), words) {
+        Ok(Some(Job::Replay(file))) => run_replay(files, rt, file),
+        Ok(Some(Job::Decode(text))) => run_decode(rt, text),
+        Ok(Some(Job::Clocks(file))) => run_clocks(files, rt, file),
+        Ok(None) => COMMAND_LINE,
+        Err(error) => refuse_command_line(rt, &error),
+    }
+}
+
+#[cfg(test)]
+mod tests;

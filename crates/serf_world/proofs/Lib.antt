@@ -1,0 +1,15 @@
+pub mod TurnLaws
+pub mod CallLaws
+pub mod PacketLaws
+pub mod ReadyLaws
+pub mod RunLaws
+pub mod OnceLaws
+pub mod CarriedLaws
+pub mod FiredLaws
+pub mod TraceLaws
+pub mod SeenLaws
+pub mod HandedLaws
+pub mod AskedLaws
+pub mod PromiseLaws
+pub mod SeatLaws
+pub mod MergeLaws

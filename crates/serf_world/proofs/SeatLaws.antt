@@ -1,0 +1,180 @@
+-- Over a sink with a plan a call of an agent has one end.
+use Rattle.std.proofs.Common.{zero, suc, ◌<◌, ◌≤◌, arith, length, set, get_or, ◌≡◌, ℕ, ◌==◌, ◌+◌, nat_le, cond, Bool, true, false, List, [], ◌∷◌, ◌++◌, Option, Some, None, IsSome, IfSome, MatchBool, map, unwrap_or, Result, Ok, Err, refl, sym, ap, subst, ◌∙◌, inl, inr, ◌⊎◌}
+use Rattle.std.specs.Prelude.{is_some, slice_get, IfOk}
+use Rattle.std.specs.declared.alloc.AllocError.{AllocError}
+use Rattle.serf_agent.specs.declared.outcome.RespondFault.{RespondFault}
+use Rattle.serf_agent.specs.Handed.{Handed}
+use Rattle.serf_agent.specs.Queries.{respond_fault}
+use Rattle.serf_snap.specs.declared.kind.ClockKind.{ClockKind}
+use Rattle.serf_snap.specs.Clocks.{clock_line}
+use Rattle.serf_snap.specs.Device.{Plan}
+use Rattle.serf_snap.specs.Notes.{SnapshotView, Writing, Kept, Failed, IsTold, MayWrite, MayReplace, will_write, will_replace, note_fails, left_by, compaction_of, last_line}
+use Rattle.serf_agent.specs.Calls.{Call, Ends, Notes, Replaces, Step, MayNote, MayEnd, planned, ended, will, will_note}
+use Rattle.serf_agent.specs.Ideal.{IdealAgent}
+use Rattle.serf_agent.specs.Steps.{Steps}
+use Rattle.serf_agent.specs.View.{Stored, view_of}
+use Rattle.serf_world.specs.declared.done.Done.{Done as Made}
+use Rattle.std.proofs.lemmas.List.{length-map, map-set}
+use Rattle.serf_world.specs.declared.action.Action.{Action}
+use Rattle.serf_world.specs.declared.line.Line.{Line}
+use Rattle.serf_world.specs.declared.line.Answer.TheVariants as answers
+use Rattle.serf_world.specs.declared.line.Refusal.TheVariants.{NoAgent}
+use Rattle.serf_world.specs.declared.turn.Turn.{Turn as Shown}
+use Rattle.serf_world.specs.Cluster.{Member, Cluster, Acted, Done, acts, called, line_only, numbers_from, on_agent, responds, responds_as, with_handed}
+use Rattle.serf_world.specs.Turns.{TakesTurn}
+use Rattle.serf_world.specs.View.{IsViewed, SeatState, TakesStep, WorldState, seat_of}
+use Rattle.serf_world.proofs.ReadyLaws.{good-acts}
+use Rattle.serf_world.proofs.RunLaws.{all-at, all-put}
+use Rattle.serf_world.specs.Ready.{AreGood, IsGood}
+use Rattle.serf_world.specs.Seats.{DoesCall, DoesAct, DoesRespond, done_of, slot_gives, slot_after, answer_gives, answer_after}
+
+abbrev view : (m e q : ℕ) (stopped : Bool) (k : Option (List ℕ)) (p : Option Plan) → SnapshotView
+view m e q stopped k p = record { member = m; event = e; query = q; stopped = stopped; kept = k; plan = p }
+
+write-view : (m e q : ℕ) (b : Bool) (k : Option (List ℕ)) (p : Option Plan) (line : List ℕ) (w : Writing) → IsSome p → MayWrite (view m e q b k p) line w → w ≡ will_write (view m e q b k p)
+write-view m e q b k None line w some may = absurd (cc some)
+write-view m e q b k (Some p) line Kept some may = sym (ap (λ f. cond f (Failed k) Kept) may)
+write-view m e q b k (Some p) line (Failed kept) some may = ap Failed may.1.1 ∙ sym (ap (λ f. cond f (Failed k) Kept) may.1.0)
+
+replace-view : (m e q : ℕ) (b : Bool) (k : Option (List ℕ)) (p : Option Plan) (w : Writing) → IsSome p → MayReplace (view m e q b k p) w → w ≡ will_replace (view m e q b k p)
+replace-view m e q b k None w some may = absurd (cc some)
+replace-view m e q b k (Some p) Kept some may = sym (ap (λ f. cond f (Failed (left_by p (compaction_of (view m e q b k (Some p))) k)) Kept) may)
+replace-view m e q b k (Some p) (Failed kept) some may = ap Failed may.1.1 ∙ sym (ap (λ f. cond f (Failed (left_by p (compaction_of (view m e q b k (Some p))) k)) Kept) may.1.0)
+
+note-will : (s : SnapshotView) (kind : ClockKind) (t : ℕ) (w : Writing) → IsTold s → MayNote kind t s w → w ≡ will_note kind t s
+note-will s kind t w told may = by (nat_le t (last_line kind s)) may
+  where
+    by : (b : Bool) → MatchBool b (w ≡ Kept) (MayWrite s (clock_line kind t) w) → w ≡ cond b Kept (will_write s)
+    by true is = is
+    by false may = write-view s.member s.event s.query s.stopped s.kept s.plan (clock_line kind t) w told.plan may
+
+pub may-will : {R : Type 0} (i : IdealAgent) (call : Call R) (w : Writing) → IsTold i.snapshot → MayEnd i call w → w ≡ will i call
+may-will i (Ends step) w told may = may
+may-will i (Notes kind t step fault) w told may = note-will i.snapshot kind t w told may
+may-will i (Replaces step fault) w told may = replace-view i.snapshot.member i.snapshot.event i.snapshot.query i.snapshot.stopped i.snapshot.kept i.snapshot.plan w told.plan may
+
+-- what a call answered, and what the agent stores then
+pub record Plans {R : Type 0} (i : IdealAgent) (call : Call R) (result : R) (new : Stored) : Type 0 where
+  pub answers : result ≡ (planned i call).answer
+  pub state : new ≡ view_of (planned i call).agent
+
+pub steps-planned : {R : Type 0} (i : IdealAgent) (call : Call R) (result : R) (new : Stored) → IsTold i.snapshot → Steps i call result new → Plans i call result new
+steps-planned {R} i call result new told steps =
+    let same : steps.writing ≡ will i call = may-will i call steps.writing told steps.allowed in
+    record {
+      answers = steps.answers ∙ ap (λ w. (ended i call w).answer) same;
+      state = steps.state ∙ ap (λ w. view_of (ended i call w).agent) same;
+    }
+
+-- an agent made a call, and that gives this
+pub does-call : {R : Type 0} (m : Member) (call : Call R) (result : R) (new : Stored) (gives : R → Done) (d : Made) → IsGood m.agent → Steps m.agent call result new → done_of d ≡ gives result → DoesCall (called m (planned m.agent call) gives) new d
+does-call m call result new gives d good steps says =
+    let p = steps-planned m.agent call result new good.ready.told steps in
+    record { state = p.state; gives = says ∙ ap gives p.answers }
+
+-- ---- answering a query
+
+get-there : {X : Type 0} (xs : List X) (k : ℕ) (x : X) → k < length xs → x ≡ get_or xs k x → slice_get xs k ≡ Some x
+get-there [] k x h is = absurd (omega arith)
+get-there (y ∷ ys) zero x h is = ap Some (sym is)
+get-there (y ∷ ys) (suc k) x h is = get-there ys k x (omega arith) is
+
+set-same : {X : Type 0} (xs : List X) (k : ℕ) (x : X) → slice_get xs k ≡ Some x → set xs k x ≡ xs
+set-same [] k x is = refl
+set-same (y ∷ ys) zero x is = let same : y ≡ x = cc is in ap (λ z. z ∷ ys) (sym same)
+set-same (y ∷ ys) (suc k) x is = ap (λ l. y ∷ l) (set-same ys k x is)
+
+responds-slot : (m : Member) (h now : ℕ) (payload : List ℕ) (slot : Option Handed) (d : Made) → slice_get m.handed h ≡ Some slot → done_of d ≡ slot_gives slot now payload → DoesRespond (responds m h (Some slot) now payload) (set m.handed h (slot_after slot now payload)) d
+responds-slot m h now payload None d at gives = record { state = set-same m.handed h None at; gives = gives }
+responds-slot m h now payload (Some q) d at gives = by (respond_fault q now payload) gives
+  where
+    by : (r : Option RespondFault) → done_of d ≡ answer_gives r q payload → DoesRespond (responds_as r m h q payload) (set m.handed h (answer_after r q)) d
+    by (Some fault) says = record { state = set-same m.handed h (Some q) at; gives = says }
+    by None says = record { state = refl; gives = says }
+
+pub responds-there : (m : Member) (h now : ℕ) (payload : List ℕ) (slot new : Option Handed) (handed : List (Option Handed)) (d : Made) → handed ≡ m.handed → h < length handed → slot ≡ get_or handed h slot
+    → done_of d ≡ slot_gives slot now payload → new ≡ slot_after slot now payload → DoesRespond (responds m h (slice_get m.handed h) now payload) (set handed h new) d
+responds-there m h now payload slot new handed d same within at gives after =
+    let found : slice_get m.handed h ≡ Some slot = ap (λ l. slice_get l h) (sym same) ∙ get-there handed h slot within at in
+    let here = responds-slot m h now payload slot d found gives in
+    subst (λ (o : Option (Option Handed)). DoesRespond (responds m h o now payload) (set handed h new) d) (sym found)
+    (record { state = ap (λ l. set l h new) same ∙ ap (λ s. set m.handed h s) after ∙ here.state; gives = here.gives })
+
+-- ---- a seat, by its agent's call
+
+pub does-act : (o : Acted) (result : Result Made AllocError) (new : Stored) (handed : List (Option Handed)) → handed ≡ o.member.handed → IfOk result (DoesCall o new) → IfOk result (DoesAct o (record { stored = new; handed = handed }))
+does-act o (Ok d) new handed same does = record { state = λ k. record { stored = does.state k; handed = same k }; gives = does.gives }
+does-act o (Err e) new handed same does = tt
+
+pub does-one : (o : Acted) (d : Made) (new : Stored) (handed : List (Option Handed)) → handed ≡ o.member.handed → DoesCall o new d → DoesAct o (record { stored = new; handed = handed }) d
+does-one o d new handed same does = record { state = λ k. record { stored = does.state k; handed = same k }; gives = does.gives }
+
+pub does-respond : (o : Acted) (result : Result Made AllocError) (stored : Stored) (new : List (Option Handed)) → stored ≡ view_of o.member.agent → IfOk result (DoesRespond o new) → IfOk result (DoesAct o (record { stored = stored; handed = new }))
+does-respond o (Ok d) stored new same does = record { state = λ k. record { stored = same k; handed = does.state k }; gives = does.gives }
+does-respond o (Err e) stored new same does = tt
+
+-- nothing stands behind the end
+pub past-none : {X : Type 0} (xs : List X) (a : ℕ) → length xs ≤ a → slice_get xs a ≡ None
+past-none [] a h = refl
+past-none (x ∷ xs) zero h = absurd (omega arith)
+past-none (x ∷ xs) (suc a) h = past-none xs a (omega arith)
+
+-- ---- one agent's turn is a step of the cluster
+
+none-past : {X : Type 0} (xs : List X) (a : ℕ) → slice_get xs a ≡ None → length xs ≤ a
+none-past [] a e = omega arith
+none-past (x ∷ xs) zero e = absurd (cc e)
+none-past (x ∷ xs) (suc a) e = let h = none-past xs a e in omega arith
+
+-- an element of a list is what the same element of the other list is mapped to
+same-at : {X Y : Type 0} (f : Y → X) (xs : List X) (ys : List Y) (a : ℕ) (x : X) (y : Y) → map f ys ≡ xs → a < length xs → x ≡ get_or xs a x → slice_get ys a ≡ Some y → x ≡ f y
+same-at f xs [] a x y e within at found = absurd (cc found)
+same-at f [] (z ∷ ys) a x y e within at found = absurd (omega arith)
+same-at f (w ∷ xs) (z ∷ ys) zero x y e within at found =
+    let head : f z ≡ w = cc e in
+    let here : z ≡ y = cc found in
+    at ∙ sym head ∙ ap f here
+same-at f (w ∷ xs) (z ∷ ys) (suc a) x y e within at found =
+    let tail : map f ys ≡ xs = cc e in
+    same-at f xs ys a x y tail (omega arith) at found
+
+-- what a world owes after a turn of the agent found
+abbrev Owes : Cluster → Action → ℕ → Option Member → WorldState → Line → Type 0
+Owes c action a r w line = TakesStep (on_agent c action a r) w line
+
+pub owes-turn : (c : Cluster) (w : WorldState) (more : List (List ℕ)) (numbers : List ℕ) (action : Action) (a : ℕ) (old new : SeatState) (turn : Shown) → IsViewed c w → AreGood c → a < length w.seats → old ≡ get_or w.seats a old
+    → ((m : Member) → IsGood m.agent → old ≡ seat_of m → TakesTurn a (acts m w.sent action) new turn) → more ≡ w.sent ++ turn.packets → numbers ≡ numbers_from (length w.sent) turn.packets
+    → Owes c action a (slice_get c.members a) (record { seats = set w.seats a new; sent = more; spent = w.spent }) (record { answer = turn.answer; sent = numbers; events = turn.events; handed = turn.handed })
+owes-turn c w more numbers action a old new turn v good within at does grown counted = by (slice_get c.members a) refl
+  where
+    by : (r : Option Member) → slice_get c.members a ≡ r → Owes c action a r (record { seats = set w.seats a new; sent = more; spent = w.spent }) (record { answer = turn.answer; sent = numbers; events = turn.events; handed = turn.handed })
+    by None none = absurd (let past = none-past c.members a none in let n = ap length v.seats in let l = length-map c.members seat_of in omega arith)
+    by (Some m) found =
+        let well : IsGood m.agent = all-at (λ m. IsGood m.agent) c.members a m good found in
+        let same : old ≡ seat_of m = same-at seat_of w.seats c.members a old m v.seats within at found in
+        let did : TakesTurn a (acts m c.sent action) new turn = subst (λ (s : List (List ℕ)). TakesTurn a (acts m s action) new turn) (sym v.sent) (does m well same) in
+        let o : Acted = acts m c.sent action in
+        record {
+          line_is = λ k. record {
+            answer = did.answer k;
+            sent = (counted ∙ ap (λ s. numbers_from (length s) turn.packets) (sym v.sent) ∙ ap (numbers_from (length c.sent)) did.packets) k;
+            events = did.events k;
+            handed = did.handed k;
+          };
+          view = record {
+            seats = map-set seat_of c.members a (with_handed o.done.handed o.member) ∙ ap (λ l. set l a (seat_of (with_handed o.done.handed o.member))) v.seats ∙ ap (λ s. set w.seats a s) (sym did.state);
+            sent = ap (λ l. l ++ o.done.packets) v.sent ∙ ap (λ l. w.sent ++ l) (sym did.packets) ∙ sym grown;
+          };
+          good = all-put (λ m. IsGood m.agent) c.members a (with_handed o.done.handed o.member) good (good-acts m c.sent action well);
+        }
+
+pub owes-none : (c : Cluster) (w : WorldState) (action : Action) (a : ℕ) (line : Line) → IsViewed c w → AreGood c → length w.seats ≤ a → line ≡ line_only (answers.Refused NoAgent) → Owes c action a (slice_get c.members a) w line
+owes-none c w action a line v good past is =
+    let n = ap length v.seats in
+    let l = length-map c.members seat_of in
+    let none : slice_get c.members a ≡ None = past-none c.members a (omega arith) in
+    subst (λ (r : Option Member). Owes c action a r w line) (sym none) (record { line_is = is; view = v; good = good })
+
+pub map-map : {X Y Z : Type 0} (f : Y → Z) (g : X → Y) (xs : List X) → map f (map g xs) ≡ map (λ x. f (g x)) xs
+map-map f g [] = refl
+map-map f g (x ∷ xs) = ap (λ l. f (g x) ∷ l) (map-map f g xs)

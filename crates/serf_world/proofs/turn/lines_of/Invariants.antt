@@ -1,0 +1,8 @@
+use Rattle.std.proofs.Common.{◌≡◌, ◌++◌, map}
+use Rattle.std.specs.Vec.Iter.{into_iter_items}
+use Rattle.serf_world.specs.Cluster.{event_line}
+use Rattle.serf_world.proofs.turn.lines_of.Given as goal
+
+-- the lines so far, and those of the events that are left
+abbrev pub invariant-loop-event : goal.invariant-loop-event
+invariant-loop-event l = l.lines.items ++ map (event_line l.agent) (into_iter_items l.event-iterator) ≡ map (event_line l.agent) l.fn.events.items

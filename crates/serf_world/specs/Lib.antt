@@ -1,0 +1,10 @@
+pub mod Trace
+pub mod Cluster
+pub mod Ready
+pub mod View
+pub mod Runs
+pub mod Promises
+pub mod Seats
+pub mod Turns
+pub mod Names
+pub mod Roster

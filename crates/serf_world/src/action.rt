@@ -1,0 +1,92 @@
+//! What is done in a cluster.
+
+use serf_agent::QueryParams;
+use serf_wire::Bytes;
+
+/// A call of an agent's sink that can be made to fail.
+#[derive(Clone, Copy, Debug, PartialEq, Eq)]
+pub enum SinkCall {
+    /// A line is appended.
+    Append,
+    /// What was appended is flushed.
+    Flush,
+    /// The text is replaced, and where that fails the old text is kept.
+    ReplaceOld,
+    /// The text is replaced, and where that fails the new text is kept.
+    ReplaceNew,
+}
+
+/// What is done. Agents are numbered from 0 in the order of their settings, packets from 0 in the order in which they
+/// were sent, and the queries that were handed to an agent from 0 in each of its lives. Moments are nanoseconds.
+#[derive(Debug, Drop)]
+pub enum Action {
+    /// An agent fires a user event.
+    Fire {
+        agent: u64,
+        name: Bytes,
+        payload: Bytes,
+        /// Whether the event may be coalesced with others of its name.
+        cc: bool,
+    },
+    /// An agent is given a packet. Any packet can be given to any agent, any number of times; one that is never given
+    /// is lost.
+    Deliver {
+        to: u64,
+        packet: u64,
+        now: u64,
+    },
+    /// An agent sends its whole state, as a push/pull.
+    State {
+        agent: u64,
+    },
+    /// An agent merges the state that a packet brings; where it joins, it may pass over what was fired before.
+    Merge {
+        to: u64,
+        packet: u64,
+        join: bool,
+    },
+    /// An agent fires a query.
+    Query {
+        agent: u64,
+        now: u64,
+        id: u32,
+        name: Bytes,
+        payload: Bytes,
+        params: QueryParams,
+    },
+    /// An agent answers a query that was handed to it in this life.
+    Respond {
+        agent: u64,
+        handed: u64,
+        now: u64,
+        payload: Bytes,
+    },
+    /// An agent is opened again on what its sink keeps and a tail: what a call that was cut off had appended.
+    Restart {
+        agent: u64,
+        tail: Bytes,
+    },
+    /// The call of an agent's sink with this number from now, counted from 1, is to fail; 0 lets none fail.
+    Break {
+        agent: u64,
+        call: SinkCall,
+        count: u64,
+    },
+    /// Bytes are sent that no agent made.
+    Inject {
+        bytes: Bytes,
+    },
+    /// An agent lets go of its open queries that are past their deadlines.
+    Close {
+        agent: u64,
+        now: u64,
+    },
+    /// An agent notes its member clock.
+    Save {
+        agent: u64,
+    },
+    /// An agent replaces its snapshot's text by its last lines.
+    Compact {
+        agent: u64,
+    },
+}

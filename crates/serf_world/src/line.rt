@@ -1,0 +1,114 @@
+//! What comes of an action.
+
+use crate::lists::{EventLines, Numbers};
+use serf_agent::Reason;
+use serf_lamport::Time;
+use serf_wire::{Bytes, WireFault};
+
+/// Why an action is refused: the first that holds. `NoAgent`, `NoMessage` and `NoQuery` come first, in this order.
+#[derive(Clone, Copy, Debug, PartialEq, Eq)]
+pub enum Refusal {
+    /// No agent has this number.
+    NoAgent,
+    /// No packet has this number.
+    NoMessage,
+    /// No query of this number was handed to the agent in this life, or it was answered.
+    NoQuery,
+    /// The agent's sink has failed, and it wasn't opened again since.
+    Stopped,
+    /// The event, the query or the response is longer than its limit.
+    TooLarge,
+    /// A text or a list is longer than 4,294,967,295.
+    TooLong,
+    /// The clock stands at 2^64 - 1, which is no time.
+    Exhausted,
+    /// The query has a timeout of 0 or below.
+    ZeroTimeout,
+    /// The query is past its deadline.
+    PastDeadline,
+    /// The packet is a message of another kind than a push/pull.
+    NotPushPull,
+    /// The query has as many answers as it takes.
+    RespondersFull,
+    /// The agent's sink fails, and the agent is stopped.
+    SinkFault,
+    /// The packet is no message.
+    Wire(WireFault),
+}
+
+/// What an action is answered.
+#[derive(Clone, Copy, Debug, PartialEq, Eq)]
+pub enum Answer {
+    /// An event was fired at this time.
+    Fired(Time),
+    /// A delivered event was new: it was handed out and sent on.
+    New,
+    /// A delivered query was new.
+    Query,
+    /// A delivered ack was counted.
+    Ack,
+    /// A delivered response was counted.
+    Response,
+    /// A delivered packet was ignored.
+    Ignored(Reason),
+    /// A message of this type was delivered, which isn't read.
+    Foreign(u8),
+    /// A push/pull was delivered, which is for merging.
+    PushPull,
+    /// The agent's state was sent.
+    State,
+    /// The state that a packet brings was merged.
+    Merged,
+    /// A query was fired at this time.
+    Queried(Time),
+    /// A query was answered.
+    Replied,
+    /// The sink is to fail.
+    Broken,
+    /// The bytes were sent.
+    Injected,
+    /// The member clock is noted.
+    Saved,
+    /// The snapshot's text has its last lines alone.
+    Compacted,
+    /// The agent was opened again, and these are its clocks.
+    Restarted { member: u64, event: u64, query: u64 },
+    /// So many open queries were let go.
+    Closed(u64),
+    /// Nothing was done, or not all of it.
+    Refused(Refusal),
+}
+
+/// An event that was handed out to the agent of this number.
+#[derive(Debug, Drop)]
+pub struct EventLine {
+    pub agent: u64,
+    pub time: Time,
+    pub name: Bytes,
+    pub payload: Bytes,
+    pub cc: bool,
+}
+
+/// A query that was handed out to the agent of this number.
+#[derive(Debug, Drop)]
+pub struct HandedLine {
+    pub agent: u64,
+    /// How many queries were handed to this agent before, in this life.
+    pub index: u64,
+    pub time: Time,
+    pub id: u32,
+    pub name: Bytes,
+    pub payload: Bytes,
+}
+
+/// What came of one action.
+#[derive(Debug, Drop)]
+pub struct Line {
+    pub answer: Answer,
+    /// The numbers of the packets that were sent, in order.
+    pub sent: Numbers,
+    /// The events that were handed out, in order.
+    pub events: EventLines,
+    /// The query that was handed out.
+    pub handed: Option<HandedLine>,
+}

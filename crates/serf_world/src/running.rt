@@ -1,0 +1,105 @@
+//! A whole run.
+
+ghost use Rattle.std.specs.Prelude.{◌≡◌, ◌≤◌, ◌++◌, ◌∷◌, ℕ, [], IfErr, IfOk, OnErr, OnOk, length, take};
+ghost use Rattle.std.specs.List.{fold};
+ghost use Rattle.serf_world.specs.Cluster.{Cluster, Run, after, step, trace_of};
+ghost use Rattle.serf_world.specs.Promises.{Held, Later, Once, OnlyFired, QueryFired, QueryHandedOnce, QueryLater, QueryOnce};
+ghost use Rattle.serf_world.specs.Ready.{AreGood};
+ghost use Rattle.serf_world.specs.Runs.{IsRun, OfTurns};
+ghost use Rattle.serf_world.specs.Trace.{outcome_of};
+ghost use Rattle.serf_world.specs.View.{AddsLine, IsViewed};
+
+use crate::action::Action;
+use crate::fault::{NewFault, RunFault};
+use crate::line::Line;
+use crate::lists::Lines;
+use crate::trace::Trace;
+use crate::world::World;
+use serf_agent::{BytesList, Config};
+use std::alloc::{AllocError, Global};
+
+/// Does one action, and adds its line. Where there is no memory for it, nothing was sent, and no line added.
+fn step_to(
+    alloc: Global,
+    world: &mut World,
+    lines: &mut Vec<Line>,
+    action: &Action,
+) -> Result<(), AllocError>
+    ensures step { (c : Cluster) → IsViewed c world.old → AreGood c → OnOk result (AddsLine (step c action.now) world.new lines.old.items lines.new.items) }
+    ensures err_lines { OnErr result (lines.new.items ≡ lines.old.items) }
+    ensures err_sent { OnErr result (world.new.sent ≡ world.old.sent) }
+{
+    lines.reserve(1)?;
+    let Ok(line) = world.step(alloc, action) else {
+        return Err(AllocError);
+    };
+    match lines.push(line) {
+        Ok(()) => Ok(()),
+        Err(_) => unreachable!(),
+    }
+}
+
+/// Does all actions in a cluster. Where memory runs out, gives the trace of those done before.
+fn run_in(alloc: Global, world: World, actions: &[Action]) -> Result<Trace, Trace>
+    ensures done { (r : Run) → IsViewed r.cluster world → AreGood r.cluster → r.turns ≡ [] → IfOk result (λ trace. outcome_of trace ≡ trace_of (fold after r actions.now)) }
+    ensures memory { (r : Run) → IsViewed r.cluster world → AreGood r.cluster → r.turns ≡ []
+        → IfErr result (λ trace. (n : ℕ) × (n ≤ length actions.now) × (outcome_of trace ≡ trace_of (fold after r (take n actions.now)))) }
+{
+    let mut world = world;
+    let mut lines = Vec::new(alloc);
+    for action in actions {
+        if step_to(alloc, &mut world, &mut lines, action).is_err() {
+            return Err(Trace {
+                lines: Lines::from_vec(lines),
+                sent: world.into_sent(),
+            });
+        }
+    }
+    Ok(Trace {
+        lines: Lines::from_vec(lines),
+        sent: world.into_sent(),
+    })
+}
+
+/// A run, exactly.
+fn run_exactly(alloc: Global, configs: Vec<Config>, actions: &[Action]) -> Result<Trace, RunFault>
+    ensures { IsRun configs.items actions.now result }
+{
+    let world = match World::new(alloc, configs) {
+        Ok(world) => world,
+        Err(NewFault::NameTwice(number)) => return Err(RunFault::NameTwice(number)),
+        Err(NewFault::BadConfig(number)) => return Err(RunFault::BadConfig(number)),
+        Err(NewFault::OutOfMemory) => {
+            return Err(RunFault::OutOfMemory(Trace {
+                lines: Lines::from_vec(Vec::new(alloc)),
+                sent: BytesList::new(alloc),
+            }));
+        }
+    };
+    match run_in(alloc, world, actions) {
+        Ok(trace) => Ok(trace),
+        Err(trace) => Err(RunFault::OutOfMemory(trace)),
+    }
+}
+
+/// Does all actions, one after another, in a cluster of agents of these settings.
+///
+/// A refused action is a line of the trace, and the run goes on. `NameTwice` is looked at first, then `BadConfig`; after
+/// both nothing was done. `OutOfMemory` hands back the trace of the actions that were done before.
+#[tactic(auto, using(crate::proofs::PromiseLaws::run_once, crate::proofs::PromiseLaws::run_only_fired, crate::proofs::PromiseLaws::run_later, crate::proofs::PromiseLaws::run_held, crate::proofs::PromiseLaws::run_query_once, crate::proofs::PromiseLaws::run_query_later, crate::proofs::PromiseLaws::run_query_handed, crate::proofs::PromiseLaws::run_query_fired))]
+pub fn run(alloc: Global, configs: Vec<Config>, actions: &[Action]) -> Result<Trace, RunFault>
+    // The trace is that of the ideal cluster.
+    ensures exactly { IsRun configs.items actions.now result }
+
+    // What the turns of every run keep, which its actions and its trace show.
+    ensures once { OfTurns Once actions.now result }
+    ensures fired { OfTurns OnlyFired actions.now result }
+    ensures later { OfTurns Later actions.now result }
+    ensures held { OfTurns Held actions.now result }
+    ensures query_once { OfTurns QueryOnce actions.now result }
+    ensures query_later { OfTurns QueryLater actions.now result }
+    ensures query_handed { OfTurns QueryHandedOnce actions.now result }
+    ensures query_fired { OfTurns QueryFired actions.now result }
+{
+    run_exactly(alloc, configs, actions)
+}

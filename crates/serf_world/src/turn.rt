@@ -1,0 +1,133 @@
+//! An agent's turn, as a line shows it.
+
+ghost use Rattle.std.specs.Prelude.{◌≡◌, ◌+◌, ◌-◌, ◌^◌, ◌≤◌, ◌++◌, ℕ, IfOk, OnOk, OnErr, Some, length, map};
+ghost use Rattle.std.specs.Option.{option_map, option_to_list};
+ghost use Rattle.serf_world.specs.Cluster.{Member, acts, event_line, handed_line, numbers_from};
+ghost use Rattle.serf_world.specs.Ready.{IsGood};
+ghost use Rattle.serf_world.specs.Turns.{TakesTurn};
+ghost use Rattle.serf_world.specs.View.{seat_of};
+
+use crate::action::Action;
+use crate::acts::act;
+use crate::done::Done;
+use crate::line::{Answer, EventLine, HandedLine};
+use crate::lists::{EventLines, Numbers};
+use crate::seat::Seat;
+use serf_agent::{BytesList, EventOut, HandedQuery};
+use serf_wire::Bytes;
+use std::alloc::{AllocError, Global};
+
+/// What an agent's turn shows, and the packets that it sends.
+#[derive(Drop)]
+pub(crate) struct Turn {
+    pub(crate) answer: Answer,
+    pub(crate) packets: BytesList,
+    pub(crate) events: EventLines,
+    pub(crate) handed: Option<HandedLine>,
+}
+
+/// The line of an event that an agent hands out.
+fn line_of(agent: u64, event: EventOut) -> EventLine
+    ensures { result ≡ event_line agent event }
+{
+    EventLine {
+        agent,
+        time: event.time,
+        name: event.name,
+        payload: event.payload,
+        cc: event.cc,
+    }
+}
+
+/// The lines of the events that an agent hands out.
+fn lines_of(alloc: Global, agent: u64, events: Vec<EventOut>) -> Result<EventLines, AllocError>
+    ensures { IfOk result (λ lines. lines ≡ map (event_line agent) events.items) }
+{
+    let mut lines = Vec::new(alloc);
+    for event in events {
+        lines.push(line_of(agent, event))?;
+    }
+    Ok(EventLines::from_vec(lines))
+}
+
+/// Keeps a query that is handed out, where there is one, until it is answered, and gives its line.
+fn hand_over(
+    alloc: Global,
+    agent: u64,
+    handed: &mut Vec<Option<HandedQuery>>,
+    query: Option<HandedQuery>,
+) -> Result<Option<HandedLine>, AllocError>
+    ensures line { IfOk result (λ line. line ≡ option_map (handed_line agent (length handed.old.items)) query) }
+    ensures kept { OnOk result (handed.new.items ≡ handed.old.items ++ map (λ q. Some q) (option_to_list query)) }
+{
+    let Some(query) = query else {
+        return Ok(None);
+    };
+    let line = HandedLine {
+        agent,
+        index: handed.len() as u64,
+        time: query.time(),
+        id: query.id(),
+        name: Bytes::copy_of(alloc, query.name())?,
+        payload: Bytes::copy_of(alloc, query.payload())?,
+    };
+    handed.push(Some(query))?;
+    Ok(Some(line))
+}
+
+/// An agent takes its turn.
+pub(crate) fn take_turn(
+    alloc: Global,
+    agent: u64,
+    seat: &mut Seat,
+    sent: &[Bytes],
+    action: &Action,
+) -> Result<Turn, AllocError>
+    ensures { (m : Member) → IsGood m.agent → seat.old ≡ seat_of m → IfOk result (TakesTurn agent (acts m sent.now action.now) seat.new) }
+{
+    let Done {
+        answer,
+        packets,
+        events,
+        handed,
+    } = act(alloc, seat, sent, action)?;
+    let events = lines_of(alloc, agent, events)?;
+    let handed = hand_over(alloc, agent, &mut seat.handed, handed)?;
+    Ok(Turn {
+        answer,
+        packets,
+        events,
+        handed,
+    })
+}
+
+/// The numbers of packets that are about to be sent, where so many were.
+fn numbers_of(alloc: Global, first: u64, packets: &[Bytes]) -> Result<Numbers, AllocError>
+    requires { first + length packets.now ≤ 2 ^ 64 - 1 }
+    ensures { IfOk result (λ numbers. numbers ≡ numbers_from first packets.now) }
+{
+    let mut numbers = Vec::new(alloc);
+    let mut next = first;
+    for _packet in packets {
+        numbers.push(next)?;
+        next += 1;
+    }
+    Ok(Numbers::from_vec(numbers))
+}
+
+/// Sends packets, and says their numbers. Where there is no memory for it, nothing was sent.
+pub(crate) fn send(
+    alloc: Global,
+    sent: &mut Vec<Bytes>,
+    packets: BytesList,
+) -> Result<Numbers, AllocError>
+    ensures numbers { IfOk result (λ numbers. numbers ≡ numbers_from (length sent.old.items) packets) }
+    ensures sent { OnOk result (sent.new.items ≡ sent.old.items ++ packets) }
+    ensures err { OnErr result (sent.new.items ≡ sent.old.items) }
+{
+    let mut packets = packets.into_vec();
+    sent.reserve(packets.len())?;
+    let numbers = numbers_of(alloc, sent.len() as u64, packets.as_slice())?;
+    sent.append(&mut packets)?;
+    Ok(numbers)
+}

@@ -1,0 +1,227 @@
+//! A cluster that does one action after another.
+
+ghost use Rattle.std.specs.Prelude.{◌≡◌, ◌↔◌, ℕ, [], false, true, map, slice_get, IfErr, IfOk, IsErrOf, IsTrue, OnErr, OnOk};
+ghost use Rattle.std.specs.Option.{option_map};
+ghost use Rattle.serf_world.specs.Cluster.{Cluster, joining, on_agent, start, step};
+ghost use Rattle.serf_world.specs.Ready.{AreGood};
+ghost use Rattle.serf_world.specs.Runs.{AreConfigs, IsNewFault, first_bad};
+ghost use Rattle.serf_world.specs.Trace.{actor_of, injects_of};
+ghost use Rattle.serf_world.specs.View.{IsViewed, TakesStep, agent_at, seat_of};
+
+use crate::action::Action;
+use crate::calls::open_on;
+use crate::fault::{NewFault, StepFault};
+use crate::line::{Answer, Line, Refusal};
+use crate::lists::{EventLines, Numbers};
+use crate::names::{NamesFault, distinct};
+use crate::seat::Seat;
+use crate::turn::{Turn, send, take_turn};
+use serf_agent::{Agent, BytesList, Config};
+use serf_snap::MemSink;
+use serf_wire::Bytes;
+use std::alloc::{AllocError, Global};
+use std::marker::Model;
+
+/// A cluster: its agents, each over a sink in memory, and all packets that were sent.
+///
+/// Contracts see what it stores of an ideal cluster.
+#[derive(Drop)]
+pub struct World {
+    seats: Vec<Seat>,
+    sent: Vec<Bytes>,
+    spent: bool,
+}
+
+impl Model for World {
+    ghost use Rattle.serf_world.specs.View.{WorldState};
+
+    ghost Value = { WorldState };
+
+    ghost view = { λ w. record { seats = w.seats.items; sent = w.sent.items; spent = w.spent } };
+}
+
+/// The number of the agent that acts.
+fn actor(action: &Action) -> Option<u64>
+    ensures { result ≡ actor_of action.now }
+{
+    match action {
+        Action::Fire { agent, .. } => Some(*agent),
+        Action::Deliver { to, .. } => Some(*to),
+        Action::State { agent } => Some(*agent),
+        Action::Merge { to, .. } => Some(*to),
+        Action::Query { agent, .. } => Some(*agent),
+        Action::Respond { agent, .. } => Some(*agent),
+        Action::Restart { agent, .. } => Some(*agent),
+        Action::Break { agent, .. } => Some(*agent),
+        Action::Inject { .. } => None,
+        Action::Close { agent, .. } => Some(*agent),
+        Action::Save { agent } => Some(*agent),
+        Action::Compact { agent } => Some(*agent),
+    }
+}
+
+/// The packets that an action injects.
+fn injected(alloc: Global, action: &Action) -> Result<BytesList, AllocError>
+    ensures { IfOk result (λ packets. packets ≡ injects_of action.now) }
+{
+    let mut packets = BytesList::new(alloc);
+    match action {
+        Action::Inject { bytes } => packets.push(Bytes::copy_of(alloc, bytes.as_slice())?)?,
+        _ => {}
+    }
+    Ok(packets)
+}
+
+fn bad_config(configs: &[Config]) -> Option<usize>
+    ensures { result ≡ first_bad configs.now }
+{
+    configs.iter().position(|config| !config.is_sound())
+}
+
+/// Agents of these settings that have done nothing.
+fn open_all(alloc: Global, configs: Vec<Config>) -> Result<Vec<Seat>, AllocError>
+    ensures { IfOk result (λ seats. seats.items ≡ map (λ c. seat_of (joining c)) configs.items) }
+{
+    let mut seats = Vec::new(alloc);
+    for config in configs {
+        let agent = open_on(alloc, config, b"")?;
+        seats.push(Seat {
+            agent,
+            handed: Vec::new(alloc),
+        })?;
+    }
+    Ok(seats)
+}
+
+/// An answer alone.
+fn line_only(alloc: Global, answer: Answer) -> Line
+    ensures { result ≡ record { answer = answer; sent = []; events = []; handed = None } }
+{
+    Line {
+        answer,
+        sent: Numbers::from_vec(Vec::new(alloc)),
+        events: EventLines::from_vec(Vec::new(alloc)),
+        handed: None,
+    }
+}
+
+impl World {
+    /// A cluster of agents of these settings, which are numbered from 0 in this order and have done nothing.
+    ///
+    /// `NameTwice` is looked at before `BadConfig`; each names the first such agent.
+    pub fn new(alloc: Global, configs: Vec<Config>) -> Result<World, NewFault>
+        ensures start { IfOk result (IsViewed (start configs.items).cluster) }
+        ensures fresh { IfOk result (λ world. world.spent ≡ false) }
+        ensures configs { OnOk result (AreConfigs configs.items) }
+        ensures fault { IfErr result (IsNewFault configs.items) }
+    {
+        let configs = match distinct(alloc, configs) {
+            Ok(configs) => configs,
+            Err(NamesFault::Twice(number)) => return Err(NewFault::NameTwice(number)),
+            Err(NamesFault::OutOfMemory) => return Err(NewFault::OutOfMemory),
+        };
+        if let Some(number) = bad_config(&configs) {
+            return Err(NewFault::BadConfig(number as u64));
+        }
+        match open_all(alloc, configs) {
+            Ok(seats) => Ok(World {
+                seats,
+                sent: Vec::new(alloc),
+                spent: false,
+            }),
+            Err(_) => Err(NewFault::OutOfMemory),
+        }
+    }
+
+    /// Does an action. A refused action is a line too.
+    ///
+    /// `OutOfMemory` where it found no memory: the cluster is spent then, and answers `Spent` from then on.
+    pub fn step(&mut self, alloc: Global, action: &Action) -> Result<Line, StepFault>
+        ensures step { (c : Cluster) → IsViewed c self.old → AreGood c → IfOk result (TakesStep (step c action.now) self.new) }
+        ensures spent { IsErrOf result StepFault.Spent ↔ IsTrue self.old.spent }
+        ensures ok { OnOk result (self.new.spent ≡ false) }
+        ensures err { OnErr result (self.new.spent ≡ true) }
+        ensures kept { OnErr result (self.new.sent ≡ self.old.sent) }
+    {
+        if self.spent {
+            return Err(StepFault::Spent);
+        }
+        match self.try_step(alloc, action) {
+            Ok(line) => Ok(line),
+            Err(_) => {
+                self.spent = true;
+                Err(StepFault::OutOfMemory)
+            }
+        }
+    }
+
+    fn try_step(&mut self, alloc: Global, action: &Action) -> Result<Line, AllocError>
+        ensures step { (c : Cluster) → IsViewed c self.old → AreGood c → IfOk result (TakesStep (step c action.now) self.new) }
+        ensures spent { self.new.spent ≡ self.old.spent }
+        ensures err { OnErr result (self.new.sent ≡ self.old.sent) }
+    {
+        match actor(action) {
+            Some(agent) => self.act(alloc, agent, action),
+            None => {
+                let packets = injected(alloc, action)?;
+                let sent = send(alloc, &mut self.sent, packets)?;
+                Ok(Line {
+                    answer: Answer::Injected,
+                    sent,
+                    events: EventLines::from_vec(Vec::new(alloc)),
+                    handed: None,
+                })
+            }
+        }
+    }
+
+    /// The agent of this number acts.
+    fn act(&mut self, alloc: Global, agent: u64, action: &Action) -> Result<Line, AllocError>
+        ensures step { (c : Cluster) → IsViewed c self.old → AreGood c → IfOk result (TakesStep (on_agent c action.now agent (slice_get c.members agent)) self.new) }
+        ensures spent { self.new.spent ≡ self.old.spent }
+        ensures err { OnErr result (self.new.sent ≡ self.old.sent) }
+    {
+        let number = agent as usize;
+        if number >= self.seats.len() {
+            return Ok(line_only(alloc, Answer::Refused(Refusal::NoAgent)));
+        }
+        let turn = take_turn(
+            alloc,
+            agent,
+            &mut self.seats[number],
+            self.sent.as_slice(),
+            action,
+        )?;
+        let Turn {
+            answer,
+            packets,
+            events,
+            handed,
+        } = turn;
+        let sent = send(alloc, &mut self.sent, packets)?;
+        Ok(Line {
+            answer,
+            sent,
+            events,
+            handed,
+        })
+    }
+
+    /// The agent of this number, lent for reading. Takes no memory.
+    pub fn agent(&self, number: u64) -> Option<&Agent<MemSink>>
+        ensures { option_map (λ a. a.now.stored) result ≡ agent_at self.now number }
+    {
+        match self.seats.get(number as usize) {
+            Some(seat) => Some(&seat.agent),
+            None => None,
+        }
+    }
+
+    /// All packets that were sent. Takes no memory.
+    pub(crate) fn into_sent(self) -> BytesList
+        ensures { result ≡ self.sent }
+    {
+        let World { sent, .. } = self;
+        BytesList::from_vec(sent)
+    }
+}
