@@ -1,16 +1,15 @@
 -- Where the queries come from that enter as packets.
-use Rattle.std.proofs.Common.{zero, suc, ◌≡◌, ℕ, ◌-◌, ◌⊎◌, inl, inr, Bool, true, false, cond, List, [], ◌∷◌, ◌++◌, Option, Some, None, Result, Ok, Err, refl, sym, ap, subst, ◌∙◌, take, map}
+use Rattle.std.proofs.Common.{◌≡◌, ℕ, ◌⊎◌, inl, inr, Bool, true, false, cond, List, [], ◌∷◌, ◌++◌, Option, Some, None, Result, Ok, Err, refl, sym, ap, subst, ◌∙◌}
 use Rattle.std.specs.Prelude.{All, Contains, slice_get, not}
 use Rattle.std.specs.Option.{option_to_list}
 use Rattle.std.proofs.lemmas.List.{append-nil}
-use Rattle.std.proofs.lemmas.List.Elements.{All-nil, All-cons, All-head, All-tail, All-append, All-weaker, All-contains_itself, Contains-append_left, Contains-append_right}
+use Rattle.std.proofs.lemmas.List.Elements.{All-nil, All-cons, All-head, All-append, All-weaker, All-contains_itself, Contains-append_left, Contains-append_right}
 use Rattle.serf_wire.specs.declared.fault.WireFault.{WireFault}
 use Rattle.serf_wire.specs.declared.texts.EventText.{EventText}
 use Rattle.serf_wire.specs.Canonical.{canonical, has_long}
 use Rattle.serf_wire.specs.Decoded.{decoded}
-use Rattle.serf_wire.specs.Message.{Message, UserEvent, Query, QueryResponse, PushPull, user_event, query, query_response, push_pull, foreign}
+use Rattle.serf_wire.specs.Message.{Message, Query, QueryResponse, user_event, query, query_response, push_pull, foreign}
 use Rattle.serf_window.specs.Texts.{event_of}
-use Rattle.serf_window.specs.Window.{Timed}
 use Rattle.serf_snap.specs.Notes.{Writing, Kept, Failed}
 use Rattle.serf_snap.specs.declared.snapshot.NoteFault.{NoteFault}
 use Rattle.serf_agent.specs.declared.config.Config.{Config}
@@ -36,13 +35,12 @@ use Rattle.serf_world.specs.declared.action.Action.TheVariants as actions
 use Rattle.serf_world.specs.declared.line.Answer.{Answer}
 use Rattle.serf_world.specs.declared.line.Answer.TheVariants as lines
 use Rattle.serf_world.specs.declared.line.Refusal.TheVariants.{SinkFault}
-use Rattle.serf_world.specs.Cluster.{Member, Cluster, Acted, Done, Run, Stepped, only, acts, acted, after, delivers, fire_gives, merges_as, merges_events, merges_given, note_gives, on_agent, query_gives, receive_gives, responds, responds_as, start, state_gives, step, step_by}
+use Rattle.serf_world.specs.Cluster.{Member, Cluster, Done, Run, Stepped, acts, acted, after, delivers, fire_gives, merges_as, merges_events, merges_given, note_gives, on_agent, query_gives, receive_gives, responds, responds_as, start, state_gives, step_by}
 use Rattle.serf_world.specs.Promises.{QueryFired}
 use Rattle.serf_world.specs.Trace.{Turn, actor_of, injected_in, injects_of, packet_given, queried_in, query_brought, query_packets}
 use Rattle.serf_world.proofs.TurnLaws.{at_each_nil, at_each_push, flat_map-push}
 use Rattle.serf_world.proofs.CarriedLaws.{no-query-event, no-query-state, no-query-response}
 use Rattle.serf_world.proofs.FiredLaws.{sent-at}
-use Rattle.serf_world.proofs.RunLaws.{turn-given}
 
 -- this packet was sent as a query's own, or was injected
 abbrev pub WasAsked : List Turn → List ℕ → Type 0

@@ -1,21 +1,17 @@
 -- What each action adds to the histories of its agent.
-use Rattle.std.proofs.Common.{◌≡◌, ℕ, ◌<◌, ◌-◌, ◌^◌, nat_lt, nat_le, Bool, true, false, cond, List, [], ◌∷◌, ◌++◌, Option, Some, None, Result, Ok, Err, refl, sym, ap, subst, ◌∙◌, arith, map, length, append_assoc}
-use Rattle.std.specs.Prelude.{slice_get, not}
+use Rattle.std.proofs.Common.{◌≡◌, ℕ, ◌-◌, Bool, true, false, cond, List, [], ◌∷◌, ◌++◌, Option, Some, None, Result, Ok, Err, refl, sym, ap, ◌∙◌, map, append_assoc}
+use Rattle.std.specs.Prelude.{slice_get}
 use Rattle.std.proofs.lemmas.List.{append-nil, map-append}
 use Rattle.serf_wire.specs.declared.fault.WireFault.{WireFault}
 use Rattle.serf_wire.specs.declared.texts.EventText.{EventText}
-use Rattle.serf_wire.specs.Canonical.{canonical}
 use Rattle.serf_wire.specs.Decoded.{decoded}
-use Rattle.serf_wire.specs.Message.{Message, UserEvent, Query, QueryResponse, PushPull, user_event, query, query_response, push_pull, foreign}
+use Rattle.serf_wire.specs.Message.{Message, Query, QueryResponse, user_event, query, query_response, push_pull, foreign}
 use Rattle.serf_window.specs.Texts.{event_of}
 use Rattle.serf_window.specs.Window.{Timed}
 use Rattle.serf_snap.specs.Notes.{Writing, Kept, Failed}
 use Rattle.serf_agent.specs.declared.open_query.OpenQuery.{OpenQuery}
 use Rattle.serf_agent.specs.declared.outcome.EventOut.{EventOut}
-use Rattle.serf_agent.specs.declared.outcome.Fired.{Fired}
 use Rattle.serf_agent.specs.declared.outcome.FireFault.{FireFault}
-use Rattle.serf_agent.specs.declared.outcome.FireFault.TheVariants as fires
-use Rattle.serf_agent.specs.declared.outcome.FiredQuery.{FiredQuery}
 use Rattle.serf_agent.specs.declared.outcome.QueryFault.{QueryFault}
 use Rattle.serf_agent.specs.declared.outcome.QueryParams.{QueryParams}
 use Rattle.serf_agent.specs.declared.outcome.Outcome.{Outcome}
@@ -25,7 +21,6 @@ use Rattle.serf_agent.specs.declared.outcome.Reason.{Reason}
 use Rattle.serf_agent.specs.declared.outcome.ReceiveFault.{ReceiveFault}
 use Rattle.serf_agent.specs.declared.outcome.ReceiveFault.TheVariants as receives
 use Rattle.serf_agent.specs.declared.outcome.PushPullFault.{PushPullFault}
-use Rattle.serf_agent.specs.declared.outcome.PushPullFault.TheVariants as states
 use Rattle.serf_snap.specs.declared.snapshot.NoteFault.{NoteFault}
 use Rattle.serf_snap.specs.declared.snapshot.NoteFault.TheVariants as notes
 use Rattle.serf_snap.specs.declared.kind.ClockKind.TheVariants as kinds
@@ -33,20 +28,18 @@ use Rattle.serf_agent.specs.declared.outcome.RespondFault.{RespondFault}
 use Rattle.serf_agent.specs.Handed.{Handed}
 use Rattle.serf_agent.specs.Ideal.{IdealAgent, Past, with_asked}
 use Rattle.serf_agent.specs.Calls.{Step, Call, Ends, Notes, Replaces, planned, ended, will, answers}
-use Rattle.serf_agent.specs.Events.{fire, fired_as, fire_fault, admission, received_as, event_entered, event_out, event_packet}
-use Rattle.serf_agent.specs.Queries.{respond_fault, fire_query, query_fired_as, query_fault, query_at, query_asked, query_admission, query_received_as, query_entered, handed_if_passed, ack_if_passed, asked_at, answer_refusal, response_received_at, response_received_as, counts, counted, is_full, is_ack, with_asked_at, has_flag, no_broadcast_flag}
+use Rattle.serf_agent.specs.Events.{fired_as, fire_fault, admission, received_as}
+use Rattle.serf_agent.specs.Queries.{respond_fault, query_fired_as, query_fault, query_at, query_admission, query_received_as, asked_at, answer_refusal, response_received_at, response_received_as, counted, is_full, is_ack, with_asked_at}
 use Rattle.serf_agent.specs.Receive.{receive, receive_read}
 use Rattle.serf_agent.specs.States.{send_state, events_of, receive_one, handed_by, joined, merge_refusal}
 use Rattle.serf_agent.specs.View.{view_of}
 use Rattle.serf_world.specs.declared.action.Action.{Action}
 use Rattle.serf_world.specs.declared.action.Action.TheVariants as actions
-use Rattle.serf_world.specs.declared.action.SinkCall.{SinkCall}
-use Rattle.serf_world.specs.declared.line.Answer.{Answer}
 use Rattle.serf_world.specs.declared.line.Answer.TheVariants.{Fired as FiredAt, Queried, Refused, Merged as Merging, Saved, Compacted}
 use Rattle.serf_world.specs.declared.line.Refusal.{Refusal}
 use Rattle.serf_world.specs.declared.line.Refusal.TheVariants.{SinkFault}
-use Rattle.serf_world.specs.Cluster.{Member, Acted, Done, Merged, only, refused, acts, fire_gives, receive_gives, query_gives, state_gives, note_gives, merges_events, merges_on, merges_as, merge_gives, responds, responds_as, delivers, merges_given}
-use Rattle.serf_world.specs.Trace.{entered_by, packet_given, query_brought, query_given}
+use Rattle.serf_world.specs.Cluster.{Member, Done, Merged, refused, acts, fire_gives, receive_gives, query_gives, state_gives, note_gives, merges_events, merges_on, merges_as, responds, responds_as, delivers, merges_given}
+use Rattle.serf_world.specs.Trace.{entered_by, packet_given, query_brought}
 
 -- what was entered, with its times
 abbrev pub entries : {K : Type 0} → List (Past K) → List (Timed K)

@@ -1,9 +1,8 @@
 -- Which events the packets carry that agents send.
-use Rattle.std.proofs.Common.{◌≡◌, ℕ, ◌+◌, ◌<◌, ◌≤◌, ◌-◌, ◌^◌, ◌==◌, Bool, true, false, cond, List, [], ◌∷◌, ◌++◌, Option, Some, None, Result, Ok, Err, refl, sym, ap, subst, ◌∙◌, arith, map, length}
-use Rattle.std.specs.Prelude.{All, not}
+use Rattle.std.proofs.Common.{◌≡◌, ℕ, ◌<◌, ◌≤◌, ◌-◌, ◌^◌, ◌==◌, Bool, false, List, [], ◌∷◌, Option, Some, None, Result, Ok, Err, refl, sym, ap, subst, arith, map}
+use Rattle.std.specs.Prelude.{All}
 use Rattle.std.specs.List.{AllByRecursion}
-use Rattle.std.proofs.lemmas.List.{append-nil}
-use Rattle.std.proofs.lemmas.List.Elements.{All-nil, All-cons, All-head, All-tail, All-append, All-map, All-filter, All-weaker}
+use Rattle.std.proofs.lemmas.List.Elements.{All-nil, All-head, All-tail, All-append, All-map, All-filter, All-weaker}
 use Rattle.serf_pack.specs.declared.fault.PackFault.{PackFault}
 use Rattle.serf_pack.specs.Tree.{Tree, nil, flag, int, raw, array, pairs}
 use Rattle.serf_pack.specs.Reading.{whole_at}
@@ -15,10 +14,10 @@ use Rattle.serf_wire.specs.declared.texts.EventText.{EventText}
 use Rattle.serf_wire.specs.Canonical.{canonical, has_long, without_events}
 use Rattle.serf_wire.specs.Decoded.{decoded, read_value}
 use Rattle.serf_wire.specs.Faults.{message_faults, first}
-use Rattle.serf_wire.specs.Message.{Message, UserEvent, Query, QueryResponse, PushPull, user_event, query, query_response, push_pull, foreign, response_of}
+use Rattle.serf_wire.specs.Message.{Message, UserEvent, Query, PushPull, user_event, query, push_pull, response_of}
 use Rattle.serf_wire.specs.Ranges.{IsRangedPushPull, IsTimed}
-use Rattle.serf_wire.specs.Reading.{read_tree, unless_fault, message_in}
-use Rattle.serf_wire.specs.Slots.{SlotContent, empty, held}
+use Rattle.serf_wire.specs.Reading.{unless_fault, message_in}
+use Rattle.serf_wire.specs.Slots.{held}
 use Rattle.serf_wire.proofs.CanonicalPackets.{canonical_spells}
 use Rattle.serf_wire.proofs.Packets.{spelled_decoded}
 use Rattle.serf_window.specs.Texts.{event_of}
@@ -26,7 +25,7 @@ use Rattle.serf_window.specs.Window.{Timed, SlotOf, slots_of}
 use Rattle.serf_window.proofs.WindowLaws.{slots_of-each, slots_of-below}
 use Rattle.serf_agent.specs.Events.{event_packet, texts_len}
 use Rattle.serf_agent.specs.Ideal.{IdealAgent, Past}
-use Rattle.serf_agent.specs.States.{send_state, state_of, slot_sent, events_of, events_of_slot}
+use Rattle.serf_agent.specs.States.{state_of, slot_sent, events_of, events_of_slot}
 use Rattle.serf_agent.specs.Tracks.{of_life}
 use Rattle.serf_agent.specs.View.{view_of}
 use Rattle.serf_agent.proofs.WireLaws.{event-not_long}

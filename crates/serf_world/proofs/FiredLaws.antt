@@ -1,16 +1,16 @@
 -- Where the events come from that are handed out and sent.
-use Rattle.std.proofs.Common.{zero, suc, ◌≡◌, ◌≢◌, ℕ, ◌<◌, ◌≤◌, ◌==◌, ◌⊎◌, inl, inr, nat_lt, Bool, true, false, cond, List, [], ◌∷◌, ◌++◌, Option, Some, None, Result, Ok, Err, refl, sym, ap, subst, ◌∙◌, arith, map, length, set}
-use Rattle.std.specs.Prelude.{All, Contains, slice_get, slice_set, not}
+use Rattle.std.proofs.Common.{zero, suc, ◌≡◌, ℕ, inl, inr, Bool, true, false, cond, List, [], ◌∷◌, ◌++◌, Option, Some, None, Result, Ok, Err, refl, sym, ap, subst, ◌∙◌, map}
+use Rattle.std.specs.Prelude.{All, Contains, slice_get, not}
 use Rattle.std.specs.List.{AllByRecursion, flat_map}
 use Rattle.std.specs.Option.{option_to_list}
-use Rattle.std.proofs.lemmas.List.{append-nil, map-append, length-map, get_or-map}
+use Rattle.std.proofs.lemmas.List.{append-nil, map-append}
 use Rattle.std.proofs.lemmas.List.Concat.{flat_map-append}
-use Rattle.std.proofs.lemmas.List.Elements.{All-nil, All-cons, All-head, All-tail, All-append, All-map, All-weaker, All-push, All-contains_itself, Contains-append_left, Contains-append_right}
+use Rattle.std.proofs.lemmas.List.Elements.{All-nil, All-cons, All-head, All-tail, All-append, All-map, All-weaker, All-contains_itself, Contains-append_left, Contains-append_right}
 use Rattle.serf_wire.specs.declared.fault.WireFault.{WireFault}
 use Rattle.serf_wire.specs.declared.texts.EventText.{EventText}
 use Rattle.serf_wire.specs.Canonical.{canonical, has_long}
 use Rattle.serf_wire.specs.Decoded.{decoded}
-use Rattle.serf_wire.specs.Message.{Message, UserEvent, Query, QueryResponse, PushPull, user_event, query, query_response, push_pull, foreign}
+use Rattle.serf_wire.specs.Message.{Message, UserEvent, Query, QueryResponse, user_event, query, query_response, push_pull, foreign}
 use Rattle.serf_window.specs.Texts.{event_of}
 use Rattle.serf_window.specs.Window.{Timed}
 use Rattle.serf_snap.specs.Notes.{Writing, Kept, Failed}
@@ -19,23 +19,20 @@ use Rattle.serf_agent.specs.declared.open_query.OpenQuery.{OpenQuery}
 use Rattle.serf_agent.specs.declared.outcome.EventOut.{EventOut}
 use Rattle.serf_agent.specs.declared.outcome.FireFault.{FireFault}
 use Rattle.serf_agent.specs.declared.outcome.QueryFault.{QueryFault}
-use Rattle.serf_agent.specs.declared.outcome.QueryParams.{QueryParams}
 use Rattle.serf_agent.specs.declared.outcome.Outcome.{Outcome}
 use Rattle.serf_agent.specs.declared.outcome.Outcome.TheVariants as outcomes
 use Rattle.serf_agent.specs.declared.outcome.MergeFault.{MergeFault}
-use Rattle.serf_agent.specs.declared.outcome.PushPullFault.{PushPullFault}
 use Rattle.serf_agent.specs.declared.outcome.PushPullFault.TheVariants as states
 use Rattle.serf_agent.specs.declared.outcome.Reason.{Reason}
 use Rattle.serf_agent.specs.declared.outcome.ReceiveFault.{ReceiveFault}
 use Rattle.serf_agent.specs.declared.outcome.ReceiveFault.TheVariants as receives
 use Rattle.serf_agent.specs.declared.outcome.RespondFault.{RespondFault}
 use Rattle.serf_snap.specs.declared.snapshot.NoteFault.{NoteFault}
-use Rattle.serf_agent.specs.Calls.{Step, Call, Ends, planned, ended, will, answers}
-use Rattle.serf_agent.specs.Config.{is_sound}
-use Rattle.serf_agent.specs.Events.{fire, fired_as, fire_fault, admission, received_as, texts_len, event_packet}
+use Rattle.serf_agent.specs.Calls.{Step, Ends, planned, ended, will, answers}
+use Rattle.serf_agent.specs.Events.{fired_as, fire_fault, admission, received_as, event_packet}
 use Rattle.serf_agent.specs.Handed.{Handed}
 use Rattle.serf_agent.specs.Ideal.{IdealAgent, Past, with_asked}
-use Rattle.serf_agent.specs.Queries.{fire_query, query_fired_as, query_fault, query_at, query_admission, query_received_as, handed_if_passed, ack_if_passed, ack_packet, all_pass, ack_flag, has_flag, no_broadcast_flag, asked_at, answer_refusal, response_received_at, response_received_as, counts, counted, with_asked_at, is_full, is_ack, respond_fault, response_packet}
+use Rattle.serf_agent.specs.Queries.{query_fired_as, query_fault, query_at, query_admission, query_received_as, ack_if_passed, ack_packet, all_pass, ack_flag, has_flag, no_broadcast_flag, asked_at, answer_refusal, response_received_at, response_received_as, counted, with_asked_at, is_full, is_ack, respond_fault, response_packet}
 use Rattle.serf_agent.specs.Receive.{receive, receive_read}
 use Rattle.serf_agent.specs.States.{send_state, state_of, events_of, receive_one, handed_by, joined, merge_refusal, save, compact}
 use Rattle.serf_agent.specs.View.{view_of}
@@ -43,16 +40,15 @@ use Rattle.serf_world.specs.declared.action.Action.{Action}
 use Rattle.serf_world.specs.declared.action.Action.TheVariants as actions
 use Rattle.serf_world.specs.declared.line.Answer.{Answer}
 use Rattle.serf_world.specs.declared.line.Answer.TheVariants.{Saved, Compacted}
-use Rattle.serf_world.specs.declared.line.Refusal.{Refusal}
-use Rattle.serf_world.specs.Cluster.{Member, Cluster, Acted, Done, Merged, Run, Stepped, only, refused, acts, acted, on_agent, step_by, step, after, start, joining, fire_gives, receive_gives, query_gives, state_gives, note_gives, merges_events, merges_on, merges_as, merges_given, delivers, responds, responds_as, with_handed, event_line}
+use Rattle.serf_world.specs.Cluster.{Member, Cluster, Acted, Done, Merged, Run, Stepped, only, acts, acted, on_agent, step_by, after, start, joining, fire_gives, receive_gives, query_gives, state_gives, note_gives, merges_events, merges_on, merges_as, merges_given, delivers, responds, responds_as, with_handed, event_line}
 use Rattle.serf_world.specs.Promises.{WasFired, OnlyFired, CarriesOnlyFired}
-use Rattle.serf_world.specs.Trace.{Turn, actor_of, fired_by, fired_in, forged_in, injected_in, injects_of, carried, events_brought, event_in, packet_given}
+use Rattle.serf_world.specs.Trace.{Turn, actor_of, fired_by, fired_in, forged_in, injected_in, injects_of, carried, events_brought, event_in}
 use Rattle.serf_world.proofs.TurnLaws.{at_each_nil, at_each_push, flat_map-push}
-use Rattle.serf_world.proofs.CallLaws.{Keeps, entries, out_in, keeps-acts}
+use Rattle.serf_world.proofs.CallLaws.{entries, out_in, keeps-acts}
 use Rattle.serf_world.specs.Ready.{IsGood}
 use Rattle.serf_world.proofs.ReadyLaws.{MayFire, may-fire}
 use Rattle.serf_world.proofs.CarriedLaws.{carried-event, carried-query, carried-response, state-carries}
-use Rattle.serf_world.proofs.RunLaws.{IsAfter, all-at, all-put, slice_get-set_same, slice_get-set_other}
+use Rattle.serf_world.proofs.RunLaws.{IsAfter, all-at, all-put}
 
 -- all that is handed out has P, and all that packets carry that are sent
 record AllHave (P : Timed EventText → Type 0) (done : Done) : Type 0 where

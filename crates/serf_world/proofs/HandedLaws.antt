@@ -1,11 +1,10 @@
 -- A query is handed to an agent once, where it enters.
-use Rattle.std.proofs.Common.{zero, suc, ◌≡◌, ◌≢◌, ℕ, ◌<◌, ◌≤◌, ◌==◌, ◌+◌, ◌⊎◌, inl, inr, Bool, true, false, cond, List, [], ◌∷◌, ◌++◌, Option, Some, None, Result, Ok, Err, refl, sym, ap, subst, ◌∙◌, arith, map, length, get_or}
+use Rattle.std.proofs.Common.{zero, suc, ◌≡◌, ◌≢◌, ℕ, ◌<◌, ◌==◌, ◌+◌, ◌⊎◌, inl, inr, Bool, true, false, cond, List, [], ◌∷◌, ◌++◌, Option, Some, None, Result, Ok, Err, refl, sym, ap, subst, ◌∙◌, arith, map, length, get_or}
 use Rattle.std.specs.Prelude.{All, AllPairs, Contains, slice_get}
 use Rattle.std.specs.List.{filter, flat_map}
 use Rattle.std.specs.Option.{option_map, option_to_list}
-use Rattle.std.proofs.lemmas.Bool.{eqb-true}
 use Rattle.std.proofs.lemmas.List.{append-nil, map-append}
-use Rattle.std.proofs.lemmas.List.Elements.{All-nil, All-push, All-weaker, All-contains, Contains-append_left, Contains-push, filter-append}
+use Rattle.std.proofs.lemmas.List.Elements.{All-nil, All-push, All-weaker, Contains-append_left, Contains-push, filter-append}
 use Rattle.std.proofs.lemmas.List.Quantifiers.{all_pairs_push}
 use Rattle.serf_wire.specs.declared.fault.WireFault.{WireFault}
 use Rattle.serf_wire.specs.declared.texts.EventText.{EventText}
@@ -30,7 +29,7 @@ use Rattle.serf_agent.specs.Events.{fired_as, fire_fault, admission, received_as
 use Rattle.serf_agent.specs.Handed.{Handed}
 use Rattle.serf_agent.specs.Ideal.{IdealAgent, with_asked}
 use Rattle.serf_agent.specs.Queries.{query_fired_as, query_fault, query_at, query_admission, query_received_as, handed_query, handed_if_passed, all_pass, asked_at, answer_refusal, response_received_at, response_received_as, counted, with_asked_at, is_full, is_ack, respond_fault}
-use Rattle.serf_agent.specs.Receive.{receive, receive_read}
+use Rattle.serf_agent.specs.Receive.{receive_read}
 use Rattle.serf_agent.specs.States.{send_state, merge_refusal, save, compact}
 use Rattle.serf_agent.specs.View.{view_of}
 use Rattle.serf_world.specs.declared.action.Action.{Action}
@@ -38,7 +37,7 @@ use Rattle.serf_world.specs.declared.action.Action.TheVariants as actions
 use Rattle.serf_world.specs.declared.line.Answer.{Answer}
 use Rattle.serf_world.specs.declared.line.Answer.TheVariants as lines
 use Rattle.serf_world.specs.declared.line.HandedLine.{HandedLine}
-use Rattle.serf_world.specs.Cluster.{Member, Cluster, Done, Run, Stepped, acts, acted, after, delivers, fire_gives, handed_line, merges_as, merges_given, note_gives, on_agent, query_gives, receive_gives, responds, responds_as, start, state_gives, step, step_by}
+use Rattle.serf_world.specs.Cluster.{Member, Cluster, Done, Run, acts, acted, after, delivers, fire_gives, handed_line, merges_as, merges_given, note_gives, on_agent, query_gives, receive_gives, responds, responds_as, state_gives, step, step_by}
 use Rattle.serf_world.specs.Promises.{QueryHandedOnce, QueryOnce}
 use Rattle.serf_world.specs.Trace.{Turn, actor_of, entered_by, handed_in, is_agent, packet_given, queries_at, queries_to, query_brought}
 use Rattle.serf_world.proofs.TurnLaws.{flat_map-push}

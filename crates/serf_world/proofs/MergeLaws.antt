@@ -1,13 +1,12 @@
 -- Over a sink with a plan a merge has one end.
-use Rattle.std.proofs.Common.{◌≡◌, ◌≢◌, ℕ, ◌<◌, ◌-◌, ◌^◌, cond, Bool, true, false, List, [], ◌∷◌, ◌++◌, Option, Some, None, Result, Ok, Err, refl, sym, ap, subst, ◌∙◌, inl, inr, ◌⊎◌}
+use Rattle.std.proofs.Common.{◌≡◌, ◌≢◌, ℕ, ◌<◌, ◌-◌, ◌^◌, cond, Bool, true, false, List, [], ◌∷◌, ◌++◌, Option, Some, None, Result, Ok, Err, refl, sym, ap, subst, ◌∙◌, inl, inr}
 use Rattle.std.specs.List.{AllByRecursion}
-use Rattle.std.proofs.lemmas.List.{append-nil}
 use Rattle.serf_wire.specs.declared.fault.WireFault.{WireFault}
 use Rattle.serf_wire.specs.declared.texts.EventText.{EventText}
 use Rattle.serf_wire.specs.Decoded.{decoded}
 use Rattle.serf_wire.specs.Message.{Message, PushPull, user_event, query, query_response, push_pull, foreign}
 use Rattle.serf_window.specs.Window.{Timed}
-use Rattle.serf_snap.specs.Notes.{Writing, Kept, Failed}
+use Rattle.serf_snap.specs.Notes.{Kept}
 use Rattle.serf_agent.specs.declared.outcome.EventOut.{EventOut}
 use Rattle.serf_agent.specs.declared.outcome.MergeFault.{MergeFault}
 use Rattle.serf_agent.specs.declared.outcome.MergeFault.TheVariants as merges
@@ -15,11 +14,10 @@ use Rattle.serf_agent.specs.declared.outcome.Outcome.{Outcome}
 use Rattle.serf_agent.specs.declared.outcome.Reason.{Reason}
 use Rattle.serf_agent.specs.declared.outcome.ReceiveFault.{ReceiveFault}
 use Rattle.serf_agent.specs.declared.outcome.ReceiveFault.TheVariants.{SinkFault}
-use Rattle.serf_agent.specs.Calls.{Step, Call, MayEnd, planned, ended, will}
+use Rattle.serf_agent.specs.Calls.{Step, planned, ended, will}
 use Rattle.serf_agent.specs.Events.{admission, received_as}
 use Rattle.serf_agent.specs.Ideal.{IdealAgent}
 use Rattle.serf_agent.specs.States.{Receives, EndsAt, Merges, receive_one, taken, gained, handed_by, joined, events_of, merge_refusal}
-use Rattle.serf_agent.specs.Steps.{Steps}
 use Rattle.serf_agent.specs.View.{Stored, view_of}
 use Rattle.serf_world.specs.declared.done.Done.{Done as Made}
 use Rattle.serf_world.specs.declared.line.Answer.TheVariants as answers
@@ -27,7 +25,7 @@ use Rattle.serf_world.specs.declared.line.Refusal.TheVariants.{SinkFault as Fail
 use Rattle.serf_world.specs.Cluster.{Member, Merged, merges_as, merges_events, merges_on, merges_packet}
 use Rattle.serf_world.specs.Seats.{DoesCall, done_of, merge_answer}
 use Rattle.serf_world.specs.Ready.{IsGood}
-use Rattle.serf_world.proofs.PacketLaws.{state-times, IsTimedState}
+use Rattle.serf_world.proofs.PacketLaws.{state-times}
 use Rattle.serf_world.proofs.ReadyLaws.{good-received, good-joined, runs-on, times-of, none-if}
 use Rattle.serf_world.proofs.SeatLaws.{may-will, steps-planned}
 

@@ -1,18 +1,18 @@
 -- An agent is handed an event once, and fires later than all that it was handed; and so with queries.
-use Rattle.std.proofs.Common.{zero, suc, ◌≡◌, ◌≢◌, ℕ, ◌<◌, ◌≤◌, ◌==◌, Bool, true, false, cond, List, [], ◌∷◌, ◌++◌, Option, Some, None, refl, sym, ap, subst, ◌∙◌, arith, map, length, set}
+use Rattle.std.proofs.Common.{zero, suc, ◌≡◌, ◌≢◌, ℕ, ◌<◌, true, List, [], ◌∷◌, Option, Some, None, refl, sym, ap, subst, ◌∙◌, arith, map, length}
 use Rattle.std.specs.Prelude.{All, AllPairs, slice_get}
 use Rattle.std.specs.List.{AllByRecursion}
 use Rattle.std.proofs.lemmas.List.{length-map, get_or-map}
-use Rattle.std.proofs.lemmas.List.Elements.{All-nil, All-map}
+use Rattle.std.proofs.lemmas.List.Elements.{All-map}
 use Rattle.serf_window.specs.Window.{Timed}
 use Rattle.serf_agent.specs.declared.config.Config.{Config}
 use Rattle.serf_agent.specs.Config.{is_sound}
 use Rattle.serf_agent.specs.Ideal.{Past}
 use Rattle.serf_world.specs.declared.action.Action.{Action}
 use Rattle.serf_world.specs.declared.line.Answer.TheVariants as answers
-use Rattle.serf_world.specs.Cluster.{Member, Cluster, Run, acts, on_agent, step_by, step, after, start, joining}
+use Rattle.serf_world.specs.Cluster.{Member, Cluster, Run, on_agent, step_by, step, after, start, joining}
 use Rattle.serf_world.specs.Promises.{Once, Later, QueryOnce, QueryLater}
-use Rattle.serf_world.specs.Trace.{Turn, AtEach, actor_of, events_to, queries_at}
+use Rattle.serf_world.specs.Trace.{Turn, actor_of, events_to, queries_at}
 use Rattle.serf_world.proofs.TurnLaws.{at_each_nil, at_each_push}
 use Rattle.serf_world.proofs.CallLaws.{entries, keeps-acts}
 use Rattle.serf_world.specs.Ready.{IsGood}

@@ -1,5 +1,5 @@
 -- The numbers that a packet's message brings are in range.
-use Rattle.std.proofs.Common.{◌≡◌, ℕ, ◌<◌, ◌≤◌, ◌-◌, ◌^◌, nat_le, Bool, true, false, cond, List, [], ◌∷◌, Option, Some, None, Result, Ok, Err, ℤ, pos, negsuc, refl, sym, ap, subst, ◌∙◌, arith}
+use Rattle.std.proofs.Common.{◌≡◌, ℕ, ◌<◌, ◌≤◌, ◌-◌, ◌^◌, nat_le, Bool, true, false, cond, List, [], ◌∷◌, Option, Some, None, Ok, ℤ, pos, negsuc, refl, subst, arith}
 use Rattle.std.specs.Prelude.{codes}
 use Rattle.std.specs.List.{AllByRecursion}
 use Rattle.std.proofs.lemmas.Bool.{leb-true}
@@ -11,14 +11,12 @@ use Rattle.serf_wire.specs.declared.layout.Class.{Class}
 use Rattle.serf_wire.specs.declared.layout.Class.TheVariants as classes
 use Rattle.serf_wire.specs.declared.texts.EventText.{EventText}
 use Rattle.serf_wire.specs.Layout.{class_of}
-use Rattle.serf_wire.specs.Fields.{number, up_to, time, sole, values_of, field, list, all, in_front, slot, map_of, both, event_text, raw_keys}
+use Rattle.serf_wire.specs.Fields.{number, up_to, time, sole, values_of, field, list, all, in_front, slot, both, event_text, raw_keys}
 use Rattle.serf_wire.specs.Slots.{SlotContent, empty, held}
-use Rattle.serf_wire.specs.Message.{Message, UserEvent, Query, QueryResponse, PushPull, user_event, query, query_response, push_pull, foreign}
-use Rattle.serf_wire.specs.Spells.{Spells, SpellsBehind, SpellsMap, HasFields, IsUserEvent, IsQuery, IsPushPull}
+use Rattle.serf_wire.specs.Message.{Message, UserEvent, Query, PushPull, user_event, query, push_pull, foreign}
+use Rattle.serf_wire.specs.Spells.{Spells, SpellsBehind, HasFields}
 use Rattle.serf_wire.specs.Decoded.{decoded}
 use Rattle.serf_wire.proofs.Packets.{decoded_spelled}
-use Rattle.serf_window.specs.Window.{Timed}
-use Rattle.serf_agent.specs.States.{events_of, events_of_slot}
 
 some-is : {X : Type 0} (x y : X) → Some x ≡ Some y → x ≡ y
 some-is x y e = cc

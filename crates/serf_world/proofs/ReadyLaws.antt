@@ -1,6 +1,6 @@
 -- Each action leaves its agent sound, with clocks that are 64 bits, over a sink that tells and has a plan.
-use Rattle.std.proofs.Common.{zero, suc, ◌≡◌, ◌≢◌, ℕ, ◌+◌, ◌-◌, ◌^◌, ◌<◌, ◌≤◌, ◌==◌, ◌||◌, ◌&&◌, max, nat_lt, nat_le, Bool, true, false, cond, List, [], ◌∷◌, ◌++◌, Option, Some, None, IsSome, IfSome, unwrap_or, Result, Ok, Err, refl, sym, ap, subst, ◌∙◌, arith, map, length, ◌⊎◌, inl, inr}
-use Rattle.std.specs.Prelude.{All, AllPairs, slice_get, MatchBool, not, is_some}
+use Rattle.std.proofs.Common.{zero, suc, ◌≡◌, ◌≢◌, ℕ, ◌-◌, ◌^◌, ◌<◌, ◌≤◌, ◌==◌, nat_lt, nat_le, Bool, true, false, cond, List, [], ◌∷◌, ◌++◌, Option, Some, None, IsSome, unwrap_or, Result, Ok, Err, refl, sym, ap, subst, ◌∙◌, arith, map, length, inl, inr}
+use Rattle.std.specs.Prelude.{All, AllPairs, slice_get, not, is_some}
 use Rattle.std.specs.List.{AllByRecursion, list_any, filter}
 use Rattle.std.proofs.lemmas.List.Quantifiers.{all_pairs_push}
 use Rattle.std.specs.Str.{bytes_eq}
@@ -8,19 +8,19 @@ use Rattle.std.proofs.lemmas.Slice.Eq.{bytes_eq-Decides}
 use Rattle.std.proofs.lemmas.List.{length-map, get_or-map}
 use Rattle.std.proofs.lemmas.List.{append-nil}
 use Rattle.std.specs.Option.{option_map}
-use Rattle.std.proofs.lemmas.Bool.{and_parts, or_parts, leb-true, leb-false, ltb-true, ltb-false, cases_Bool, true≢false}
+use Rattle.std.proofs.lemmas.Bool.{and_parts, or_parts, leb-true, leb-false, ltb-false, true≢false}
 use Rattle.std.proofs.lemmas.List.Elements.{All-nil, All-weaker, All-map, All-cons, All-head, All-tail, All-filter}
 use Rattle.serf_wire.specs.declared.fault.WireFault.{WireFault}
 use Rattle.serf_wire.specs.declared.texts.EventText.{EventText}
 use Rattle.serf_wire.specs.Decoded.{decoded}
-use Rattle.serf_wire.specs.Message.{Message, UserEvent, Query, QueryResponse, PushPull, user_event, query, query_response, push_pull, foreign}
+use Rattle.serf_wire.specs.Message.{Message, Query, QueryResponse, PushPull, user_event, query, query_response, push_pull, foreign}
 use Rattle.serf_window.specs.Texts.{event_of}
 use Rattle.serf_window.specs.Window.{Timed}
 use Rattle.serf_snap.specs.declared.kind.ClockKind.{ClockKind}
 use Rattle.serf_snap.specs.declared.kind.ClockKind.TheVariants as kinds
-use Rattle.serf_snap.specs.Clocks.{clock_line, is_whole, sealed, last_clock}
-use Rattle.serf_snap.specs.Device.{Plan, append_spent, flush_spent, replace_spent, fresh_device}
-use Rattle.serf_snap.specs.Notes.{SnapshotView, Writing, Kept, Failed, IsTold, IsSnapshotSound, IsKept, MayWrite, MayReplace, will_write, will_replace, noted, written, compacted, compaction_of, last_line, note_fails, note_spent, planned_by, left_by, opened, with_sink}
+use Rattle.serf_snap.specs.Clocks.{clock_line, is_whole, last_clock}
+use Rattle.serf_snap.specs.Device.{Plan, fresh_device}
+use Rattle.serf_snap.specs.Notes.{SnapshotView, Writing, Kept, Failed, IsTold, MayWrite, MayReplace, will_write, will_replace, noted, written, compacted, compaction_of, last_line, note_fails, left_by, opened}
 use Rattle.serf_snap.proofs.ClockLaws.{last_clock_grows, last_clock-below}
 use Rattle.serf_agent.specs.Calls.{Call, Ends, Notes, Replaces, Step, MayNote, planned, ended, will, will_note, answers}
 use Rattle.serf_agent.specs.Ideal.{IdealAgent, with_snapshot, with_asked}
@@ -42,14 +42,14 @@ use Rattle.serf_agent.specs.declared.open_query.OpenQuery.{OpenQuery}
 use Rattle.serf_agent.specs.declared.lists.Response.{Response}
 use Rattle.serf_agent.specs.Config.{is_sound}
 use Rattle.serf_agent.specs.Receive.{receive, receive_read}
-use Rattle.serf_agent.specs.Restart.{restarted, unborn, IsInText}
-use Rattle.serf_agent.specs.States.{events_of, events_of_slot, receive_one, joined, merge_refusal, save, compact}
+use Rattle.serf_agent.specs.Restart.{unborn, IsInText}
+use Rattle.serf_agent.specs.States.{events_of, events_of_slot, receive_one, joined, merge_refusal}
 use Rattle.serf_agent.specs.View.{view_of}
-use Rattle.serf_agent.specs.Queries.{respond_fault, fire_query, query_fired_as, query_fault, query_at, query_asked, query_admission, query_received_as, query_entered, query_observed, handed_if_passed, ack_if_passed, has_flag, no_broadcast_flag, is_no_timeout, is_too_large_query, asked_at, with_asked_at, counted, counts, is_full, is_ack, has_acked, has_responded, answer_refusal, ack_refusal, response_refusal, response_received_as, response_received_at, is_due, close_due}
+use Rattle.serf_agent.specs.Queries.{respond_fault, query_fired_as, query_fault, query_at, query_asked, query_admission, query_received_as, query_entered, handed_if_passed, ack_if_passed, has_flag, no_broadcast_flag, is_no_timeout, is_too_large_query, asked_at, with_asked_at, counted, is_full, is_ack, has_acked, has_responded, answer_refusal, ack_refusal, response_refusal, response_received_as, response_received_at, is_due, close_due}
 use Rattle.serf_agent.specs.declared.outcome.FireFault.{FireFault}
-use Rattle.serf_agent.specs.Events.{texts_len, admission, received_as, receive_event, event_entered, event_observed, fire, fired_as, fire_fault, event_packet, event_out, drawn, is_too_large}
+use Rattle.serf_agent.specs.Events.{texts_len, admission, received_as, event_entered, fired_as, fire_fault, event_packet, event_out, drawn, is_too_large}
 use Rattle.serf_agent.proofs.SoundLaws.{sound-note_failed, sound-event_entered, sound-event_observed, admission-new, sound-query_entered, sound-query_observed, query_admission-new, sound-query_asked, sound-joined, sound-saved, sound-compact, sound-restarted, sound-unborn, stopped-noted}
-use Rattle.serf_agent.proofs.TrackLaws.{later-fresh, none-from}
+use Rattle.serf_agent.proofs.TrackLaws.{later-fresh}
 use Rattle.serf_wire.specs.Slots.{SlotContent, empty, held}
 use Rattle.serf_snap.specs.declared.snapshot.NoteFault.{NoteFault}
 use Rattle.serf_snap.specs.declared.snapshot.NoteFault.TheVariants as notes
@@ -59,9 +59,8 @@ use Rattle.serf_agent.specs.declared.outcome.MergeFault.{MergeFault}
 use Rattle.serf_agent.specs.declared.outcome.MergeFault.TheVariants as merges
 use Rattle.serf_world.specs.declared.action.Action.{Action}
 use Rattle.serf_world.specs.declared.action.Action.TheVariants as actions
-use Rattle.serf_world.specs.declared.line.Refusal.{Refusal}
 use Rattle.serf_world.specs.Ready.{IsReady, IsGood}
-use Rattle.serf_world.specs.Cluster.{Member, Acted, Merged, acts, merges_events, merges_on, merges_as, merges_given, merge_gives, delivers, responds, responds_as, reopened, text_after, newborn, with_plan, plan_with}
+use Rattle.serf_world.specs.Cluster.{Member, Merged, acts, merges_events, merges_on, merges_as, merges_given, delivers, responds, responds_as, reopened, text_after, newborn, with_plan, plan_with}
 use Rattle.serf_world.proofs.PacketLaws.{event-time, query-time, state-times, IsTimedState, IsTimedSlot}
 
 -- ---- what a sink with a plan does

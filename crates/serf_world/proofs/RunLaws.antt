@@ -1,28 +1,21 @@
 -- What is true after every run: the agents are sound, and their histories are what the turns say.
-use Rattle.std.proofs.Common.{zero, suc, ◌≡◌, ◌≢◌, ℕ, ◌<◌, ◌≤◌, ◌==◌, Bool, true, false, cond, List, [], ◌∷◌, ◌++◌, Option, Some, None, refl, sym, ap, subst, ◌∙◌, arith, map, length, set, append_assoc}
-use Rattle.std.specs.Prelude.{All, AllPairs, slice_get, slice_set}
-use Rattle.std.specs.List.{AllByRecursion, filter, flat_map, fold}
-use Rattle.std.specs.Option.{option_to_list, option_map}
-use Rattle.std.proofs.lemmas.Bool.{eqb-true, eqb-false, cases_Bool}
-use Rattle.std.proofs.lemmas.List.{append-nil, map-append, length-map, get_or-map}
-use Rattle.std.proofs.lemmas.List.Elements.{filter-append, All-nil, All-map}
+use Rattle.std.proofs.Common.{zero, suc, ◌≡◌, ◌≢◌, ℕ, ◌==◌, Bool, true, false, cond, List, [], ◌∷◌, ◌++◌, Option, Some, None, refl, sym, ap, subst, ◌∙◌, map, set}
+use Rattle.std.specs.Prelude.{slice_get}
+use Rattle.std.specs.List.{AllByRecursion, filter, flat_map}
+use Rattle.std.proofs.lemmas.Bool.{eqb-true, eqb-false}
+use Rattle.std.proofs.lemmas.List.{append-nil, map-append}
+use Rattle.std.proofs.lemmas.List.Elements.{filter-append}
 use Rattle.serf_wire.specs.declared.texts.EventText.{EventText}
 use Rattle.serf_window.specs.Window.{Timed}
-use Rattle.serf_agent.specs.declared.config.Config.{Config}
 use Rattle.serf_agent.specs.declared.outcome.EventOut.{EventOut}
-use Rattle.serf_agent.specs.Config.{is_sound}
-use Rattle.serf_agent.specs.Handed.{Handed}
-use Rattle.serf_agent.specs.Ideal.{IdealAgent, Past}
 use Rattle.serf_world.specs.declared.action.Action.{Action}
-use Rattle.serf_world.specs.declared.line.Answer.TheVariants as answers
 use Rattle.serf_world.specs.declared.line.EventLine.{EventLine}
-use Rattle.serf_world.specs.Cluster.{Member, Cluster, Acted, Stepped, Run, acts, acted, on_agent, injects, step_by, step, after, start, run_of, joining, event_line, with_handed}
-use Rattle.serf_world.specs.Promises.{Once, Later, QueryOnce, QueryLater}
-use Rattle.serf_world.specs.Trace.{Turn, AtEach, actor_of, is_agent, turns_by, event_in, events_to, queries_at, entered_by, sent_in, packet_given}
-use Rattle.serf_world.proofs.TurnLaws.{fold_keeps, at_each_nil, at_each_push, flat_map-push}
-use Rattle.serf_world.proofs.CallLaws.{Keeps, ActKeeps, entries, out_in, keeps-acts}
+use Rattle.serf_world.specs.Cluster.{Member, Cluster, Acted, Stepped, Run, acts, acted, on_agent, step_by, step, after, event_line, with_handed}
+use Rattle.serf_world.specs.Trace.{Turn, actor_of, is_agent, turns_by, event_in, events_to, queries_at, entered_by, sent_in, packet_given}
+use Rattle.serf_world.proofs.TurnLaws.{flat_map-push}
+use Rattle.serf_world.proofs.CallLaws.{Keeps, entries, out_in, keeps-acts}
 use Rattle.serf_world.specs.Ready.{IsGood}
-use Rattle.serf_world.proofs.ReadyLaws.{good-acts, good-newborn}
+use Rattle.serf_world.proofs.ReadyLaws.{good-acts}
 
 -- ---- places of lists
 

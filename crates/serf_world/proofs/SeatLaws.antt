@@ -1,6 +1,6 @@
 -- Over a sink with a plan a call of an agent has one end.
-use Rattle.std.proofs.Common.{zero, suc, ◌<◌, ◌≤◌, arith, length, set, get_or, ◌≡◌, ℕ, ◌==◌, ◌+◌, nat_le, cond, Bool, true, false, List, [], ◌∷◌, ◌++◌, Option, Some, None, IsSome, IfSome, MatchBool, map, unwrap_or, Result, Ok, Err, refl, sym, ap, subst, ◌∙◌, inl, inr, ◌⊎◌}
-use Rattle.std.specs.Prelude.{is_some, slice_get, IfOk}
+use Rattle.std.proofs.Common.{zero, suc, ◌<◌, ◌≤◌, arith, length, set, get_or, ◌≡◌, ℕ, nat_le, cond, Bool, true, false, List, [], ◌∷◌, ◌++◌, Option, Some, None, IsSome, MatchBool, map, Result, Ok, Err, refl, sym, ap, subst, ◌∙◌}
+use Rattle.std.specs.Prelude.{slice_get, IfOk}
 use Rattle.std.specs.declared.alloc.AllocError.{AllocError}
 use Rattle.serf_agent.specs.declared.outcome.RespondFault.{RespondFault}
 use Rattle.serf_agent.specs.Handed.{Handed}
@@ -8,8 +8,8 @@ use Rattle.serf_agent.specs.Queries.{respond_fault}
 use Rattle.serf_snap.specs.declared.kind.ClockKind.{ClockKind}
 use Rattle.serf_snap.specs.Clocks.{clock_line}
 use Rattle.serf_snap.specs.Device.{Plan}
-use Rattle.serf_snap.specs.Notes.{SnapshotView, Writing, Kept, Failed, IsTold, MayWrite, MayReplace, will_write, will_replace, note_fails, left_by, compaction_of, last_line}
-use Rattle.serf_agent.specs.Calls.{Call, Ends, Notes, Replaces, Step, MayNote, MayEnd, planned, ended, will, will_note}
+use Rattle.serf_snap.specs.Notes.{SnapshotView, Writing, Kept, Failed, IsTold, MayWrite, MayReplace, will_write, will_replace, left_by, compaction_of, last_line}
+use Rattle.serf_agent.specs.Calls.{Call, Ends, Notes, Replaces, MayNote, MayEnd, planned, ended, will, will_note}
 use Rattle.serf_agent.specs.Ideal.{IdealAgent}
 use Rattle.serf_agent.specs.Steps.{Steps}
 use Rattle.serf_agent.specs.View.{Stored, view_of}

@@ -1,5 +1,5 @@
 -- What is ignored as seen was handed to the agent before.
-use Rattle.std.proofs.Common.{zero, suc, ◌≡◌, ℕ, ◌<◌, ◌≤◌, ◌==◌, ◌&&◌, ◌||◌, ◌+◌, nat_lt, nat_le, Bool, true, false, cond, List, [], ◌∷◌, ◌++◌, Option, Some, None, Result, Ok, Err, refl, sym, ap, subst, ◌∙◌, arith, map, length, get_or}
+use Rattle.std.proofs.Common.{suc, ◌≡◌, ℕ, ◌==◌, ◌&&◌, ◌||◌, ◌+◌, nat_lt, nat_le, Bool, true, false, cond, List, [], ◌∷◌, Option, Some, None, Result, Ok, Err, refl, sym, ap, subst, ◌∙◌, arith}
 use Rattle.std.specs.Prelude.{Contains, slice_get}
 use Rattle.std.specs.List.{list_any}
 use Rattle.std.proofs.lemmas.Bool.{and_parts, eqb-true}
@@ -9,7 +9,7 @@ use Rattle.serf_wire.specs.declared.texts.EventText.{EventText}
 use Rattle.serf_wire.specs.Decoded.{decoded}
 use Rattle.serf_wire.specs.Message.{Message, UserEvent, user_event, query, query_response, push_pull, foreign}
 use Rattle.serf_window.specs.Texts.{event_of, same_texts}
-use Rattle.serf_window.specs.Window.{Timed, count_at}
+use Rattle.serf_window.specs.Window.{count_at}
 use Rattle.serf_snap.specs.Notes.{Writing, Kept, Failed}
 use Rattle.serf_agent.specs.declared.outcome.MergeFault.{MergeFault}
 use Rattle.serf_agent.specs.declared.outcome.Reason.{Reason}
@@ -17,18 +17,17 @@ use Rattle.serf_agent.specs.declared.outcome.Reason.TheVariants.{Oversize, Below
 use Rattle.serf_agent.specs.declared.outcome.ReceiveFault.TheVariants as receives
 use Rattle.serf_agent.specs.Calls.{planned, ended, will, answers}
 use Rattle.serf_agent.specs.Events.{admission, received_as, texts_len}
-use Rattle.serf_agent.specs.Ideal.{IdealAgent, Past, Track}
+use Rattle.serf_agent.specs.Ideal.{IdealAgent, Past}
 use Rattle.serf_agent.specs.Receive.{receive_read}
 use Rattle.serf_agent.specs.States.{events_of, joined, merge_refusal}
-use Rattle.serf_agent.specs.Tracks.{of_life, was_ever_entered, track_reason}
+use Rattle.serf_agent.specs.Tracks.{of_life, was_ever_entered}
 use Rattle.serf_agent.specs.View.{view_of}
 use Rattle.serf_lamport.specs.Clock.{observed}
 use Rattle.serf_world.specs.declared.action.Action.{Action}
 use Rattle.serf_world.specs.declared.action.Action.TheVariants as actions
-use Rattle.serf_world.specs.declared.line.Answer.{Answer}
 use Rattle.serf_world.specs.declared.line.Answer.TheVariants as lines
 use Rattle.serf_world.specs.declared.line.Refusal.TheVariants.{SinkFault}
-use Rattle.serf_world.specs.Cluster.{Member, Cluster, Run, acts, after, delivers, merges_as, merges_events, merges_given, on_agent, receive_gives, start, step, step_by}
+use Rattle.serf_world.specs.Cluster.{Member, Cluster, Run, acts, after, delivers, merges_as, merges_events, merges_given, on_agent, receive_gives, step, step_by}
 use Rattle.serf_world.specs.Promises.{SeenWasHanded}
 use Rattle.serf_world.specs.Trace.{Turn, actor_of, events_to, packet_given}
 use Rattle.serf_world.proofs.TurnLaws.{at_each_nil, at_each_push}

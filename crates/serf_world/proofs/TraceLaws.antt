@@ -1,13 +1,11 @@
 -- The turns of a run are read off its actions and its trace.
-use Rattle.std.proofs.Common.{zero, suc, ◌≡◌, ℕ, ◌+◌, List, [], ◌∷◌, ◌++◌, Option, Some, None, refl, sym, ap, subst, ◌∙◌, arith, map, length, take, drop, append_assoc, length-append, add-one}
+use Rattle.std.proofs.Common.{suc, ◌≡◌, ℕ, ◌+◌, List, [], ◌∷◌, ◌++◌, Option, Some, None, refl, sym, ap, ◌∙◌, map, length, take, drop, append_assoc, length-append}
 use Rattle.std.specs.Prelude.{slice_get}
 use Rattle.std.specs.List.{fold}
 use Rattle.std.proofs.lemmas.List.{append-nil, map-append}
-use Rattle.serf_agent.specs.declared.config.Config.{Config}
 use Rattle.serf_world.specs.declared.action.Action.{Action}
-use Rattle.serf_world.specs.declared.line.Line.{Line}
-use Rattle.serf_world.specs.Cluster.{Member, Cluster, Run, Stepped, acts, acted, on_agent, step_by, step, after, start, run_of, trace_of, numbers_from}
-use Rattle.serf_world.specs.Trace.{Turn, AtEach, Outcome, actor_of, sent_in, turns_from, turns_of, packet_given}
+use Rattle.serf_world.specs.Cluster.{Member, Cluster, Run, acts, on_agent, step_by, step, after, trace_of, numbers_from}
+use Rattle.serf_world.specs.Trace.{Turn, AtEach, actor_of, sent_in, turns_from, turns_of, packet_given}
 use Rattle.serf_world.proofs.TurnLaws.{at_each_nil, at_each_push, flat_map-push}
 use Rattle.serf_world.proofs.RunLaws.{IsAfter, turn-action, turn-given}
 

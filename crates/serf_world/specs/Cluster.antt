@@ -9,7 +9,7 @@ use Rattle.serf_wire.specs.Message.{Message, push_pull}
 use Rattle.serf_window.specs.Texts.{event_of}
 use Rattle.serf_window.specs.Window.{Timed}
 use Rattle.serf_snap.specs.Device.{Plan, append_failing, flush_failing, replace_failing, fresh_device}
-use Rattle.serf_snap.specs.Notes.{SnapshotView, with_sink, opened}
+use Rattle.serf_snap.specs.Notes.{with_sink, opened}
 use Rattle.serf_snap.specs.declared.snapshot.NoteFault.{NoteFault}
 use Rattle.serf_snap.specs.declared.snapshot.NoteFault.TheVariants as notes
 use Rattle.serf_agent.specs.declared.config.Config.{Config}
@@ -33,7 +33,7 @@ use Rattle.serf_agent.specs.declared.outcome.RespondFault.{RespondFault}
 use Rattle.serf_agent.specs.declared.outcome.RespondFault.TheVariants as answering
 use Rattle.serf_agent.specs.Handed.{Handed}
 use Rattle.serf_agent.specs.Ideal.{IdealAgent, with_snapshot}
-use Rattle.serf_agent.specs.Calls.{Step, Call, planned}
+use Rattle.serf_agent.specs.Calls.{Step, planned}
 use Rattle.serf_agent.specs.Events.{fire}
 use Rattle.serf_agent.specs.Queries.{fire_query, close_due, respond_fault, response_packet}
 use Rattle.serf_agent.specs.Receive.{receive}

@@ -1,5 +1,5 @@
 -- The names that are taken: private to the crate.
-use Rattle.std.specs.Prelude.{◌≡◌, List, Option, Some, None, Result, Ok, Err}
+use Rattle.std.specs.Prelude.{◌≡◌, List, Some, None, Result, Ok, Err}
 use Rattle.std.specs.declared.vec.Vec.{Vec}
 use Rattle.serf_agent.specs.declared.config.Config.{Config}
 use Rattle.serf_world.specs.Runs.{first_twice}

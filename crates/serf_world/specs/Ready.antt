@@ -1,10 +1,10 @@
 -- What is true of each agent of a cluster, whatever was done in it.
-use Rattle.std.specs.Prelude.{ℕ, ◌-◌, ◌^◌, ◌≤◌, List}
+use Rattle.std.specs.Prelude.{◌-◌, ◌^◌, ◌≤◌}
 use Rattle.std.specs.List.{AllByRecursion}
 use Rattle.serf_snap.specs.Notes.{IsTold}
 use Rattle.serf_agent.specs.Ideal.{IdealAgent}
 use Rattle.serf_agent.specs.Sound.{IsSound}
-use Rattle.serf_world.specs.Cluster.{Member, Cluster}
+use Rattle.serf_world.specs.Cluster.{Cluster}
 
 -- the agent is sound, and its sink tells what it keeps and has a plan, as one in memory does
 pub record IsReady (i : IdealAgent) : Type 0 where

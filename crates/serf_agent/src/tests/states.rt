@@ -3,31 +3,6 @@
 use super::*;
 
 #[test]
-fn state_of_two(rt: HostRuntime) -> Result<(), Fail> {
-    let alloc = rt.alloc();
-    let mut two = config(&rt, b"a")?;
-    two.event_buffer = 2;
-    let mut a = open(&rt, two, b"")?;
-    fire(&mut a, alloc, b"deploy", b"v1", false)?;
-    let state = a.push_pull(alloc, &[], &[])?;
-    assert_eq!(rt; state.as_slice(), STATE_OF_DEPLOY.as_slice());
-    let mut b = agent(&rt, b"b")?;
-    assert_eq!(rt;
-        word(&receive(&mut b, alloc, 0, &STATE_OF_DEPLOY)),
-        "push-pull"
-    );
-    let mut out = Vec::new(alloc);
-    let Err(fault) = merge(&mut b, alloc, &DEPLOY, false, &mut out) else {
-        return Err(Fail::from("a refusal"));
-    };
-    assert_eq!(rt; fault, MergeFault::NotPushPull);
-    let lent = merge(&mut b, alloc, &STATE_OF_DEPLOY, false, &mut out)?;
-    assert_eq!(rt; (lent.member, lent.event, lent.query), (1, 2, 1));
-    assert_eq!(rt; out.len(), 1);
-    Ok(())
-}
-
-#[test]
 fn stale_join(rt: HostRuntime) -> Result<(), Fail> {
     let alloc = rt.alloc();
     let mut joins = config(&rt, b"a")?;
@@ -44,61 +19,6 @@ fn stale_join(rt: HostRuntime) -> Result<(), Fail> {
     assert_eq!(rt;
         word(&receive(&mut a, alloc, 0, &event(8, b'x'))),
         "BelowMinimum"
-    );
-    Ok(())
-}
-
-#[test]
-fn flush_fails_in_merge(rt: HostRuntime) -> Result<(), Fail> {
-    let alloc = rt.alloc();
-    let mut a = agent(&rt, b"a")?;
-    fire(&mut a, alloc, b"a", b"", false)?;
-    fire(&mut a, alloc, b"b", b"", false)?;
-    fire(&mut a, alloc, b"c", b"", false)?;
-    let state = a.push_pull(alloc, &[], &[])?;
-    let mut b = agent(&rt, b"b")?;
-    b.fail_flush(2);
-    let mut out = Vec::new(alloc);
-    let Err(fault) = merge(&mut b, alloc, state.as_slice(), false, &mut out) else {
-        return Err(Fail::from("a refusal"));
-    };
-    assert_eq!(rt; fault, MergeFault::SinkFault);
-    assert_eq!(rt; out.len(), 1);
-    assert_eq!(rt; out[0].name.as_slice(), b"a".as_slice());
-    assert!(rt; b.is_stopped());
-    assert_eq!(rt; (b.event_time(), b.event_minimum()), (4, 1));
-    let Err(fault) = merge(&mut b, alloc, state.as_slice(), false, &mut out) else {
-        return Err(Fail::from("a refusal"));
-    };
-    assert_eq!(rt; fault, MergeFault::Stopped);
-    let mut b = reopen(&rt, b"b", &b, b"")?;
-    assert_eq!(rt; (b.event_time(), b.event_minimum()), (2, 2));
-    merge(&mut b, alloc, state.as_slice(), false, &mut out)?;
-    assert_eq!(rt; out.len(), 3);
-    assert_eq!(rt; out[2].name.as_slice(), b"c".as_slice());
-    Ok(())
-}
-
-#[test]
-fn refused_line_leaves_the_clock(rt: HostRuntime) -> Result<(), Fail> {
-    let alloc = rt.alloc();
-    let mut a = agent(&rt, b"a")?;
-    a.fail_append(1);
-    let Err(fault) = fire(&mut a, alloc, b"x", b"", false) else {
-        return Err(Fail::from("a refusal"));
-    };
-    assert_eq!(rt; fault, FireFault::SinkFault);
-    assert_eq!(rt; a.event_time(), 1);
-    let mut b = agent(&rt, b"b")?;
-    b.fail_append(1);
-    assert_eq!(rt;
-        word(&receive(&mut b, alloc, 0, &event(9, b'x'))),
-        "refused SinkFault"
-    );
-    assert_eq!(rt; b.event_time(), 1);
-    assert_eq!(rt;
-        word(&receive(&mut b, alloc, 0, &event(9, b'x'))),
-        "refused Stopped"
     );
     Ok(())
 }
@@ -137,31 +57,12 @@ fn failed_compactions(rt: HostRuntime) -> Result<(), Fail> {
 }
 
 #[test]
-fn settings_out_of_bounds(rt: HostRuntime) -> Result<(), Fail> {
-    let mut none = config(&rt, b"a")?;
-    none.per_time = 0;
-    let sink = MemSink::new(rt.alloc());
-    let Err(refused) = Agent::open(rt.alloc(), none, b"", sink) else {
-        return Err(Fail::from("a refusal"));
-    };
-    assert_eq!(rt; refused.fault, OpenFault::BadConfig);
-    let mut sound = refused.config;
-    sound.per_time = 1;
-    let Ok(mut a) = Agent::open(rt.alloc(), sound, b"", refused.sink) else {
-        return Err(Fail::from("an agent"));
-    };
-    assert_eq!(rt;
-        word(&receive(&mut a, rt.alloc(), 0, &event(1, b'a'))),
-        "new"
-    );
-    assert_eq!(rt;
-        word(&receive(&mut a, rt.alloc(), 0, &event(1, b'b'))),
-        "TimeFull"
-    );
-    assert_eq!(rt;
-        word(&receive(&mut a, rt.alloc(), 0, &event(1, b'a'))),
-        "Seen"
-    );
-    assert_eq!(rt; a.config().per_time, 1);
+fn state_of_two_slots(rt: HostRuntime) -> Result<(), Fail> {
+    let mut two = config(&rt, b"a")?;
+    two.event_buffer = 2;
+    let mut a = open(&rt, two, b"")?;
+    fire(&mut a, rt.alloc(), b"deploy", b"v1", false)?;
+    let state = a.push_pull(rt.alloc(), &[], &[])?;
+    assert_eq!(rt; state.as_slice(), STATE_OF_DEPLOY.as_slice());
     Ok(())
 }

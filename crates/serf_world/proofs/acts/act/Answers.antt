@@ -1,9 +1,9 @@
-use Rattle.std.proofs.Common.{◌≡◌, ap, sym, ◌∙◌}
+use Rattle.std.proofs.Common.{ap, sym, ◌∙◌}
 use Rattle.std.specs.Prelude.{slice_get}
-use Rattle.serf_agent.specs.View.{Stored, view_of}
+use Rattle.serf_agent.specs.View.{view_of}
 use Rattle.serf_world.specs.Cluster.{delivers, merges_given}
 use Rattle.serf_world.proofs.CallLaws.{delivers-handed, merges-handed, responds-agent}
-use Rattle.serf_world.specs.View.{SeatState, seat_of}
+use Rattle.serf_world.specs.View.{SeatState}
 use Rattle.serf_world.proofs.SeatLaws.{does-act, does-one, does-respond}
 use Rattle.serf_world.proofs.acts.act.Goals as goal
 

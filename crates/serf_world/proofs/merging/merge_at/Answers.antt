@@ -1,8 +1,7 @@
-use Rattle.std.proofs.Common.{◌≡◌, ◌≢◌, [], Option, Some, None, Result, Ok, Err, subst, sym, ap, ◌∙◌}
+use Rattle.std.proofs.Common.{◌≡◌, Some, None, subst, sym, ap, ◌∙◌}
 use Rattle.serf_wire.specs.Decoded.{decoded}
-use Rattle.serf_agent.specs.declared.outcome.MergeFault.TheVariants as merges
 use Rattle.serf_agent.specs.States.{Merges, fault_in, merge_refusal}
-use Rattle.serf_agent.specs.View.{Stored, AgentState, view_of}
+use Rattle.serf_agent.specs.View.{Stored, AgentState}
 use Rattle.serf_world.proofs.MergeLaws.{does-merge, runs-merge}
 use Rattle.serf_world.proofs.merging.merge_at.Goals as goal
 

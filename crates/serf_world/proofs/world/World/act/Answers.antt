@@ -1,4 +1,4 @@
-use Rattle.std.proofs.Common.{◌≡◌, ◌<◌, length, arith, subst, List, ℕ, sym}
+use Rattle.std.proofs.Common.{◌<◌, length, arith, subst, List, ℕ, sym}
 use Rattle.serf_world.specs.Cluster.{acts}
 use Rattle.serf_world.specs.Turns.{TakesTurn}
 use Rattle.serf_world.specs.View.{IsViewed, WorldState}

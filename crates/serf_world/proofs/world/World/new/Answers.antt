@@ -1,4 +1,4 @@
-use Rattle.std.proofs.Common.{◌≡◌, List, map, ap, sym, ◌∙◌}
+use Rattle.std.proofs.Common.{List, map, ap, sym, ◌∙◌}
 use Rattle.serf_agent.specs.declared.config.Config.{Config}
 use Rattle.serf_world.specs.Cluster.{joining}
 use Rattle.serf_world.specs.View.{seat_of}
