@@ -147,7 +147,10 @@ fn response_packet_limit(rt: HostRuntime) -> Result<(), Fail> {
 fn fired_query_closes(rt: HostRuntime) -> Result<(), Fail> {
     let mut a = asking(&rt, 8)?;
     assert_eq!(rt; word(&receive(&mut a, rt.alloc(), 1, &ACK_OF_B)), "ack");
-    assert_eq!(rt; word(&receive(&mut a, rt.alloc(), 1000, &RESPONSE_OF_B)), "response");
+    assert_eq!(rt;
+        word(&receive(&mut a, rt.alloc(), 1000, &RESPONSE_OF_B)),
+        "response"
+    );
     assert_eq!(rt; a.close_due(1001), 1);
     Ok(())
 }
