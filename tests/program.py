@@ -23,8 +23,8 @@ class Count:
             print(f"FAILED {name}: {said}")
 
 
-def run(words, given=b"", **options):
-    return subprocess.run([PROGRAM, *words], input=given, capture_output=True, timeout=600, **options)
+def run(words, given=b"", seconds=600):
+    return subprocess.run([PROGRAM, *words], input=given, capture_output=True, timeout=seconds)
 
 
 def exactly(count, name, words, status, out, err, given=b""):
@@ -119,7 +119,8 @@ def command_line(count):
 
 
 def main():
-    built = run(["--version"])
+    # the first call builds the program, which proves its crates
+    built = run(["--version"], seconds=7200)
     if built.returncode != 0:
         sys.stdout.buffer.write(built.stderr)
         print("0 passed, 1 failed")
