@@ -1,6 +1,7 @@
 """The built program: its statuses, its fault lines, its help, and each example beside its trace."""
 
 import os
+import pty
 import subprocess
 import sys
 
@@ -46,6 +47,21 @@ def examples(count):
         trace = read("examples", name + ".trace")
         exactly(count, name, ["replay", path + ".schedule"], 0, trace, b"")
         exactly(count, name + " on standard input", ["replay"], 0, trace, b"", read("examples", name + ".schedule"))
+
+
+def short_run_on_a_terminal(count):
+    """A run of less than a second shows no progress, on a terminal either."""
+    ours, theirs = pty.openpty()
+    path = os.path.join(TOP, "examples", "deploy_gossiped_twice.schedule")
+    ran = subprocess.run([PROGRAM, "replay", path], stdout=subprocess.PIPE, stderr=theirs, timeout=600)
+    os.close(theirs)
+    try:
+        shown = os.read(ours, 1000)
+    except OSError:
+        shown = b""
+    os.close(ours)
+    trace = read("examples", "deploy_gossiped_twice.trace")
+    count.check("a short run on a terminal", (ran.returncode, ran.stdout, shown) == (0, trace, b""), f"shown {shown}")
 
 
 def packets_and_snapshots(count):
@@ -126,7 +142,7 @@ def main():
         print("0 passed, 1 failed")
         return 1
     count = Count()
-    for part in (examples, packets_and_snapshots, refused_packets, faults, full_device, command_line):
+    for part in (examples, short_run_on_a_terminal, packets_and_snapshots, refused_packets, faults, full_device, command_line):
         part(count)
     print(f"{count.passed} passed, {count.failed} failed")
     return 1 if count.failed else 0

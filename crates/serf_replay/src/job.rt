@@ -14,7 +14,7 @@ use crate::output::write_output;
 use crate::parse::{ScheduleFault, parse_schedule};
 use crate::schedule::Schedule;
 use crate::show::show_trace;
-use serf_world::{RunFault, Trace, run};
+use serf_world::{RunFault, Trace, Unwatched, Watch, run_watched};
 use std::alloc::{AllocError, Global};
 use std::io::{Read, Write};
 use thiserror::Error;
@@ -40,12 +40,16 @@ pub enum ReplayFault {
 }
 
 /// The trace of a schedule, of which nothing is left then.
-fn trace_of_schedule(alloc: Global, schedule: Schedule) -> Result<Trace, AllocError>
+fn trace_of_schedule<T: Watch>(
+    alloc: Global,
+    schedule: Schedule,
+    watch: &mut T,
+) -> Result<Trace, AllocError>
     requires { AreConfigs schedule.configs.items }
     ensures { IfOk result (λ trace. outcome_of trace ≡ trace_of (run_of schedule.configs.items schedule.actions.items)) }
 {
     let Schedule { configs, actions } = schedule;
-    match run(alloc, configs, &actions) {
+    match run_watched(alloc, configs, &actions, watch) {
         Ok(trace) => Ok(trace),
         Err(RunFault::OutOfMemory(_)) => Err(AllocError),
         Err(RunFault::NameTwice(_) | RunFault::BadConfig(_)) => unreachable!(),
@@ -53,12 +57,16 @@ fn trace_of_schedule(alloc: Global, schedule: Schedule) -> Result<Trace, AllocEr
 }
 
 /// The text of the trace of a schedule's text, of which nothing is left then.
-fn output_text(alloc: Global, input: Vec<u8>) -> Result<Vec<u8>, ScheduleFault>
+fn output_text<T: Watch>(
+    alloc: Global,
+    input: Vec<u8>,
+    watch: &mut T,
+) -> Result<Vec<u8>, ScheduleFault>
     ensures { GivesText result (output_of input.items) }
 {
     let schedule = parse_schedule(alloc, &input)?;
     drop(input);
-    let Ok(trace) = trace_of_schedule(alloc, schedule) else {
+    let Ok(trace) = trace_of_schedule(alloc, schedule, watch) else {
         return Err(ScheduleFault::OutOfMemory);
     };
     match show_trace(alloc, &trace) {
@@ -95,12 +103,38 @@ pub fn replay<R: Read, W: Write>(
     ensures bounded { (bytes : List ℕ) × Consumes (R.remaining reader.old) (R.remaining reader.new) bytes
         × (length bytes ≤ MAX_SCHEDULE_BYTES + 1) }
 {
+    replay_watched(alloc, reader, writer, &mut Unwatched)
+}
+
+/// Does what [`replay`] does, and tells of each action of the run that is done.
+pub fn replay_watched<R: Read, W: Write, T: Watch>(
+    alloc: Global,
+    reader: &mut R,
+    writer: &mut W,
+    watch: &mut T,
+) -> Result<(), ReplayFault>
+    ensures done { OnOk result (IfSome (R.remaining reader.old) (λ input. (text : List ℕ)
+        × (output_of input ≡ Ok text) × (length input ≤ MAX_SCHEDULE_BYTES)
+        × Appends (W.contents writer.old) (W.contents writer.new) text)) }
+    ensures too_long { IsErrOf result ReplayFault.ReadTooLong
+        → IfSome (R.remaining reader.old) (λ input. MAX_SCHEDULE_BYTES < length input) }
+    ensures bad_line { (line : ℕ) (cause : Cause) → IsErrOf result (ReplayFault.BadLine line cause)
+        → IfSome (R.remaining reader.old) (λ input. (length input ≤ MAX_SCHEDULE_BYTES)
+        × (output_of input ≡ Err (record { line = line; cause = cause }))) }
+    ensures front { IsErrOf result ReplayFault.WriteFault
+        → IfSome (R.remaining reader.old) (λ input. (text : List ℕ)
+        × (output_of input ≡ Ok text) × (length input ≤ MAX_SCHEDULE_BYTES)
+        × AppendsFront (W.contents writer.old) (W.contents writer.new) text) }
+    ensures nothing { IfErr result (λ fault. (fault ≡ ReplayFault.WriteFault → ⊥) → writer.new ≡ writer.old) }
+    ensures bounded { (bytes : List ℕ) × Consumes (R.remaining reader.old) (R.remaining reader.new) bytes
+        × (length bytes ≤ MAX_SCHEDULE_BYTES + 1) }
+{
     let input = read_input(alloc, reader).map_err(|fault| match fault {
         InputFault::ReadFault => ReplayFault::ReadFault,
         InputFault::ReadTooLong => ReplayFault::ReadTooLong,
         InputFault::OutOfMemory => ReplayFault::OutOfMemory,
     })?;
-    let text = output_text(alloc, input).map_err(|fault| match fault {
+    let text = output_text(alloc, input, watch).map_err(|fault| match fault {
         ScheduleFault::BadLine { line, cause } => ReplayFault::BadLine { line, cause },
         ScheduleFault::OutOfMemory => ReplayFault::OutOfMemory,
     })?;

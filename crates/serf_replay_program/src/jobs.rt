@@ -1,15 +1,17 @@
 //! The three jobs, their statuses and their fault lines.
 
 use crate::command::{Job, job_in};
+use crate::progress::Progress;
 use clap::Error;
 use clap::error::ErrorKind;
 use hex::FromHexError;
 use serf_replay::{
-    DecodeTextFault, InputFault, ReplayFault, clocks_text, decode_text, read_input, replay,
+    DecodeTextFault, InputFault, ReplayFault, clocks_text, decode_text, read_input, replay_watched,
     write_output,
 };
 use std::io::Read;
 use std::rt::Files;
+use std::time::Clock;
 use std::{fs, io};
 
 /// The job is done, or help was asked for.
@@ -67,16 +69,22 @@ fn replayed(rt: &impl Eprint, outcome: Result<(), ReplayFault>) -> u8 {
     }
 }
 
-fn run_replay<F: Files, R: Input + Print + Eprint + AllocGlobal>(
+fn run_replay<F: Files, R: Clock + Input + Print + Eprint + AllocGlobal>(
     files: &F,
     rt: &R,
+    is_terminal: bool,
     file: Option<&str>,
 ) -> u8 {
     let mut writer = io::writer(rt);
+    let mut progress = Progress::new(rt, is_terminal);
     let outcome = match file {
-        None | Some("-") => replay(rt.alloc(), &mut rt.reader(), &mut writer),
+        None | Some("-") => {
+            replay_watched(rt.alloc(), &mut rt.reader(), &mut writer, &mut progress)
+        }
         Some(path) => match fs::open(files, path) {
-            Ok(mut reader) => replay(rt.alloc(), &mut reader, &mut writer),
+            Ok(mut reader) => {
+                replay_watched(rt.alloc(), &mut reader, &mut writer, &mut progress)
+            }
             Err(_) => Err(ReplayFault::ReadFault),
         },
     };
@@ -146,13 +154,15 @@ fn refuse_command_line<R: Print + Eprint>(rt: &R, error: &Error) -> u8 {
 }
 
 /// Does what the words ask for, and gives the status: 0 done, 1 refused input, 2 command line, 3 device or memory.
-pub fn run<F: Files, R: Input + Print + Eprint + AllocGlobal>(
+/// A long run shows its progress where standard error is a terminal.
+pub fn run<F: Files, R: Clock + Input + Print + Eprint + AllocGlobal>(
     files: &F,
     rt: &R,
+    is_terminal: bool,
     words: &[String],
 ) -> u8 {
     match job_in(rt.alloc(), words) {
-        Ok(Some(Job::Replay(file))) => run_replay(files, rt, file),
+        Ok(Some(Job::Replay(file))) => run_replay(files, rt, is_terminal, file),
         Ok(Some(Job::Decode(text))) => run_decode(rt, text),
         Ok(Some(Job::Clocks(file))) => run_clocks(files, rt, file),
         Ok(None) => COMMAND_LINE,

@@ -3,9 +3,10 @@
 
 mod command;
 mod jobs;
+mod progress;
 
 use jobs::{COMMAND_LINE, DEVICE, run};
-use std::io;
+use std::io::{self, IsTerminal};
 use std::process::ExitCode;
 
 fn main(rt: HostRuntime) -> ExitCode {
@@ -21,7 +22,7 @@ fn main(rt: HostRuntime) -> ExitCode {
         }
     };
     match words {
-        Ok(words) => ExitCode::from(run(&rt, &rt, &words)),
+        Ok(words) => ExitCode::from(run(&rt, &rt, rt.stderr().is_terminal(), &words)),
         Err(_) => {
             let _ = eprintln!(&rt; "no memory");
             ExitCode::from(DEVICE)

@@ -17,14 +17,16 @@ mod running;
 mod seat;
 mod trace;
 mod turn;
+mod watch;
 mod world;
 
 pub use action::{Action, SinkCall};
 pub use fault::{NewFault, RunFault, StepFault};
 pub use line::{Answer, EventLine, HandedLine, Line, Refusal};
 pub use lists::{EventLines, Lines, Numbers};
-pub use running::run;
+pub use running::{run, run_watched};
 pub use trace::Trace;
+pub use watch::{Unwatched, Watch};
 pub use world::World;
 
 #[cfg(test)]

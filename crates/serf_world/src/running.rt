@@ -14,6 +14,7 @@ use crate::fault::{NewFault, RunFault};
 use crate::line::Line;
 use crate::lists::Lines;
 use crate::trace::Trace;
+use crate::watch::{Unwatched, Watch};
 use crate::world::World;
 use serf_agent::{BytesList, Config};
 use std::alloc::{AllocError, Global};
@@ -40,7 +41,12 @@ fn step_to(
 }
 
 /// Does all actions in a cluster. Where memory runs out, gives the trace of those done before.
-fn run_in(alloc: Global, world: World, actions: &[Action]) -> Result<Trace, Trace>
+fn run_in<W: Watch>(
+    alloc: Global,
+    world: World,
+    actions: &[Action],
+    watch: &mut W,
+) -> Result<Trace, Trace>
     ensures done { (r : Run) → IsViewed r.cluster world → AreGood r.cluster → r.turns ≡ [] → IfOk result (λ trace. outcome_of trace ≡ trace_of (fold after r actions.now)) }
     ensures memory { (r : Run) → IsViewed r.cluster world → AreGood r.cluster → r.turns ≡ []
         → IfErr result (λ trace. (n : ℕ) × (n ≤ length actions.now) × (outcome_of trace ≡ trace_of (fold after r (take n actions.now)))) }
@@ -54,6 +60,7 @@ fn run_in(alloc: Global, world: World, actions: &[Action]) -> Result<Trace, Trac
                 sent: world.into_sent(),
             });
         }
+        watch.acted(lines.len(), actions.len());
     }
     Ok(Trace {
         lines: Lines::from_vec(lines),
@@ -61,9 +68,15 @@ fn run_in(alloc: Global, world: World, actions: &[Action]) -> Result<Trace, Trac
     })
 }
 
-/// A run, exactly.
-fn run_exactly(alloc: Global, configs: Vec<Config>, actions: &[Action]) -> Result<Trace, RunFault>
-    ensures { IsRun configs.items actions.now result }
+/// Does all actions as [`run`] does, and tells of each that is done.
+pub fn run_watched<W: Watch>(
+    alloc: Global,
+    configs: Vec<Config>,
+    actions: &[Action],
+    watch: &mut W,
+) -> Result<Trace, RunFault>
+    // The trace is that of the ideal cluster.
+    ensures exactly { IsRun configs.items actions.now result }
 {
     let world = match World::new(alloc, configs) {
         Ok(world) => world,
@@ -76,7 +89,7 @@ fn run_exactly(alloc: Global, configs: Vec<Config>, actions: &[Action]) -> Resul
             }));
         }
     };
-    match run_in(alloc, world, actions) {
+    match run_in(alloc, world, actions, watch) {
         Ok(trace) => Ok(trace),
         Err(trace) => Err(RunFault::OutOfMemory(trace)),
     }
@@ -101,5 +114,5 @@ pub fn run(alloc: Global, configs: Vec<Config>, actions: &[Action]) -> Result<Tr
     ensures query_handed { OfTurns QueryHandedOnce actions.now result }
     ensures query_fired { OfTurns QueryFired actions.now result }
 {
-    run_exactly(alloc, configs, actions)
+    run_watched(alloc, configs, actions, &mut Unwatched)
 }

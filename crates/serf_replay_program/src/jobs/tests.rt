@@ -1,10 +1,11 @@
 //! Statuses, and what is printed where.
 use super::*;
 use std::alloc::{AllocError, Global};
-use std::cell::RefCell;
+use std::cell::{Cell, RefCell};
 use std::fmt::Display;
 use std::io::{BufRead, Lines};
 use std::test::Fail;
+use std::time::Duration;
 
 /// Standard streams in memory.
 #[derive(Drop)]
@@ -13,6 +14,8 @@ struct Screen<'a> {
     input: &'a [u8],
     out: RefCell<Vec<u8>>,
     err: RefCell<Vec<u8>>,
+    /// How many seconds the clock has: one more each time that it is read.
+    seconds: Cell<u64>,
 }
 
 impl Alloc for Screen<'_> {
@@ -89,8 +92,30 @@ impl<'a> Input for Screen<'a> {
     }
 }
 
+impl Clock for Screen<'_> {
+    fn monotonic(&self) -> io::Result<Duration> {
+        let seconds = self.seconds.get();
+        self.seconds.set(seconds.wrapping_add(1));
+        Ok(Duration::from_secs(seconds))
+    }
+
+    fn since_1970(&self) -> io::Result<Duration> {
+        self.monotonic()
+    }
+}
+
 fn outcome(
     rt: &HostRuntime,
+    words: &[&str],
+    input: &[u8],
+) -> Result<(u8, Vec<u8>, Vec<u8>), AllocError> {
+    outcome_on(rt, false, words, input)
+}
+
+/// What comes of the words where standard error is a terminal, or isn't.
+fn outcome_on(
+    rt: &HostRuntime,
+    is_terminal: bool,
     words: &[&str],
     input: &[u8],
 ) -> Result<(u8, Vec<u8>, Vec<u8>), AllocError> {
@@ -100,12 +125,13 @@ fn outcome(
         input,
         out: RefCell::new(Vec::new(alloc)),
         err: RefCell::new(Vec::new(alloc)),
+        seconds: Cell::new(0),
     };
     let mut all = Vec::new(alloc);
     for word in words {
         all.push(String::from_str(alloc, word)?)?;
     }
-    let status = run(rt, &screen, &all);
+    let status = run(rt, &screen, is_terminal, &all);
     let Screen { out, err, .. } = screen;
     Ok((status, out.into_inner(), err.into_inner()))
 }
@@ -217,5 +243,30 @@ fn a_file_that_is_missing(rt: HostRuntime) -> Result<(), Fail> {
         assert!(rt; out.is_empty());
         assert_eq!(rt; err.as_slice(), b"read fault\n".as_slice());
     }
+    Ok(())
+}
+
+/// A schedule of so many actions.
+fn long_schedule(alloc: Global, actions: usize) -> Result<Vec<u8>, AllocError> {
+    let mut text = Vec::new(alloc);
+    text.extend_from_slice(b"agent 61 4 4 512 8 keep\n")?;
+    for _ in 0..actions {
+        text.extend_from_slice(b"save 0\n")?;
+    }
+    Ok(text)
+}
+
+#[test]
+fn progress_on_a_terminal(rt: HostRuntime) -> Result<(), Fail> {
+    let schedule = long_schedule(rt.alloc(), 2100)?;
+    let words = ["serf-replay", "replay"].as_slice();
+    let (status, out, err) = outcome_on(&rt, true, words, &schedule)?;
+    assert_eq!(rt; status, 0);
+    let lines = b"1024 of 2100 actions\n2048 of 2100 actions\n".as_slice();
+    assert_eq!(rt; err.as_slice(), lines);
+    let (status, piped, err) = outcome_on(&rt, false, words, &schedule)?;
+    assert_eq!(rt; status, 0);
+    assert!(rt; err.is_empty());
+    assert_eq!(rt; piped.as_slice(), out.as_slice());
     Ok(())
 }
