@@ -137,7 +137,7 @@ sends-delivers W m now (Some packet) all =
     let g = given-receive W m.agent packet now (all packet refl) in
     record { packets = g.packets; brings = λ p is e n. g.brings e (let same : packet ≡ p = cc in ap (λ (x : List ℕ). query_brought (decoded x)) same ∙ n) }
 
-sends-merge : (W : List ℕ → Type 0) (m : Member) (join : Bool) (f : Option MergeFault) (r : Result Message WireFault) → (merges_as f m join r).done.packets ≡ []
+pub sends-merge : (W : List ℕ → Type 0) (m : Member) (join : Bool) (f : Option MergeFault) (r : Result Message WireFault) → (merges_as f m join r).done.packets ≡ []
 sends-merge W m join (Some fault) r = refl
 sends-merge W m join None (Err fault) = refl
 sends-merge W m join None (Ok (user_event x)) = refl

@@ -41,7 +41,7 @@ carried-event t what coalesce small short =
 
 -- ---- packets of other types carry no events
 
-brings-read : {X : Type 0} (f : Result Message WireFault → List X) (t : MessageType) (r : Result Tree PackFault) → ((fault : WireFault) → f (Err fault) ≡ []) → ((ps : List (Tree × Tree)) → f (Ok (message_in t ps)) ≡ []) → f (read_value t r) ≡ []
+pub brings-read : {X : Type 0} (f : Result Message WireFault → List X) (t : MessageType) (r : Result Tree PackFault) → ((fault : WireFault) → f (Err fault) ≡ []) → ((ps : List (Tree × Tree)) → f (Ok (message_in t ps)) ≡ []) → f (read_value t r) ≡ []
 brings-read f t (Err e) bad none = bad _
 brings-read f t (Ok (nil p)) bad none = bad _
 brings-read f t (Ok (flag p b)) bad none = bad _

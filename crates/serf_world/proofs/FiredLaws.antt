@@ -331,7 +331,7 @@ fired-acted c turns action b m o h at grows have =
       carries = at_each_push CarriesAt turns turn h.carries has.packets;
     }
 
-all-front : {X : Type 0} (P : X → Type 0) (xs ys : List X) → All P (xs ++ ys) → All P xs
+pub all-front : {X : Type 0} (P : X → Type 0) (xs ys : List X) → All P (xs ++ ys) → All P xs
 all-front P [] ys all = All-nil P
 all-front P (x ∷ xs) ys all = All-cons P x xs (All-head P x (xs ++ ys) all) (all-front P xs ys (All-tail P x (xs ++ ys) all))
 
@@ -339,7 +339,7 @@ all-back : {X : Type 0} (P : X → Type 0) (xs ys : List X) → All P (xs ++ ys)
 all-back P [] ys all = all
 all-back P (x ∷ xs) ys all = all-back P xs ys (All-tail P x (xs ++ ys) all)
 
-all-parts : {X Y : Type 0} (P : Y → Type 0) (f : X → List Y) (xs : List X) → All P (flat_map f xs) → All (λ x. All P (f x)) xs
+pub all-parts : {X Y : Type 0} (P : Y → Type 0) (f : X → List Y) (xs : List X) → All P (flat_map f xs) → All (λ x. All P (f x)) xs
 all-parts P f [] all = All-nil (λ x. All P (f x))
 all-parts P f (x ∷ xs) all = All-cons (λ y. All P (f y)) x xs (all-front P (f x) (flat_map f xs) all) (all-parts P f xs (all-back P (f x) (flat_map f xs) all))
 

@@ -44,11 +44,11 @@ use Rattle.serf_world.proofs.TurnLaws.{flat_map-push}
 use Rattle.serf_world.proofs.OnceLaws.{query-once}
 use Rattle.serf_world.proofs.RunLaws.{IsAfter, added, after-step, by-push}
 
-abbrev only_query : ℕ → ℕ → List (Timed ℕ)
+abbrev pub only_query : ℕ → ℕ → List (Timed ℕ)
 only_query t id = record { time = t; what = id } ∷ []
 
 -- what an action hands out is just what it entered
-abbrev Hands : Action → Option (List ℕ) → Done → Type 0
+abbrev pub Hands : Action → Option (List ℕ) → Done → Type 0
 Hands action given done = (q : Handed) → done.handed ≡ Some q → entered_by action given done.answer ≡ only_query q.time q.id
 
 hands-fire : (i : IdealAgent) (action : Action) (what : EventText) (coalesce : Bool) (r : Option FireFault) → Hands action None (fire_gives (planned i (fired_as r i what coalesce)).answer)
@@ -121,7 +121,7 @@ hands-asks m agent now id name payload params None = by (will m.agent (query_fir
     by Kept = λ h e. passed m.agent.config.name now (query_at m.agent.queries.clock m.agent.config.name id name payload params) h e
     by (Failed kept) = λ h e. absurd (cc e)
 
-merge-hands : (m : Member) (join : Bool) (f : Option MergeFault) (r : Result Message WireFault) → (merges_as f m join r).done.handed ≡ None
+pub merge-hands : (m : Member) (join : Bool) (f : Option MergeFault) (r : Result Message WireFault) → (merges_as f m join r).done.handed ≡ None
 merge-hands m join (Some fault) r = refl
 merge-hands m join None (Err fault) = refl
 merge-hands m join None (Ok (user_event x)) = refl
@@ -154,7 +154,7 @@ respond-hands m h (Some (Some q)) now payload = by (respond_fault q now payload)
     by (Some fault) = refl
     by None = refl
 
-hands-acts : (m : Member) (sent : List (List ℕ)) (action : Action) → Hands action (packet_given sent action) (acts m sent action).done
+pub hands-acts : (m : Member) (sent : List (List ℕ)) (action : Action) → Hands action (packet_given sent action) (acts m sent action).done
 hands-acts m sent (actions.Fire agent name payload coalesce) = hands-fire m.agent (actions.Fire agent name payload coalesce) (event_of name payload) coalesce (fire_fault m.agent (event_of name payload) coalesce)
 hands-acts m sent (actions.Deliver to packet now) = hands-delivers m (actions.Deliver to packet now) now (slice_get sent packet)
 hands-acts m sent (actions.State agent) = hands-none (actions.State agent) None (state_gives (send_state (view_of m.agent) [] [])) (state-hands (send_state (view_of m.agent) [] []))
@@ -202,7 +202,7 @@ length-push : {X : Type 0} (ys : List X) (x : X) → length (ys ++ x ∷ []) ≡
 length-push [] x = refl
 length-push (y ∷ ys) x = let h = length-push ys x in omega arith
 
-fresh-last : {X : Type 0} (ys : List X) (x y : X) → AllPairs (λ a b. a ≢ b) (ys ++ x ∷ []) → Contains ys y → y ≢ x
+pub fresh-last : {X : Type 0} (ys : List X) (x y : X) → AllPairs (λ a b. a ≢ b) (ys ++ x ∷ []) → Contains ys y → y ≢ x
 fresh-last ys x y all h same =
     all h.0 (length ys) y h.1 (let l = length-push ys x in omega arith) (front-at ys x y h.0 h.1 ∙ h.2 ∙ same ∙ sym (last-at ys x y))
 

@@ -11,5 +11,17 @@ pub mod SeenLaws
 pub mod HandedLaws
 pub mod AskedLaws
 pub mod PromiseLaws
+pub mod LifeLaws
+pub mod BoundLaws
+pub mod QueriedLaws
 pub mod SeatLaws
 pub mod MergeLaws
+pub mod OpenLaws
+pub mod CountLaws
+pub mod TallyLaws
+pub mod EachLaws
+pub mod CountedLaws
+pub mod SendLaws
+pub mod ServeLaws
+pub mod AnswerLaws
+pub mod AnswerPromiseLaws

@@ -71,6 +71,16 @@ query-time packet q says = spelled-fields (q.time < 2 ^ 64 - 1) (query q) packet
     by types.QueryResponse ps h = absurd h
     by types.PushPull ps h = absurd h
 
+-- a query's ID has 32 bits
+pub query-id : (packet : List ℕ) (q : Query) → decoded packet ≡ Ok (query q) → q.id < 2 ^ 32
+query-id packet q says = spelled-fields (q.id < 2 ^ 32) (query q) packet (λ k f. cc) (decoded_spelled packet (query q) says) by
+  where
+    by : (t : MessageType) (ps : List (Tree × Tree)) → HasFields t (query q) ps → q.id < 2 ^ 32
+    by types.Query ps h = let le = sole-within 4294967295 q.id (values_of (codes "ID") ps) h.id in omega arith
+    by types.UserEvent ps h = absurd h
+    by types.QueryResponse ps h = absurd h
+    by types.PushPull ps h = absurd h
+
 -- each slot's time is a time
 abbrev pub IsTimedSlot : SlotContent → Type 0
 IsTimedSlot empty = Unit {0}

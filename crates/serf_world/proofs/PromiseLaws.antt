@@ -35,7 +35,7 @@ pub record IsGoing (r : Run) : Type 0 where
   pub asked : IsAsked r.cluster r.turns
   pub read : AtEach IsRead r.turns
 
-going-step : (r : Run) (action : Action) → IsGoing r → IsGoing (after r action)
+pub going-step : (r : Run) (action : Action) → IsGoing r → IsGoing (after r action)
 going-step r action h = record {
   after = after-step r action h.after;
   fired = fired-step r action h.after h.fired;
@@ -47,7 +47,7 @@ going-step r action h = record {
   read = read-step r action h.after h.read;
 }
 
-going-start : (configs : List Config) → AllByRecursion (λ c. is_sound c ≡ true) configs → IsGoing (start configs)
+pub going-start : (configs : List Config) → AllByRecursion (λ c. is_sound c ≡ true) configs → IsGoing (start configs)
 going-start configs ok = record { after = after-start configs ok; fired = fired-start configs; later = later-start; query_later = query-later-start; seen = seen-start; handed = handed-start; asked = asked-start configs; read = read-start }
 
 -- settings of which none is bad are sound
@@ -60,7 +60,7 @@ none-bad (c ∷ cs) h = by (is_sound c) refl h (none-bad cs)
     by true is h rest = (is, rest (omega arith))
     by false is h rest = absurd (omega arith)
 
-all-sound : (configs : List Config) → first_bad configs ≡ None → AllByRecursion (λ c. is_sound c ≡ true) configs
+pub all-sound : (configs : List Config) → first_bad configs ≡ None → AllByRecursion (λ c. is_sound c ≡ true) configs
 all-sound configs none = none-bad configs (by (nat_lt (position_or_len (λ c. not (is_sound c)) configs) (length configs)) refl none)
   where
     by : (b : Bool) → nat_lt (position_or_len (λ c. not (is_sound c)) configs) (length configs) ≡ b → cond b (Some (position_or_len (λ c. not (is_sound c)) configs)) None ≡ None → length configs ≤ position_or_len (λ c. not (is_sound c)) configs
@@ -90,39 +90,45 @@ promised r h = record {
   query_fired = h.asked.fired;
 }
 
-going-run : (configs : List Config) (actions : List Action) → AreConfigs configs → IsGoing (run_of configs actions)
+pub going-run : (configs : List Config) (actions : List Action) → AreConfigs configs → IsGoing (run_of configs actions)
 going-run configs actions ok = fold_keeps IsGoing after (start configs) actions (going-start configs (all-sound configs ok.sound)) going-step
 
 -- a trace that is a run's, and how many of the actions it has
-turns-shown : (r : Run) (actions more : List Action) (shown : Outcome) → IsGoing r → map (λ t. t.action) r.turns ++ more ≡ actions → shown ≡ trace_of r → turns_of actions shown ≡ r.turns
+pub turns-shown : (r : Run) (actions more : List Action) (shown : Outcome) → IsGoing r → map (λ t. t.action) r.turns ++ more ≡ actions → shown ≡ trace_of r → turns_of actions shown ≡ r.turns
 turns-shown r actions more shown h same is = ap (turns_of actions) is ∙ reads r actions more h.after h.read same
 
 -- the trace of nothing promises all
 promised-nothing : (actions : List Action) → IsPromised []
 promised-nothing actions = promised (start []) (going-start [] tt)
 
-no-turns : (actions : List Action) → turns_of actions (record { lines = []; sent = [] }) ≡ []
+pub no-turns : (actions : List Action) → turns_of actions (record { lines = []; sent = [] }) ≡ []
 no-turns [] = refl
 no-turns (action ∷ actions) = refl
 
-of-run : (configs : List Config) (actions : List Action) (result : Result Trace RunFault) → IsRun configs actions result → OfTurns IsPromised actions result
-of-run configs actions (Ok trace) h =
+-- what holds of no turns, and of the turns of the run of each front of the actions, holds of the turns that a result shows
+pub of-runs : (P : List Turn → Type 0) (configs : List Config) (actions : List Action) (result : Result Trace RunFault) → P [] → ((done left : List Action) → done ++ left ≡ actions → AreConfigs configs → P (run_of configs done).turns) → IsRun configs actions result
+    → OfTurns P actions result
+of-runs P configs actions (Ok trace) none each h =
     let r : Run = run_of configs actions in
     let going = going-run configs actions h.0 in
-    subst IsPromised (sym (turns-shown r actions [] (outcome_of trace) going (append-nil (map (λ (t : Turn). t.action) r.turns) ∙ actions-of (start configs) actions) h.1)) (promised r going)
-of-run configs actions (Err (runs.NameTwice n)) h = tt
-of-run configs actions (Err (runs.BadConfig n)) h = tt
-of-run configs actions (Err (runs.OutOfMemory trace)) h = by h.2
+    subst P (sym (turns-shown r actions [] (outcome_of trace) going (append-nil (map (λ (t : Turn). t.action) r.turns) ∙ actions-of (start configs) actions) h.1)) (each actions [] (append-nil actions) h.0)
+of-runs P configs actions (Err (runs.NameTwice n)) none each h = tt
+of-runs P configs actions (Err (runs.BadConfig n)) none each h = tt
+of-runs P configs actions (Err (runs.OutOfMemory trace)) none each h = by h.2
   where
-    by : (h.0 ≡ 0) ⊎ AreConfigs configs → IsPromised (turns_of actions (outcome_of trace))
-    by (inl none) =
-        let is : outcome_of trace ≡ record { lines = []; sent = [] } = h.3 ∙ ap (λ n. trace_of (run_of configs (take n actions))) none in
-        subst IsPromised (sym (ap (turns_of actions) is ∙ no-turns actions)) (promised-nothing actions)
+    by : (h.0 ≡ 0) ⊎ AreConfigs configs → P (turns_of actions (outcome_of trace))
+    by (inl nothing) =
+        let is : outcome_of trace ≡ record { lines = []; sent = [] } = h.3 ∙ ap (λ n. trace_of (run_of configs (take n actions))) nothing in
+        subst P (sym (ap (turns_of actions) is ∙ no-turns actions)) none
     by (inr ok) =
         let r : Run = run_of configs (take h.0 actions) in
         let going = going-run configs (take h.0 actions) ok in
         let same : map (λ (t : Turn). t.action) r.turns ++ drop h.0 actions ≡ actions = ap (λ l. l ++ drop h.0 actions) (actions-of (start configs) (take h.0 actions)) ∙ take-append-drop h.0 actions in
-        subst IsPromised (sym (turns-shown r actions (drop h.0 actions) (outcome_of trace) going same h.3)) (promised r going)
+        subst P (sym (turns-shown r actions (drop h.0 actions) (outcome_of trace) going same h.3)) (each (take h.0 actions) (drop h.0 actions) (take-append-drop h.0 actions) ok)
+
+of-run : (configs : List Config) (actions : List Action) (result : Result Trace RunFault) → IsRun configs actions result → OfTurns IsPromised actions result
+of-run configs actions result h =
+    of-runs IsPromised configs actions result (promised-nothing actions) (λ done left front ok. promised (run_of configs done) (going-run configs done ok)) h
 
 -- each promise, of a result's turns
 

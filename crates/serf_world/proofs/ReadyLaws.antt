@@ -286,13 +286,13 @@ good-asked i asked g below distinct sound =
     }
 
 -- a name that isn't there
-fresh-name : (l : List (List ℕ)) (name : List ℕ) → list_any (λ a. bytes_eq a name) l ≡ false → All (λ a. a ≢ name) l
+pub fresh-name : (l : List (List ℕ)) (name : List ℕ) → list_any (λ a. bytes_eq a name) l ≡ false → All (λ a. a ≢ name) l
 fresh-name [] name none = All-nil (λ a. a ≢ name)
 fresh-name (x ∷ xs) name none =
     let parts = or_parts (bytes_eq x name) (list_any (λ a. bytes_eq a name) xs) none in
     All-cons (λ a. a ≢ name) x xs (λ same. true≢false (sym ((bytes_eq-Decides x name).1 same) ∙ parts.0)) (fresh-name xs name parts.1)
 
-fresh-response : (l : List Response) (name : List ℕ) → list_any (λ (a : Response). bytes_eq a.from name) l ≡ false → All (λ (a : Response). a.from ≢ name) l
+pub fresh-response : (l : List Response) (name : List ℕ) → list_any (λ (a : Response). bytes_eq a.from name) l ≡ false → All (λ (a : Response). a.from ≢ name) l
 fresh-response [] name none = All-nil (λ (a : Response). a.from ≢ name)
 fresh-response (x ∷ xs) name none =
     let parts = or_parts (bytes_eq x.from name) (list_any (λ (a : Response). bytes_eq a.from name) xs) none in

@@ -43,7 +43,7 @@ all-put P (y ∷ xs) (suc a) x h p = (h.0, all-put P xs a x h.1 p)
 
 -- ---- one more turn
 
-events_to-push : (a : ℕ) (turns : List Turn) (turn : Turn) → events_to a (turns ++ turn ∷ []) ≡ events_to a turns ++ map event_in (filter (λ e. e.agent == a) turn.line.events)
+pub events_to-push : (a : ℕ) (turns : List Turn) (turn : Turn) → events_to a (turns ++ turn ∷ []) ≡ events_to a turns ++ map event_in (filter (λ e. e.agent == a) turn.line.events)
 events_to-push a turns turn =
     let mine : EventLine → Bool = λ e. e.agent == a in
     let lines : List EventLine = flat_map (λ t. t.line.events) turns in
@@ -65,11 +65,11 @@ by-push {X} f a turns turn =
 
 -- ---- the lines of what an agent hands out
 
-lines-same : (a b : ℕ) (outs : List EventOut) → (b == a) ≡ true → map event_in (filter (λ e. e.agent == a) (map (event_line b) outs)) ≡ map out_in outs
+pub lines-same : (a b : ℕ) (outs : List EventOut) → (b == a) ≡ true → map event_in (filter (λ e. e.agent == a) (map (event_line b) outs)) ≡ map out_in outs
 lines-same a b [] t = refl
 lines-same a b (out ∷ outs) t = rw t (ap (λ l. out_in out ∷ l) (lines-same a b outs t))
 
-lines-other : (a b : ℕ) (outs : List EventOut) → (b == a) ≡ false → map event_in (filter (λ e. e.agent == a) (map (event_line b) outs)) ≡ []
+pub lines-other : (a b : ℕ) (outs : List EventOut) → (b == a) ≡ false → map event_in (filter (λ e. e.agent == a) (map (event_line b) outs)) ≡ []
 lines-other a b [] t = refl
 lines-other a b (out ∷ outs) t = rw t (lines-other a b outs t)
 
@@ -148,7 +148,7 @@ after-acted c turns action b m o h actor at good keeps = record {
         ∙ ap (λ b. queries_at a turns ++ cond b (entered_by action (packet_given c.sent action) o.done.answer) []) (ap (is_agent a) actor ∙ t)
         ∙ append-nil (queries_at a turns))
 
-after-agent : (c : Cluster) (turns : List Turn) (action : Action) (b : ℕ) (r : Option Member) → IsAfter c turns → actor_of action ≡ Some b → slice_get c.members b ≡ r → IsAfter (on_agent c action b r).cluster (turns ++ (on_agent c action b r).turn ∷ [])
+pub after-agent : (c : Cluster) (turns : List Turn) (action : Action) (b : ℕ) (r : Option Member) → IsAfter c turns → actor_of action ≡ Some b → slice_get c.members b ≡ r → IsAfter (on_agent c action b r).cluster (turns ++ (on_agent c action b r).turn ∷ [])
 after-agent c turns action b None h actor at = after-still c turns (on_agent c action b None) h refl (sym (append-nil c.sent)) refl refl
 after-agent c turns action b (Some m) h actor at =
     after-acted c turns action b m (acts m c.sent action) h actor at (good-acts m c.sent action (all-at (λ m. IsGood m.agent) c.members b m h.good at)) (keeps-acts m c.sent action)

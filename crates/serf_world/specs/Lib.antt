@@ -4,7 +4,11 @@ pub mod Ready
 pub mod View
 pub mod Runs
 pub mod Promises
+pub mod Bounds
+pub mod Queried
 pub mod Seats
 pub mod Turns
 pub mod Names
 pub mod Roster
+pub mod AnswerPromises
+pub mod Sizes

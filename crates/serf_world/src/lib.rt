@@ -15,6 +15,7 @@ mod respond;
 mod roster;
 mod running;
 mod seat;
+mod sizes;
 mod trace;
 mod turn;
 mod watch;

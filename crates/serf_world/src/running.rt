@@ -2,10 +2,13 @@
 
 ghost use Rattle.std.specs.Prelude.{◌≡◌, ◌≤◌, ◌++◌, ◌∷◌, ℕ, [], IfErr, IfOk, OnErr, OnOk, length, take};
 ghost use Rattle.std.specs.List.{fold};
-ghost use Rattle.serf_world.specs.Cluster.{Cluster, Run, after, step, trace_of};
+ghost use Rattle.serf_world.specs.AnswerPromises.{AckedOnce, AnswersMade, CountedInTime, CountedOnce, CountedSent, OpenQueriesHold};
+ghost use Rattle.serf_world.specs.Bounds.{EventsBounded, QueriesBounded};
+ghost use Rattle.serf_world.specs.Cluster.{Cluster, Run, after, run_of, step, trace_of};
 ghost use Rattle.serf_world.specs.Promises.{Held, Later, Once, OnlyFired, QueryFired, QueryHandedOnce, QueryLater, QueryOnce};
+ghost use Rattle.serf_world.specs.Queried.{QueryOnlyFired};
 ghost use Rattle.serf_world.specs.Ready.{AreGood};
-ghost use Rattle.serf_world.specs.Runs.{IsRun, OfTurns};
+ghost use Rattle.serf_world.specs.Runs.{AreConfigs, IsRun, OfTurns};
 ghost use Rattle.serf_world.specs.Trace.{outcome_of};
 ghost use Rattle.serf_world.specs.View.{AddsLine, IsViewed};
 
@@ -13,6 +16,7 @@ use crate::action::Action;
 use crate::fault::{NewFault, RunFault};
 use crate::line::Line;
 use crate::lists::Lines;
+use crate::sizes::read_all_numbers;
 use crate::trace::Trace;
 use crate::watch::{Unwatched, Watch};
 use crate::world::World;
@@ -99,7 +103,7 @@ pub fn run_watched<W: Watch>(
 ///
 /// A refused action is a line of the trace, and the run goes on. `NameTwice` is looked at first, then `BadConfig`; after
 /// both nothing was done. `OutOfMemory` hands back the trace of the actions that were done before.
-#[tactic(auto, using(crate::proofs::PromiseLaws::run_once, crate::proofs::PromiseLaws::run_only_fired, crate::proofs::PromiseLaws::run_later, crate::proofs::PromiseLaws::run_held, crate::proofs::PromiseLaws::run_query_once, crate::proofs::PromiseLaws::run_query_later, crate::proofs::PromiseLaws::run_query_handed, crate::proofs::PromiseLaws::run_query_fired))]
+#[tactic(auto, using(crate::proofs::PromiseLaws::run_once, crate::proofs::PromiseLaws::run_only_fired, crate::proofs::PromiseLaws::run_later, crate::proofs::PromiseLaws::run_held, crate::proofs::PromiseLaws::run_query_once, crate::proofs::PromiseLaws::run_query_later, crate::proofs::PromiseLaws::run_query_handed, crate::proofs::PromiseLaws::run_query_fired, crate::proofs::AnswerPromiseLaws::run_counted_once, crate::proofs::AnswerPromiseLaws::run_counted_in_time, crate::proofs::AnswerPromiseLaws::run_counted_sent, crate::proofs::AnswerPromiseLaws::run_answers_made, crate::proofs::AnswerPromiseLaws::run_acked_once, crate::proofs::BoundLaws::run_events_bounded, crate::proofs::BoundLaws::run_queries_bounded, crate::proofs::QueriedLaws::run_query_only_fired))]
 pub fn run(alloc: Global, configs: Vec<Config>, actions: &[Action]) -> Result<Trace, RunFault>
     // The trace is that of the ideal cluster.
     ensures exactly { IsRun configs.items actions.now result }
@@ -113,6 +117,22 @@ pub fn run(alloc: Global, configs: Vec<Config>, actions: &[Action]) -> Result<Tr
     ensures query_later { OfTurns QueryLater actions.now result }
     ensures query_handed { OfTurns QueryHandedOnce actions.now result }
     ensures query_fired { OfTurns QueryFired actions.now result }
+    ensures query_only_fired { OfTurns QueryOnlyFired actions.now result }
+
+    // What they keep of acks and responses.
+    ensures counted_once { OfTurns CountedOnce actions.now result }
+    ensures counted_in_time { OfTurns CountedInTime actions.now result }
+    ensures counted_sent { OfTurns CountedSent actions.now result }
+    ensures answers_made { OfTurns (AnswersMade configs.items) actions.now result }
+    ensures acked_once { OfTurns AckedOnce actions.now result }
+
+    // What each agent's windows hold, by its settings.
+    ensures events_bounded { OfTurns (EventsBounded configs.items) actions.now result }
+    ensures queries_bounded { OfTurns (QueriesBounded configs.items) actions.now result }
+
+    // After each action the ideal agents' open queries hold what was counted.
+    ensures open_queries { (n : ℕ) → AreConfigs configs.items → OpenQueriesHold (run_of configs.items (take n actions.now)) }
 {
+    read_all_numbers(actions);
     run_watched(alloc, configs, actions, &mut Unwatched)
 }

@@ -275,7 +275,7 @@ fn empty_and_refused(rt: HostRuntime) -> Result<(), Fail> {
 }
 
 #[test]
-fn spent_after_want_of_memory(rt: HostRuntime) -> Result<(), Fail> {
+fn refuses_missing_packet(rt: HostRuntime) -> Result<(), Fail> {
     let mut world = world(&rt)?;
     assert_eq!(rt;
         answer(&rt, &mut world, &Action::Save { agent: 0 })?,

@@ -1,0 +1,33 @@
+//! What the types of an action's numbers say of them.
+
+ghost use Rattle.std.specs.Prelude.{All};
+ghost use Rattle.serf_world.specs.Sizes.{HasSizes, IsSized};
+
+use crate::action::Action;
+
+/// Numbers have their types' sizes. Does nothing.
+#[tactic(auto, using(serf_wire::proofs::Ranged::fits_signed))]
+fn know_sizes(id: u32, port: u16, relay_factor: u8, timeout: i64)
+    ensures { IsSized id port relay_factor timeout }
+{}
+
+/// Reads the numbers of an action, so that contracts know their sizes. Does nothing.
+fn read_numbers(action: &Action)
+    ensures { HasSizes action.now }
+{
+    match action {
+        Action::Query { id, params, .. } => {
+            know_sizes(*id, params.port, params.relay_factor, params.timeout);
+        }
+        _ => {}
+    }
+}
+
+/// Reads the numbers of all actions, on whose sizes promises on queries and their answers rest. Does nothing.
+pub(crate) fn read_all_numbers(actions: &[Action])
+    ensures { All HasSizes actions.now }
+{
+    for action in actions {
+        read_numbers(action);
+    }
+}
