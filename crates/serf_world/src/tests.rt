@@ -26,21 +26,19 @@ fn config(rt: &impl AllocGlobal, name: &[u8]) -> Result<Config, Fail> {
     })
 }
 
-/// A cluster of agents `a`, `b` and `c`.
-fn world(rt: &impl AllocGlobal) -> Result<World, Fail> {
+/// The settings of agents of these names.
+fn configs(rt: &impl AllocGlobal, names: &[&[u8]]) -> Result<Vec<Config>, Fail> {
     let mut configs = Vec::new(rt.alloc());
-    for name in [b"a", b"b", b"c"] {
+    for name in names {
         configs.push(config(rt, name)?)?;
     }
-    Ok(World::new(rt.alloc(), configs)?)
+    Ok(configs)
 }
 
-/// The packet of an event with a time and a name of one byte each, and nothing else.
-fn event(time: u8, name: u8) -> [u8; 16] {
-    [
-        0x03, 0x82, 0xa5, 0x4c, 0x54, 0x69, 0x6d, 0x65, time, 0xa4, 0x4e, 0x61, 0x6d, 0x65, 0xa1,
-        name,
-    ]
+/// A cluster of agents `a`, `b` and `c`.
+fn world(rt: &impl AllocGlobal) -> Result<World, Fail> {
+    let configs = configs(rt, &[b"a", b"b", b"c"])?;
+    Ok(World::new(rt.alloc(), configs)?)
 }
 
 fn fire(rt: &impl AllocGlobal, agent: u64, name: &[u8], payload: &[u8]) -> Result<Action, Fail> {
@@ -49,12 +47,6 @@ fn fire(rt: &impl AllocGlobal, agent: u64, name: &[u8], payload: &[u8]) -> Resul
         name: bytes(rt, name)?,
         payload: bytes(rt, payload)?,
         cc: false,
-    })
-}
-
-fn inject(rt: &impl AllocGlobal, packet: &[u8]) -> Result<Action, Fail> {
-    Ok(Action::Inject {
-        bytes: bytes(rt, packet)?,
     })
 }
 

@@ -1,119 +1,27 @@
 use super::*;
 
-#[test]
-fn same_time(rt: HostRuntime) -> Result<(), Fail> {
-    let mut world = world(&rt)?;
-    assert_eq!(rt;
-        answer(&rt, &mut world, &fire(&rt, 0, b"x", b"1")?)?,
-        Answer::Fired(time(1)?)
-    );
-    assert_eq!(rt;
-        answer(&rt, &mut world, &fire(&rt, 1, b"x", b"2")?)?,
-        Answer::Fired(time(1)?)
-    );
-    assert_eq!(rt; answer(&rt, &mut world, &deliver(2, 1, 0))?, Answer::New);
-    assert_eq!(rt; answer(&rt, &mut world, &deliver(2, 0, 0))?, Answer::New);
-    assert_eq!(rt;
-        answer(&rt, &mut world, &deliver(2, 1, 0))?,
-        Answer::Ignored(Reason::Seen)
-    );
+/// Agent 0 has fired an event and sent its state as packet 1, and the first flush of agent 1 fails.
+fn before_merge(rt: &impl AllocGlobal, world: &mut World) -> Result<(), Fail> {
+    answer(rt, world, &fire(rt, 0, b"a", b"")?)?;
+    answer(rt, world, &Action::State { agent: 0 })?;
+    answer(rt, world, &fails(1))?;
     Ok(())
 }
 
-#[test]
-fn restart_minimum(rt: HostRuntime) -> Result<(), Fail> {
-    let mut world = world(&rt)?;
-    for (at, packet) in [
-        event(3, b'a'),
-        event(5, b'a'),
-        event(4, b'a'),
-        event(5, b'b'),
-        event(6, b'a'),
-    ]
-    .iter()
-    .enumerate()
-    {
-        let line = world.step(rt.alloc(), &inject(&rt, packet)?)?;
-        assert_eq!(rt; line.answer, Answer::Injected);
-        assert_eq!(rt; line.sent.as_slice(), [at as u64].as_slice());
-    }
-    assert_eq!(rt; answer(&rt, &mut world, &deliver(0, 0, 0))?, Answer::New);
-    assert_eq!(rt; answer(&rt, &mut world, &deliver(0, 1, 0))?, Answer::New);
-    let clocks = Answer::Restarted {
-        member: 1,
-        event: 6,
-        query: 1,
-    };
-    assert_eq!(rt; answer(&rt, &mut world, &restart(&rt, 0, b"")?)?, clocks);
-    assert_eq!(rt;
-        answer(&rt, &mut world, &deliver(0, 2, 0))?,
-        Answer::Ignored(Reason::BelowMinimum)
-    );
-    assert_eq!(rt;
-        answer(&rt, &mut world, &deliver(0, 3, 0))?,
-        Answer::Ignored(Reason::BelowMinimum)
-    );
-    assert_eq!(rt; answer(&rt, &mut world, &deliver(0, 4, 0))?, Answer::New);
-    Ok(())
-}
-
-#[test]
-fn torn_tail(rt: HostRuntime) -> Result<(), Fail> {
-    let mut world = world(&rt)?;
-    assert_eq!(rt;
-        answer(&rt, &mut world, &inject(&rt, &event(5, b'x'))?)?,
-        Answer::Injected
-    );
-    assert_eq!(rt;
-        answer(&rt, &mut world, &inject(&rt, &event(12, b'x'))?)?,
-        Answer::Injected
-    );
-    assert_eq!(rt; answer(&rt, &mut world, &deliver(0, 0, 0))?, Answer::New);
-    let clocks = Answer::Restarted {
-        member: 1,
-        event: 6,
-        query: 1,
-    };
-    assert_eq!(rt;
-        answer(&rt, &mut world, &restart(&rt, 0, b"event-clock: 1")?)?,
-        clocks
-    );
-    assert_eq!(rt; answer(&rt, &mut world, &deliver(0, 1, 0))?, Answer::New);
-    let agent = world.agent(0).ok_or("an agent")?;
-    assert_eq!(rt;
-        agent.sink().kept(),
-        b"event-clock: 5\nevent-clock: 1#\nevent-clock: 12\n".as_slice()
-    );
-    let clocks = Answer::Restarted {
-        member: 1,
-        event: 13,
-        query: 1,
-    };
-    assert_eq!(rt; answer(&rt, &mut world, &restart(&rt, 0, b"")?)?, clocks);
-    Ok(())
-}
-
-/// Agent 0 has fired three events and sent its state as packet 3, and the second flush of agent 1 fails.
-fn before_merge(rt: &impl AllocGlobal) -> Result<World, Fail> {
-    let mut world = world(rt)?;
-    for name in [b"a", b"b", b"c"] {
-        answer(rt, &mut world, &fire(rt, 0, name, b"")?)?;
-    }
-    answer(rt, &mut world, &Action::State { agent: 0 })?;
-    let flush = Action::Break {
-        agent: 1,
+/// The next flush of an agent fails.
+fn fails(agent: u64) -> Action {
+    Action::Break {
+        agent,
         call: SinkCall::Flush,
-        count: 2,
-    };
-    answer(rt, &mut world, &flush)?;
-    Ok(world)
+        count: 1,
+    }
 }
 
-/// Agent 1 merges packet 3.
+/// Agent 1 merges packet 1.
 fn merge(rt: &impl AllocGlobal, world: &mut World) -> Result<Line, Fail> {
     let merge = Action::Merge {
         to: 1,
-        packet: 3,
+        packet: 1,
         join: false,
     };
     Ok(world.step(rt.alloc(), &merge)?)
@@ -121,50 +29,15 @@ fn merge(rt: &impl AllocGlobal, world: &mut World) -> Result<Line, Fail> {
 
 #[test]
 fn flush_fails_in_merge(rt: HostRuntime) -> Result<(), Fail> {
-    let mut world = before_merge(&rt)?;
+    let mut world = world(&rt)?;
+    before_merge(&rt, &mut world)?;
     let line = merge(&rt, &mut world)?;
     assert_eq!(rt; line.answer, Answer::Refused(Refusal::SinkFault));
-    assert_eq!(rt; line.events.as_slice().len(), 1);
-    assert!(rt; handed(&line, 1, b'a'));
-    Ok(())
-}
-
-#[test]
-fn merge_again_after_fault(rt: HostRuntime) -> Result<(), Fail> {
-    let mut world = before_merge(&rt)?;
-    merge(&rt, &mut world)?;
-    assert_eq!(rt;
-        merge(&rt, &mut world)?.answer,
-        Answer::Refused(Refusal::Stopped)
-    );
+    assert!(rt; line.events.as_slice().is_empty());
     answer(&rt, &mut world, &restart(&rt, 1, b"")?)?;
     let line = merge(&rt, &mut world)?;
     assert_eq!(rt; line.answer, Answer::Merged);
-    assert_eq!(rt; line.events.as_slice().len(), 2);
-    assert!(rt; handed(&line, 2, b'b') && handed(&line, 3, b'c'));
-    Ok(())
-}
-
-#[test]
-fn compact_then_restart(rt: HostRuntime) -> Result<(), Fail> {
-    let mut world = world(&rt)?;
-    for _ in 0..3 {
-        answer(&rt, &mut world, &fire(&rt, 0, b"x", b"")?)?;
-    }
-    assert_eq!(rt;
-        answer(&rt, &mut world, &Action::Compact { agent: 0 })?,
-        Answer::Compacted
-    );
-    let clocks = Answer::Restarted {
-        member: 1,
-        event: 4,
-        query: 1,
-    };
-    assert_eq!(rt; answer(&rt, &mut world, &restart(&rt, 0, b"")?)?, clocks);
-    assert_eq!(rt;
-        answer(&rt, &mut world, &deliver(0, 2, 0))?,
-        Answer::Ignored(Reason::BelowMinimum)
-    );
+    assert!(rt; handed(&line, 1, b'a'));
     Ok(())
 }
 
@@ -261,10 +134,7 @@ fn empty_and_refused(rt: HostRuntime) -> Result<(), Fail> {
         trace.lines.as_slice()[1].answer,
         Answer::Refused(Refusal::NoAgent)
     );
-    let mut configs = Vec::new(rt.alloc());
-    for name in [b"a", b"b", b"a"] {
-        configs.push(config(&rt, name)?)?;
-    }
+    let configs = configs(&rt, &[b"a", b"b", b"a"])?;
     assert!(rt;
         matches!(
             run(rt.alloc(), configs, &actions),
