@@ -1,5 +1,6 @@
 pub mod ConfigLemmas
 pub mod CutLemmas
 pub mod NumberLemmas
+pub mod ShownLaws
 pub mod SlotLemmas
 pub mod WordLemmas

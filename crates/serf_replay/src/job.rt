@@ -2,19 +2,21 @@
 
 ghost use Rattle.std.specs.Prelude.{◌≡◌, ◌<◌, ◌≤◌, ◌+◌, List, ℕ, length, OnOk, IfOk, IfErr, IfSome, IsErrOf};
 ghost use Rattle.std.specs.Io.KnownBytes.{Appends, Consumes};
-ghost use Rattle.serf_world.specs.Cluster.{run_of, trace_of};
+ghost use Rattle.serf_world.specs.Cluster.{Run, after, run_of, trace_of};
 ghost use Rattle.serf_world.specs.Runs.{AreConfigs};
-ghost use Rattle.serf_world.specs.Trace.{outcome_of};
+ghost use Rattle.serf_replay.specs.Show.{trace_text};
 ghost use Rattle.serf_replay.specs.Io.{AppendsFront};
 ghost use Rattle.serf_replay.specs.Output.{output_of, GivesText};
+ghost use Rattle.serf_replay.specs.Running.{IsShown};
 
 use crate::cause::Cause;
 use crate::input::{InputFault, MAX_SCHEDULE_BYTES, read_input};
 use crate::output::write_output;
 use crate::parse::{ScheduleFault, parse_schedule};
 use crate::schedule::Schedule;
-use crate::show::show_trace;
-use serf_world::{RunFault, Trace, Unwatched, Watch, run_watched};
+use crate::show::put_action;
+use crate::watch::{Unwatched, Watch};
+use serf_world::{Action, NewFault, World};
 use std::alloc::{AllocError, Global};
 use std::io::{Read, Write};
 use thiserror::Error;
@@ -39,21 +41,49 @@ pub enum ReplayFault {
     WriteFault,
 }
 
-/// The trace of a schedule, of which nothing is left then.
-fn trace_of_schedule<T: Watch>(
+/// Does an action, and adds its lines to the text. Where there is no memory for that, the text may have a part of them.
+fn add_lines(
+    alloc: Global,
+    world: &mut World,
+    out: &mut Vec<u8>,
+    number: u64,
+    action: Action,
+) -> Result<(), AllocError>
+    ensures { (r : Run) → IsShown r world.old out.old.items → number ≡ length r.turns + 1 → OnOk result (IsShown (after r action) world.new out.new.items) }
+{
+    let Ok(line) = world.step(alloc, &action) else {
+        return Err(AllocError);
+    };
+    put_action(out, world.sent(), number, &line)?;
+    Ok(())
+}
+
+/// The text of the run of a schedule, of which nothing is left then.
+///
+/// A line is let go as soon as its text stands, and an action as soon as it is done.
+fn run_text<T: Watch>(
     alloc: Global,
     schedule: Schedule,
     watch: &mut T,
-) -> Result<Trace, AllocError>
+) -> Result<Vec<u8>, AllocError>
     requires { AreConfigs schedule.configs.items }
-    ensures { IfOk result (λ trace. outcome_of trace ≡ trace_of (run_of schedule.configs.items schedule.actions.items)) }
+    ensures { IfOk result (λ text. text.items ≡ trace_text (trace_of (run_of schedule.configs.items schedule.actions.items))) }
 {
     let Schedule { configs, actions } = schedule;
-    match run_watched(alloc, configs, &actions, watch) {
-        Ok(trace) => Ok(trace),
-        Err(RunFault::OutOfMemory(_)) => Err(AllocError),
-        Err(RunFault::NameTwice(_) | RunFault::BadConfig(_)) => unreachable!(),
+    let mut world = match World::new(alloc, configs) {
+        Ok(world) => world,
+        Err(NewFault::OutOfMemory) => return Err(AllocError),
+        Err(NewFault::NameTwice(_) | NewFault::BadConfig(_)) => unreachable!(),
+    };
+    let mut out = Vec::new(alloc);
+    let all = actions.len() as u64;
+    let mut number: u64 = 0;
+    for action in actions {
+        number += 1;
+        add_lines(alloc, &mut world, &mut out, number, action)?;
+        watch.acted(number, all);
     }
+    Ok(out)
 }
 
 /// The text of the trace of a schedule's text, of which nothing is left then.
@@ -66,10 +96,7 @@ fn output_text<T: Watch>(
 {
     let schedule = parse_schedule(alloc, &input)?;
     drop(input);
-    let Ok(trace) = trace_of_schedule(alloc, schedule, watch) else {
-        return Err(ScheduleFault::OutOfMemory);
-    };
-    match show_trace(alloc, &trace) {
+    match run_text(alloc, schedule, watch) {
         Ok(text) => Ok(text),
         Err(_) => Err(ScheduleFault::OutOfMemory),
     }

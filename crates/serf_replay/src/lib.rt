@@ -16,6 +16,7 @@ mod put;
 mod roster;
 mod schedule;
 mod show;
+mod watch;
 mod wire_words;
 mod words;
 
@@ -28,6 +29,7 @@ pub use output::{WriteFault, write_output};
 pub use parse::{ScheduleFault, parse_schedule};
 pub use schedule::Schedule;
 pub use show::show_trace;
+pub use watch::{Unwatched, Watch};
 pub use wire_words::WireWords;
 
 #[cfg(test)]

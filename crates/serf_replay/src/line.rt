@@ -2,7 +2,7 @@
 
 ghost use Rattle.std.specs.Prelude.{◌≡◌, ◌≤◌, ◌⊎◌, [], length, map};
 ghost use Rattle.serf_world.specs.declared.action.Action.TheVariants.{State, Save, Compact};
-ghost use Rattle.serf_replay.specs.Words.{words_of, bytes_of, or_bad};
+ghost use Rattle.serf_replay.specs.Words.{words_of, bytes_of, bytes_in, or_bad};
 ghost use Rattle.serf_replay.specs.Command.{count_of};
 ghost use Rattle.serf_replay.specs.Line.{agent_of, per_time_in, firing_of, delivery_of, merging_of, answer_of, restart_of, break_of, injection_of, closing_of, lone_of, action_of, filters_from, params_of, query_of};
 ghost use Rattle.serf_replay.specs.Gives.{Gives};
@@ -14,7 +14,7 @@ use crate::words::{
 };
 use serf_agent::{BytesList, Config, QueryParams};
 use serf_wire::Bytes;
-use serf_world::Action;
+use serf_world::{Action, BoxedBytes, BoxedParams};
 use std::alloc::Global;
 
 /// How many events of one time an agent takes where its line doesn't say.
@@ -256,6 +256,30 @@ fn params(alloc: Global, words: &[&[u8]], rest: &[u8]) -> Result<QueryParams, Li
     })
 }
 
+/// The same, in a place of its own.
+fn boxed_params(alloc: Global, words: &[&[u8]], rest: &[u8]) -> Result<BoxedParams, LineFault>
+    requires { length words.now ≡ 8 }
+    ensures { Gives (λ p. p) result (params_of (map (λ w. w.now) words.now) (words_of rest.now)) }
+{
+    let params = params(alloc, words, rest)?;
+    match BoxedParams::new(alloc, params) {
+        Ok(boxed) => Ok(boxed),
+        Err(_) => Err(LineFault::OutOfMemory),
+    }
+}
+
+/// The bytes at a place of a line, counting from 1, in a place of their own.
+fn boxed_bytes_at(alloc: Global, words: &[&[u8]], place: usize) -> Result<BoxedBytes, LineFault>
+    requires { (1 ≤ place) × (place ≤ length words.now) }
+    ensures { Gives (λ b. b) result (bytes_in place (map (λ w. w.now) words.now)) }
+{
+    let bytes = bytes_at(alloc, words, place)?;
+    match BoxedBytes::new(alloc, bytes) {
+        Ok(boxed) => Ok(boxed),
+        Err(_) => Err(LineFault::OutOfMemory),
+    }
+}
+
 /// The action of a query line, of which these are the first eight words and what is left.
 #[tactic(auto, unfolding(crate::specs::Line::query_of))]
 pub(crate) fn query(alloc: Global, words: &[&[u8]], rest: &[u8]) -> Result<Action, LineFault>
@@ -265,9 +289,9 @@ pub(crate) fn query(alloc: Global, words: &[&[u8]], rest: &[u8]) -> Result<Actio
     let agent = number_at(words, 2)?;
     let now = number_at(words, 3)?;
     let id = number_from_to(words, 4, 0, u64::from(u32::MAX))?;
-    let name = bytes_at(alloc, words, 5)?;
-    let payload = bytes_at(alloc, words, 6)?;
-    let params = params(alloc, words, rest)?;
+    let name = boxed_bytes_at(alloc, words, 5)?;
+    let payload = boxed_bytes_at(alloc, words, 6)?;
+    let params = boxed_params(alloc, words, rest)?;
     Ok(Action::Query {
         agent,
         now,

@@ -223,8 +223,14 @@ fn put_handed(out: &mut Vec<u8>, number: u64, handed: &Option<HandedLine>) -> Re
     }
 }
 
+/// Appends the lines of an action, where these packets were sent.
 #[tactic(auto, unfolding(crate::specs::Show::action_text))]
-fn put_action(out: &mut Vec<u8>, sent: &[Bytes], number: u64, line: &Line) -> Result<(), AllocError>
+pub(crate) fn put_action(
+    out: &mut Vec<u8>,
+    sent: &[Bytes],
+    number: u64,
+    line: &Line,
+) -> Result<(), AllocError>
     ensures { OnOk result (out.new.items ≡ out.old.items ++ action_text sent.now number line.now) }
 {
     put_answer_line(out, number, line.answer)?;

@@ -1,13 +1,13 @@
 //! How far a long run is, on a terminal.
 
-use serf_world::Watch;
+use serf_replay::Watch;
 use std::time::{Clock, Duration, Instant};
 
 /// A run shows a line each time that so many seconds are over, and a shorter run none.
 const PERIOD_SECONDS: u64 = 1;
 
 /// The clock is read once for so many actions.
-const ACTIONS: usize = 1024;
+const ACTIONS: u64 = 1024;
 
 /// Shows how far a run is on standard error, once a second, where that is a terminal.
 ///
@@ -31,7 +31,7 @@ impl<'a, R: Clock + Eprint> Progress<'a, R> {
     }
 
     /// Shows a line where it is time for one, and gives the time since which the next one waits.
-    fn show(&self, since: Instant, done: usize, all: usize) -> Option<Instant> {
+    fn show(&self, since: Instant, done: u64, all: u64) -> Option<Instant> {
         let now = Instant::now(self.rt).ok()?;
         if now.duration_since(since) < Duration::from_secs(PERIOD_SECONDS) {
             return Some(since);
@@ -42,7 +42,7 @@ impl<'a, R: Clock + Eprint> Progress<'a, R> {
 }
 
 impl<R: Clock + Eprint> Watch for Progress<'_, R> {
-    fn acted(&mut self, done: usize, all: usize) {
+    fn acted(&mut self, done: u64, all: u64) {
         if done % ACTIONS == 0
             && let Some(since) = self.since
         {

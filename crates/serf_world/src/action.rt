@@ -1,6 +1,6 @@
 //! What is done in a cluster.
 
-use serf_agent::QueryParams;
+use crate::boxed::{BoxedBytes, BoxedParams};
 use serf_wire::Bytes;
 
 /// A call of an agent's sink that can be made to fail.
@@ -50,9 +50,9 @@ pub enum Action {
         agent: u64,
         now: u64,
         id: u32,
-        name: Bytes,
-        payload: Bytes,
-        params: QueryParams,
+        name: BoxedBytes,
+        payload: BoxedBytes,
+        params: BoxedParams,
     },
     /// An agent answers a query that was handed to it in this life.
     Respond {

@@ -95,7 +95,7 @@ pub(crate) fn act(
             *id,
             name.as_slice(),
             payload.as_slice(),
-            params,
+            params.get(),
         ),
         Action::Respond {
             handed,

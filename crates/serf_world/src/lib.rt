@@ -4,6 +4,7 @@
 
 mod action;
 mod acts;
+mod boxed;
 mod calls;
 mod done;
 mod fault;
@@ -18,16 +19,15 @@ mod seat;
 mod sizes;
 mod trace;
 mod turn;
-mod watch;
 mod world;
 
 pub use action::{Action, SinkCall};
+pub use boxed::{BoxedBytes, BoxedParams};
 pub use fault::{NewFault, RunFault, StepFault};
 pub use line::{Answer, EventLine, HandedLine, Line, Refusal};
 pub use lists::{EventLines, Lines, Numbers};
-pub use running::{run, run_watched};
+pub use running::run;
 pub use trace::Trace;
-pub use watch::{Unwatched, Watch};
 pub use world::World;
 
 #[cfg(test)]

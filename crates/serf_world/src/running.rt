@@ -18,7 +18,6 @@ use crate::line::Line;
 use crate::lists::Lines;
 use crate::sizes::read_all_numbers;
 use crate::trace::Trace;
-use crate::watch::{Unwatched, Watch};
 use crate::world::World;
 use serf_agent::{BytesList, Config};
 use std::alloc::{AllocError, Global};
@@ -45,12 +44,7 @@ fn step_to(
 }
 
 /// Does all actions in a cluster. Where memory runs out, gives the trace of those done before.
-fn run_in<W: Watch>(
-    alloc: Global,
-    world: World,
-    actions: &[Action],
-    watch: &mut W,
-) -> Result<Trace, Trace>
+fn run_in(alloc: Global, world: World, actions: &[Action]) -> Result<Trace, Trace>
     ensures done { (r : Run) → IsViewed r.cluster world → AreGood r.cluster → r.turns ≡ [] → IfOk result (λ trace. outcome_of trace ≡ trace_of (fold after r actions.now)) }
     ensures memory { (r : Run) → IsViewed r.cluster world → AreGood r.cluster → r.turns ≡ []
         → IfErr result (λ trace. (n : ℕ) × (n ≤ length actions.now) × (outcome_of trace ≡ trace_of (fold after r (take n actions.now)))) }
@@ -64,7 +58,6 @@ fn run_in<W: Watch>(
                 sent: world.into_sent(),
             });
         }
-        watch.acted(lines.len(), actions.len());
     }
     Ok(Trace {
         lines: Lines::from_vec(lines),
@@ -72,15 +65,9 @@ fn run_in<W: Watch>(
     })
 }
 
-/// Does all actions as [`run`] does, and tells of each that is done.
-pub fn run_watched<W: Watch>(
-    alloc: Global,
-    configs: Vec<Config>,
-    actions: &[Action],
-    watch: &mut W,
-) -> Result<Trace, RunFault>
-    // The trace is that of the ideal cluster.
-    ensures exactly { IsRun configs.items actions.now result }
+/// A run, exactly.
+fn run_exactly(alloc: Global, configs: Vec<Config>, actions: &[Action]) -> Result<Trace, RunFault>
+    ensures { IsRun configs.items actions.now result }
 {
     let world = match World::new(alloc, configs) {
         Ok(world) => world,
@@ -93,7 +80,7 @@ pub fn run_watched<W: Watch>(
             }));
         }
     };
-    match run_in(alloc, world, actions, watch) {
+    match run_in(alloc, world, actions) {
         Ok(trace) => Ok(trace),
         Err(trace) => Err(RunFault::OutOfMemory(trace)),
     }
@@ -134,5 +121,5 @@ pub fn run(alloc: Global, configs: Vec<Config>, actions: &[Action]) -> Result<Tr
     ensures open_queries { (n : ℕ) → AreConfigs configs.items → OpenQueriesHold (run_of configs.items (take n actions.now)) }
 {
     read_all_numbers(actions);
-    run_watched(alloc, configs, actions, &mut Unwatched)
+    run_exactly(alloc, configs, actions)
 }

@@ -17,6 +17,7 @@ fn read_numbers(action: &Action)
 {
     match action {
         Action::Query { id, params, .. } => {
+            let params = params.get();
             know_sizes(*id, params.port, params.relay_factor, params.timeout);
         }
         _ => {}

@@ -217,6 +217,13 @@ impl World {
         }
     }
 
+    /// All packets that were sent, numbered from 0 in this order. Takes no memory.
+    pub fn sent(&self) -> &[Bytes]
+        ensures { result.now ≡ self.now.sent }
+    {
+        self.sent.as_slice()
+    }
+
     /// All packets that were sent. Takes no memory.
     pub(crate) fn into_sent(self) -> BytesList
         ensures { result ≡ self.sent }

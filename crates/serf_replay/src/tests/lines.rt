@@ -125,6 +125,7 @@ fn words_of_actions(rt: HostRuntime) -> Result<(), Fail> {
             assert_eq!(rt; (*agent, *now, *id), (1, 2, 4_294_967_295));
             assert_eq!(rt; name.as_slice(), b"x".as_slice());
             assert!(rt; payload.as_slice().is_empty());
+            let params = params.get();
             assert_eq!(rt; params.timeout, 9_223_372_036_854_775_807);
             assert!(rt; params.want_ack && params.no_broadcast);
             let filters = params.filters.as_slice();

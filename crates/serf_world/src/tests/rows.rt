@@ -45,21 +45,22 @@ fn flush_fails_in_merge(rt: HostRuntime) -> Result<(), Fail> {
 fn load(rt: &impl AllocGlobal) -> Result<Action, Fail> {
     let mut filters = BytesList::new(rt.alloc());
     filters.push(bytes(rt, &[0x00, 0x91, 0xa1, 0x62])?)?;
+    let params = QueryParams {
+        filters,
+        want_ack: true,
+        no_broadcast: false,
+        timeout: 1000,
+        addr: bytes(rt, b"")?,
+        port: 0,
+        relay_factor: 0,
+    };
     Ok(Action::Query {
         agent: 0,
         now: 0,
         id: 7,
-        name: bytes(rt, b"load")?,
-        payload: bytes(rt, b"")?,
-        params: QueryParams {
-            filters,
-            want_ack: true,
-            no_broadcast: false,
-            timeout: 1000,
-            addr: bytes(rt, b"")?,
-            port: 0,
-            relay_factor: 0,
-        },
+        name: BoxedBytes::new(rt.alloc(), bytes(rt, b"load")?)?,
+        payload: BoxedBytes::new(rt.alloc(), bytes(rt, b"")?)?,
+        params: BoxedParams::new(rt.alloc(), params)?,
     })
 }
 

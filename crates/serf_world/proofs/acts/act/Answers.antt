@@ -34,7 +34,7 @@ pub returns-in-Query : goal.returns-in-Query
 returns-in-Query c = λ m good is.
     let was = c.seat.view_is ∙ is in
     let did = c.query_at.ensures m good (ap (λ (s : SeatState). s.stored) was) in
-    rw (c.in-Query.is) (does-act _ c.query_at.result c.query_at.new.agent.stored _ (ap (λ (s : SeatState). s.handed) was) (rw (c.as_slice-in-Query.ensures, c.as_slice-in-Query-2.ensures) at did))
+    rw (c.in-Query.is) (does-act _ c.query_at.result c.query_at.new.agent.stored _ (ap (λ (s : SeatState). s.handed) was) (rw (c.as_slice-in-Query.ensures, c.as_slice-in-Query-2.ensures, c.get.ensures) at did))
 
 pub returns-in-Respond : goal.returns-in-Respond
 returns-in-Respond c = λ m good is.

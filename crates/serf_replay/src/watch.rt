@@ -3,7 +3,7 @@
 /// Is told of each action of a run that is done. What it does changes nothing of the run.
 pub trait Watch {
     /// So many of so many actions are done.
-    fn acted(&mut self, done: usize, all: usize);
+    fn acted(&mut self, done: u64, all: u64);
 }
 
 /// Does nothing with what it is told.
@@ -11,5 +11,5 @@ pub trait Watch {
 pub struct Unwatched;
 
 impl Watch for Unwatched {
-    fn acted(&mut self, _done: usize, _all: usize) {}
+    fn acted(&mut self, _done: u64, _all: u64) {}
 }

@@ -1,0 +1,93 @@
+-- The text of a run's lines, as one action after another is done.
+use Rattle.std.proofs.Common.{◌≡◌, ℕ, ◌+◌, ◌<◌, ◌≤◌, List, [], ◌∷◌, ◌++◌, Option, Some, None, refl, sym, ap, ◌∙◌, map, length, append_assoc, length-append, codes, decimal, arith}
+use Rattle.std.specs.Prelude.{slice_get}
+use Rattle.std.specs.List.{flat_map}
+use Rattle.std.specs.Option.{option_to_list}
+use Rattle.std.proofs.lemmas.List.{append-nil, get_or_append_left, length-map, map-append}
+use Rattle.std.proofs.lemmas.Option.{unwrap_or-slice_get}
+use Rattle.serf_world.specs.declared.action.Action.{Action}
+use Rattle.serf_world.specs.declared.line.Line.{Line}
+use Rattle.serf_world.specs.Cluster.{Member, Cluster, Run, after, numbers_from, on_agent, step, step_by}
+use Rattle.serf_world.specs.Trace.{Turn, actor_of}
+use Rattle.serf_world.specs.View.{TakesStep, WorldState}
+use Rattle.serf_replay.specs.TextParts.{hex_text}
+use Rattle.serf_replay.specs.Show.{action_text, actions_text, answer_line, event_line, handed_line, numbered, packet_of, sent_line}
+use Rattle.serf_replay.specs.Running.{IsShown}
+
+-- ---- what is sent later changes no line
+
+packet-kept : (sent more : List (List ℕ)) (k : ℕ) → k < length sent → packet_of (sent ++ more) k ≡ packet_of sent k
+packet-kept sent more k h = unwrap_or-slice_get (sent ++ more) k [] ∙ get_or_append_left sent more [] k h ∙ sym (unwrap_or-slice_get sent k [])
+
+line-kept : (sent more : List (List ℕ)) (n k : ℕ) → k < length sent → sent_line (sent ++ more) n k ≡ sent_line sent n k
+unfolding sent_line
+line-kept sent more n k h = ap (λ p. numbered n (codes "sent " ++ decimal k ++ codes " " ++ hex_text p)) (packet-kept sent more k h)
+
+lines-kept : (sent more : List (List ℕ)) (n k : ℕ) (packets : List (List ℕ)) → k + length packets ≤ length sent
+    → flat_map (sent_line (sent ++ more) n) (numbers_from k packets) ≡ flat_map (sent_line sent n) (numbers_from k packets)
+lines-kept sent more n k [] h = refl
+lines-kept sent more n k (p ∷ ps) h =
+    ap (λ l. l ++ flat_map (sent_line (sent ++ more) n) (numbers_from (k + 1) ps)) (line-kept sent more n k (omega (arith, h)))
+    ∙ ap (λ l. sent_line sent n k ++ l) (lines-kept sent more n (k + 1) ps (omega (arith, h)))
+
+action-kept : (sent more : List (List ℕ)) (n k : ℕ) (line : Line) (packets : List (List ℕ)) → line.sent ≡ numbers_from k packets → k + length packets ≤ length sent
+    → action_text (sent ++ more) n line ≡ action_text sent n line
+unfolding action_text
+action-kept sent more n k line packets is h =
+    ap (λ l. answer_line n line.answer ++ l ++ flat_map (event_line n) line.events ++ flat_map (handed_line n) (option_to_list line.handed))
+    (ap (λ ks. flat_map (sent_line (sent ++ more) n) ks) is ∙ lines-kept sent more n k packets h ∙ ap (λ ks. flat_map (sent_line sent n) ks) (sym is))
+
+-- ---- one more line
+
+actions-push : (sent : List (List ℕ)) (n : ℕ) (lines : List Line) (line : Line)
+    → actions_text sent n (lines ++ line ∷ []) ≡ actions_text sent n lines ++ action_text sent (n + length lines) line
+actions-push sent n [] line =
+    let none : n ≡ n + 0 = omega arith in
+    append-nil (action_text sent n line) ∙ ap (λ m. action_text sent m line) none
+actions-push sent n (l ∷ ls) line =
+    let later : n + 1 + length ls ≡ n + length (l ∷ ls) = omega arith in
+    ap (λ t. action_text sent n l ++ t) (actions-push sent (n + 1) ls line ∙ ap (λ m. actions_text sent (n + 1) ls ++ action_text sent m line) later)
+    ∙ sym (append_assoc (action_text sent n l) (actions_text sent (n + 1) ls) (action_text sent (n + length (l ∷ ls)) line))
+
+-- ---- what a step sends
+
+-- a step sends its packets behind those that were sent, and its line says their numbers
+record Sends (c : Cluster) (action : Action) : Type 0 where
+  pub sent : (step c action).cluster.sent ≡ c.sent ++ (step c action).turn.packets
+  pub numbers : (step c action).turn.line.sent ≡ numbers_from (length c.sent) (step c action).turn.packets
+
+sends : (c : Cluster) (action : Action) → Sends c action
+sends c action = record { sent = (by (actor_of action)).0; numbers = (by (actor_of action)).1 }
+  where
+    at : (a : ℕ) (m : Option Member) → ((on_agent c action a m).cluster.sent ≡ c.sent ++ (on_agent c action a m).turn.packets)
+        × ((on_agent c action a m).turn.line.sent ≡ numbers_from (length c.sent) (on_agent c action a m).turn.packets)
+    at a None = (sym (append-nil c.sent), refl)
+    at a (Some m) = (refl, refl)
+
+    by : (o : Option ℕ) → ((step_by c action o).cluster.sent ≡ c.sent ++ (step_by c action o).turn.packets)
+        × ((step_by c action o).turn.line.sent ≡ numbers_from (length c.sent) (step_by c action o).turn.packets)
+    by None = (refl, refl)
+    by (Some a) = at a (slice_get c.members a)
+
+-- ---- one more action
+
+pub shown-after : (r : Run) (action : Action) (w new : WorldState) (line : Line) (text added : List ℕ) (n : ℕ)
+    → IsShown r w text → n ≡ length r.turns + 1 → TakesStep (step r.cluster action) new line → added ≡ text ++ action_text new.sent n line → IsShown (after r action) new added
+shown-after r action w new line text added n h count takes is = record {
+  view = takes.view;
+  good = takes.good;
+  shown = λ more.
+      let turn : Turn = (step r.cluster action).turn in
+      let did : Sends r.cluster action = sends r.cluster action in
+      let lines : List Line = map (λ t. t.line) r.turns in
+      let sent : List (List ℕ) = (step r.cluster action).cluster.sent in
+      let place : 1 + length lines ≡ n = grind (arith, length-map r.turns (λ (t : Turn). t.line), count) in
+      let within : length r.cluster.sent + length turn.packets ≤ length sent = omega (arith, ap length did.sent, length-append r.cluster.sent turn.packets) in
+      ap (λ ls. actions_text (sent ++ more) 1 ls) (map-append (λ (t : Turn). t.line) r.turns (turn ∷ []))
+      ∙ actions-push (sent ++ more) 1 lines turn.line
+      ∙ ap (λ s. actions_text s 1 lines ++ action_text (sent ++ more) (1 + length lines) turn.line) (ap (λ s. s ++ more) did.sent ∙ append_assoc r.cluster.sent turn.packets more)
+      ∙ ap (λ t. t ++ action_text (sent ++ more) (1 + length lines) turn.line) (h.shown (turn.packets ++ more))
+      ∙ ap (λ t. text ++ t) (ap (λ m. action_text (sent ++ more) m turn.line) place ∙ action-kept sent more n (length r.cluster.sent) turn.line turn.packets did.numbers within
+      ∙ ap (λ s. action_text s n turn.line) takes.view.sent ∙ ap (λ l. action_text new.sent n l) (sym takes.line_is))
+      ∙ sym is;
+}
