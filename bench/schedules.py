@@ -1,46 +1,118 @@
-"""schedules.py KIND SIZE: writes a schedule for the bench. SIZE is bytes for deliveries and agents, actions for run."""
+"""schedules.py KIND SIZE: writes a schedule for the bench to standard output.
+
+SIZE is bytes for `injections`, `deliveries`, `agents` and `saves`, and for the others how many actions there are.
+"""
 
 import sys
 
 
-def deliveries(size):
-    lines = [f"agent {n:02x} 512 512 512 8 keep\n" for n in range(1, 101)]
-    lines += [f"fire {n} 6465706c6f79 {n:02x} 0\n" for n in range(100)]
-    length = sum(map(len, lines))
+def number(value):
+    """A number in its shortest spelling."""
+    if value < 128:
+        return bytes([value])
+    for head, size in ((0xCC, 1), (0xCD, 2), (0xCE, 4)):
+        if value < 256**size:
+            return bytes([head]) + value.to_bytes(size, "big")
+    return b"\xcf" + value.to_bytes(8, "big")
+
+
+def text(value):
+    """A text in its shortest spelling, of at most 65,535 bytes."""
+    if len(value) < 32:
+        return bytes([0xA0 + len(value)]) + value
+    return b"\xda" + len(value).to_bytes(2, "big") + value
+
+
+def event(time, payload):
+    """The packet of a user event."""
+    fields = ((b"LTime", number(time)), (b"Name", text(b"deploy")), (b"Payload", text(payload)), (b"CC", b"\xc2"))
+    return b"\x03\x84" + b"".join(text(key) + value for key, value in fields)
+
+
+def agent(name):
+    return f"agent {name} 512 512 512 8 keep\n"
+
+
+def filled(first, lines, size):
+    """The first lines, and then as many of the others as so many bytes hold."""
+    length = sum(map(len, first))
+    yield from first
+    for line in lines:
+        length += len(line)
+        if length > size:
+            return
+        yield line
+
+
+def forever():
     n = 0
     while True:
-        line = f"deliver {n % 100} {n * 7 % 100} {n}\n"
-        if length + len(line) > size:
-            return lines
-        lines.append(line)
-        length += len(line)
+        yield n
         n += 1
+
+
+def injections(size):
+    """Events that a stranger sends, and nobody gets."""
+    lines = (f"inject {event(n % 60000, b'payload').hex()}\n" for n in forever())
+    return filled([], lines, size)
+
+
+def deliveries(size):
+    """A hundred agents get the hundred events of one of them, again and again."""
+    first = [agent(f"{n:02x}") for n in range(100)]
+    first += [f"fire 0 6465706c6f79 {n:02x} 0\n" for n in range(100)]
+    lines = (f"deliver {n % 100} {(n + n // 100) % 100} {n}\n" for n in forever())
+    return filled(first, lines, size)
 
 
 def agents(size):
-    lines = []
-    length = 0
-    n = 0
-    while True:
-        line = f"agent {n:064x} 1 1 512 8 keep 1024\n"
-        if length + len(line) > size or n == 30000:
-            return lines
-        lines.append(line)
-        length += len(line)
-        n += 1
+    """Agents of small buffers."""
+    lines = (f"agent {n:064x} 1 1 512 8 keep 1024\n" for n in forever())
+    return filled([], lines, size)
+
+
+def saves(size):
+    """The shortest actions, one after another."""
+    return filled([agent("61")], ("save 0\n" for _ in forever()), size)
 
 
 def run(actions):
-    lines = ["agent 61 512 512 512 8 keep\n", "agent 62 512 512 512 8 keep\n"]
+    """An agent fires, and another gets the event."""
+    yield agent("61")
+    yield agent("62")
     for n in range(actions // 2):
-        lines.append("fire 0 6465706c6f79 7631 0\n")
-        lines.append(f"deliver 1 {2 * n} {n}\n")
-    return lines
+        yield "fire 0 6465706c6f79 7631 0\n"
+        yield f"deliver 1 {2 * n} {n}\n"
 
 
-def main():
-    kind, size = sys.argv[1], int(sys.argv[2])
-    sys.stdout.writelines({"deliveries": deliveries, "agents": agents, "run": run}[kind](size))
+def hostile(packets, actions):
+    """A stranger sends packets, and an agent gets each of them as it comes."""
+    yield agent("61")
+    for n in range(actions // 2):
+        yield f"inject {packets(n).hex()}\n"
+        yield f"deliver 0 {n} {n}\n"
 
 
-main()
+def one_time(actions):
+    """Ever other events of one time."""
+    return hostile(lambda n: event(7, b"%d" % n), actions)
+
+
+def newer_times(actions):
+    """Events of ever newer times."""
+    return hostile(lambda n: event(n + 1, b"v1"), actions)
+
+
+def oversize(actions):
+    """Five hundred events with more bytes than any agent takes, again and again."""
+    yield agent("61")
+    for n in range(500):
+        yield f"inject {event(n + 1, bytes(9217)).hex()}\n"
+    for n in range(actions - 500):
+        yield f"deliver 0 {n % 500} {n}\n"
+
+
+KINDS = {kind.__name__: kind for kind in (injections, deliveries, agents, saves, run, one_time, newer_times, oversize)}
+
+if __name__ == "__main__":
+    sys.stdout.writelines(KINDS[sys.argv[1]](int(sys.argv[2])))

@@ -1,5 +1,5 @@
 -- What an agent sends of itself.
-use Rattle.std.proofs.Common.{◌≡◌, ◌≢◌, ◌↔◌, ℕ, Bool, true, false, cond, IsTrue, List, [], ◌∷◌, map, Result, Ok, Err, refl, sym, ap, subst, ◌∙◌}
+use Rattle.std.proofs.Common.{◌≡◌, ◌≢◌, ◌↔◌, ℕ, Bool, true, false, cond, IsTrue, IsOk, List, [], ◌∷◌, map, Result, Ok, Err, refl, sym, ap, subst, ◌∙◌}
 use Rattle.serf_wire.specs.declared.encode.EncodeFault.{EncodeFault}
 use Rattle.serf_wire.specs.declared.encode.EncodeFault.TheVariants as encodes
 use Rattle.serf_wire.specs.declared.texts.Slot.{Slot}
@@ -30,6 +30,10 @@ sends-not a status left m runs is long =
     let long_too : has_long (push_pull (state_of a status left)) ≡ true = ap (λ (x : PushPull). has_long (push_pull x)) (sym is) ∙ long in
     let ok : Result (List ℕ) PushPullFault = Ok (canonical (push_pull (state_of a status left))) in
     sym (ap (λ (b : Bool). cond b (Err states.Stopped) (cond (has_long (push_pull (state_of a status left))) (Err states.TooLong) ok)) runs ∙ ap (λ (b : Bool). cond b (Err states.TooLong) ok) long_too)
+
+-- where an agent runs and nothing is too long there is a packet to send
+pub sends-some : (a : Stored) (status : List (List ℕ × ℕ)) (left : List (List ℕ)) (m : PushPull) → a.snapshot.stopped ≡ false → m ≡ state_of a status left → has_long (push_pull m) ≡ false → IsOk (send_state a status left)
+sends-some a status left m runs is fits = subst (λ (r : Result (List ℕ) PushPullFault). IsOk r) (sends a status left m _ runs is fits refl) refl
 
 -- an encoder that gives a packet found nothing too long
 pub fits-by : {R : Type 0} (long : Bool) (r : Result R EncodeFault) → ((r ≡ Err encodes.TooLong) ↔ IsTrue long) → r ≢ Err encodes.TooLong → long ≡ false

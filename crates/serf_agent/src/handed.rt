@@ -164,14 +164,8 @@ impl HandedQuery {
         requires { length (response_packet self.now payload.now) ≤ 1024 }
         ensures { IfOk result (λ packet. packet ≡ response_packet self.now payload.now) }
     {
-        match encode_response(
-            alloc,
-            self.time.get(),
-            self.id,
-            self.node.as_slice(),
-            0,
-            payload,
-        ) {
+        let node = self.node.as_slice();
+        match encode_response(alloc, self.time.get(), self.id, node, 0, payload) {
             Ok(packet) => Ok(Bytes::from_vec(packet)),
             Err(EncodeFault::TooLong) => unreachable!(),
             Err(EncodeFault::OutOfMemory) => Err(AllocError),

@@ -27,9 +27,7 @@ impl BytesList {
     pub fn new(alloc: Global) -> BytesList
         ensures { result ≡ [] }
     {
-        BytesList {
-            items: Vec::new(alloc),
-        }
+        BytesList::from_vec(Vec::new(alloc))
     }
 
     /// The byte lists of a vector. Takes no memory.
@@ -77,7 +75,7 @@ pub struct Response {
 /// Contracts see the list of them.
 #[derive(Debug, Drop)]
 pub struct Responses {
-    items: Vec<Response>,
+    responses: Vec<Response>,
 }
 
 impl Model for Responses {
@@ -86,7 +84,7 @@ impl Model for Responses {
 
     ghost Value = { List Response };
 
-    ghost view = { λ r. r.items.items };
+    ghost view = { λ r. r.responses.items };
 }
 
 impl Responses {
@@ -95,7 +93,7 @@ impl Responses {
         ensures { result ≡ [] }
     {
         Responses {
-            items: Vec::new(alloc),
+            responses: Vec::new(alloc),
         }
     }
 
@@ -103,7 +101,7 @@ impl Responses {
     pub fn as_slice(&self) -> &[Response]
         ensures { result.now ≡ self.now }
     {
-        self.items.as_slice()
+        self.responses.as_slice()
     }
 
     /// Adds one, or changes nothing where there is no memory for it.
@@ -111,7 +109,7 @@ impl Responses {
         ensures ok { OnOk result (self.new ≡ self.old ++ response ∷ []) }
         ensures err { OnErr result (self.new ≡ self.old) }
     {
-        self.items.push(response)?;
+        self.responses.push(response)?;
         Ok(())
     }
 }

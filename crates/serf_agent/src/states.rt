@@ -1,6 +1,6 @@
 //! The whole states that agents exchange, the member clock's line, and compaction.
 
-ghost use Rattle.std.specs.Prelude.{◌≡◌, ◌≢◌, ◌<◌, ◌≤◌, ◌-◌, ◌^◌, ◌⊎◌, false, List, [], ◌∷◌, ◌++◌, None, Some, map, Ok, Err, OnOk, IfOk, IfSome, IsErrOf, vec_len, vec_capacity};
+ghost use Rattle.std.specs.Prelude.{◌≡◌, ◌≢◌, ◌<◌, ◌≤◌, ◌-◌, ◌^◌, ◌⊎◌, false, List, [], ◌∷◌, ◌++◌, None, Some, map, Ok, Err, OnOk, IfOk, IfSome, IsErrOf, IsOk, vec_len, vec_capacity};
 ghost use Rattle.serf_wire.specs.declared.texts.EventText.{EventText};
 ghost use Rattle.serf_wire.specs.Decoded.{decoded};
 ghost use Rattle.serf_wire.specs.Lists.{event_of as text_of, events_left, slot_of, slots_left, status_of};
@@ -72,7 +72,8 @@ impl<S: Sink> Agent<S> {
     /// The packet of this agent's whole state, to send (Serf's `delegate.go`, `LocalState`): its clocks, its event buffer,
     /// and these status times and members that left. The agent is unchanged.
     ///
-    /// `Stopped`, `TooLong` where a text or a list is longer than 4,294,967,295, and `OutOfMemory`; the first that holds.
+    /// `Stopped`, `TooLong` where a text or a list is longer than 4,294,967,295, and `OutOfMemory`, only where there is a
+    /// packet to send; the first that holds.
     pub fn push_pull<'a>(
         &'a self,
         alloc: Global,
@@ -80,7 +81,9 @@ impl<S: Sink> Agent<S> {
         left: &'a [&'a [u8]],
     ) -> Result<Bytes, PushPullFault>
         ensures state { result ≢ Err PushPullFault.OutOfMemory → result ≡ send_state self.now.stored (map status_of status.now) (map (λ t. t.now) left.now) }
-        ensures memory { IsErrOf result PushPullFault.OutOfMemory → self.now.stored.snapshot.stopped ≡ false }
+
+        // Memory is wanted only where there is a packet to send.
+        ensures memory { IsErrOf result PushPullFault.OutOfMemory → IsOk (send_state self.now.stored (map status_of status.now) (map (λ t. t.now) left.now)) }
     {
         if self.snapshot.is_stopped() {
             return Err(PushPullFault::Stopped);

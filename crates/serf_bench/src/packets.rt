@@ -1,34 +1,35 @@
 //! Decoding and encoding a message of each kind.
 
-use crate::clock::print_per_call;
-use serf_lamport::Time;
+use crate::figures::{Work, print_per_call};
+use crate::texts::{NAME, packet_of, time_of};
+use crate::windows::{SLOTS, full_window};
+use serf_window::EventWindow;
 use serf_wire::{
-    Bytes, EncodeFault, Message, PushPullParts, QueryParts, decode, encode_push_pull, encode_query,
-    encode_response, encode_user_event,
+    Bytes, EncodeFault, EventViews, Message, PushPullParts, QueryParts, SlotView, SlotViews,
+    StatusTimes, Texts, decode, encode_push_pull, encode_query, encode_response, encode_user_event,
 };
-use std::alloc::{AllocError, Global};
+use std::alloc::Global;
 use std::io;
-use std::time::Instant;
 
+/// How many packets are decoded in turn.
 const DISTINCT: u64 = 16;
 
-const CALLS: u64 = 2_000_000;
+/// How many calls a sample has, on a state and on another message.
+const STATE_CALLS: u64 = 16;
 
-fn no_memory(_: EncodeFault) -> io::Error {
-    io::Error::from(io::ErrorKind::OutOfMemory)
-}
+const CALLS: u64 = 16_384;
 
-fn time_of(n: u64) -> Time {
-    match Time::new(n % 100 + 1) {
-        Some(time) => time,
-        None => unreachable!(),
-    }
-}
-
-/// What a message says of time, so that no decode is left out by the compiler.
+/// What a message says of time and texts, so that no decode is left out by the compiler.
 fn weight(message: &Message) -> u64 {
     match message {
-        Message::UserEvent { time, name, .. } => time.get().wrapping_add(name.len() as u64),
+        Message::UserEvent {
+            time,
+            name,
+            payload,
+            ..
+        } => time
+            .get()
+            .wrapping_add((name.len() as u64).wrapping_add(payload.len() as u64)),
         Message::Query { time, name, .. } => time.get().wrapping_add(name.len() as u64),
         Message::QueryResponse { time, from, .. } => time.wrapping_add(from.len() as u64),
         Message::PushPull { event, .. } => *event,
@@ -36,99 +37,193 @@ fn weight(message: &Message) -> u64 {
     }
 }
 
-fn decode_all(packets: &[Vec<u8>], rounds: u64) -> u64 {
-    let mut total: u64 = 0;
-    for _ in 0..rounds {
-        for packet in packets {
-            if let Ok(message) = decode(packet) {
-                total = total.wrapping_add(weight(&message));
-            }
+fn count_texts(texts: Texts) -> u64 {
+    let mut bytes: u64 = 0;
+    for text in texts {
+        bytes = bytes.wrapping_add(text.len() as u64);
+    }
+    bytes
+}
+
+fn count_status(status: StatusTimes) -> u64 {
+    let mut bytes: u64 = 0;
+    for member in status {
+        bytes = bytes.wrapping_add(member.name.len() as u64);
+    }
+    bytes
+}
+
+fn count_events(events: EventViews) -> u64 {
+    let mut bytes: u64 = 0;
+    for event in events {
+        bytes = bytes.wrapping_add(event.payload.len() as u64);
+    }
+    bytes
+}
+
+fn count_slots(slots: SlotViews) -> u64 {
+    let mut bytes: u64 = 0;
+    for slot in slots {
+        if let SlotView::Held(_, events) = slot {
+            bytes = bytes.wrapping_add(count_events(events));
         }
     }
-    total
+    bytes
 }
 
-fn bench_decode(rt: &HostRuntime, name: &str, packets: &[Vec<u8>], rounds: u64) -> io::Result<()> {
-    let start = Instant::now(rt)?;
-    let total = decode_all(packets, rounds);
-    if total == 0 {
-        return println!(rt; "{name} decoded nothing");
+/// The bytes of the texts of all lists of a message, which are walked.
+fn walk(message: &Message) -> u64 {
+    match *message {
+        Message::PushPull {
+            status,
+            left,
+            slots,
+            ..
+        } => count_status(status).wrapping_add(count_texts(left).wrapping_add(count_slots(slots))),
+        _ => 0,
     }
-    print_per_call(rt, name, &start, rounds.wrapping_mul(packets.len() as u64))
 }
 
-fn events(alloc: Global) -> io::Result<Vec<Vec<u8>>> {
-    let mut packets = Vec::new(alloc);
-    for n in 0..DISTINCT {
-        packets.push(encode_user_event(alloc, time_of(n), b"deploy", b"v1", false).map_err(
-            no_memory,
-        )?)?;
+/// Whether a packet is a message of any weight.
+fn is_decoded(packet: &[u8]) -> bool {
+    match decode(packet) {
+        Ok(message) => weight(&message) > 0,
+        Err(_) => false,
     }
-    Ok(packets)
 }
 
-fn queries(alloc: Global) -> io::Result<Vec<Vec<u8>>> {
-    let mut packets = Vec::new(alloc);
-    let filters: [Bytes; 1] = [Bytes::copy_of(alloc, &[0, 0x91, 0xa1, 0x62])?];
-    for n in 0..DISTINCT {
-        let parts = QueryParts {
-            time: time_of(n),
-            id: 7,
-            addr: b"",
-            port: 0,
-            source: b"a",
-            filters: &filters,
-            flags: 1,
-            relay_factor: 0,
-            timeout: 1000,
-            name: b"load",
-            payload: b"",
+/// Whether a packet has texts in its lists.
+fn is_walked(packet: &[u8]) -> bool {
+    match decode(packet) {
+        Ok(message) => walk(&message) > 0,
+        Err(_) => false,
+    }
+}
+
+/// A message of which there are packets.
+#[derive(Clone, Copy)]
+enum Kind {
+    Event,
+    Query,
+    Response,
+    State,
+}
+
+/// Which call is timed.
+#[derive(Clone, Copy)]
+enum Call {
+    Decode,
+    /// Decoding, and walking the lists.
+    Walk,
+    Encode,
+}
+
+/// What is encoded.
+#[derive(Drop)]
+struct Parts {
+    filters: Vec<Bytes>,
+    window: EventWindow,
+}
+
+fn query_of<'a>(number: u64, parts: &'a Parts) -> QueryParts<'a> {
+    QueryParts {
+        time: time_of(number),
+        id: 7,
+        addr: b"",
+        port: 0,
+        source: b"a",
+        filters: parts.filters.as_slice(),
+        flags: 1,
+        relay_factor: 0,
+        timeout: 1000,
+        name: b"load",
+        payload: b"",
+    }
+}
+
+fn state_of<'a>(number: u64, parts: &'a Parts) -> PushPullParts<'a> {
+    PushPullParts {
+        member: number,
+        status: &[],
+        left: &[],
+        event: SLOTS + 1,
+        slots: parts.window.slots(),
+        query: 1,
+    }
+}
+
+/// The packet of the message of this number, from 1 on.
+fn encode(alloc: Global, kind: Kind, number: u64, parts: &Parts) -> Result<Vec<u8>, EncodeFault> {
+    match kind {
+        Kind::Event => encode_user_event(alloc, time_of(number), NAME, b"v1", false),
+        Kind::Query => encode_query(alloc, &query_of(number, parts)),
+        Kind::Response => encode_response(alloc, number, 7, b"b", 0, b"ok"),
+        Kind::State => encode_push_pull(alloc, &state_of(number, parts)),
+    }
+}
+
+/// Messages of a kind that are decoded and encoded in turn.
+#[derive(Drop)]
+struct Subject {
+    alloc: Global,
+    kind: Kind,
+    call: Call,
+    parts: Parts,
+    packets: Vec<Vec<u8>>,
+}
+
+impl Work for Subject {
+    fn call(&mut self, number: u64) -> bool {
+        let index = number % DISTINCT;
+        let Some(packet) = self.packets.get(index as usize) else {
+            return false;
         };
-        packets.push(encode_query(alloc, &parts).map_err(no_memory)?)?;
-    }
-    Ok(packets)
-}
-
-fn responses(alloc: Global) -> io::Result<Vec<Vec<u8>>> {
-    let mut packets = Vec::new(alloc);
-    for n in 0..DISTINCT {
-        packets.push(encode_response(alloc, n, 7, b"b", 0, b"ok").map_err(no_memory)?)?;
-    }
-    Ok(packets)
-}
-
-fn encode_all(alloc: Global, calls: u64) -> Result<u64, AllocError> {
-    let mut total: u64 = 0;
-    for n in 0..calls {
-        if let Ok(packet) = encode_user_event(alloc, time_of(n), b"deploy", b"v1", false) {
-            total = total.wrapping_add(packet.len() as u64);
+        match self.call {
+            Call::Decode => is_decoded(packet.as_slice()),
+            Call::Walk => is_walked(packet.as_slice()),
+            Call::Encode => encode(self.alloc, self.kind, index + 1, &self.parts).is_ok(),
         }
     }
-    Ok(total)
+}
+
+fn make_parts(alloc: Global) -> io::Result<Parts> {
+    let mut filters = Vec::new(alloc);
+    filters.push(Bytes::copy_of(alloc, &[0, 0x91, 0xa1, 0x62])?)?;
+    Ok(Parts {
+        filters,
+        window: full_window(alloc)?,
+    })
+}
+
+fn bench_call(rt: &HostRuntime, name: &str, kind: Kind, call: Call, calls: u64) -> io::Result<()> {
+    let alloc = rt.alloc();
+    let parts = make_parts(alloc)?;
+    let mut packets = Vec::new(alloc);
+    for index in 0..DISTINCT {
+        packets.push(packet_of(encode(alloc, kind, index + 1, &parts))?)?;
+    }
+    let mut work = Subject {
+        alloc,
+        kind,
+        call,
+        parts,
+        packets,
+    };
+    print_per_call(rt, name, calls, &mut work)
 }
 
 /// Prints the times of all of them.
 pub fn bench(rt: &HostRuntime) -> io::Result<()> {
-    let alloc = rt.alloc();
-    bench_decode(
-        rt,
-        "decode_user_event",
-        events(alloc)?.as_slice(),
-        CALLS / DISTINCT,
-    )?;
-    bench_decode(
-        rt,
-        "decode_query",
-        queries(alloc)?.as_slice(),
-        CALLS / DISTINCT,
-    )?;
-    bench_decode(
-        rt,
-        "decode_response",
-        responses(alloc)?.as_slice(),
-        CALLS / DISTINCT,
-    )?;
-    let start = Instant::now(rt)?;
-    let _total = encode_all(alloc, CALLS)?;
-    print_per_call(rt, "encode_user_event", &start, CALLS)
+    bench_call(rt, "decode a user event", Kind::Event, Call::Decode, CALLS)?;
+    bench_call(rt, "decode a query", Kind::Query, Call::Decode, CALLS)?;
+    bench_call(rt, "decode a response", Kind::Response, Call::Decode, CALLS)?;
+    let name = "decode a state of 512 slots";
+    bench_call(rt, name, Kind::State, Call::Decode, STATE_CALLS)?;
+    let name = "decode a state of 512 slots and walk its lists";
+    bench_call(rt, name, Kind::State, Call::Walk, STATE_CALLS)?;
+    bench_call(rt, "encode a user event", Kind::Event, Call::Encode, CALLS)?;
+    bench_call(rt, "encode a query", Kind::Query, Call::Encode, CALLS)?;
+    bench_call(rt, "encode a response", Kind::Response, Call::Encode, CALLS)?;
+    let name = "encode a state of 512 slots";
+    bench_call(rt, name, Kind::State, Call::Encode, STATE_CALLS)
 }

@@ -2,21 +2,18 @@
 
 ghost use Rattle.std.specs.Prelude.{None};
 
-use crate::clock::{print_per_call, print_rate};
-use serf_replay::{parse_schedule, replay};
+use crate::figures::{Work, print_per_part, print_rate};
+use serf_replay::{Schedule, parse_schedule, replay};
+use std::alloc::Global;
 use std::io;
 use std::io::{Read, Write};
-use std::time::Instant;
 
-/// Counts what is written, and keeps nothing.
+/// Keeps nothing of what is written.
 #[derive(Drop)]
-struct Counter {
-    written: u64,
-}
+struct Sink;
 
-impl Write for Counter {
+impl Write for Sink {
     fn write(&mut self, buf: &[u8]) -> io::Result<usize> {
-        self.written = self.written.wrapping_add(buf.len() as u64);
         Ok(buf.len())
     }
 
@@ -25,24 +22,73 @@ impl Write for Counter {
     }
 }
 
-/// Prints the rate of parsing it, and the time of an action when it is replayed.
-pub fn bench(rt: &HostRuntime) -> io::Result<()> {
-    let mut text = Vec::new(rt.alloc());
+/// A text is read as a schedule.
+#[derive(Drop)]
+struct Parsing<'a> {
+    alloc: Global,
+    text: &'a [u8],
+    schedule: Option<Schedule>,
+}
+
+impl Work for Parsing<'_> {
+    fn prepare(&mut self) -> io::Result<()> {
+        self.schedule = None;
+        Ok(())
+    }
+
+    fn call(&mut self, _: u64) -> bool {
+        match parse_schedule(self.alloc, self.text) {
+            Ok(schedule) => {
+                self.schedule = Some(schedule);
+                true
+            }
+            Err(_) => false,
+        }
+    }
+}
+
+/// A schedule is replayed: read, run, and its trace is printed.
+#[derive(Drop)]
+struct Replaying<'a> {
+    alloc: Global,
+    text: &'a [u8],
+}
+
+impl Work for Replaying<'_> {
+    fn call(&mut self, _: u64) -> bool {
+        let mut reader = self.text;
+        let mut writer = Sink;
+        replay(self.alloc, &mut reader, &mut writer).is_ok()
+    }
+}
+
+/// How many actions a schedule has, 0 where the text is none.
+fn count_actions(alloc: Global, text: &[u8]) -> u64 {
+    match parse_schedule(alloc, text) {
+        Ok(schedule) => schedule.actions.len() as u64,
+        Err(_) => 0,
+    }
+}
+
+/// Prints the rate of parsing it, and the time of an action, if it has any, when it is replayed. The name says what
+/// it has.
+pub fn bench(rt: &HostRuntime, name: &str) -> io::Result<()> {
+    let alloc = rt.alloc();
+    let mut text = Vec::new(alloc);
     rt.reader().read_to_end(&mut text)?;
     let bytes = text.len() as u64;
-    let start = Instant::now(rt)?;
-    let Ok(schedule) = parse_schedule(rt.alloc(), &text) else {
-        return println!(rt; "no schedule");
+    let actions = count_actions(alloc, text.as_slice());
+    let text = text.as_slice();
+    let mut work = Parsing {
+        alloc,
+        text,
+        schedule: None,
     };
-    print_rate(rt, "parse_schedule", &start, bytes)?;
-    let actions = schedule.actions.len() as u64;
-    let mut writer = Counter { written: 0 };
-    let mut reader = text.as_slice();
-    let start = Instant::now(rt)?;
-    if replay(rt.alloc(), &mut reader, &mut writer).is_err() {
-        return println!(rt; "no trace");
+    let title = format!(in alloc; "parse {name}")?;
+    print_rate(rt, title.as_str(), bytes, &mut work)?;
+    if actions == 0 {
+        return Ok(());
     }
-    print_per_call(rt, "replay_an_action", &start, actions)?;
-    let written = writer.written;
-    println!(rt; "{actions} actions, {bytes} bytes read, {written} bytes written")
+    let title = format!(in alloc; "replay {name}, an action")?;
+    print_per_part(rt, title.as_str(), actions, &mut Replaying { alloc, text })
 }

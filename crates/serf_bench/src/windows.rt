@@ -1,172 +1,194 @@
-//! Offering and entering in the windows of events and queries: 512 slots, at one entry a time and at 32.
+//! Offering and entering in the windows of events and queries, at 512 slots.
 
-use crate::clock::print_per_call;
+use crate::figures::{Work, call_all, print_per_call};
+use crate::texts::{NAME, payload_of, time_of};
 use serf_lamport::Time;
 use serf_window::{EventWindow, QueryWindow, Verdict};
 use std::alloc::{AllocError, Global};
 use std::io;
-use std::time::Instant;
 
-const N: u64 = 512;
+/// How many slots a window has.
+pub const SLOTS: u64 = 512;
 
-fn payload_of(alloc: Global, j: u64) -> Result<Vec<u8>, AllocError> {
-    let mut payload = Vec::from_slice(alloc, b"v")?;
-    if j >= 10 {
-        payload.push(48 + ((j / 10) % 10) as u8)?;
-    }
-    payload.push(48 + (j % 10) as u8)?;
-    Ok(payload)
-}
+/// How many events, or queries, of one time are taken.
+const PER_TIME: u64 = 1024;
 
-fn take(
-    alloc: Global,
-    window: &mut EventWindow,
-    clock: u64,
-    t: u64,
-    payload: &[u8],
-) -> Result<u64, AllocError> {
-    let Some(time) = Time::new(t) else {
-        return Ok(0);
-    };
-    match window.offer(clock, 0, time, b"deploy", payload) {
-        Verdict::New => {
-            let entry = window.prepare(alloc, time, b"deploy", payload)?;
-            window.enter(entry);
-            Ok(1)
-        }
-        _ => Ok(0),
-    }
-}
-
-fn fill(
-    alloc: Global,
-    window: &mut EventWindow,
-    from: u64,
-    to: u64,
-    payloads: &[Vec<u8>],
-) -> Result<u64, AllocError> {
-    let mut n: u64 = 0;
-    for t in from..to {
-        for payload in payloads.iter() {
-            n = n.wrapping_add(take(alloc, window, t.wrapping_add(1), t, payload.as_slice())?);
-        }
-    }
-    Ok(n)
-}
-
+/// An event that comes.
 #[derive(Drop)]
 struct Offer {
     time: Time,
     payload: Vec<u8>,
 }
 
-fn seen(window: &EventWindow, clock: u64, offers: &[Offer]) -> u64 {
-    let mut n: u64 = 0;
-    for offer in offers.iter() {
-        match window.offer(clock, 0, offer.time, b"deploy", offer.payload.as_slice()) {
-            Verdict::Seen => n = n.wrapping_add(1),
-            _ => {}
-        }
-    }
-    n
-}
-
-fn take_id(
-    alloc: Global,
-    window: &mut QueryWindow,
-    clock: u64,
-    time: Time,
-    id: u32,
-) -> Result<u64, AllocError> {
-    match window.offer(clock, 0, time, id) {
-        Verdict::New => {
-            let entry = window.prepare(alloc, time, id)?;
-            window.enter(entry);
-            Ok(1)
-        }
-        _ => Ok(0),
-    }
-}
-
-fn fill_ids(
-    alloc: Global,
-    window: &mut QueryWindow,
-    from: u64,
-    to: u64,
-    k: u32,
-) -> Result<u64, AllocError> {
-    let mut n: u64 = 0;
-    for t in from..to {
-        if let Some(time) = Time::new(t) {
-            for id in 0..k {
-                n = n.wrapping_add(take_id(alloc, window, t.wrapping_add(1), time, id)?);
-            }
-        }
-    }
-    Ok(n)
-}
-
-fn offers_of(alloc: Global, k: u64) -> Result<Vec<Offer>, AllocError> {
+/// So many events of each of the times from the first to the one before the last.
+fn offers_of(alloc: Global, first: u64, last: u64, count: u64) -> Result<Vec<Offer>, AllocError> {
     let mut offers = Vec::new(alloc);
-    for t in 1..513u64 {
-        for j in 0..k {
-            if let Some(time) = Time::new(t) {
-                let payload = payload_of(alloc, j)?;
-                offers.push(Offer { time, payload })?;
-            }
+    for time in first..last {
+        for number in 0..count {
+            let payload = payload_of(alloc, number)?;
+            offers.push(Offer {
+                time: time_of(time),
+                payload,
+            })?;
         }
     }
     Ok(offers)
 }
 
-fn payloads_of(alloc: Global, k: u64) -> Result<Vec<Vec<u8>>, AllocError> {
-    let mut payloads = Vec::new(alloc);
-    for j in 0..k {
-        payloads.push(payload_of(alloc, j)?)?;
+/// Takes an event in, if it is new.
+fn take(alloc: Global, window: &mut EventWindow, offer: &Offer) -> Result<bool, AllocError> {
+    let clock = offer.time.get().wrapping_add(1);
+    match window.offer(clock, 0, offer.time, NAME, offer.payload.as_slice()) {
+        Verdict::New => {
+            let entry = window.prepare(alloc, offer.time, NAME, offer.payload.as_slice())?;
+            window.enter(entry);
+            Ok(true)
+        }
+        _ => Ok(false),
     }
-    Ok(payloads)
 }
 
-fn seen_often(window: &EventWindow, offers: &[Offer], rounds: u64) -> u64 {
-    let mut total: u64 = 0;
-    for _ in 0..rounds {
-        total = total.wrapping_add(seen(window, 513, offers));
+fn is_seen(window: &EventWindow, offer: &Offer) -> bool {
+    window.offer(SLOTS + 1, 0, offer.time, NAME, offer.payload.as_slice()) == Verdict::Seen
+}
+
+/// A window of events, to which events are offered that it has seen, or new ones, which enter.
+#[derive(Drop)]
+struct Subject {
+    alloc: Global,
+    window: EventWindow,
+    is_new: bool,
+    /// How many events there are of one time.
+    count: u64,
+    /// The time of the next new event.
+    next: u64,
+    offers: Vec<Offer>,
+}
+
+impl Work for Subject {
+    fn prepare(&mut self) -> io::Result<()> {
+        if self.is_new {
+            let last = self.next.wrapping_add(SLOTS);
+            self.offers = offers_of(self.alloc, self.next, last, self.count)?;
+            self.next = last;
+        }
+        Ok(())
     }
-    total
+
+    fn call(&mut self, number: u64) -> bool {
+        match self.offers.get(number as usize) {
+            Some(offer) if self.is_new => match take(self.alloc, &mut self.window, offer) {
+                Ok(is_new) => is_new,
+                Err(_) => false,
+            },
+            Some(offer) => is_seen(&self.window, offer),
+            None => false,
+        }
+    }
 }
 
-fn bench_events(rt: &HostRuntime, k: u64, rounds: u64, more: u64) -> io::Result<()> {
-    let alloc = rt.alloc();
-    let Ok(mut window) = EventWindow::new(alloc, N, 1024) else {
-        return Ok(());
+/// A window that holds so many events of each of the times 1 to 512.
+fn make_subject(alloc: Global, is_new: bool, count: u64) -> io::Result<Subject> {
+    let Ok(window) = EventWindow::new(alloc, SLOTS, PER_TIME) else {
+        return Err(io::Error::from(io::ErrorKind::OutOfMemory));
     };
-    let payloads = payloads_of(alloc, k)?;
-    let offers = offers_of(alloc, k)?;
-    let _first = fill(alloc, &mut window, 1, 513, payloads.as_slice())?;
-    let start = Instant::now(rt)?;
-    let total = seen_often(&window, offers.as_slice(), rounds);
-    print_per_call(rt, "offer_of_a_seen_event", &start, total)?;
-    let start = Instant::now(rt)?;
-    let total = fill(alloc, &mut window, 513, more, payloads.as_slice())?;
-    print_per_call(rt, "offer_prepare_and_enter_an_event", &start, total)
+    let offers = offers_of(alloc, 1, SLOTS + 1, count)?;
+    let calls = offers.len() as u64;
+    let mut subject = Subject {
+        alloc,
+        window,
+        is_new: true,
+        count,
+        next: SLOTS + 1,
+        offers,
+    };
+    let _new = call_all(&mut subject, calls);
+    subject.is_new = is_new;
+    Ok(subject)
 }
 
-fn bench_queries(rt: &HostRuntime, k: u32, more: u64) -> io::Result<()> {
+/// A window that holds an event of each of the times 1 to 512.
+pub fn full_window(alloc: Global) -> io::Result<EventWindow> {
+    let Subject { window, .. } = make_subject(alloc, false, 1)?;
+    Ok(window)
+}
+
+fn bench_events(rt: &HostRuntime, name: &str, is_new: bool, count: u64) -> io::Result<()> {
+    let mut subject = make_subject(rt.alloc(), is_new, count)?;
+    let calls = subject.offers.len() as u64;
+    print_per_call(rt, name, calls, &mut subject)
+}
+
+/// A window of queries, which new ones enter.
+#[derive(Drop)]
+struct Asked {
+    alloc: Global,
+    window: QueryWindow,
+    /// How many queries there are of one time.
+    count: u32,
+    time: u64,
+    id: u32,
+}
+
+fn take_id(
+    alloc: Global,
+    window: &mut QueryWindow,
+    time: Time,
+    id: u32,
+) -> Result<bool, AllocError> {
+    let clock = time.get().wrapping_add(1);
+    match window.offer(clock, 0, time, id) {
+        Verdict::New => {
+            let entry = window.prepare(alloc, time, id)?;
+            window.enter(entry);
+            Ok(true)
+        }
+        _ => Ok(false),
+    }
+}
+
+impl Work for Asked {
+    fn call(&mut self, _: u64) -> bool {
+        self.id = self.id.wrapping_add(1);
+        if self.id >= self.count {
+            self.id = 0;
+            self.time = self.time.wrapping_add(1);
+        }
+        match take_id(self.alloc, &mut self.window, time_of(self.time), self.id) {
+            Ok(is_new) => is_new,
+            Err(_) => false,
+        }
+    }
+}
+
+fn bench_queries(rt: &HostRuntime, name: &str, count: u32) -> io::Result<()> {
     let alloc = rt.alloc();
-    let Ok(mut window) = QueryWindow::new(alloc, N, 1024) else {
-        return Ok(());
+    let Ok(window) = QueryWindow::new(alloc, SLOTS, PER_TIME) else {
+        return Err(io::Error::from(io::ErrorKind::OutOfMemory));
     };
-    let start = Instant::now(rt)?;
-    let total = fill_ids(alloc, &mut window, 1, more, k)?;
-    print_per_call(rt, "offer_prepare_and_enter_a_query", &start, total)
+    let mut work = Asked {
+        alloc,
+        window,
+        count,
+        time: 1,
+        id: 0,
+    };
+    print_per_call(rt, name, 16 * SLOTS, &mut work)
 }
 
 /// Prints the times of all of them.
 pub fn bench(rt: &HostRuntime) -> io::Result<()> {
-    println!(rt; "at one a time:")?;
-    bench_events(rt, 1, 2000, 400_000)?;
-    bench_queries(rt, 1, 400_000)?;
-    println!(rt; "at 32 a time:")?;
-    bench_events(rt, 32, 60, 12_500)?;
-    bench_queries(rt, 32, 12_500)
+    let name = "offer a seen event to a window, 1 event a time";
+    bench_events(rt, name, false, 1)?;
+    let name = "offer a seen event to a window, 32 events a time";
+    bench_events(rt, name, false, 32)?;
+    bench_events(rt, "enter a new event in a window, 1 event a time", true, 1)?;
+    bench_events(
+        rt,
+        "enter a new event in a window, 32 events a time",
+        true,
+        32,
+    )?;
+    bench_queries(rt, "enter a new query in a window, 1 query a time", 1)?;
+    bench_queries(rt, "enter a new query in a window, 32 queries a time", 32)
 }

@@ -14,6 +14,12 @@ mod hostile;
 #[cfg(test)]
 mod openings;
 #[cfg(test)]
+mod packets;
+#[cfg(test)]
 mod rows;
 #[cfg(test)]
 mod runs;
+#[cfg(test)]
+mod streams;
+#[cfg(test)]
+mod what_hurts_serf;

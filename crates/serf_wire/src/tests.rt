@@ -3,9 +3,11 @@
 mod captured;
 mod decoding;
 mod encoding;
+mod expected;
 mod fields;
 mod filters;
 mod hostile;
 mod refused;
 mod serf;
+mod texts;
 mod vectors;

@@ -1,6 +1,6 @@
 //! Texts, and lists of them, that a value keeps as its own.
 
-ghost use Rattle.std.specs.Prelude.{◌≡◌, ◌+◌, ◌-◌, ◌<◌, [], ◌∷◌, ◌++◌, OnOk, OnErr, IfOk, length, vec_len, vec_capacity};
+ghost use Rattle.std.specs.Prelude.{◌≡◌, ◌+◌, ◌-◌, ◌<◌, ◌≤◌, [], ◌∷◌, ◌++◌, OnOk, OnErr, IfOk, length, vec_len, vec_capacity};
 
 use serf_lamport::Time;
 use std::alloc::{AllocError, Global};
@@ -11,7 +11,7 @@ use std::marker::Model;
 /// Contracts see the list of the bytes. It is made from a `Vec` and gives it back without memory.
 #[derive(Debug, Drop)]
 pub struct Bytes {
-    items: Vec<u8>,
+    bytes: Vec<u8>,
 }
 
 impl Model for Bytes {
@@ -19,7 +19,7 @@ impl Model for Bytes {
 
     ghost Value = { List ℕ };
 
-    ghost view = { λ b. b.items.items };
+    ghost view = { λ b. b.bytes.items };
 }
 
 impl Bytes {
@@ -27,30 +27,30 @@ impl Bytes {
     pub fn from_vec(items: Vec<u8>) -> Bytes
         ensures { result ≡ items.items }
     {
-        Bytes { items }
+        Bytes { bytes: items }
     }
 
     /// A copy of the bytes, or `AllocError` where there is no memory for it.
     pub fn copy_of(alloc: Global, bytes: &[u8]) -> Result<Bytes, AllocError>
         ensures { IfOk result (λ copy. copy ≡ bytes.now) }
     {
-        let items = Vec::from_slice(alloc, bytes)?;
-        Ok(Bytes { items })
+        let copy = Vec::from_slice(alloc, bytes)?;
+        Ok(Bytes { bytes: copy })
     }
 
     /// The bytes. Takes no memory.
     pub fn as_slice(&self) -> &[u8]
         ensures { result.now ≡ self.now }
     {
-        self.items.as_slice()
+        self.bytes.as_slice()
     }
 
     /// The vector of the bytes. Takes no memory.
     pub fn into_vec(self) -> Vec<u8>
         ensures { result.items ≡ self }
     {
-        let Bytes { items } = self;
-        items
+        let Bytes { bytes } = self;
+        bytes
     }
 }
 
@@ -113,11 +113,14 @@ impl EventTexts {
         items
     }
 
-    /// Makes room for one more, or changes nothing where there is no memory for it.
+    /// Makes room for one more, or changes nothing where there is no memory for it. Takes memory only where there
+    /// is no room.
     pub fn make_room(&mut self) -> Result<(), AllocError>
         ensures items { self.new.items ≡ self.old.items }
         ensures room { OnOk result (0 < self.new.room) }
+        ensures kept { self.old.room ≤ self.new.room }
         ensures err { OnErr result (self.new ≡ self.old) }
+        ensures full { OnErr result (self.old.room ≡ 0) }
     {
         self.items.reserve(1)
     }
@@ -130,15 +133,13 @@ impl EventTexts {
         self.items.clear();
     }
 
-    /// Adds an event where there is room for it. Takes no memory.
+    /// Adds an event where there is room for it, and takes up just its place. Takes no memory.
     pub fn add(&mut self, event: EventText)
         requires { 0 < self.old.room }
-        ensures { self.new.items ≡ self.old.items ++ event ∷ [] }
+        ensures items { self.new.items ≡ self.old.items ++ event ∷ [] }
+        ensures room { self.new.room + 1 ≡ self.old.room }
     {
-        match self.items.push(event) {
-            Ok(()) => {}
-            Err(_) => unreachable!(),
-        }
+        self.items.push_reserved(event);
     }
 }
 

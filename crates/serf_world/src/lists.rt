@@ -10,7 +10,7 @@ use std::marker::Model;
 /// Contracts see the list of them.
 #[derive(Debug, Drop)]
 pub struct Numbers {
-    items: Vec<u64>,
+    numbers: Vec<u64>,
 }
 
 impl Model for Numbers {
@@ -18,7 +18,7 @@ impl Model for Numbers {
 
     ghost Value = { List ℕ };
 
-    ghost view = { λ n. n.items.items };
+    ghost view = { λ n. n.numbers.items };
 }
 
 impl Numbers {
@@ -26,14 +26,14 @@ impl Numbers {
     pub fn from_vec(items: Vec<u64>) -> Numbers
         ensures { result ≡ items.items }
     {
-        Numbers { items }
+        Numbers { numbers: items }
     }
 
     /// The numbers. Takes no memory.
     pub fn as_slice(&self) -> &[u64]
         ensures { result.now ≡ self.now }
     {
-        self.items.as_slice()
+        self.numbers.as_slice()
     }
 }
 
@@ -42,7 +42,7 @@ impl Numbers {
 /// Contracts see the list of them.
 #[derive(Debug, Drop)]
 pub struct EventLines {
-    items: Vec<EventLine>,
+    events: Vec<EventLine>,
 }
 
 impl Model for EventLines {
@@ -51,7 +51,7 @@ impl Model for EventLines {
 
     ghost Value = { List EventLine };
 
-    ghost view = { λ e. e.items.items };
+    ghost view = { λ e. e.events.items };
 }
 
 impl EventLines {
@@ -59,14 +59,14 @@ impl EventLines {
     pub fn from_vec(items: Vec<EventLine>) -> EventLines
         ensures { result ≡ items.items }
     {
-        EventLines { items }
+        EventLines { events: items }
     }
 
     /// The events. Takes no memory.
     pub fn as_slice(&self) -> &[EventLine]
         ensures { result.now ≡ self.now }
     {
-        self.items.as_slice()
+        self.events.as_slice()
     }
 }
 
@@ -75,7 +75,7 @@ impl EventLines {
 /// Contracts see the list of them.
 #[derive(Debug, Drop)]
 pub struct Lines {
-    items: Vec<Line>,
+    lines: Vec<Line>,
 }
 
 impl Model for Lines {
@@ -84,7 +84,7 @@ impl Model for Lines {
 
     ghost Value = { List Line };
 
-    ghost view = { λ l. l.items.items };
+    ghost view = { λ l. l.lines.items };
 }
 
 impl Lines {
@@ -92,13 +92,13 @@ impl Lines {
     pub fn from_vec(items: Vec<Line>) -> Lines
         ensures { result ≡ items.items }
     {
-        Lines { items }
+        Lines { lines: items }
     }
 
     /// The lines. Takes no memory.
     pub fn as_slice(&self) -> &[Line]
         ensures { result.now ≡ self.now }
     {
-        self.items.as_slice()
+        self.lines.as_slice()
     }
 }

@@ -221,7 +221,8 @@ impl World {
     pub fn sent(&self) -> &[Bytes]
         ensures { result.now ≡ self.now.sent }
     {
-        self.sent.as_slice()
+        let sent = &self.sent;
+        sent.as_slice()
     }
 
     /// All packets that were sent. Takes no memory.

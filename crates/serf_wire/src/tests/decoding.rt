@@ -1,9 +1,9 @@
 //! Messages of packets.
 
-use super::fields::{has_events, is_answer, is_event, only_text};
+use super::expected::*;
+use super::fields::*;
 use super::vectors::*;
 use crate::*;
-use std::test::Fail;
 
 #[test]
 fn deploy(rt: HostRuntime) {
@@ -18,80 +18,52 @@ fn deploy_respelled(rt: HostRuntime) {
 #[test]
 fn zero_values(rt: HostRuntime) {
     assert!(rt; is_event(&ZERO_VALUES, 2, b"x", b"", false));
-    assert!(rt; is_event(&[3, 0x80], 0, b"", b"", false));
+    assert!(rt; is_event(b"\x03\x80", 0, b"", b"", false));
+    assert!(rt; is_state(b"\x02\x80", &state_of((0, 0, 0), &[])));
 }
 
 /// The time in one, two, four and eight bytes.
 #[test]
 fn wide_times(rt: HostRuntime) {
-    let key = [3, 0x81, 0xa5, 0x4c, 0x54, 0x69, 0x6d, 0x65];
-    let mut packet = [0u8; 17];
-    packet[..8].copy_from_slice(&key);
-    packet[8] = 0xcc;
-    packet[9] = 0xc8;
-    assert!(rt; is_event(&packet[..10], 0xc8, b"", b"", false));
-    packet[8] = 0xcd;
-    packet[10] = 1;
-    assert!(rt; is_event(&packet[..11], 0xc801, b"", b"", false));
-    packet[8] = 0xce;
-    packet[12] = 2;
-    assert!(rt; is_event(&packet[..13], 0xc801_0002, b"", b"", false));
-    packet[8] = 0xcf;
-    packet[16] = 3;
-    assert!(rt; is_event(&packet, 0xc801_0002_0000_0003, b"", b"", false));
+    let packets = [
+        (b"\x03\x81\xa5LTime\xcc\xc8".as_slice(), 0xc8),
+        (b"\x03\x81\xa5LTime\xcd\xc8\x01".as_slice(), 0xc801),
+        (
+            b"\x03\x81\xa5LTime\xce\xc8\x01\x00\x02".as_slice(),
+            0xc801_0002,
+        ),
+        (
+            b"\x03\x81\xa5LTime\xcf\xc8\x01\x00\x02\x00\x00\x00\x03".as_slice(),
+            0xc801_0002_0000_0003,
+        ),
+    ];
+    for (packet, time) in packets {
+        assert!(rt; is_event(packet, time, b"", b"", false), "{time}");
+    }
 }
 
 /// Keys and values in wide and in other forms mean what the short ones mean.
 #[test]
 fn other_spellings(rt: HostRuntime) {
-    let wide = [
-        3, 0xde, 0, 2, 0xc4, 2, 0x43, 0x43, 0xc3, 0xda, 0, 5, 0x4c, 0x54, 0x69, 0x6d, 0x65, 0xd3,
-        0, 0, 0, 0, 0, 0, 0, 7,
-    ];
-    assert!(rt; is_event(&wide, 7, b"", b"", true));
+    let wide =
+        b"\x03\xde\x00\x02\xc4\x02CC\xc3\xda\x00\x05LTime\xd3\x00\x00\x00\x00\x00\x00\x00\x07";
+    assert!(rt; is_event(wide, 7, b"", b"", true));
     // An unknown key may come twice, with any value.
-    let unknown = [3, 0x82, 0xa1, 0x58, 0x90, 0xa1, 0x58, 0x80];
-    assert!(rt; is_event(&unknown, 0, b"", b"", false));
+    assert!(rt; is_event(b"\x03\x82\xa1X\x90\xa1X\x80", 0, b"", b"", false));
 }
 
-fn is_load(message: &Message) -> bool {
-    match message {
-        Message::Query {
-            time,
-            id,
-            addr,
-            port,
-            source,
-            filters,
-            flags,
-            relay_factor,
-            timeout,
-            name,
-            payload,
-        } => {
-            time.get() == 1
-                && *id == 7
-                && addr.is_empty()
-                && *port == 0
-                && *source == b"a".as_slice()
-                && only_text(*filters) == Some([0, 0x91, 0xa1, 0x62].as_slice())
-                && *flags == 1
-                && *relay_factor == 0
-                && *timeout == 1000
-                && *name == b"load".as_slice()
-                && payload.is_empty()
-        }
-        _ => false,
-    }
+/// A number may come in any width that holds it.
+#[test]
+fn wide_numbers(rt: HostRuntime) {
+    let port = b"\x04\x81\xa4Port\xd3\x00\x00\x00\x00\x00\x00\x00\x01";
+    assert!(rt; terms(port) == Some((1, 0, 0)));
+    let timeout = b"\x04\x81\xa7Timeout\xd1\xff\x80";
+    assert!(rt; terms(timeout) == Some((0, 0, -128)));
 }
 
 #[test]
-fn query_load(rt: HostRuntime) -> Result<(), Fail> {
-    let Ok(message) = decode(&QUERY_LOAD) else {
-        return Err(Fail::from("a message"));
-    };
-    assert!(rt; is_load(&message));
-    Ok(())
+fn query_load(rt: HostRuntime) {
+    assert!(rt; is_query(&QUERY_LOAD, &load(&[]), &[b"\x00\x91\xa1b".as_slice()]));
 }
 
 #[test]
@@ -104,96 +76,42 @@ fn response_of_b(rt: HostRuntime) {
     assert!(rt; is_answer(&RESPONSE_OF_B, 7, b"b", 0, b"ok"));
 }
 
-fn clocks_are(message: &Message, clocks: (u64, u64, u64)) -> bool {
-    match message {
-        Message::PushPull {
-            member,
-            event,
-            query,
-            ..
-        } => *member == clocks.0 && *event == clocks.1 && *query == clocks.2,
-        _ => false,
-    }
-}
-
-fn has_no_members(message: &Message) -> bool {
-    match message {
-        Message::PushPull { status, left, .. } => {
-            let mut status = *status;
-            let mut left = *left;
-            status.next().is_none() && left.next().is_none()
-        }
-        _ => false,
-    }
+#[test]
+fn two_slots(rt: HostRuntime) {
+    assert!(rt; is_state(&TWO_SLOTS, &state_of((1, 9, 1), &TWO_SLOTS_HELD)));
 }
 
 #[test]
-fn two_slots(rt: HostRuntime) -> Result<(), Fail> {
-    let Ok(message) = decode(&TWO_SLOTS) else {
-        return Err(Fail::from("a push/pull"));
-    };
-    let events = [
-        (0, 8, b"a".as_slice(), b"".as_slice()),
-        (3, 7, b"b".as_slice(), b"1".as_slice()),
-    ];
-    assert!(rt; clocks_are(&message, (1, 9, 1)));
-    assert!(rt; has_no_members(&message));
-    assert!(rt; has_events(&message, 4, &events));
-    Ok(())
-}
-
-#[test]
-fn state_of_deploy(rt: HostRuntime) -> Result<(), Fail> {
-    let Ok(message) = decode(&STATE_OF_DEPLOY) else {
-        return Err(Fail::from("a push/pull"));
-    };
-    let events = [(1, 1, b"deploy".as_slice(), b"v1".as_slice())];
-    assert!(rt; clocks_are(&message, (1, 2, 1)));
-    assert!(rt; has_events(&message, 2, &events));
-    Ok(())
-}
-
-fn has_status(message: &Message) -> bool {
-    match message {
-        Message::PushPull {
-            member,
-            status,
-            left,
-            ..
-        } => {
-            let mut status = *status;
-            let mut left = *left;
-            *member == u64::MAX
-                && matches!(status.next(), Some(s) if s.name == b"a".as_slice() && s.time == 5)
-                && matches!(status.next(), Some(s) if s.name == b"a".as_slice() && s.time == 0)
-                && status.next().is_none()
-                && left.next() == Some(b"".as_slice())
-                && left.next() == Some(b"b".as_slice())
-                && left.next().is_none()
-        }
-        _ => false,
-    }
+fn state_of_deploy(rt: HostRuntime) {
+    assert!(rt; is_state(&STATE_OF_DEPLOY, &state_of((1, 2, 1), &DEPLOY_HELD)));
 }
 
 /// A clock of a state may be 2^64 - 1; a name may have two status times; nil is the zero value.
 #[test]
-fn status_and_left(rt: HostRuntime) -> Result<(), Fail> {
-    let packet = [
-        2, 0x83, 0xa5, 0x4c, 0x54, 0x69, 0x6d, 0x65, 0xcf, 255, 255, 255, 255, 255, 255, 255, 255,
-        0xac, 0x53, 0x74, 0x61, 0x74, 0x75, 0x73, 0x4c, 0x54, 0x69, 0x6d, 0x65, 0x73, 0x82, 0xa1,
-        0x61, 0x05, 0xa1, 0x61, 0xc0, 0xab, 0x4c, 0x65, 0x66, 0x74, 0x4d, 0x65, 0x6d, 0x62, 0x65,
-        0x72, 0x73, 0x92, 0xc0, 0xa1, 0x62,
-    ];
-    let Ok(message) = decode(&packet) else {
-        return Err(Fail::from("a message"));
+fn status_and_left(rt: HostRuntime) {
+    let packet = b"\x02\x83\xa5LTime\xcf\xff\xff\xff\xff\xff\xff\xff\xff\
+          \xacStatusLTimes\x82\xa1a\x05\xa1a\xc0\xabLeftMembers\x92\xc0\xa1b";
+    let state = State {
+        clocks: (u64::MAX, 0, 0),
+        status: &[
+            StatusTime {
+                name: b"a",
+                time: 5,
+            },
+            StatusTime {
+                name: b"a",
+                time: 0,
+            },
+        ],
+        left: &[b"".as_slice(), b"b".as_slice()],
+        slots: &[],
     };
-    assert!(rt; has_status(&message));
-    Ok(())
+    assert!(rt; is_state(packet, &state));
 }
 
 #[test]
 fn foreign(rt: HostRuntime) {
-    assert!(rt; matches!(decode(&[6, 0xff]), Ok(Message::Foreign(6))));
-    assert!(rt; matches!(decode(&[0]), Ok(Message::Foreign(0))));
-    assert!(rt; matches!(decode(&[9]), Ok(Message::Foreign(9))));
+    assert!(rt; is_foreign(b"\x06\xff", 6));
+    assert!(rt; is_foreign(b"\x00", 0));
+    assert!(rt; is_foreign(b"\x09", 9));
 }

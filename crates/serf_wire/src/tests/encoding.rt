@@ -1,149 +1,158 @@
 //! Packets of messages.
 
+use super::expected::*;
 use super::vectors::*;
 use crate::*;
 use serf_lamport::Time;
-use std::test::Fail;
+use std::alloc::Global;
 
-fn time_one() -> Result<Time, Fail> {
-    Ok(Time::new(1).ok_or("1 is a time")?)
-}
-
-#[test]
-fn deploy(rt: HostRuntime) -> Result<(), Fail> {
-    let packet = encode_user_event(rt.alloc(), time_one()?, b"deploy", b"v1", false)?;
-    assert_eq!(rt; packet.as_slice(), DEPLOY.as_slice());
-    assert_eq!(rt; user_event_len(time_one()?, b"deploy", b"v1", false), 36);
-    Ok(())
-}
-
-#[test]
-fn query_load(rt: HostRuntime) -> Result<(), Fail> {
-    let filter = node_filter(rt.alloc(), &[b"b".as_slice()])?;
-    let mut filters = Vec::new(rt.alloc());
-    if filters.push(Bytes::from_vec(filter)).is_err() {
-        return Err(Fail::from("no memory"));
+/// Whether just this was written.
+fn is_packet(packet: Option<Vec<u8>>, expected: &[u8]) -> bool {
+    match packet {
+        Some(packet) => packet.as_slice() == expected,
+        None => false,
     }
-    let parts = QueryParts {
-        time: time_one()?,
-        id: 7,
-        addr: b"",
-        port: 0,
-        source: b"a",
-        filters: filters.as_slice(),
-        flags: 1,
-        relay_factor: 0,
-        timeout: 1000,
-        name: b"load",
-        payload: b"",
-    };
-    let packet = encode_query(rt.alloc(), &parts)?;
-    assert_eq!(rt; packet.as_slice(), QUERY_LOAD.as_slice());
-    assert_eq!(rt; query_len(&parts), QUERY_LOAD.len() as u128);
-    Ok(())
+}
+
+fn event_packet(alloc: Global, name: &[u8], payload: &[u8], cc: bool) -> Option<Vec<u8>> {
+    encode_user_event(alloc, time(1), name, payload, cc).ok()
 }
 
 #[test]
-fn ack_of_b(rt: HostRuntime) -> Result<(), Fail> {
-    let packet = encode_response(rt.alloc(), 1, 7, b"b", 1, b"")?;
-    assert_eq!(rt; packet.as_slice(), ACK_OF_B.as_slice());
-    assert_eq!(rt; response_len(1, 7, b"b", 1, b""), ACK_OF_B.len() as u128);
-    Ok(())
+fn deploy(rt: HostRuntime) {
+    assert!(rt; is_packet(event_packet(rt.alloc(), b"deploy", b"v1", false), &DEPLOY));
+}
+
+/// From 32 bytes on a text has a longer header.
+#[test]
+fn longer_text(rt: HostRuntime) {
+    let packet = event_packet(rt.alloc(), b"", b"just thirty-two bytes of payload", true);
+    let expected = b"\x03\x84\xa5LTime\x01\xa4Name\xa0\
+          \xa7Payload\xda\x00\x20just thirty-two bytes of payload\xa2CC\xc3";
+    assert!(rt; is_packet(packet, expected));
+}
+
+/// The list of one filter, which lets the node `b` pass.
+fn filters_for_b(alloc: Global) -> Option<Vec<Bytes>> {
+    let filter = node_filter(alloc, &[b"b".as_slice()]).ok()?;
+    let mut filters = Vec::new(alloc);
+    filters.push(Bytes::from_vec(filter)).ok()?;
+    Some(filters)
+}
+
+fn query_packet(alloc: Global, parts: &QueryParts) -> Option<Vec<u8>> {
+    encode_query(alloc, parts).ok()
+}
+
+fn load_packet(alloc: Global) -> Option<Vec<u8>> {
+    let filters = filters_for_b(alloc)?;
+    query_packet(alloc, &load(filters.as_slice()))
 }
 
 #[test]
-fn response_of_b(rt: HostRuntime) -> Result<(), Fail> {
-    let packet = encode_response(rt.alloc(), 1, 7, b"b", 0, b"ok")?;
-    assert_eq!(rt; packet.as_slice(), RESPONSE_OF_B.as_slice());
-    Ok(())
+fn query_load(rt: HostRuntime) {
+    assert!(rt; is_packet(load_packet(rt.alloc()), &QUERY_LOAD));
 }
 
-fn slot_of(rt: &HostRuntime, time: u64, name: &[u8], payload: &[u8]) -> Result<Slot, Fail> {
-    let mut events = EventTexts::new(rt.alloc());
-    events.make_room()?;
-    let name = Bytes::copy_of(rt.alloc(), name)?;
-    let payload = Bytes::copy_of(rt.alloc(), payload)?;
+/// Numbers below zero have their own spellings.
+#[test]
+fn timeout_below_zero(rt: HostRuntime) {
+    let mut parts = load(&[]);
+    parts.timeout = -128;
+    let expected = b"\x04\x8b\xa5LTime\x01\xa2ID\x07\xa4Addr\xa0\xa4Port\x00\xaaSourceNode\xa1a\
+          \xa7Filters\x90\xa5Flags\x01\xabRelayFactor\x00\xa7Timeout\xd0\x80\xa4Name\xa4load\
+          \xa7Payload\xa0";
+    assert!(rt; is_packet(query_packet(rt.alloc(), &parts), expected));
+}
+
+fn answer_packet(alloc: Global, flags: u32, payload: &[u8]) -> Option<Vec<u8>> {
+    encode_response(alloc, 1, 7, b"b", flags, payload).ok()
+}
+
+#[test]
+fn ack_of_b(rt: HostRuntime) {
+    assert!(rt; is_packet(answer_packet(rt.alloc(), 1, b""), &ACK_OF_B));
+}
+
+#[test]
+fn response_of_b(rt: HostRuntime) {
+    assert!(rt; is_packet(answer_packet(rt.alloc(), 0, b"ok"), &RESPONSE_OF_B));
+}
+
+fn one_event(alloc: Global, name: &[u8], payload: &[u8]) -> Option<EventTexts> {
+    let name = Bytes::copy_of(alloc, name).ok()?;
+    let payload = Bytes::copy_of(alloc, payload).ok()?;
+    let mut events = EventTexts::new(alloc);
+    events.make_room().ok()?;
     events.add(EventText { name, payload });
-    Ok(Slot {
-        time: Time::new(time).ok_or("a time")?,
+    Some(events)
+}
+
+fn slot_of(alloc: Global, slot: Expected) -> Option<Slot> {
+    let (number, events) = match slot {
+        None => (0, EventTexts::new(alloc)),
+        Some((number, name, payload)) => (number, one_event(alloc, name, payload)?),
+    };
+    Some(Slot {
+        time: Time::new(number)?,
         events,
     })
 }
 
-fn empty_slot(rt: &HostRuntime) -> Result<Slot, Fail> {
-    Ok(Slot {
-        time: Time::new(0).ok_or("a time")?,
-        events: EventTexts::new(rt.alloc()),
-    })
-}
-
-fn add(slots: &mut Vec<Slot>, slot: Slot) -> Result<(), Fail> {
-    match slots.push(slot) {
-        Ok(()) => Ok(()),
-        Err(_) => Err(Fail::from("no memory")),
+fn slots_of(alloc: Global, expected: &[Expected]) -> Option<Vec<Slot>> {
+    let mut slots = Vec::new(alloc);
+    for slot in expected {
+        slots.push(slot_of(alloc, *slot)?).ok()?;
     }
+    Some(slots)
+}
+
+fn state_packet(alloc: Global, state: &State) -> Option<Vec<u8>> {
+    let slots = slots_of(alloc, state.slots)?;
+    let (member, event, query) = state.clocks;
+    let parts = PushPullParts {
+        member,
+        status: state.status,
+        left: state.left,
+        event,
+        slots: slots.as_slice(),
+        query,
+    };
+    encode_push_pull(alloc, &parts).ok()
 }
 
 #[test]
-fn two_slots(rt: HostRuntime) -> Result<(), Fail> {
-    let mut slots = Vec::new(rt.alloc());
-    add(&mut slots, slot_of(&rt, 8, b"a", b"")?)?;
-    add(&mut slots, empty_slot(&rt)?)?;
-    add(&mut slots, empty_slot(&rt)?)?;
-    add(&mut slots, slot_of(&rt, 7, b"b", b"1")?)?;
-    let parts = PushPullParts {
-        member: 1,
-        status: &[],
-        left: &[],
-        event: 9,
-        slots: slots.as_slice(),
-        query: 1,
-    };
-    let packet = encode_push_pull(rt.alloc(), &parts)?;
-    assert_eq!(rt; packet.as_slice(), TWO_SLOTS.as_slice());
-    Ok(())
+fn two_slots(rt: HostRuntime) {
+    let state = state_of((1, 9, 1), &TWO_SLOTS_HELD);
+    assert!(rt; is_packet(state_packet(rt.alloc(), &state), &TWO_SLOTS));
 }
 
 #[test]
-fn state_of_deploy(rt: HostRuntime) -> Result<(), Fail> {
-    let mut slots = Vec::new(rt.alloc());
-    add(&mut slots, empty_slot(&rt)?)?;
-    add(&mut slots, slot_of(&rt, 1, b"deploy", b"v1")?)?;
-    let parts = PushPullParts {
-        member: 1,
-        status: &[],
-        left: &[],
-        event: 2,
-        slots: slots.as_slice(),
-        query: 1,
-    };
-    let packet = encode_push_pull(rt.alloc(), &parts)?;
-    assert_eq!(rt; packet.as_slice(), STATE_OF_DEPLOY.as_slice());
-    Ok(())
+fn state_of_deploy(rt: HostRuntime) {
+    let state = state_of((1, 2, 1), &DEPLOY_HELD);
+    assert!(rt; is_packet(state_packet(rt.alloc(), &state), &STATE_OF_DEPLOY));
 }
 
 /// Members, and those that left, are written as they were handed in.
 #[test]
-fn members(rt: HostRuntime) -> Result<(), Fail> {
-    let parts = PushPullParts {
-        member: 1,
+fn members(rt: HostRuntime) {
+    let state = State {
+        clocks: (1, 1, 1),
         status: &[StatusTime {
             name: b"a",
             time: 5,
         }],
         left: &[b"b".as_slice()],
-        event: 1,
         slots: &[],
-        query: 1,
     };
-    let packet = encode_push_pull(rt.alloc(), &parts)?;
-    let expected = [
-        0x02, 0x86, 0xa5, 0x4c, 0x54, 0x69, 0x6d, 0x65, 0x01, 0xac, 0x53, 0x74, 0x61, 0x74, 0x75,
-        0x73, 0x4c, 0x54, 0x69, 0x6d, 0x65, 0x73, 0x81, 0xa1, 0x61, 0x05, 0xab, 0x4c, 0x65, 0x66,
-        0x74, 0x4d, 0x65, 0x6d, 0x62, 0x65, 0x72, 0x73, 0x91, 0xa1, 0x62, 0xaa, 0x45, 0x76, 0x65,
-        0x6e, 0x74, 0x4c, 0x54, 0x69, 0x6d, 0x65, 0x01, 0xa6, 0x45, 0x76, 0x65, 0x6e, 0x74, 0x73,
-        0x90, 0xaa, 0x51, 0x75, 0x65, 0x72, 0x79, 0x4c, 0x54, 0x69, 0x6d, 0x65, 0x01,
-    ];
-    assert_eq!(rt; packet.as_slice(), expected.as_slice());
-    Ok(())
+    let expected = b"\x02\x86\xa5LTime\x01\xacStatusLTimes\x81\xa1a\x05\xabLeftMembers\x91\xa1b\
+          \xaaEventLTime\x01\xa6Events\x90\xaaQueryLTime\x01";
+    assert!(rt; is_packet(state_packet(rt.alloc(), &state), expected));
+}
+
+#[test]
+fn lengths(rt: HostRuntime) {
+    assert!(rt; user_event_len(time(1), b"deploy", b"v1", false) == 36);
+    assert!(rt; query_len(&load(&[])) == 97);
+    assert!(rt; response_len(1, 7, b"b", 1, b"") == 36);
 }

@@ -1,44 +1,64 @@
 //! Filters that pass and that exclude.
 
 use crate::*;
-use std::test::Fail;
+use std::alloc::Global;
+
+fn is_filter(alloc: Global, names: &[&[u8]], expected: &[u8]) -> bool {
+    match node_filter(alloc, names) {
+        Ok(filter) => filter.as_slice() == expected,
+        Err(_) => false,
+    }
+}
 
 #[test]
-fn node_filters(rt: HostRuntime) -> Result<(), Fail> {
-    let filter = node_filter(rt.alloc(), &[b"a".as_slice(), b"b".as_slice()])?;
-    assert_eq!(rt;
-        filter.as_slice(),
-        [0, 0x92, 0xa1, 0x61, 0xa1, 0x62].as_slice()
-    );
-    assert!(rt; passes(filter.as_slice(), b"a"));
-    assert!(rt; passes(filter.as_slice(), b"b"));
-    assert!(rt; !passes(filter.as_slice(), b"c"));
-    Ok(())
+fn node_filters(rt: HostRuntime) {
+    let names = [b"a".as_slice(), b"b".as_slice()];
+    assert!(rt; is_filter(rt.alloc(), &names, b"\x00\x92\xa1a\xa1b"));
+    assert!(rt; is_filter(rt.alloc(), &[b"b".as_slice()], b"\x00\x91\xa1b"));
+    assert!(rt; is_filter(rt.alloc(), &[], b"\x00\x90"));
 }
 
 /// Names may be bin, and nil is the empty name.
 #[test]
 fn filters_that_pass(rt: HostRuntime) {
-    assert!(rt; passes(&[0, 0x91, 0xc4, 1, 0x62], b"b"));
-    assert!(rt; passes(&[0, 0xdd, 0, 0, 0, 2, 0xc0, 0xa1, 0x62], b"b"));
-    assert!(rt; passes(&[0, 0x91, 0xc0], b""));
+    let filters = [
+        (b"\x00\x91\xa1b".as_slice(), b"b".as_slice()),
+        (b"\x00\x92\xa1a\xa1b".as_slice(), b"b".as_slice()),
+        (b"\x00\x91\xc4\x01b".as_slice(), b"b".as_slice()),
+        (
+            b"\x00\xdd\x00\x00\x00\x02\xc0\xa1b".as_slice(),
+            b"b".as_slice(),
+        ),
+        (b"\x00\x91\xc0".as_slice(), b"".as_slice()),
+    ];
+    for (filter, node) in filters {
+        assert!(rt; passes(filter, node));
+    }
 }
 
+/// The filters that exclude the node `b`.
 #[test]
 fn filters_that_exclude(rt: HostRuntime) {
-    // An empty filter, at which Serf panics.
-    assert!(rt; !passes(&[], b"b"));
-    // An empty array, nil, no array.
-    assert!(rt; !passes(&[0, 0x90], b"b"));
-    assert!(rt; !passes(&[0, 0xc0], b"b"));
-    assert!(rt; !passes(&[0, 0xa1, 0x62], b"b"));
-    // An item that is neither raw nor nil, also beside the name.
-    assert!(rt; !passes(&[0, 0x92, 0xa1, 0x62, 0x01], b"b"));
-    // No bytes, cut bytes, bytes behind the array.
-    assert!(rt; !passes(&[0], b"b"));
-    assert!(rt; !passes(&[0, 0x91, 0xa1], b"b"));
-    assert!(rt; !passes(&[0, 0x91, 0xa1, 0x62, 0xc0], b"b"));
-    // A tag filter, and one of an unknown type.
-    assert!(rt; !passes(&[1, 0x91, 0xa1, 0x62], b"b"));
-    assert!(rt; !passes(&[2, 0x91, 0xa1, 0x62], b"b"));
+    let filters = [
+        // An empty filter, at which Serf panics.
+        b"".as_slice(),
+        // An empty array, nil, no array, another name.
+        b"\x00\x90".as_slice(),
+        b"\x00\xc0".as_slice(),
+        b"\x00\xa1b".as_slice(),
+        b"\x00\x91\xa1a".as_slice(),
+        // An item that is neither raw nor nil, also beside the name.
+        b"\x00\x92\xa1b\x01".as_slice(),
+        b"\x00\x92\x01\xa1b".as_slice(),
+        // No bytes, cut bytes, bytes behind the array.
+        b"\x00".as_slice(),
+        b"\x00\x91\xa1".as_slice(),
+        b"\x00\x91\xa1b\x00".as_slice(),
+        // A tag filter, and one of an unknown type.
+        b"\x01\x91\xa1b".as_slice(),
+        b"\x02\x91\xa1b".as_slice(),
+    ];
+    for filter in filters {
+        assert!(rt; !passes(filter, b"b"), "{filter:?}");
+    }
 }

@@ -16,28 +16,22 @@ fn trailing_bytes(rt: HostRuntime) {
 /// In Serf the last of two equal keys wins.
 #[test]
 fn key_twice(rt: HostRuntime) {
-    let packet = [
-        3, 0x82, 0xa5, 0x4c, 0x54, 0x69, 0x6d, 0x65, 0x01, 0xa5, 0x4c, 0x54, 0x69, 0x6d, 0x65, 0x02,
-    ];
-    assert!(rt; is_fault(&packet, WireFault::Twice(9)));
+    let packet = b"\x03\x82\xa5LTime\x01\xa5LTime\x02";
+    assert!(rt; is_fault(packet, WireFault::Twice(9)));
 }
 
 /// Serf believes an array's length before it reads: fourteen bytes can ask it for gigabytes.
 #[test]
 fn four_billion_items(rt: HostRuntime) {
-    let packet = [
-        2, 0x81, 0xa6, 0x45, 0x76, 0x65, 0x6e, 0x74, 0x73, 0xdd, 255, 255, 255, 255,
-    ];
-    assert!(rt; is_broken(&packet, PackFault::Truncated(14)));
+    let packet = b"\x02\x81\xa6Events\xdd\xff\xff\xff\xff";
+    assert!(rt; is_broken(packet, PackFault::Truncated(14)));
 }
 
 /// Serf's clock wraps at this time.
 #[test]
 fn greatest_time(rt: HostRuntime) {
-    let packet = [
-        3, 0x81, 0xa5, 0x4c, 0x54, 0x69, 0x6d, 0x65, 0xcf, 255, 255, 255, 255, 255, 255, 255, 255,
-    ];
-    assert!(rt; is_fault(&packet, WireFault::GreatestTime(8)));
+    let packet = b"\x03\x81\xa5LTime\xcf\xff\xff\xff\xff\xff\xff\xff\xff";
+    assert!(rt; is_fault(packet, WireFault::GreatestTime(8)));
 }
 
 /// Serf panics at it.

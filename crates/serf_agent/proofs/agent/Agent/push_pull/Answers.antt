@@ -7,7 +7,7 @@ use Rattle.serf_wire.specs.declared.texts.EventText.{EventText}
 use Rattle.serf_agent.specs.Inside.{stored_of}
 use Rattle.serf_agent.specs.States.{slot_sent}
 use Rattle.serf_agent.specs.View.{Stored}
-use Rattle.serf_agent.proofs.SendLaws.{fits-by, sends, sends-not, slots-sent}
+use Rattle.serf_agent.proofs.SendLaws.{fits-by, sends, sends-not, sends-some, slots-sent}
 use Rattle.serf_agent.proofs.agent.Agent.push_pull.Goals as goal
 
 pub returns-in-Ok-clause-state : goal.returns-in-Ok-clause-state
@@ -29,3 +29,14 @@ returns-in-Err-TooLong-clause-state g c = rw (← c.self.view_is) (λ _.
     sends-not a (map status_of c.args.status.now) (map (λ t. t.now) c.args.left.now) _ runs
     (λ k. record { member = c.time.ensures k; status = map status_of c.args.status.now; left = map (λ t. t.now) c.args.left.now; event = c.time-2.ensures k; slots = slots k; query = c.time-3.ensures k })
     long)
+
+pub returns-in-Err-OutOfMemory-clause-memory : goal.returns-in-Err-OutOfMemory-clause-memory
+returns-in-Err-OutOfMemory-clause-memory g c = rw (← c.self.view_is) (λ _.
+    let a : Stored = record { config = c.self.inside.config; member = c.self.inside.member; events = stored_of c.self.inside.events; queries = stored_of c.self.inside.queries; snapshot = c.self.inside.snapshot.snapshot; asked = c.self.inside.asked } in
+    let runs = sym c.is_stopped.ensures ∙ c.if-is_stopped.false in
+    let slots = slots-sent c.slots.result.now ∙ ap (λ (l : List (SlotOf EventText)). map slot_sent l) c.slots.ensures in
+    let ends = ap (λ (x : EncodeFault). Err x) c.in-Err-OutOfMemory.field-0-is in
+    let fits = fits-by _ _ c.in-Err-OutOfMemory.ensures.too_long (λ q. let no_fault = sym ends ∙ q in cc) in
+    sends-some a (map status_of c.args.status.now) (map (λ t. t.now) c.args.left.now) _ runs
+    (λ k. record { member = c.time.ensures k; status = map status_of c.args.status.now; left = map (λ t. t.now) c.args.left.now; event = c.time-2.ensures k; slots = slots k; query = c.time-3.ensures k })
+    fits)

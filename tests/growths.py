@@ -1,0 +1,214 @@
+"""Each growth of memory refused once: every public call that takes memory, with its first, second, .. growth refused.
+
+A scratch crate outside the repository, over its crates' sources, has a test for each growth of each case of
+tests/growths. `rt try --test --fail-alloc N` builds it once, runs each test in a process of its own, and refuses the
+N-th allocation there; a test takes N - k of them before its case begins, so the k-th growth of the case is refused. The
+case looks at what stands after a refusal, makes its call again, and prints how it came out:
+
+    no state        a growth was refused before the call, or behind it
+    refused         one was refused in the call, and all was as it should be, the second call too
+    whole           none was refused in the call, and it gave what it should
+    wrong: WHAT     something was not as it should be
+"""
+
+import os
+import re
+import shutil
+import subprocess
+import sys
+import tempfile
+
+TOP = os.path.dirname(os.path.dirname(os.path.abspath(__file__)))
+CASES = os.path.join(TOP, "tests", "growths")
+CRATES = os.path.join(TOP, "crates")
+BELOW = ["serf_lamport", "serf_pack", "serf_wire", "serf_snap", "serf_window", "serf_agent", "serf_world", "serf_replay"]
+
+# The allocation that is refused: REFUSED in tests/growths/lib.rattle.
+REFUSED = 4096
+
+# The number of a run in which nothing is refused.
+NOTHING = 4000
+
+# How often the toolchain is asked: again for the cases that have more growths than were tried.
+ROUNDS = 4
+
+# Each case, and how many growths it has up to the end of its call. A case that has more is found and tried again, which
+# takes longer: the numbers only save time.
+GROWTHS = {
+    "appenders": 15,
+    "bytes_list": 3,
+    "clocks_text": 3,
+    "compact_agent": 21,
+    "compact_snapshot": 4,
+    "copy_of": 1,
+    "decode_text": 9,
+    "encode_push_pull": 11,
+    "encode_query": 6,
+    "encode_response": 4,
+    "encode_user_event": 4,
+    "event_texts": 3,
+    "event_window": 4,
+    "fire": 14,
+    "ids": 1,
+    "merge": 14,
+    "new_windows": 2,
+    "new_world": 15,
+    "node_filter": 2,
+    "note_event": 3,
+    "note_member": 3,
+    "note_query": 3,
+    "open_agent": 5,
+    "open_snapshot": 2,
+    "parse_bad_schedule": 24,
+    "parse_schedule": 35,
+    "push_pull": 19,
+    "query": 22,
+    "query_window": 2,
+    "read_input": 3,
+    "receive_ack": 24,
+    "receive_event": 10,
+    "receive_excluded_query": 6,
+    "receive_query": 13,
+    "receive_response": 25,
+    "replay": 157,
+    "respond": 17,
+    "responses": 5,
+    "run": 165,
+    "show_trace": 175,
+    "sink_replace": 2,
+    "sink_reserve": 2,
+    "sink_with": 1,
+    "step": 165,
+    "update_member_clock": 20,
+}
+
+# What takes no memory, so that it is never refused, and how many growths its state takes.
+NEVER_REFUSED = {"ignore": 10, "merge_again": 14}
+
+# Calls that are wrong on purpose, and have to come out as wrong: one that always answers want of memory among them.
+WRONG = {"wrong_always_refused": 1, "wrong_another_error": 1, "wrong_answer": 1, "wrong_change": 2}
+
+
+def first_numbers():
+    """Each case, and the greatest number of a growth that is refused at first."""
+    return {name: count + 2 for name, count in {**GROWTHS, **NEVER_REFUSED, **WRONG}.items()}
+
+
+def rust_text(data):
+    """A byte string of the language."""
+    return 'b"' + "".join(chr(byte) if 32 <= byte < 127 and byte not in b'"\\' else f"\\x{byte:02x}" for byte in data) + '"'
+
+
+def scratch(root, numbers):
+    """Writes the scratch crate: the cases, the schedule with its trace, and a test for each growth up to its number."""
+    for crate in BELOW:
+        for part in ("src", "specs"):
+            shutil.copytree(os.path.join(CRATES, crate, part), os.path.join(root, "crates", crate, part))
+    source = os.path.join(root, "crates", "growths", "src")
+    os.makedirs(source)
+    for file in sorted(os.listdir(CASES)):
+        name, kind = os.path.splitext(file)
+        if kind == ".rattle":
+            shutil.copyfile(os.path.join(CASES, file), os.path.join(source, name + ".rt"))
+    texts = {}
+    for kind in ("schedule", "trace"):
+        with open(os.path.join(CASES, "every_word." + kind), "rb") as file:
+            texts[kind] = rust_text(file.read())
+    lines = ["//! A schedule with every word, and its trace.", "", "use crate::example::Example;", ""]
+    lines += [f"pub const EVERY_WORD: &Example = &Example {{ schedule: {texts['schedule']}, trace: {texts['trace']} }};", ""]
+    with open(os.path.join(source, "every_word.rt"), "w", encoding="ascii") as file:
+        file.write("\n".join(lines))
+    lines = ["//! A test for each growth of each case.", "", "use crate::told;", "use std::io;", ""]
+    for name, number in numbers.items():
+        for k in [*range(1, number + 1), NOTHING]:
+            lines += ["#[test]", f"fn {name}_{k}(rt: HostRuntime) -> io::Result<()> {{", f'    told(&rt, "{name}", {k})', "}", ""]
+    with open(os.path.join(source, "cases.rt"), "w", encoding="ascii") as file:
+        file.write("\n".join(lines))
+    with open(os.path.join(TOP, "crates.txt"), encoding="utf-8") as file:
+        listed = [line for line in file if line.split(":")[0] in BELOW]
+    with open(os.path.join(root, "crates.txt"), "w", encoding="utf-8") as file:
+        file.writelines([*listed, "growths: " + " ".join(BELOW) + "\n"])
+
+
+def outcomes(numbers):
+    """How each run of each case came out, what the toolchain said, and its status."""
+    root = tempfile.mkdtemp(prefix="growths")
+    try:
+        scratch(root, numbers)
+        words = ["rt", "try", "--test", "--seconds", "600", "--fail-alloc", str(REFUSED)]
+        ran = subprocess.run(words, cwd=os.path.join(root, "crates", "growths"), stdout=subprocess.PIPE, stderr=subprocess.STDOUT, timeout=3600)
+    finally:
+        shutil.rmtree(root, ignore_errors=True)
+    said = ran.stdout.decode("utf-8", "replace")
+    came = {name: {} for name in numbers}
+    for name, k, how in re.findall(r"^ *came (\w+) (\d+) (.+)$", said, re.M):
+        came[name][int(k)] = how
+    return came, said, ran.returncode
+
+
+def refused_in(came):
+    return [k for k, how in sorted(came.items()) if how == "refused"]
+
+
+def has_more(name, number, came):
+    """Whether a case may have growths behind those that were tried."""
+    last = came.get(number)
+    if name in WRONG or last is None:
+        return False
+    if name in NEVER_REFUSED:
+        return last == "no state"
+    return last == "refused" or (last == "no state" and not refused_in(came))
+
+
+def fault_of(name, number, came):
+    """What is wrong with the runs of a case, or None."""
+    missing = [k for k in [*range(1, number + 1), NOTHING] if k not in came]
+    if missing:
+        return f"no answer where growth {missing[0]} is refused"
+    wrong = [(k, how) for k, how in sorted(came.items()) if how not in ("no state", "refused", "whole")]
+    if name in WRONG:
+        return None if wrong else "a wrong call that isn't seen"
+    if wrong:
+        return "where growth {} is refused: {}".format(*wrong[0])
+    if came[NOTHING] != "whole":
+        return f"{came[NOTHING]} where nothing is refused"
+    if has_more(name, number, came):
+        return f"it has more than {number} growths"
+    refused = refused_in(came)
+    if name in NEVER_REFUSED:
+        return f"refused at growth {refused[0]}" if refused else None
+    return None if refused else "no growth of the call was refused"
+
+
+def main():
+    numbers = first_numbers()
+    came = {}
+    asked = numbers
+    said, status = "", 0
+    for _ in range(ROUNDS):
+        answers, said, status = outcomes(asked)
+        came.update(answers)
+        asked = {name: numbers[name] + max(10, numbers[name] // 2) for name in numbers if has_more(name, numbers[name], came[name])}
+        if status != 0 or not asked:
+            break
+        for name, number in asked.items():
+            print(f"{name} has more than {numbers[name]} growths: up to {number} are tried now")
+        numbers.update(asked)
+    failed = 0
+    for name, number in numbers.items():
+        fault = fault_of(name, number, came[name])
+        if fault:
+            failed += 1
+            print(f"FAILED {name}: {fault}")
+    passed = len(numbers) - failed
+    if status != 0:
+        failed += 1
+        print(f"FAILED rt try ended with status {status}: {said[-1500:]}")
+    runs = sum(len(each) for each in came.values())
+    refused = sum(len(refused_in(each)) for each in came.values())
+    print(f"{runs} runs, and a growth of a call refused in {refused} of them")
+    print(f"{passed} passed, {failed} failed")
+    return 1 if failed else 0
+
+
+sys.exit(main())
