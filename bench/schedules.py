@@ -1,6 +1,6 @@
 """schedules.py KIND SIZE: writes a schedule for the bench to standard output.
 
-SIZE is bytes for `injections`, `deliveries`, `agents` and `saves`, and for the others how many actions there are.
+SIZE is how many actions there are for `run`, `one_time`, `newer_times` and `oversize`, and bytes for the others.
 """
 
 import sys
@@ -71,9 +71,29 @@ def agents(size):
     return filled([], lines, size)
 
 
-def saves(size):
-    """The shortest actions, one after another."""
-    return filled([agent("61")], ("save 0\n" for _ in forever()), size)
+# The shortest lines of each word, behind those that they need.
+SHORTEST = {
+    "saves": ("", "save 0\n"),
+    "fires": ("", "fire 0 61 - 0\n"),
+    "states": ("", "state 0\n"),
+    "merges": ("state 0\n", "merge 0 0 sync\n"),
+    "repeats": ("fire 0 61 - 0\n", "deliver 0 0 0\n"),
+    "empty_injections": ("", "inject -\n"),
+    "queries": ("", "query 0 0 0 - - 1 0\n"),
+    "acked_queries": ("", "query 0 0 0 - - 1 1\n"),
+    "refused_queries": ("", "query 0 0 0 - - 0 0\n"),
+    "responses": ("query 0 0 0 - - 1 0\n", "respond 0 0 0 -\n"),
+    "restarts": ("", "restart 0 -\n"),
+    "breaks": ("", "break 0 append 1\n"),
+    "closes": ("", "close 0 0\n"),
+    "compactions": ("", "compact 0\n"),
+}
+
+
+def shortest(kind):
+    """The schedules of a word's shortest line."""
+    first, line = SHORTEST[kind]
+    return lambda size: filled(["agent 61 1 1 512 8 keep\n", first], (line for _ in forever()), size)
 
 
 def run(actions):
@@ -112,7 +132,8 @@ def oversize(actions):
         yield f"deliver 0 {n % 500} {n}\n"
 
 
-KINDS = {kind.__name__: kind for kind in (injections, deliveries, agents, saves, run, one_time, newer_times, oversize)}
+KINDS = {kind.__name__: kind for kind in (injections, deliveries, agents, run, one_time, newer_times, oversize)}
+KINDS |= {kind: shortest(kind) for kind in SHORTEST}
 
 if __name__ == "__main__":
     sys.stdout.writelines(KINDS[sys.argv[1]](int(sys.argv[2])))
