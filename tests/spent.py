@@ -1,7 +1,6 @@
 """What must not compile: a handed query that is answered twice. Answering spends it.
 
-A scratch crate over copies of the repository's own and their built libraries: `rt check --only=` reads the code
-and checks its borrows, and proves nothing.
+A scratch crate over copies of the repository's own: `rt try` compiles it without a proof, and runs its one test.
 """
 
 import os
@@ -22,32 +21,45 @@ use std::alloc::Global;
 pub fn answer(alloc: Global, query: HandedQuery) {{
     let _first = query.respond(alloc, 0, b"yes");
 {second}}}
+
+#[cfg(test)]
+mod tests {{
+    use std::test::Fail;
+
+    #[test]
+    fn compiles(_rt: HostRuntime) -> Result<(), Fail> {{
+        Ok(())
+    }}
+}}
 """
 
 SECOND = '    let _second = query.respond(alloc, 0, b"no");\n'
 
 
-def check(root, second):
-    """What the toolchain says of the scratch crate."""
+def compiled(root, second):
+    """The status and the words of the toolchain, of the scratch crate."""
     source = os.path.join(root, "crates", "spent", "src")
     os.makedirs(source, exist_ok=True)
     with open(os.path.join(source, "lib.rt"), "w", encoding="utf-8") as file:
         file.write(CODE.format(second=second))
-    ran = subprocess.run(["rt", "check", "--only=", "--jobs", "1"], cwd=os.path.dirname(source), capture_output=True, timeout=3600)
-    return (ran.stdout + ran.stderr).decode("utf-8", "replace")
+    ran = subprocess.run(["rt", "try", "--test"], cwd=os.path.dirname(source), capture_output=True, timeout=600)
+    return ran.returncode, (ran.stdout + ran.stderr).decode("utf-8", "replace")
 
 
 def main():
     with tempfile.TemporaryDirectory() as root:
         for crate in BELOW:
-            shutil.copytree(os.path.join(TOP, "crates", crate), os.path.join(root, "crates", crate), ignore=shutil.ignore_patterns("incremental"))
+            shutil.copytree(os.path.join(TOP, "crates", crate), os.path.join(root, "crates", crate), ignore=shutil.ignore_patterns("out"))
         with open(os.path.join(TOP, "crates.txt"), encoding="utf-8") as file:
             lines = [line for line in file if line.split(":")[0] in BELOW]
         with open(os.path.join(root, "crates.txt"), "w", encoding="utf-8") as file:
             file.writelines(lines + ["spent: serf_agent\n"])
-        once = check(root, "")
-        twice = check(root, SECOND)
-    results = [("answering once compiles", "error[" not in once, once), ("answering twice does not", "error[borrow-e0382]" in twice, twice)]
+        once = compiled(root, "")
+        twice = compiled(root, SECOND)
+    results = [
+        ("answering once compiles", once[0] == 0, once[1]),
+        ("answering twice does not", twice[0] == 1 and "error[borrow-e0382]" in twice[1], twice[1]),
+    ]
     failed = 0
     for name, holds, said in results:
         if not holds:
