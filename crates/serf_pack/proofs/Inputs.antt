@@ -42,13 +42,16 @@ value_whole : (bytes rest : List ℕ) (v : Tree) → value_at 8 (length bytes) b
 unfolding whole_at
 value_whole bytes rest v e = rw e refl
 
-pub packs_whole : (bytes : List ℕ) (v : Tree) → Packs v 0 0 bytes → whole_at 8 bytes ≡ Ok v
-packs_whole bytes v h =
+pub packs_value : (bytes : List ℕ) (v : Tree) → Packs v 0 0 bytes → value_at 8 (length bytes) bytes ≡ Ok (v, [])
+packs_value bytes v h =
     let all : bytes ++ [] ≡ bytes = append-nil bytes in
     let here : place (length bytes) (bytes ++ []) ≡ 0 = rw all (start bytes) in
     let long : length (bytes ++ []) ≤ length bytes = rw all (omega arith) in
     let read = value_read v 0 8 (length bytes) bytes [] refl long (subst (λ k. Packs v 0 k bytes) (sym here) h) in
-    value_whole bytes [] v (rw all at read)
+    rw all at read
+
+pub packs_whole : (bytes : List ℕ) (v : Tree) → Packs v 0 0 bytes → whole_at 8 bytes ≡ Ok v
+packs_whole bytes v h = value_whole bytes [] v (packs_value bytes v h)
 
 pub whole_packs : (bytes : List ℕ) (v : Tree) → whole_at 8 bytes ≡ Ok v → Packs v 0 0 bytes
 unfolding whole_at

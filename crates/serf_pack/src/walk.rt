@@ -1,6 +1,6 @@
 //! The parts of a checked value, one after another. Nothing here takes memory.
 
-ghost use Rattle.std.specs.Prelude.{◌≡◌, ◌≤◌, ◌<◌, ◌^◌, length, is_ok, true};
+ghost use Rattle.std.specs.Prelude.{◌≡◌, ◌≤◌, ◌<◌, ◌^◌, length, drop, is_ok, true};
 ghost use Rattle.serf_pack.specs.Reading.{value_at, items_at, pairs_at};
 
 use crate::skip::skip;
@@ -41,9 +41,20 @@ pub struct Pairs<'a> {
     pub ghost checked: { is_ok (pairs_at (value_at room total) left rest.now) ≡ true },
 }
 
+/// What follows so many bytes.
+#[inline(always)]
+fn after(bytes: &[u8], len: usize) -> &[u8]
+    requires { len ≤ length bytes.now }
+    ensures { result.now ≡ drop len bytes.now }
+{
+    &bytes[len..]
+}
+
 impl<'a> Items<'a> {
+    ghost use Rattle.std.specs.Prelude.{ℕ, ◌∷◌, take, IfSome};
+    ghost use Rattle.serf_pack.specs.Tree.{Tree};
     ghost use Rattle.serf_pack.specs.View.{item_list};
-    ghost use Rattle.serf_pack.specs.Walk.{items_left};
+    ghost use Rattle.serf_pack.specs.Walk.{items_bytes, items_left, PacksBelow};
     ghost use Rattle.serf_pack.specs.Reading.{items_or_none};
 
     /// So many items from the front of the bytes on, which were checked.
@@ -62,6 +73,38 @@ impl<'a> Items<'a> {
             room,
             left,
         }
+    }
+
+    /// The input from the next item on. Takes no memory.
+    #[tactic(auto, unfolding(crate::specs::Walk::items_bytes))]
+    #[inline]
+    pub fn bytes(&self) -> &'a [u8]
+        ensures { result.now ≡ items_bytes self.now }
+    {
+        self.rest
+    }
+
+    /// The items behind the next one, for whoever knows its bytes, which are the first `len` of [`Items::bytes`]: a
+    /// step that doesn't go over them. They pack a value wherever it stands inside fewer than `limit` arrays and
+    /// maps; `None` where the item may stand inside more, and behind the last item. Takes no memory.
+    #[tactic(auto, unfolding(crate::specs::Walk::items_bytes))]
+    #[inline]
+    pub fn behind(&self, len: usize, limit: u8) -> Option<Items<'a>>
+        requires within { len ≤ length (items_bytes self.now) }
+        requires packed { (tree : ℕ → Tree) × PacksBelow limit tree (take len (items_bytes self.now)) }
+        ensures { IfSome result (λ rest. (tree : ℕ → Tree) → PacksBelow limit tree (take len (items_bytes self.now))
+            → (p : ℕ) × (items_left self.now ≡ tree p ∷ items_left rest)) }
+    {
+        if self.left == 0 || self.room > 8 || 8 - self.room >= limit {
+            return None;
+        }
+        let rest = after(self.rest, len);
+        Some(Items {
+            rest,
+            total: self.total,
+            room: self.room,
+            left: self.left - 1,
+        })
     }
 }
 

@@ -2,17 +2,15 @@
 use Rattle.std.proofs.Common.{◌≡◌, ℕ, suc, ℤ, pos, negsuc, ◌+◌, ◌-◌, ◌<◌, ◌≤◌, List, [], ◌∷◌, ◌++◌, length, lit<, Bool, true, false, cond, nat_le, nat_lt, Option, Some, None, IfSome, unwrap_or, refl, sym, ap, subst, ◌∙◌, arith, append_assoc, append-nil}
 use Rattle.std.proofs.lemmas.Bool.Decides.{nat_tests}
 use Rattle.serf_pack.specs.declared.head.Head.TheVariants as heads
-use Rattle.serf_pack.specs.declared.head.Row.TheVariants.{Whole}
-use Rattle.serf_pack.specs.Table.{row_of}
 use Rattle.serf_pack.specs.Tree.{Tree, nil, flag, int, raw, array, pairs, Pairs, no_pairs, pair}
 use Rattle.serf_pack.specs.Packs.{Packs, PackPairs, IsHead, pair_count}
 use Rattle.serf_pack.specs.View.{pair_list}
 use Rattle.serf_pack.specs.Canonical.{raw_head, raw_bytes}
 use Rattle.serf_pack.proofs.Canonical.{raw_head_is}
-use Rattle.serf_wire.specs.Fields.{text, number, signed, up_to, fits, list, is_key, values_of, sole}
-use Rattle.serf_wire.specs.Flat.{Reads, ReadsTexts, Shows, Extends, IsReadSoFar}
+use Rattle.serf_wire.specs.Fields.{number, signed, up_to, fits, is_key, values_of, sole}
+use Rattle.serf_wire.specs.Flat.{Reads, ReadsIn, Shows, Extends, IsReadSoFar}
 use Rattle.serf_wire.specs.Spells.{HasRawKeys}
-use Rattle.serf_wire.proofs.FlatReading.{narrower}
+use Rattle.serf_wire.proofs.FlatReading.{narrower, anywhere, map_row}
 
 pub if_some : {X : Type 0} (r : Option X) (P Q : X → Type 0) → ((x : X) → P x → Q x) → IfSome r P → IfSome r Q
 if_some None P Q f p = tt
@@ -28,11 +26,11 @@ record IsLonger (ps : Pairs) (d p : ℕ) (bytes name : List ℕ) (value : ℕ �
   at_value : ℕ
   list : pair_list longer ≡ pair_list ps ++ (raw at_key name, value at_value) ∷ []
 
-module _ (d : ℕ) (name text : List ℕ) (value : ℕ → Tree) (short : length name < 4294967296) (room : d < 8) (is : (d p : ℕ) → d < 8 → Packs (value p) d p text) where
+module _ (d : ℕ) (name text : List ℕ) (value : ℕ → Tree) (short : length name < 4294967296) (is : (p : ℕ) → Packs (value p) d p text) where
   one_more : (ps : Pairs) (p : ℕ) (bytes : List ℕ) → PackPairs ps d p bytes → IsLonger ps d p (bytes ++ (raw_bytes name ++ text)) name value
   one_more no_pairs p bytes packs = record {
     longer = pair (raw p name) (value (p + length (raw_bytes name))) no_pairs;
-    packs = (raw_bytes name, text, [], ap (λ b. b ++ (raw_bytes name ++ text)) packs ∙ sym (append-nil (raw_bytes name ++ text)), (refl, raw_head (length name), raw_head_is (length name) short, refl), is d (p + length (raw_bytes name)) room, refl);
+    packs = (raw_bytes name, text, [], ap (λ b. b ++ (raw_bytes name ++ text)) packs ∙ sym (append-nil (raw_bytes name ++ text)), (refl, raw_head (length name), raw_head_is (length name) short, refl), is (p + length (raw_bytes name)), refl);
     count = refl;
     at_key = p;
     at_value = p + length (raw_bytes name);
@@ -55,7 +53,7 @@ module _ {F : Type 0} (IsSoFar : F → List (Tree × Tree) → Type 0) where
 
   pub more_read : (old new : F) (n : ℕ) (bytes mid rest : List ℕ) → IsReadSoFar IsSoFar old n bytes mid → Extends IsSoFar old new mid rest → IsReadSoFar IsSoFar new (n + 1) bytes rest
   more_read old new n bytes mid rest r e =
-      let m = one_more 1 e.name e.text e.value e.short (lit< tt) e.packs r.pairs 1 r.text r.packs in
+      let m = one_more 1 e.name e.text e.value e.short e.packs r.pairs 1 r.text r.packs in
       let count : pair_count m.longer ≡ n + 1 = omega (arith, m.count, r.count) in
       record {
         pairs = m.longer;
@@ -88,29 +86,21 @@ added meaning None x name ps k v own none means shows = (v, values_push name ps 
 added meaning (Some y) x name ps k v own none means shows = absurd cc
 
 -- a pair that adds a field to what was found
-pub pair_read : {A F : Type 0} (IsSoFar : F → List (Tree × Tree) → Type 0) (old new : F) (name : List ℕ) (meaning : Tree → Option A) (x : A) (bytes value rest : List ℕ) → length name < 4294967296 → bytes ≡ raw_bytes name ++ value → Reads meaning x value rest
+pub part_pair_read : {A F : Type 0} (IsSoFar : F → List (Tree × Tree) → Type 0) (old new : F) (name : List ℕ) (limit : ℕ) (meaning : Tree → Option A) (x : A) (bytes value rest : List ℕ) → length name < 4294967296 → 1 < limit → bytes ≡ raw_bytes name ++ value → ReadsIn limit meaning x value rest
     → ((p : ℕ) (v : Tree) (ps : List (Tree × Tree)) → meaning v ≡ Some x → IsSoFar old ps → IsSoFar new (ps ++ (raw p name, v) ∷ [])) → Extends IsSoFar old new bytes rest
-pair_read IsSoFar old new name meaning x bytes value rest short e reads finds = record {
+part_pair_read IsSoFar old new name limit meaning x bytes value rest short room e reads finds = record {
   name = name;
   short = short;
   value = reads.tree;
   text = reads.front;
   bytes_are = e ∙ ap (λ v. raw_bytes name ++ v) reads.bytes_are;
-  packs = λ d p room. reads.packs d p;
+  packs = λ p. reads.packs 1 p room;
   found = λ p q ps s. finds p (reads.tree q) ps (reads.means q) s;
 }
 
-pub texts_pair_read : {F : Type 0} (IsSoFar : F → List (Tree × Tree) → Type 0) (old new : F) (name : List ℕ) (texts : List (List ℕ)) (bytes value rest : List ℕ) → length name < 4294967296 → bytes ≡ raw_bytes name ++ value → ReadsTexts texts value rest
-    → ((p : ℕ) (v : Tree) (ps : List (Tree × Tree)) → list text v ≡ Some texts → IsSoFar old ps → IsSoFar new (ps ++ (raw p name, v) ∷ [])) → Extends IsSoFar old new bytes rest
-texts_pair_read IsSoFar old new name texts bytes value rest short e reads finds = record {
-  name = name;
-  short = short;
-  value = reads.tree;
-  text = reads.front;
-  bytes_are = e ∙ ap (λ v. raw_bytes name ++ v) reads.bytes_are;
-  packs = reads.packs;
-  found = λ p q ps s. finds p (reads.tree q) ps (reads.means q) s;
-}
+pub pair_read : {A F : Type 0} (IsSoFar : F → List (Tree × Tree) → Type 0) (old new : F) (name : List ℕ) (meaning : Tree → Option A) (x : A) (bytes value rest : List ℕ) → length name < 4294967296 → bytes ≡ raw_bytes name ++ value → Reads meaning x value rest
+    → ((p : ℕ) (v : Tree) (ps : List (Tree × Tree)) → meaning v ≡ Some x → IsSoFar old ps → IsSoFar new (ps ++ (raw p name, v) ∷ [])) → Extends IsSoFar old new bytes rest
+pair_read IsSoFar old new name meaning x bytes value rest short e reads finds = part_pair_read IsSoFar old new name 2 meaning x bytes value rest short (lit< tt) e (anywhere 2 meaning x value rest reads) finds
 
 -- ---- the whole map
 
@@ -147,21 +137,10 @@ signed_sole max n [] e le = signed_number (nil 0) max n e le
 signed_sole max n (v ∷ []) e le = signed_number v max n e le
 signed_sole max n (v ∷ w ∷ vs) e le = absurd cc
 
-map_row : (n : ℕ) → n < 16 → row_of (128 + n) ≡ Whole (heads.Map n)
-map_row n lt = rw (no, yes) (ap (λ k. Whole (heads.Map k)) same)
-  where
-    no : nat_lt (128 + n) 128 ≡ false
-    no = grind (arith, nat_tests)
-
-    yes : nat_lt (128 + n) 144 ≡ true
-    yes = grind (arith, nat_tests)
-
-    same : (128 + n) - 128 ≡ n
-    same = omega arith
-
 pub map_packs : (n : ℕ) (bytes : List ℕ) (ps : Pairs) → n < 16 → pair_count ps ≡ n → PackPairs ps 1 1 bytes → Packs (pairs 0 ps) 0 0 ((128 + n) ∷ bytes)
 map_packs n bytes ps lt count packs =
-    let head : IsHead ((128 + n) ∷ []) (heads.Map (pair_count ps)) = rw (map_row n lt) (refl, ap (λ k. heads.Map k) count) in
+    let same : (128 + n) - 128 ≡ pair_count ps = omega (arith, count) in
+    let head : IsHead ((128 + n) ∷ []) (heads.Map (pair_count ps)) = rw (map_row (128 + n) (omega arith) (omega arith)) (refl, ap (λ k. heads.Map k) (sym same)) in
     (refl, lit< tt, (128 + n) ∷ [], bytes, head, refl, packs)
 
 pub none_left : (end : List ℕ) → length end ≡ 0 → end ≡ []

@@ -11,9 +11,10 @@ use Rattle.serf_pack.specs.declared.head.Row.TheVariants.{Whole, Number}
 use Rattle.serf_pack.specs.Table.{row_of, meaning_of, head_at}
 use Rattle.serf_pack.specs.Tree.{Tree, nil, flag, int, raw, array, pairs}
 use Rattle.serf_pack.specs.Packs.{Packs, IsHead}
+use Rattle.serf_pack.specs.View.{raw_of}
 use Rattle.serf_pack.proofs.ReadIsSpelled.{head_back}
 use Rattle.serf_wire.specs.Fields.{text, truth, number, up_to}
-use Rattle.serf_wire.specs.Flat.{Reads}
+use Rattle.serf_wire.specs.Flat.{Reads, ReadsIn}
 use Rattle.serf_wire.proofs.Spelling.{within}
 
 -- ---- literal bytes at the front
@@ -37,6 +38,10 @@ starts key bytes le is =
     let all : drop 0 bytes ≡ key ++ drop (0 + length key) bytes = drop_front 0 key bytes (omega arith) is in
     all ∙ ap (λ n. key ++ drop n bytes) zero_less ∙ ap (λ t. key ++ t) (sym (take_rest bytes (length key)))
 
+-- what is read anywhere is read below any depth
+abbrev pub anywhere : {A : Type 0} (limit : ℕ) (meaning : Tree → Option A) (x : A) (bytes rest : List ℕ) → Reads meaning x bytes rest → ReadsIn limit meaning x bytes rest
+anywhere limit meaning x bytes rest r = record { front = r.front; tree = r.tree; bytes_are = r.bytes_are; packs = λ d p room. r.packs d p; means = r.means }
+
 -- ---- heads
 
 reads_head : {A : Type 0} (meaning : Tree → Option A) (x : A) (bytes rest : List ℕ) (h : Head) (tree : ℕ → Tree) → head_at 0 bytes ≡ Ok (h, rest) → ((d p : ℕ) (head : List ℕ) → IsHead head h → Packs (tree p) d p head) → ((p : ℕ) → meaning (tree p) ≡ Some x) → Reads meaning x bytes rest
@@ -53,8 +58,8 @@ reads_nil meaning x bytes rest means e = reads_head meaning x bytes rest heads.N
 pub reads_flag : (b : Bool) (bytes rest : List ℕ) → head_at 0 bytes ≡ Ok (heads.Flag b, rest) → Reads truth b bytes rest
 reads_flag b bytes rest e = reads_head truth b bytes rest (heads.Flag b) (λ p. flag p b) e (λ d p head is. (refl, is)) (λ p. refl)
 
-pub reads_text : (n : ℕ) (bytes rest : List ℕ) → n ≤ length rest → head_at 0 bytes ≡ Ok (heads.Raw n, rest) → Reads text (take n rest) bytes (drop n rest)
-reads_text n bytes rest le e =
+reads_raw : (n : ℕ) (bytes rest : List ℕ) → n ≤ length rest → head_at 0 bytes ≡ Ok (heads.Raw n, rest) → Reads raw_of (take n rest) bytes (drop n rest)
+reads_raw n bytes rest le e =
     let b = head_back 0 bytes (heads.Raw n, rest) e in
     let len : length (take n rest) ≡ n = length-take-le n rest le in
     record {
@@ -117,17 +122,17 @@ wide_number (Some x) value behind b w limit bytes rest high e row room is small 
     (ap (head_at 0) e ∙ wide_head b w fields.Unsigned rest row room ∙ rw (is, drops) refl)
 
 -- a text of a length that its format byte says
-pub short_text : {X : Type 0} (r : Option X) (front behind : X → List ℕ) (b n : ℕ) (bytes rest : List ℕ) → bytes ≡ b ∷ rest → row_of b ≡ Whole (heads.Raw n)
-    → IfSome r (λ x. n ≤ length rest) → IfSome r (λ x. front x ≡ take n rest) → IfSome r (λ x. behind x ≡ drop n rest) → IfSome r (λ x. Reads text (front x) bytes (behind x))
-short_text None front behind b n bytes rest e row room is drops = tt
-short_text (Some x) front behind b n bytes rest e row room is drops = rw (is, drops) (reads_text n bytes rest room (ap (head_at 0) e ∙ whole_head b (heads.Raw n) rest row))
+short_raw : {X : Type 0} (r : Option X) (front behind : X → List ℕ) (b n : ℕ) (bytes rest : List ℕ) → bytes ≡ b ∷ rest → row_of b ≡ Whole (heads.Raw n)
+    → IfSome r (λ x. n ≤ length rest) → IfSome r (λ x. front x ≡ take n rest) → IfSome r (λ x. behind x ≡ drop n rest) → IfSome r (λ x. Reads raw_of (front x) bytes (behind x))
+short_raw None front behind b n bytes rest e row room is drops = tt
+short_raw (Some x) front behind b n bytes rest e row room is drops = rw (is, drops) (reads_raw n bytes rest room (ap (head_at 0) e ∙ whole_head b (heads.Raw n) rest row))
 
 -- a text of a length in the bytes behind it
-pub wide_text : {X : Type 0} (r : Option X) (front behind : X → List ℕ) (b w n : ℕ) (bytes rest after : List ℕ) → bytes ≡ b ∷ rest → row_of b ≡ Number fields.Raw w → w ≤ length rest → n ≡ big_number w rest → after ≡ drop w rest
-    → IfSome r (λ x. n ≤ length after) → IfSome r (λ x. front x ≡ take n after) → IfSome r (λ x. behind x ≡ drop n after) → IfSome r (λ x. Reads text (front x) bytes (behind x))
-wide_text None front behind b w n bytes rest after e row len num drops room is ends = tt
-wide_text (Some x) front behind b w n bytes rest after e row len num drops room is ends =
-    rw (is, ends) (reads_text n bytes after room (ap (head_at 0) e ∙ wide_head b w fields.Raw rest row len ∙ rw (num, drops) refl))
+pub wide_raw : {X : Type 0} (r : Option X) (front behind : X → List ℕ) (b w n : ℕ) (bytes rest after : List ℕ) → bytes ≡ b ∷ rest → row_of b ≡ Number fields.Raw w → w ≤ length rest → n ≡ big_number w rest → after ≡ drop w rest
+    → IfSome r (λ x. n ≤ length after) → IfSome r (λ x. front x ≡ take n after) → IfSome r (λ x. behind x ≡ drop n after) → IfSome r (λ x. Reads raw_of (front x) bytes (behind x))
+wide_raw None front behind b w n bytes rest after e row len num drops room is ends = tt
+wide_raw (Some x) front behind b w n bytes rest after e row len num drops room is ends =
+    rw (is, ends) (reads_raw n bytes after room (ap (head_at 0) e ∙ wide_head b w fields.Raw rest row len ∙ rw (num, drops) refl))
 
 raw_row : (b : ℕ) → 160 ≤ b → b ≤ 191 → row_of b ≡ Whole (heads.Raw (b - 160))
 raw_row b low high = rw (no 128 (omega arith), no 144 (omega arith), no 160 (omega arith), yes) refl
@@ -138,6 +143,40 @@ raw_row b low high = rw (no 128 (omega arith), no 144 (omega arith), no 160 (ome
     yes : nat_lt b 192 ≡ true
     yes = grind (arith, nat_tests)
 
-pub fix_text : {X : Type 0} (r : Option X) (front behind : X → List ℕ) (b : ℕ) (bytes rest : List ℕ) → bytes ≡ b ∷ rest → 160 ≤ b → b ≤ 191
-    → IfSome r (λ x. b - 160 ≤ length rest) → IfSome r (λ x. front x ≡ take (b - 160) rest) → IfSome r (λ x. behind x ≡ drop (b - 160) rest) → IfSome r (λ x. Reads text (front x) bytes (behind x))
-fix_text r front behind b bytes rest e low high = short_text r front behind b (b - 160) bytes rest e (raw_row b low high)
+pub fix_raw : {X : Type 0} (r : Option X) (front behind : X → List ℕ) (b : ℕ) (bytes rest : List ℕ) → bytes ≡ b ∷ rest → 160 ≤ b → b ≤ 191
+    → IfSome r (λ x. b - 160 ≤ length rest) → IfSome r (λ x. front x ≡ take (b - 160) rest) → IfSome r (λ x. behind x ≡ drop (b - 160) rest) → IfSome r (λ x. Reads raw_of (front x) bytes (behind x))
+fix_raw r front behind b bytes rest e low high = short_raw r front behind b (b - 160) bytes rest e (raw_row b low high)
+
+-- a byte string is a text
+raw_text : (v : Tree) (s : List ℕ) → raw_of v ≡ Some s → text v ≡ Some s
+raw_text (nil p) s e = absurd cc
+raw_text (flag p b) s e = absurd cc
+raw_text (int p z) s e = absurd cc
+raw_text (raw p t) s e = e
+raw_text (array p vs) s e = absurd cc
+raw_text (pairs p ps) s e = absurd cc
+
+pub text_of_raw : (s bytes rest : List ℕ) → Reads raw_of s bytes rest → Reads text s bytes rest
+text_of_raw s bytes rest r = record { front = r.front; tree = r.tree; bytes_are = r.bytes_are; packs = r.packs; means = λ p. raw_text (r.tree p) s (r.means p) }
+
+-- a count in the bytes behind a format byte
+pub wide_count : {X : Type 0} (r : Option X) (value : X → ℕ) (behind : X → List ℕ) (b w : ℕ) (f : Field) (bytes rest : List ℕ) → bytes ≡ b ∷ rest → row_of b ≡ Number f w
+    → IfSome r (λ x. w ≤ length rest) → IfSome r (λ x. value x ≡ big_number w rest) → IfSome r (λ x. behind x ≡ drop w rest) → IfSome r (λ x. head_at 0 bytes ≡ Ok (meaning_of f w (value x), behind x))
+wide_count None value behind b w f bytes rest e row room is drops = tt
+wide_count (Some x) value behind b w f bytes rest e row room is drops = ap (head_at 0) e ∙ wide_head b w f rest row room ∙ rw (is, drops) refl
+
+pub fix_array : (b : ℕ) (bytes rest : List ℕ) → bytes ≡ b ∷ rest → 144 ≤ b → b ≤ 159 → head_at 0 bytes ≡ Ok (heads.Array (b - 144), rest)
+fix_array b bytes rest e low high =
+    let first : nat_lt b 128 ≡ false = grind (arith, nat_tests) in
+    let second : nat_lt b 144 ≡ false = grind (arith, nat_tests) in
+    let third : nat_lt b 160 ≡ true = grind (arith, nat_tests) in
+    ap (head_at 0) e ∙ whole_head b (heads.Array (b - 144)) rest (rw (first, second, third) refl)
+
+pub map_row : (b : ℕ) → 128 ≤ b → b ≤ 143 → row_of b ≡ Whole (heads.Map (b - 128))
+map_row b low high =
+    let first : nat_lt b 128 ≡ false = grind (arith, nat_tests) in
+    let second : nat_lt b 144 ≡ true = grind (arith, nat_tests) in
+    rw (first, second) refl
+
+pub fix_map : (b : ℕ) (bytes rest : List ℕ) → bytes ≡ b ∷ rest → 128 ≤ b → b ≤ 143 → head_at 0 bytes ≡ Ok (heads.Map (b - 128), rest)
+fix_map b bytes rest e low high = ap (head_at 0) e ∙ whole_head b (heads.Map (b - 128)) rest (map_row b low high)

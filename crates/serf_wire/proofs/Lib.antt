@@ -15,4 +15,8 @@ pub mod FlatPairs
 pub mod FlatEvent
 pub mod FlatResponse
 pub mod FlatQuery
-pub mod FlatTexts
+pub mod FlatLists
+pub mod FlatStatus
+pub mod FlatSlots
+pub mod FlatState
+pub mod PlainSteps

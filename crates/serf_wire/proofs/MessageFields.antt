@@ -108,7 +108,7 @@ event_sound_in ps x keys e =
     clean (value_faults 0) layouts.Event [] ps keys (each_known (λ n k. IsSole (value_faults 0) k false (values_of n ps)) (fields_of layouts.Event)
     (sole_there text text_in 0 kinds.Text text_exact _ _ b.one_is, (sole_there text text_in 0 kinds.Text text_exact _ _ b.other_is, tt)))
 
-event_text_exact : IsExact event_text event_text_in (map_faults (value_faults 0) layouts.Event)
+pub event_text_exact : IsExact event_text event_text_in (map_faults (value_faults 0) layouts.Event)
 event_text_exact = map_exact _ _ (value_faults 0) layouts.Event _ event_text_values event_there_in event_sound_in
 
 slot_there_in : (ps : Pairs) → faults_behind (value_faults 1) layouts.Slot [] ps ≡ [] → both held (field time (codes "LTime") ps) (field (list event_text) (codes "Events") ps) ≡ Some (held (time_in (value_at (codes "LTime") ps)) (list_in event_text_in (value_at (codes "Events") ps)))
@@ -121,15 +121,18 @@ slot_sound_in ps x keys e =
     clean (value_faults 1) layouts.Slot [] ps keys (each_known (λ n k. IsSole (value_faults 1) k false (values_of n ps)) (fields_of layouts.Slot)
     (sole_there time time_in 1 kinds.Time time_exact _ _ b.one_is, (sole_there (list event_text) (list_in event_text_in) 1 (kinds.Maps layouts.Event) (list_exact _ _ _ event_text_exact) _ _ b.other_is, tt)))
 
-slot_exact : IsExact slot slot_in (map_faults (value_faults 1) layouts.Slot)
+pub events_exact : IsExact (list event_text) (list_in event_text_in) (value_faults 1 (kinds.Maps layouts.Event))
+events_exact = list_exact _ _ _ event_text_exact
+
+pub slot_exact : IsExact slot slot_in (map_faults (value_faults 1) layouts.Slot)
 slot_exact = map_exact _ _ (value_faults 1) layouts.Slot _ slot_values slot_there_in slot_sound_in
 
-slots_exact : IsExact (list slot) (list_in slot_in) (value_faults 2 (kinds.Maps layouts.Slot))
+pub slots_exact : IsExact (list slot) (list_in slot_in) (value_faults 2 (kinds.Maps layouts.Slot))
 slots_exact = list_exact _ _ _ slot_exact
 
 -- ---- queries
 
-texts_exact : IsExact (list text) (list_in text_in) (value_faults 2 kinds.Texts)
+pub texts_exact : IsExact (list text) (list_in text_in) (value_faults 2 kinds.Texts)
 texts_exact = list_exact _ _ _ text_exact
 
 pub query_there : (ps : Pairs) → faults_behind (value_faults 2) layouts.Query [] ps ≡ [] → IsQuery (query_in ps) ps

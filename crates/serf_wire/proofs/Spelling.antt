@@ -58,12 +58,12 @@ items_from part p (x ∷ xs) = item ((part x).tree p) (items_from part (p + leng
 abbrev pub array_part : {A : Type 0} → (A → Part) → List A → Part
 array_part part xs = record { bytes = array_head (length xs) ++ flat_map (λ x. (part x).bytes) xs; tree = λ p. array p (items_from part (p + length (array_head (length xs))) xs) }
 
-count_items : {A : Type 0} (part : A → Part) (p : ℕ) (xs : List A) → item_count (items_from part p xs) ≡ length xs
+pub count_items : {A : Type 0} (part : A → Part) (p : ℕ) (xs : List A) → item_count (items_from part p xs) ≡ length xs
 unfolding items_from
 count_items part p [] = refl
 count_items part p (x ∷ xs) = ap suc (count_items part (p + length (part x).bytes) xs)
 
-items_pack : {A : Type 0} (d : ℕ) (part : A → Part) (ok : A → Type 0) → ((x : A) → ok x → IsPart d (part x)) → (xs : List A) → AllByRecursion ok xs → (p : ℕ) → PackItems (items_from part p xs) d p (flat_map (λ x. (part x).bytes) xs)
+pub items_pack : {A : Type 0} (d : ℕ) (part : A → Part) (ok : A → Type 0) → ((x : A) → ok x → IsPart d (part x)) → (xs : List A) → AllByRecursion ok xs → (p : ℕ) → PackItems (items_from part p xs) d p (flat_map (λ x. (part x).bytes) xs)
 unfolding items_from
 items_pack d part ok are [] oks p = refl
 items_pack d part ok are (x ∷ xs) oks p =
@@ -93,30 +93,32 @@ pub record IsEntry (d : ℕ) (e : Entry) : Type 0 where
 abbrev pub entry_bytes : Entry → List ℕ
 entry_bytes e = entry e.name e.value.bytes
 
+abbrev pub pairs_by : {A : Type 0} → (A → Part) → (A → Part) → ℕ → List A → Pairs
+pairs_by key value p [] = no_pairs
+pairs_by key value p (x ∷ xs) = pair ((key x).tree p) ((value x).tree (p + length (key x).bytes)) (pairs_by key value (p + length (key x).bytes + length (value x).bytes) xs)
+
 abbrev pub pairs_from : {A : Type 0} → (A → Entry) → ℕ → List A → Pairs
-pairs_from make p [] = no_pairs
-pairs_from make p (x ∷ xs) =
-    pair (raw p (make x).name) ((make x).value.tree (p + length (raw_bytes (make x).name))) (pairs_from make (p + length (raw_bytes (make x).name) + length (make x).value.bytes) xs)
+pairs_from make p xs = pairs_by (λ x. text_part (make x).name) (λ x. (make x).value) p xs
 
 abbrev pub map_part : {A : Type 0} → (A → Entry) → List A → Part
 map_part make xs = record { bytes = map_head (length xs) ++ flat_map (λ x. entry_bytes (make x)) xs; tree = λ p. pairs p (pairs_from make (p + length (map_head (length xs))) xs) }
 
-count_pairs : {A : Type 0} (make : A → Entry) (p : ℕ) (xs : List A) → pair_count (pairs_from make p xs) ≡ length xs
-count_pairs make p [] = refl
-count_pairs make p (x ∷ xs) = ap suc (count_pairs make (p + length (raw_bytes (make x).name) + length (make x).value.bytes) xs)
+pub count_pairs : {A : Type 0} (key value : A → Part) (p : ℕ) (xs : List A) → pair_count (pairs_by key value p xs) ≡ length xs
+count_pairs key value p [] = refl
+count_pairs key value p (x ∷ xs) = ap suc (count_pairs key value (p + length (key x).bytes + length (value x).bytes) xs)
 
-pairs_pack : {A : Type 0} (d : ℕ) (make : A → Entry) (ok : A → Type 0) → ((x : A) → ok x → IsEntry d (make x)) → (xs : List A) → AllByRecursion ok xs → (p : ℕ) → PackPairs (pairs_from make p xs) d p (flat_map (λ x. entry_bytes (make x)) xs)
-pairs_pack d make ok are [] oks p = refl
-pairs_pack d make ok are (x ∷ xs) oks p =
-    let e = are x oks.0 in (
-      raw_bytes (make x).name,
-      (make x).value.bytes,
-      flat_map (λ y. entry_bytes (make y)) xs,
-      refl,
-      (refl, raw_head (length (make x).name), raw_head_is (length (make x).name) e.short, refl),
-      e.is (p + length (raw_bytes (make x).name)),
-      pairs_pack d make ok are xs oks.1 (p + length (raw_bytes (make x).name) + length (make x).value.bytes),
-    )
+pub pairs_pack : {A : Type 0} (d : ℕ) (key value : A → Part) (ok : A → Type 0) → ((x : A) → ok x → IsPart d (key x)) → ((x : A) → ok x → IsPart d (value x)) → (xs : List A) → AllByRecursion ok xs → (p : ℕ)
+    → PackPairs (pairs_by key value p xs) d p (flat_map (λ x. (key x).bytes ++ (value x).bytes) xs)
+pairs_pack d key value ok keys values [] oks p = refl
+pairs_pack d key value ok keys values (x ∷ xs) oks p = (
+  (key x).bytes,
+  (value x).bytes,
+  flat_map (λ y. (key y).bytes ++ (value y).bytes) xs,
+  refl,
+  keys x oks.0 p,
+  values x oks.0 (p + length (key x).bytes),
+  pairs_pack d key value ok keys values xs oks.1 (p + length (key x).bytes + length (value x).bytes),
+)
 
 pub map_is_part : {A : Type 0} (d : ℕ) (make : A → Entry) (ok : A → Type 0) → d < 8 → ((x : A) → ok x → IsEntry (d + 1) (make x)) → (xs : List A) → AllByRecursion ok xs → length xs < 4294967296 → IsPart d (map_part make xs)
 map_is_part d make ok room are xs oks lt = λ p. (
@@ -124,9 +126,9 @@ map_is_part d make ok room are xs oks lt = λ p. (
   room,
   map_head (length xs),
   flat_map (λ x. entry_bytes (make x)) xs,
-  subst (λ n. IsHead (map_head (length xs)) (heads.Map n)) (sym (count_pairs make (p + length (map_head (length xs))) xs)) (map_head_is (length xs) lt),
+  subst (λ n. IsHead (map_head (length xs)) (heads.Map n)) (sym (count_pairs (λ x. text_part (make x).name) (λ x. (make x).value) (p + length (map_head (length xs))) xs)) (map_head_is (length xs) lt),
   refl,
-  pairs_pack (d + 1) make ok are xs oks (p + length (map_head (length xs))),
+  pairs_pack (d + 1) (λ x. text_part (make x).name) (λ x. (make x).value) ok (λ x ok. text_is_part (d + 1) (make x).name (are x ok).short) (λ x ok. (are x ok).is) xs oks (p + length (map_head (length xs))),
 )
 
 -- a map of just these entries

@@ -1,18 +1,19 @@
--- A flat map that is read in one pass: what was found of its fields so far.
+-- A map that is read in one pass: what was found of its fields so far.
 use Rattle.std.specs.Prelude.{◌≡◌, ◌<◌, ◌≤◌, ℕ, pos, unwrap_or, List, [], ◌∷◌, ◌++◌, length, codes, Option, Some, None}
 use Rattle.std.specs.Option.{option_copied, option_map}
 use Rattle.std.specs.List.{flat_map}
 use Rattle.serf_pack.specs.Tree.{Tree, raw, Pairs}
 use Rattle.serf_pack.specs.Packs.{Packs, PackPairs, pair_count}
-use Rattle.serf_pack.specs.View.{pair_list}
+use Rattle.serf_pack.specs.View.{raw_of, pair_list}
 use Rattle.serf_pack.specs.Canonical.{raw_bytes}
 use Rattle.serf_wire.specs.declared.flat.event.EventFields.{EventFields}
 use Rattle.serf_wire.specs.declared.flat.response.ResponseFields.{ResponseFields}
 use Rattle.serf_wire.specs.declared.flat.query.QueryFields.{QueryFields}
 use Rattle.serf_wire.specs.declared.flat.query.QueryNumbers.{QueryNumbers}
-use Rattle.serf_wire.specs.Lists.{texts_left}
-use Rattle.serf_wire.specs.Message.{Message, Query, QueryResponse, query}
-use Rattle.serf_wire.specs.Fields.{text, truth, number, list, values_of}
+use Rattle.serf_wire.specs.declared.flat.state.StateFields.{StateFields}
+use Rattle.serf_wire.specs.Lists.{texts_left, status_left, slots_left}
+use Rattle.serf_wire.specs.Message.{Message, Query, QueryResponse, PushPull, query}
+use Rattle.serf_wire.specs.Fields.{text, truth, number, list, status, slot, values_of}
 use Rattle.serf_wire.specs.Spells.{HasRawKeys}
 
 -- the bytes begin with a value that stands for x, and go on with the rest
@@ -23,27 +24,55 @@ pub record Reads {A : Type 0} (meaning : Tree → Option A) (x : A) (bytes rest 
   pub packs : (d p : ℕ) → Packs (tree p) d p front
   pub means : (p : ℕ) → meaning (tree p) ≡ Some x
 
--- the same of a list of texts, which can't stand inside eight others
-pub record ReadsTexts (texts : List (List ℕ)) (bytes rest : List ℕ) : Type 0 where
+-- the same of a value that can only stand inside fewer than limit others
+pub record ReadsIn {A : Type 0} (limit : ℕ) (meaning : Tree → Option A) (x : A) (bytes rest : List ℕ) : Type 0 where
   pub front : List ℕ
   pub tree : ℕ → Tree
   pub bytes_are : bytes ≡ front ++ rest
-  pub packs : (d p : ℕ) → d < 8 → Packs (tree p) d p front
-  pub means : (p : ℕ) → list text (tree p) ≡ Some texts
+  pub packs : (d p : ℕ) → d < limit → Packs (tree p) d p front
+  pub means : (p : ℕ) → meaning (tree p) ≡ Some x
 
--- a text's bytes, and the text, wherever it stands
-pub record TextPart : Type 0 where
+-- the same, whatever it stands for
+pub record Spans {A : Type 0} (limit : ℕ) (meaning : Tree → Option A) (bytes rest : List ℕ) : Type 0 where
+  pub value : A
+  pub reads : ReadsIn limit meaning value bytes rest
+
+-- the bytes begin with a key of this name and a value behind it that stands for x
+pub record ReadsPair {A : Type 0} (limit : ℕ) (meaning : Tree → Option A) (name : List ℕ) (x : A) (bytes rest : List ℕ) : Type 0 where
+  pub behind : List ℕ
+  pub bytes_are : bytes ≡ raw_bytes name ++ behind
+  pub reads : ReadsIn limit meaning x behind rest
+
+-- the bytes begin with n parts
+pub record AreParts {X : Type 0} (bytes_of : X → List ℕ) (n : ℕ) (bytes rest : List ℕ) : Type 0 where
+  pub parts : List X
+  pub bytes_are : bytes ≡ flat_map bytes_of parts ++ rest
+  pub count : length parts ≡ n
+
+-- a value's bytes, and what it stands for, wherever it stands
+pub record Item {A : Type 0} (limit : ℕ) (meaning : Tree → Option A) : Type 0 where
   pub front : List ℕ
   pub tree : ℕ → Tree
-  pub value : List ℕ
-  pub packs : (d p : ℕ) → Packs (tree p) d p front
-  pub means : (p : ℕ) → text (tree p) ≡ Some value
+  pub value : A
+  pub packs : (d p : ℕ) → d < limit → Packs (tree p) d p front
+  pub means : (p : ℕ) → meaning (tree p) ≡ Some value
 
--- the bytes begin with n texts
-pub record AreTexts (n : ℕ) (bytes rest : List ℕ) : Type 0 where
-  pub items : List TextPart
-  pub bytes_are : bytes ≡ flat_map (λ t. t.front) items ++ rest
-  pub count : length items ≡ n
+-- the bytes begin with n values of a kind
+abbrev pub AreItems : {A : Type 0} → ℕ → (Tree → Option A) → ℕ → List ℕ → List ℕ → Type 0
+AreItems limit meaning n bytes rest = AreParts (λ (t : Item limit meaning). t.front) n bytes rest
+
+-- a name's bytes and its time's
+pub record StatusPart : Type 0 where
+  pub name : Item 9 raw_of
+  pub time : Item 9 (number 0xffff_ffff_ffff_ffff)
+
+abbrev pub status_part_bytes : StatusPart → List ℕ
+status_part_bytes t = t.name.front ++ t.time.front
+
+-- the bytes begin with a name and its time
+pub record SpansStatusTime (bytes rest : List ℕ) : Type 0 where
+  pub part : StatusPart
+  pub bytes_are : bytes ≡ status_part_bytes part ++ rest
 
 -- what was found of a field, whose values these are
 abbrev pub Shows : {A : Type 0} → (Tree → Option A) → Option A → List Tree → Type 0
@@ -82,6 +111,16 @@ pub record IsQuerySoFar (found : QueryFields) (ps : List (Tree × Tree)) : Type 
   pub name : Shows text (option_copied found.name) (values_of (codes "Name") ps)
   pub payload : Shows text (option_copied found.payload) (values_of (codes "Payload") ps)
 
+-- what was found of a state, whose pairs these are
+pub record IsStateSoFar (found : StateFields) (ps : List (Tree × Tree)) : Type 0 where
+  pub keys : HasRawKeys ps
+  pub member : Shows (number 0xffff_ffff_ffff_ffff) found.member (values_of (codes "LTime") ps)
+  pub status : Shows status (option_map status_left found.status) (values_of (codes "StatusLTimes") ps)
+  pub left : Shows (list text) (option_map texts_left found.left) (values_of (codes "LeftMembers") ps)
+  pub event : Shows (number 0xffff_ffff_ffff_ffff) found.event (values_of (codes "EventLTime") ps)
+  pub slots : Shows (list slot) (option_map slots_left found.slots) (values_of (codes "Events") ps)
+  pub query : Shows (number 0xffff_ffff_ffff_ffff) found.query (values_of (codes "QueryLTime") ps)
+
 -- the bytes begin with a pair that makes new of what was found before
 pub record Extends {F : Type 0} (IsSoFar : F → List (Tree × Tree) → Type 0) (old new : F) (bytes rest : List ℕ) : Type 0 where
   pub name : List ℕ
@@ -89,7 +128,7 @@ pub record Extends {F : Type 0} (IsSoFar : F → List (Tree × Tree) → Type 0)
   pub value : ℕ → Tree
   pub text : List ℕ
   pub bytes_are : bytes ≡ raw_bytes name ++ (text ++ rest)
-  pub packs : (d p : ℕ) → d < 8 → Packs (value p) d p text
+  pub packs : (p : ℕ) → Packs (value p) 1 p text
   pub found : (p q : ℕ) (ps : List (Tree × Tree)) → IsSoFar old ps → IsSoFar new (ps ++ (raw p name, value q) ∷ [])
 
 -- the bytes begin with n pairs of which this was found
@@ -125,6 +164,16 @@ found_query f = record {
   timeout = pos (unwrap_or f.timeout 0);
   name = unwrap_or (option_copied f.name) [];
   payload = unwrap_or (option_copied f.payload) [];
+}
+
+abbrev pub found_state : StateFields → PushPull
+found_state f = record {
+  member = unwrap_or f.member 0;
+  status = unwrap_or (option_map status_left f.status) [];
+  left = unwrap_or (option_map texts_left f.left) [];
+  event = unwrap_or f.event 0;
+  slots = unwrap_or (option_map slots_left f.slots) [];
+  query = unwrap_or f.query 0;
 }
 
 -- the numbers that were found, each in its range

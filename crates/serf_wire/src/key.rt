@@ -4,7 +4,7 @@ ghost use Rattle.std.specs.Prelude.{◌≡◌, ◌++◌, length, IfSome};
 ghost use Rattle.serf_pack.specs.Canonical.{raw_bytes};
 ghost use Rattle.serf_wire.specs.Keys.{name_of};
 
-/// A key of a user event, a query or a response, each behind its raw header of one byte.
+/// A key of a message, each behind its raw header of one byte.
 #[derive(Clone, Copy)]
 pub enum Key {
     Time,
@@ -20,6 +20,11 @@ pub enum Key {
     Payload,
     Cc,
     From,
+    StatusTimes,
+    LeftMembers,
+    EventTime,
+    Events,
+    QueryTime,
 }
 
 /// The key of two letters at the front, and what follows it.
@@ -63,6 +68,18 @@ fn key_of_five(letters: &[u8]) -> Option<(Key, &[u8])>
     }
 }
 
+/// The key of six letters at the front, and what follows it.
+#[inline(always)]
+fn key_of_six(letters: &[u8]) -> Option<(Key, &[u8])>
+    ensures key { IfSome result (λ x. letters.now ≡ name_of x.0 ++ x.1.now) }
+    ensures length { IfSome result (λ x. length (name_of x.0) ≡ 6) }
+{
+    match letters {
+        [b'E', b'v', b'e', b'n', b't', b's', value @ ..] => Some((Key::Events, value)),
+        _ => None,
+    }
+}
+
 /// The key of seven letters at the front, and what follows it.
 #[inline(always)]
 fn key_of_seven(letters: &[u8]) -> Option<(Key, &[u8])>
@@ -97,6 +114,32 @@ fn key_of_ten(letters: &[u8]) -> Option<(Key, &[u8])>
             b'e',
             value @ ..,
         ] => Some((Key::Source, value)),
+        [
+            b'E',
+            b'v',
+            b'e',
+            b'n',
+            b't',
+            b'L',
+            b'T',
+            b'i',
+            b'm',
+            b'e',
+            value @ ..,
+        ] => Some((Key::EventTime, value)),
+        [
+            b'Q',
+            b'u',
+            b'e',
+            b'r',
+            b'y',
+            b'L',
+            b'T',
+            b'i',
+            b'm',
+            b'e',
+            value @ ..,
+        ] => Some((Key::QueryTime, value)),
         _ => None,
     }
 }
@@ -122,6 +165,46 @@ fn key_of_eleven(letters: &[u8]) -> Option<(Key, &[u8])>
             b'r',
             value @ ..,
         ] => Some((Key::RelayFactor, value)),
+        [
+            b'L',
+            b'e',
+            b'f',
+            b't',
+            b'M',
+            b'e',
+            b'm',
+            b'b',
+            b'e',
+            b'r',
+            b's',
+            value @ ..,
+        ] => Some((Key::LeftMembers, value)),
+        _ => None,
+    }
+}
+
+/// The key of twelve letters at the front, and what follows it.
+#[inline(always)]
+fn key_of_twelve(letters: &[u8]) -> Option<(Key, &[u8])>
+    ensures key { IfSome result (λ x. letters.now ≡ name_of x.0 ++ x.1.now) }
+    ensures length { IfSome result (λ x. length (name_of x.0) ≡ 12) }
+{
+    match letters {
+        [
+            b'S',
+            b't',
+            b'a',
+            b't',
+            b'u',
+            b's',
+            b'L',
+            b'T',
+            b'i',
+            b'm',
+            b'e',
+            b's',
+            value @ ..,
+        ] => Some((Key::StatusTimes, value)),
         _ => None,
     }
 }
@@ -138,9 +221,11 @@ pub fn read_key(bytes: &[u8]) -> Option<(Key, &[u8])>
         0xa2 => key_of_two(letters),
         0xa4 => key_of_four(letters),
         0xa5 => key_of_five(letters),
+        0xa6 => key_of_six(letters),
         0xa7 => key_of_seven(letters),
         0xaa => key_of_ten(letters),
         0xab => key_of_eleven(letters),
+        0xac => key_of_twelve(letters),
         _ => None,
     }
 }

@@ -22,6 +22,7 @@ mod packet;
 mod parts;
 mod plain;
 mod put;
+mod steps;
 mod texts;
 
 pub use encode::{EncodeFault, encode_push_pull, encode_query, encode_response, encode_user_event};

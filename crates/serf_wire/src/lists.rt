@@ -6,6 +6,7 @@ ghost use Rattle.serf_wire.specs.Lookups.{status_time_in};
 ghost use Rattle.serf_wire.specs.Lists.{status_of};
 
 use crate::fields::{find_value, natural_of, text_at, text_of, time_at};
+use crate::steps::{next_event, next_slot};
 use serf_lamport::Time;
 use serf_pack::{Items, Kind, Pairs, View};
 
@@ -101,7 +102,8 @@ impl<'a> EventViews<'a> {
     ghost use Rattle.serf_wire.specs.Lookups.{list_in, tree_or_nil, event_text_in};
     ghost use Rattle.serf_wire.specs.Lists.{events_left};
 
-    fn of(list: Option<View<'a>>) -> EventViews<'a>
+    /// The events of a list, where each item is one.
+    pub(crate) fn of(list: Option<View<'a>>) -> EventViews<'a>
         ensures { events_left result ≡ list_in event_text_in (tree_or_nil (option_map tree_of list.entry)) }
     {
         match list {
@@ -139,7 +141,8 @@ impl<'a> EventView<'a> {
     ghost use Rattle.serf_wire.specs.Lookups.{event_text_in};
     ghost use Rattle.serf_wire.specs.Lists.{event_of};
 
-    fn of(value: &View<'a>) -> EventView<'a>
+    /// The event that a value is, where it is one.
+    pub(crate) fn of(value: &View<'a>) -> EventView<'a>
         ensures { event_of result ≡ event_text_in (tree_of value.now) }
     {
         EventView {
@@ -155,7 +158,8 @@ impl<'a> SlotView<'a> {
     ghost use Rattle.serf_wire.specs.Lookups.{slot_in};
     ghost use Rattle.serf_wire.specs.Lists.{slot_of};
 
-    fn of(value: &View<'a>) -> SlotView<'a>
+    /// The slot that a value is, where it is one.
+    pub(crate) fn of(value: &View<'a>) -> SlotView<'a>
         ensures { slot_of result ≡ slot_in (tree_of value.now) }
     {
         match value.kind() {
@@ -228,10 +232,14 @@ impl<'a> Iterator for EventViews<'a> {
     ghost remaining = { item_count events_left };
 
     fn next(&mut self) -> Option<EventView<'a>> {
-        let mut items = self.items?;
-        let item = items.next()?;
-        *self = EventViews { items: Some(items) };
-        Some(EventView::of(&item))
+        let items = self.items?;
+        let Some((event, behind)) = next_event(&items) else {
+            return None;
+        };
+        *self = EventViews {
+            items: Some(behind),
+        };
+        Some(event)
     }
 }
 
@@ -246,9 +254,13 @@ impl<'a> Iterator for SlotViews<'a> {
     ghost remaining = { item_count slots_left };
 
     fn next(&mut self) -> Option<SlotView<'a>> {
-        let mut items = self.items?;
-        let item = items.next()?;
-        *self = SlotViews { items: Some(items) };
-        Some(SlotView::of(&item))
+        let items = self.items?;
+        let Some((slot, behind)) = next_slot(&items) else {
+            return None;
+        };
+        *self = SlotViews {
+            items: Some(behind),
+        };
+        Some(slot)
     }
 }

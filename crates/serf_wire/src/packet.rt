@@ -14,7 +14,7 @@ use crate::faults::find_fault;
 use crate::fields::{
     flag_at, natural_at, signed_at, slots_at, status_at, text_at, texts_at, time_at,
 };
-use crate::flat::{read_query, read_response, read_user_event};
+use crate::flat::{read_push_pull, read_query, read_response, read_user_event};
 use crate::layout::{Class, MessageType, class_for};
 use crate::message::Message;
 use serf_pack::{Kind, PackFault, View, check};
@@ -97,7 +97,7 @@ fn read_checked(message: MessageType, bytes: &[u8]) -> Result<Message<'_>, WireF
     }
 }
 
-/// The message of a flat map in plain spellings, which is read in one pass. Every other map is left to
+/// The message of a map in plain spellings, which is read in one pass. Every other map is left to
 /// `read_checked`.
 fn read_flat(message: MessageType, bytes: &[u8]) -> Option<Message<'_>>
     ensures { IfSome result (λ m. SpellsMap message (message_of m) bytes.now) }
@@ -106,7 +106,7 @@ fn read_flat(message: MessageType, bytes: &[u8]) -> Option<Message<'_>>
         MessageType::UserEvent => read_user_event(bytes),
         MessageType::Query => read_query(bytes),
         MessageType::QueryResponse => read_response(bytes),
-        MessageType::PushPull => None,
+        MessageType::PushPull => read_push_pull(bytes),
     }
 }
 

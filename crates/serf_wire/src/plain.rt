@@ -2,15 +2,20 @@
 //!
 //! Each reader gives up, by `None`, at what is not spelled so.
 
-ghost use Rattle.std.specs.Prelude.{◌≡◌, ◌≤◌, ◌<◌, ◌+◌, ◌∷◌, [], take, drop, length, unwrap_or, None, IfSome};
+ghost use Rattle.std.specs.Prelude.{◌≡◌, ◌≤◌, ◌<◌, ◌+◌, ◌-◌, ◌∷◌, [], take, drop, length, unwrap_or, None, Ok, IfSome};
 ghost use Rattle.std.specs.Option.{option_copied, option_map};
 ghost use Rattle.byteorder.specs.Endian.{big_number};
-ghost use Rattle.serf_wire.specs.Fields.{text, truth, number};
-ghost use Rattle.serf_wire.specs.Flat.{Reads, ReadsTexts, AreTexts};
+ghost use Rattle.serf_pack.specs.declared.head.Head.TheVariants as heads;
+ghost use Rattle.serf_pack.specs.Packs.{Packs};
+ghost use Rattle.serf_pack.specs.Table.{head_at};
+ghost use Rattle.serf_pack.specs.Tree.{Tree};
+ghost use Rattle.serf_pack.specs.View.{raw_of, tree_of};
+ghost use Rattle.serf_wire.specs.Fields.{text, truth, number, list};
+ghost use Rattle.serf_wire.specs.Flat.{Reads, ReadsIn, Spans, AreItems};
 ghost use Rattle.serf_wire.specs.Lists.{texts_left};
 
 use crate::lists::Texts;
-use serf_pack::check;
+use serf_pack::{View, view_packed};
 
 /// The number in one byte at the front, the highest first, and what follows it.
 #[inline(always)]
@@ -72,7 +77,7 @@ fn eight_bytes(bytes: &[u8]) -> Option<(u64, &[u8])>
 
 /// The number of 64 bits at the front, and what follows it.
 #[inline(always)]
-fn read_number(bytes: &[u8]) -> Option<(u64, &[u8])>
+pub fn read_number(bytes: &[u8]) -> Option<(u64, &[u8])>
     ensures { IfSome result (λ x. Reads (number 0xffff_ffff_ffff_ffff) x.0 bytes.now x.1.now) }
 {
     let [head, rest @ ..] = bytes else {
@@ -117,23 +122,87 @@ fn split(n: usize, bytes: &[u8]) -> Option<(&[u8], &[u8])>
     Some((&bytes[..n], &bytes[n..]))
 }
 
-/// The text at the front, and what follows it.
+/// The byte string at the front, and what follows it.
 #[inline(always)]
-fn read_text(bytes: &[u8]) -> Option<(&[u8], &[u8])>
-    ensures { IfSome result (λ x. Reads text x.0.now bytes.now x.1.now) }
+pub fn read_raw(bytes: &[u8]) -> Option<(&[u8], &[u8])>
+    ensures { IfSome result (λ x. Reads raw_of x.0.now bytes.now x.1.now) }
 {
     let [head, rest @ ..] = bytes else {
         return None;
     };
     match *head {
         0xa0..=0xbf => split((*head - 0xa0) as usize, rest),
-        0xc0 => Some((b"", rest)),
         0xda => {
             let (n, rest) = two_bytes(rest)?;
             split(n as usize, rest)
         }
         _ => None,
     }
+}
+
+/// What follows nil at the front.
+#[inline(always)]
+pub fn skip_nil(bytes: &[u8]) -> Option<&[u8]>
+    ensures { IfSome result (λ rest. bytes.now ≡ 0xc0 ∷ rest.now) }
+{
+    match bytes {
+        [0xc0, rest @ ..] => Some(rest),
+        _ => None,
+    }
+}
+
+/// The text at the front, and what follows it.
+#[inline(always)]
+pub fn read_text(bytes: &[u8]) -> Option<(&[u8], &[u8])>
+    ensures { IfSome result (λ x. Reads text x.0.now bytes.now x.1.now) }
+{
+    match read_raw(bytes) {
+        Some(found) => Some(found),
+        None => {
+            let rest = skip_nil(bytes)?;
+            Some((b"", rest))
+        }
+    }
+}
+
+/// The number of items in an array's shortest header or the next longer one, and what follows it.
+#[inline(always)]
+pub fn read_array_head(bytes: &[u8]) -> Option<(u64, &[u8])>
+    ensures { IfSome result (λ x. head_at 0 bytes.now ≡ Ok (heads.Array x.0, x.1.now)) }
+{
+    let [head, rest @ ..] = bytes else {
+        return None;
+    };
+    match *head {
+        0x90..=0x9f => Some(((*head - 0x90) as u64, rest)),
+        0xdc => two_bytes(rest),
+        _ => None,
+    }
+}
+
+/// The number of pairs in a map's shortest header or the next longer one, and what follows it.
+#[inline(always)]
+pub fn read_long_map_head(bytes: &[u8]) -> Option<(u64, &[u8])>
+    ensures { IfSome result (λ x. head_at 0 bytes.now ≡ Ok (heads.Map x.0, x.1.now)) }
+{
+    let [head, rest @ ..] = bytes else {
+        return None;
+    };
+    match *head {
+        0x80..=0x8f => Some(((*head - 0x80) as u64, rest)),
+        0xde => two_bytes(rest),
+        _ => None,
+    }
+}
+
+/// A view of the bytes before the rest, which are one value.
+#[inline(always)]
+pub fn view_before<'a>(bytes: &'a [u8], rest: &[u8]) -> View<'a>
+    requires within { length rest.now ≤ length bytes.now }
+    requires packed { (v : Tree) × Packs v 0 0 (take (length bytes.now - length rest.now) bytes.now) }
+    ensures { (v : Tree) → Packs v 0 0 (take (length bytes.now - length rest.now) bytes.now) → tree_of result ≡ v }
+{
+    view_packed(&bytes[..bytes.len() - rest.len()])
 }
 
 /// The truth value at the front, and what follows it.
@@ -190,8 +259,8 @@ pub fn fresh_flag(found: Option<bool>, bytes: &[u8]) -> Option<(bool, &[u8])>
 
 /// So many texts at the front: what follows them.
 #[inline(always)]
-fn skip_texts(count: u8, bytes: &[u8]) -> Option<&[u8]>
-    ensures { IfSome result (λ rest. AreTexts count bytes.now rest.now) }
+fn skip_texts(count: u64, bytes: &[u8]) -> Option<&[u8]>
+    ensures { IfSome result (λ rest. AreItems 9 text count bytes.now rest.now) }
 {
     let mut rest = bytes;
     'texts: for _ in 0..count {
@@ -203,30 +272,29 @@ fn skip_texts(count: u8, bytes: &[u8]) -> Option<&[u8]>
     Some(rest)
 }
 
+/// The list of texts at the front: what follows it.
+#[inline(always)]
+fn skip_text_list(bytes: &[u8]) -> Option<&[u8]>
+    ensures { IfSome result (λ rest. Spans 8 (list text) bytes.now rest.now) }
+{
+    let (count, items) = read_array_head(bytes)?;
+    skip_texts(count, items)
+}
+
 /// The list of texts at the front, and what follows it.
 #[inline(always)]
 fn read_texts(bytes: &[u8]) -> Option<(Texts<'_>, &[u8])>
-    ensures { IfSome result (λ x. ReadsTexts (texts_left x.0) bytes.now x.1.now) }
+    ensures { IfSome result (λ x. ReadsIn 8 (list text) (texts_left x.0) bytes.now x.1.now) }
 {
-    let [head, items @ ..] = bytes else {
-        return None;
-    };
-    if *head < 0x90 || *head > 0x9f {
-        return None;
-    }
-    let Some(rest) = skip_texts(*head - 0x90, items) else {
-        return None;
-    };
-    match check(&bytes[..bytes.len() - rest.len()]) {
-        Ok(list) => Some((Texts::of(Some(list)), rest)),
-        Err(_) => None,
-    }
+    let rest = skip_text_list(bytes)?;
+    let list = view_before(bytes, rest);
+    Some((Texts::of(Some(list)), rest))
 }
 
 /// No texts, or nil, at the front: what follows them.
 #[inline(always)]
 fn read_no_texts(bytes: &[u8]) -> Option<&[u8]>
-    ensures { IfSome result (λ rest. ReadsTexts [] bytes.now rest.now) }
+    ensures { IfSome result (λ rest. ReadsIn 8 (list text) [] bytes.now rest.now) }
 {
     let [head, rest @ ..] = bytes else {
         return None;
@@ -242,7 +310,7 @@ fn read_no_texts(bytes: &[u8]) -> Option<&[u8]>
 #[inline(always)]
 pub fn fresh_texts<'a>(found: Option<Texts<'a>>, bytes: &'a [u8]) -> Option<(Texts<'a>, &'a [u8])>
     ensures none { IfSome result (λ x. option_map texts_left found.entry ≡ None) }
-    ensures reads { IfSome result (λ x. ReadsTexts (texts_left x.0) bytes.now x.1.now) }
+    ensures reads { IfSome result (λ x. ReadsIn 8 (list text) (texts_left x.0) bytes.now x.1.now) }
 {
     if found.is_some() {
         return None;
@@ -264,16 +332,24 @@ pub fn or_empty<'a>(found: Option<&'a [u8]>) -> &'a [u8]
     }
 }
 
+/// The number that was found, or 0.
+#[inline(always)]
+pub fn or_zero(found: Option<u64>) -> u64
+    ensures { result ≡ unwrap_or found 0 }
+{
+    match found {
+        None => 0,
+        Some(number) => number,
+    }
+}
+
 /// The number that was found, or 0, where it is at most max.
 #[inline(always)]
 pub fn up_to(found: Option<u64>, max: u64) -> Option<u64>
     ensures value { IfSome result (λ n. n ≡ unwrap_or found 0) }
     ensures within { IfSome result (λ n. n ≤ max) }
 {
-    let number = match found {
-        None => 0,
-        Some(number) => number,
-    };
+    let number = or_zero(found);
     if number > max {
         return None;
     }

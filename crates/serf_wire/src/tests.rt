@@ -9,5 +9,6 @@ mod filters;
 mod hostile;
 mod refused;
 mod serf;
+mod states;
 mod texts;
 mod vectors;

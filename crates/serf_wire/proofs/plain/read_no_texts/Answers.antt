@@ -1,6 +1,6 @@
 use Rattle.std.proofs.Common.{arith}
 use Rattle.serf_wire.proofs.FlatReading.{after_byte}
-use Rattle.serf_wire.proofs.FlatTexts.{nil_texts, no_texts}
+use Rattle.serf_wire.proofs.FlatLists.{nil_texts, no_texts}
 use Rattle.serf_wire.proofs.plain.read_no_texts.Goals as goal
 
 pub returns-in-192 : goal.returns-in-192

@@ -1,16 +1,10 @@
-use Rattle.std.proofs.Common.{[], refl, arith}
+use Rattle.std.proofs.Common.{[], refl}
 use Rattle.serf_wire.specs.Fields.{text}
-use Rattle.serf_wire.proofs.FlatReading.{after_byte, nil_front, fix_text, wide_text}
+use Rattle.serf_wire.proofs.FlatReading.{nil_front, text_of_raw}
 use Rattle.serf_wire.proofs.plain.read_text.Goals as goal
 
-pub returns-in-192 : goal.returns-in-192
-returns-in-192 c = nil_front text [] c.args.bytes.now _ (λ p. refl) (after_byte 192 c.args.bytes.now (omega arith) (omega arith))
+pub returns-in-Some : goal.returns-in-Some
+returns-in-Some c = text_of_raw c.in-Some.found.0.now c.args.bytes.now c.in-Some.found.1.now c.in-Some.ensures
 
-pub returns-in-160-to-191 : goal.returns-in-160-to-191
-returns-in-160-to-191 c =
-    fix_text c.split-in-160-to-191.result (λ x. x.0.now) (λ x. x.1.now) _ c.args.bytes.now _ (after_byte _ c.args.bytes.now (omega arith) refl) (omega arith) (omega arith) c.split-in-160-to-191.ensures.room c.split-in-160-to-191.ensures.front c.split-in-160-to-191.ensures.rest
-
-pub returns-in_ok-n-in-218 : goal.returns-in_ok-n-in-218
-returns-in_ok-n-in-218 c =
-    wide_text c.split.result (λ x. x.0.now) (λ x. x.1.now) 218 2 c.in_ok-n-in-218.n c.args.bytes.now _ c.in_ok-n-in-218.rest.now (after_byte 218 c.args.bytes.now (omega arith) (omega arith)) refl c.in_ok-n-in-218.ensures.room c.in_ok-n-in-218.ensures.value c.in_ok-n-in-218.ensures.rest
-    c.split.ensures.room c.split.ensures.front c.split.ensures.rest
+pub returns-in_ok-rest-in-None : goal.returns-in_ok-rest-in-None
+returns-in_ok-rest-in-None c = nil_front text [] c.args.bytes.now c.in_ok-rest-in-None.rest.now (λ p. refl) c.in_ok-rest-in-None.ensures

@@ -1,10 +1,10 @@
 use Rattle.std.proofs.Common.{◌++◌, codes, lit<, ap, ◌∙◌}
 use Rattle.serf_pack.specs.Canonical.{raw_bytes}
-use Rattle.serf_wire.specs.Fields.{text, number}
+use Rattle.serf_wire.specs.Fields.{text, number, list}
 use Rattle.serf_wire.specs.Keys.{name_of}
 use Rattle.serf_wire.specs.Lists.{texts_left}
 use Rattle.serf_wire.specs.Flat.{IsQuerySoFar}
-use Rattle.serf_wire.proofs.FlatPairs.{pair_read, texts_pair_read}
+use Rattle.serf_wire.proofs.FlatPairs.{pair_read, part_pair_read}
 use Rattle.serf_wire.proofs.FlatQuery.{finds_time, finds_id, finds_addr, finds_port, finds_source, finds_filters, finds_flags, finds_relay_factor, finds_timeout, finds_name, finds_payload}
 use Rattle.serf_wire.proofs.flat.query.read_pair.Goals as goal
 
@@ -36,7 +36,7 @@ returns-in_ok-source-in-Source c =
 pub returns-in_ok-filters-in-Filters : goal.returns-in_ok-filters-in-Filters
 returns-in_ok-filters-in-Filters c =
     let e = c.in_ok-key.ensures ∙ ap (λ k. raw_bytes (name_of k) ++ c.in_ok-key.value.now) c.in-Filters.is in
-    texts_pair_read IsQuerySoFar c.args.found.now _ (codes "Filters") (texts_left c.in_ok-filters-in-Filters.filters) c.args.bytes.now c.in_ok-key.value.now c.in_ok-filters-in-Filters.rest.now (lit< tt) e c.in_ok-filters-in-Filters.ensures.reads (λ p v ps. finds_filters c.args.found.now c.in_ok-filters-in-Filters.filters c.in_ok-filters-in-Filters.ensures.none p v ps)
+    part_pair_read IsQuerySoFar c.args.found.now _ (codes "Filters") 8 (list text) (texts_left c.in_ok-filters-in-Filters.filters) c.args.bytes.now c.in_ok-key.value.now c.in_ok-filters-in-Filters.rest.now (lit< tt) (lit< tt) e c.in_ok-filters-in-Filters.ensures.reads (λ p v ps. finds_filters c.args.found.now c.in_ok-filters-in-Filters.filters c.in_ok-filters-in-Filters.ensures.none p v ps)
 
 pub returns-in_ok-flags-in-Flags : goal.returns-in_ok-flags-in-Flags
 returns-in_ok-flags-in-Flags c =

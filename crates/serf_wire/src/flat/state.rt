@@ -1,0 +1,138 @@
+//! States.
+
+ghost use Rattle.std.specs.Prelude.{◌≡◌, [], unwrap_or, IfSome};
+ghost use Rattle.std.specs.Option.{option_map};
+ghost use Rattle.serf_wire.specs.Flat.{Extends, IsStateSoFar, IsReadSoFar, found_state};
+ghost use Rattle.serf_wire.specs.Lists.{status_left, slots_left};
+ghost use Rattle.serf_wire.specs.Message.{message_of, push_pull};
+ghost use Rattle.serf_wire.specs.Spells.{SpellsMap};
+ghost use Rattle.serf_wire.specs.declared.layout.MessageType.TheVariants as types;
+
+use super::slots::fresh_slots;
+use super::status::fresh_status;
+use crate::key::{Key, read_key};
+use crate::lists::{SlotViews, StatusTimes, Texts};
+use crate::message::Message;
+use crate::plain::{fresh_number, fresh_texts, or_none, or_zero, read_map_head};
+
+/// What was found of a state.
+#[derive(Clone, Copy)]
+struct StateFields<'a> {
+    member: Option<u64>,
+    status: Option<StatusTimes<'a>>,
+    left: Option<Texts<'a>>,
+    event: Option<u64>,
+    slots: Option<SlotViews<'a>>,
+    query: Option<u64>,
+}
+
+/// Adds the pair at the front.
+fn read_pair<'a>(found: &mut StateFields<'a>, bytes: &'a [u8]) -> Option<&'a [u8]>
+    ensures { IfSome result (λ rest. Extends IsStateSoFar found.old found.new bytes.now rest.now) }
+{
+    let (key, value) = read_key(bytes)?;
+    match key {
+        Key::Time => {
+            let (member, rest) = fresh_number(found.member, value)?;
+            found.member = Some(member);
+            Some(rest)
+        }
+        Key::StatusTimes => {
+            let (status, rest) = fresh_status(found.status, value)?;
+            found.status = Some(status);
+            Some(rest)
+        }
+        Key::LeftMembers => {
+            let (left, rest) = fresh_texts(found.left, value)?;
+            found.left = Some(left);
+            Some(rest)
+        }
+        Key::EventTime => {
+            let (event, rest) = fresh_number(found.event, value)?;
+            found.event = Some(event);
+            Some(rest)
+        }
+        Key::Events => {
+            let (slots, rest) = fresh_slots(found.slots, value)?;
+            found.slots = Some(slots);
+            Some(rest)
+        }
+        Key::QueryTime => {
+            let (query, rest) = fresh_number(found.query, value)?;
+            found.query = Some(query);
+            Some(rest)
+        }
+        _ => None,
+    }
+}
+
+/// Reads so many pairs.
+fn read_pairs(count: u8, bytes: &[u8]) -> Option<(StateFields<'_>, &[u8])>
+    ensures { IfSome result (λ x. IsReadSoFar IsStateSoFar x.0 count bytes.now x.1.now) }
+{
+    let mut found = StateFields {
+        member: None,
+        status: None,
+        left: None,
+        event: None,
+        slots: None,
+        query: None,
+    };
+    let mut rest = bytes;
+    'pairs: for _ in 0..count {
+        let Some(behind) = read_pair(&mut found, rest) else {
+            return None;
+        };
+        rest = behind;
+    }
+    Some((found, rest))
+}
+
+/// The status times that were found, or none.
+fn or_no_status<'a>(found: Option<StatusTimes<'a>>) -> StatusTimes<'a>
+    ensures { status_left result ≡ unwrap_or (option_map status_left found.entry) [] }
+{
+    match found {
+        None => StatusTimes::of(None),
+        Some(status) => status,
+    }
+}
+
+/// The slots that were found, or none.
+fn or_no_slots<'a>(found: Option<SlotViews<'a>>) -> SlotViews<'a>
+    ensures { slots_left result ≡ unwrap_or (option_map slots_left found.entry) [] }
+{
+    match found {
+        None => SlotViews::of(None),
+        Some(slots) => slots,
+    }
+}
+
+/// The state of what was found.
+fn state_of<'a>(found: &StateFields<'a>) -> Message<'a>
+    ensures { message_of result ≡ push_pull (found_state found.now) }
+{
+    Message::PushPull {
+        member: or_zero(found.member),
+        status: or_no_status(found.status),
+        left: or_none(found.left),
+        event: or_zero(found.event),
+        slots: or_no_slots(found.slots),
+        query: or_zero(found.query),
+    }
+}
+
+/// The state that such a map is.
+#[inline(never)]
+pub fn read_push_pull(bytes: &[u8]) -> Option<Message<'_>>
+    ensures { IfSome result (λ m. SpellsMap types.PushPull (message_of m) bytes.now) }
+{
+    let (count, pairs) = read_map_head(bytes)?;
+    let Some((found, end)) = read_pairs(count, pairs) else {
+        return None;
+    };
+    if !end.is_empty() {
+        return None;
+    }
+    Some(state_of(&found))
+}
