@@ -68,18 +68,6 @@ fn key_of_five(letters: &[u8]) -> Option<(Key, &[u8])>
     }
 }
 
-/// The key of six letters at the front, and what follows it.
-#[inline(always)]
-fn key_of_six(letters: &[u8]) -> Option<(Key, &[u8])>
-    ensures key { IfSome result (λ x. letters.now ≡ name_of x.0 ++ x.1.now) }
-    ensures length { IfSome result (λ x. length (name_of x.0) ≡ 6) }
-{
-    match letters {
-        [b'E', b'v', b'e', b'n', b't', b's', value @ ..] => Some((Key::Events, value)),
-        _ => None,
-    }
-}
-
 /// The key of seven letters at the front, and what follows it.
 #[inline(always)]
 fn key_of_seven(letters: &[u8]) -> Option<(Key, &[u8])>
@@ -114,6 +102,73 @@ fn key_of_ten(letters: &[u8]) -> Option<(Key, &[u8])>
             b'e',
             value @ ..,
         ] => Some((Key::Source, value)),
+        _ => None,
+    }
+}
+
+/// The key of eleven letters at the front, and what follows it.
+#[inline(always)]
+fn key_of_eleven(letters: &[u8]) -> Option<(Key, &[u8])>
+    ensures key { IfSome result (λ x. letters.now ≡ name_of x.0 ++ x.1.now) }
+    ensures length { IfSome result (λ x. length (name_of x.0) ≡ 11) }
+{
+    match letters {
+        [
+            b'R',
+            b'e',
+            b'l',
+            b'a',
+            b'y',
+            b'F',
+            b'a',
+            b'c',
+            b't',
+            b'o',
+            b'r',
+            value @ ..,
+        ] => Some((Key::RelayFactor, value)),
+        _ => None,
+    }
+}
+
+/// The key of a user event, a query or a response at the front, and what follows it.
+#[inline(always)]
+pub fn read_key(bytes: &[u8]) -> Option<(Key, &[u8])>
+    ensures { IfSome result (λ x. bytes.now ≡ raw_bytes (name_of x.0) ++ x.1.now) }
+{
+    let [head, letters @ ..] = bytes else {
+        return None;
+    };
+    match *head {
+        0xa2 => key_of_two(letters),
+        0xa4 => key_of_four(letters),
+        0xa5 => key_of_five(letters),
+        0xa7 => key_of_seven(letters),
+        0xaa => key_of_ten(letters),
+        0xab => key_of_eleven(letters),
+        _ => None,
+    }
+}
+
+/// A state's key of six letters at the front, and what follows it.
+#[inline(always)]
+fn state_key_of_six(letters: &[u8]) -> Option<(Key, &[u8])>
+    ensures key { IfSome result (λ x. letters.now ≡ name_of x.0 ++ x.1.now) }
+    ensures length { IfSome result (λ x. length (name_of x.0) ≡ 6) }
+{
+    match letters {
+        [b'E', b'v', b'e', b'n', b't', b's', value @ ..] => Some((Key::Events, value)),
+        _ => None,
+    }
+}
+
+/// A state's key of ten letters at the front, and what follows it.
+#[inline(always)]
+fn state_key_of_ten(letters: &[u8]) -> Option<(Key, &[u8])>
+    ensures key { IfSome result (λ x. letters.now ≡ name_of x.0 ++ x.1.now) }
+    ensures length { IfSome result (λ x. length (name_of x.0) ≡ 10) }
+{
+    match letters {
         [
             b'E',
             b'v',
@@ -144,27 +199,13 @@ fn key_of_ten(letters: &[u8]) -> Option<(Key, &[u8])>
     }
 }
 
-/// The key of eleven letters at the front, and what follows it.
+/// A state's key of eleven letters at the front, and what follows it.
 #[inline(always)]
-fn key_of_eleven(letters: &[u8]) -> Option<(Key, &[u8])>
+fn state_key_of_eleven(letters: &[u8]) -> Option<(Key, &[u8])>
     ensures key { IfSome result (λ x. letters.now ≡ name_of x.0 ++ x.1.now) }
     ensures length { IfSome result (λ x. length (name_of x.0) ≡ 11) }
 {
     match letters {
-        [
-            b'R',
-            b'e',
-            b'l',
-            b'a',
-            b'y',
-            b'F',
-            b'a',
-            b'c',
-            b't',
-            b'o',
-            b'r',
-            value @ ..,
-        ] => Some((Key::RelayFactor, value)),
         [
             b'L',
             b'e',
@@ -183,9 +224,9 @@ fn key_of_eleven(letters: &[u8]) -> Option<(Key, &[u8])>
     }
 }
 
-/// The key of twelve letters at the front, and what follows it.
+/// A state's key of twelve letters at the front, and what follows it.
 #[inline(always)]
-fn key_of_twelve(letters: &[u8]) -> Option<(Key, &[u8])>
+fn state_key_of_twelve(letters: &[u8]) -> Option<(Key, &[u8])>
     ensures key { IfSome result (λ x. letters.now ≡ name_of x.0 ++ x.1.now) }
     ensures length { IfSome result (λ x. length (name_of x.0) ≡ 12) }
 {
@@ -209,23 +250,20 @@ fn key_of_twelve(letters: &[u8]) -> Option<(Key, &[u8])>
     }
 }
 
-/// The key at the front, and what follows it.
+/// The key of a state at the front, and what follows it.
 #[inline(always)]
-pub fn read_key(bytes: &[u8]) -> Option<(Key, &[u8])>
+pub fn read_state_key(bytes: &[u8]) -> Option<(Key, &[u8])>
     ensures { IfSome result (λ x. bytes.now ≡ raw_bytes (name_of x.0) ++ x.1.now) }
 {
     let [head, letters @ ..] = bytes else {
         return None;
     };
     match *head {
-        0xa2 => key_of_two(letters),
-        0xa4 => key_of_four(letters),
         0xa5 => key_of_five(letters),
-        0xa6 => key_of_six(letters),
-        0xa7 => key_of_seven(letters),
-        0xaa => key_of_ten(letters),
-        0xab => key_of_eleven(letters),
-        0xac => key_of_twelve(letters),
+        0xa6 => state_key_of_six(letters),
+        0xaa => state_key_of_ten(letters),
+        0xab => state_key_of_eleven(letters),
+        0xac => state_key_of_twelve(letters),
         _ => None,
     }
 }

@@ -282,7 +282,6 @@ fn skip_text_list(bytes: &[u8]) -> Option<&[u8]>
 }
 
 /// The list of texts at the front, and what follows it.
-#[inline(always)]
 fn read_texts(bytes: &[u8]) -> Option<(Texts<'_>, &[u8])>
     ensures { IfSome result (λ x. ReadsIn 8 (list text) (texts_left x.0) bytes.now x.1.now) }
 {

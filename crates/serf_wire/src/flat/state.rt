@@ -10,7 +10,7 @@ ghost use Rattle.serf_wire.specs.declared.layout.MessageType.TheVariants as type
 
 use super::slots::fresh_slots;
 use super::status::fresh_status;
-use crate::key::{Key, read_key};
+use crate::key::{Key, read_state_key};
 use crate::lists::{SlotViews, StatusTimes, Texts};
 use crate::message::Message;
 use crate::plain::{fresh_number, fresh_texts, or_none, or_zero, read_map_head};
@@ -30,7 +30,7 @@ struct StateFields<'a> {
 fn read_pair<'a>(found: &mut StateFields<'a>, bytes: &'a [u8]) -> Option<&'a [u8]>
     ensures { IfSome result (λ rest. Extends IsStateSoFar found.old found.new bytes.now rest.now) }
 {
-    let (key, value) = read_key(bytes)?;
+    let (key, value) = read_state_key(bytes)?;
     match key {
         Key::Time => {
             let (member, rest) = fresh_number(found.member, value)?;
@@ -66,7 +66,8 @@ fn read_pair<'a>(found: &mut StateFields<'a>, bytes: &'a [u8]) -> Option<&'a [u8
     }
 }
 
-/// Reads so many pairs.
+/// Reads so many pairs. It stands apart, so that the readers of smaller messages are as fast beside it.
+#[inline(never)]
 fn read_pairs(count: u8, bytes: &[u8]) -> Option<(StateFields<'_>, &[u8])>
     ensures { IfSome result (λ x. IsReadSoFar IsStateSoFar x.0 count bytes.now x.1.now) }
 {
@@ -123,7 +124,6 @@ fn state_of<'a>(found: &StateFields<'a>) -> Message<'a>
 }
 
 /// The state that such a map is.
-#[inline(never)]
 pub fn read_push_pull(bytes: &[u8]) -> Option<Message<'_>>
     ensures { IfSome result (λ m. SpellsMap types.PushPull (message_of m) bytes.now) }
 {

@@ -4,6 +4,3 @@ use Rattle.serf_wire.proofs.key.key_of_eleven.Goals as goal
 
 pub returns-in-82-clause-key : goal.returns-in-82-clause-key
 returns-in-82-clause-key c = starts (codes "RelayFactor") c.args.letters.now (omega arith) (omega arith, (omega arith, (omega arith, (omega arith, (omega arith, (omega arith, (omega arith, (omega arith, (omega arith, (omega arith, (omega arith, tt)))))))))))
-
-pub returns-in-76-clause-key : goal.returns-in-76-clause-key
-returns-in-76-clause-key c = starts (codes "LeftMembers") c.args.letters.now (omega arith) (omega arith, (omega arith, (omega arith, (omega arith, (omega arith, (omega arith, (omega arith, (omega arith, (omega arith, (omega arith, (omega arith, tt)))))))))))
