@@ -5,6 +5,7 @@ pub mod Viewing
 pub mod Walking
 pub mod PartCounts
 pub mod SpelledIsRead
+pub mod Roomier
 pub mod ReadIsSpelled
 pub mod BrokenIsRefused
 pub mod RefusedIsBroken

@@ -51,10 +51,10 @@ fn after(bytes: &[u8], len: usize) -> &[u8]
 }
 
 impl<'a> Items<'a> {
-    ghost use Rattle.std.specs.Prelude.{ℕ, ◌∷◌, take, IfSome};
+    ghost use Rattle.std.specs.Prelude.{ℕ, [], ◌∷◌, take, IfSome, IfNone};
     ghost use Rattle.serf_pack.specs.Tree.{Tree};
     ghost use Rattle.serf_pack.specs.View.{item_list};
-    ghost use Rattle.serf_pack.specs.Walk.{items_bytes, items_left, PacksBelow};
+    ghost use Rattle.serf_pack.specs.Walk.{items_bytes, items_left, PacksAlone};
     ghost use Rattle.serf_pack.specs.Reading.{items_or_none};
 
     /// So many items from the front of the bytes on, which were checked.
@@ -85,17 +85,18 @@ impl<'a> Items<'a> {
     }
 
     /// The items behind the next one, for whoever knows its bytes, which are the first `len` of [`Items::bytes`]: a
-    /// step that doesn't go over them. They pack a value wherever it stands inside fewer than `limit` arrays and
-    /// maps; `None` where the item may stand inside more, and behind the last item. Takes no memory.
+    /// step that doesn't go over them. Alone they pack a value, wherever in the input it begins. `None` behind the
+    /// last item. Takes no memory.
     #[tactic(auto, unfolding(crate::specs::Walk::items_bytes))]
     #[inline]
-    pub fn behind(&self, len: usize, limit: u8) -> Option<Items<'a>>
+    pub fn behind(&self, len: usize) -> Option<Items<'a>>
         requires within { len ≤ length (items_bytes self.now) }
-        requires packed { (tree : ℕ → Tree) × PacksBelow limit tree (take len (items_bytes self.now)) }
-        ensures { IfSome result (λ rest. (tree : ℕ → Tree) → PacksBelow limit tree (take len (items_bytes self.now))
+        requires packed { (tree : ℕ → Tree) × PacksAlone tree (take len (items_bytes self.now)) }
+        ensures some { IfSome result (λ rest. (tree : ℕ → Tree) → PacksAlone tree (take len (items_bytes self.now))
             → (p : ℕ) × (items_left self.now ≡ tree p ∷ items_left rest)) }
+        ensures none { IfNone result (items_left self.now ≡ []) }
     {
-        if self.left == 0 || self.room > 8 || 8 - self.room >= limit {
+        if self.left == 0 {
             return None;
         }
         let rest = after(self.rest, len);

@@ -6,7 +6,7 @@ use Rattle.serf_pack.specs.declared.head.Head.TheVariants as heads
 use Rattle.serf_pack.specs.Table.{head_at}
 use Rattle.serf_pack.specs.Tree.{Tree, nil, array, no_items}
 use Rattle.serf_pack.specs.Packs.{Packs, IsHead}
-use Rattle.serf_pack.specs.Walk.{PacksBelow}
+use Rattle.serf_pack.specs.Walk.{PacksAlone}
 use Rattle.serf_pack.proofs.ReadIsSpelled.{head_back}
 use Rattle.serf_wire.specs.declared.fault.WireFault.{WireFault}
 use Rattle.serf_wire.specs.Fields.{text, list}
@@ -99,10 +99,9 @@ module _ {A : Type 0} (limit : ℕ) (meaning : Tree → Option A) (bytes rest : 
       let same : s.value ≡ x = cc in
       subst (λ y. ReadsIn limit meaning y bytes rest) same s.reads
 
-  -- the bytes before the rest are one value
-  pub packed_before : 0 < limit → (v : Tree) × Packs v 0 0 (take (length bytes - length rest) bytes)
-  packed_before room = (s.reads.tree 0, subst (Packs (s.reads.tree 0) 0 0) (sym walked_is) (s.reads.packs 0 0 room))
+  -- the bytes before the rest are one value, wherever in the input they begin
+  pub packed_alone : 0 < limit → PacksAlone s.reads.tree (take (length bytes - length rest) bytes)
+  packed_alone room p = subst (Packs (s.reads.tree p) 0 p) (sym walked_is) (s.reads.packs 0 p room)
 
-  -- and wherever they stand
-  pub packed_anywhere : PacksBelow limit s.reads.tree (take (length bytes - length rest) bytes)
-  packed_anywhere d p room = subst (Packs (s.reads.tree p) d p) (sym walked_is) (s.reads.packs d p room)
+  pub packed_before : 0 < limit → (v : Tree) × Packs v 0 0 (take (length bytes - length rest) bytes)
+  packed_before room = (s.reads.tree 0, packed_alone room 0)

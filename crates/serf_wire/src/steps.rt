@@ -19,7 +19,7 @@ fn plain_event<'a>(items: &Items<'a>) -> Option<(EventView<'a>, Items<'a>)>
     let Some((event, rest)) = read_event(bytes) else {
         return None;
     };
-    match items.behind(bytes.len() - rest.len(), 8) {
+    match items.behind(bytes.len() - rest.len()) {
         Some(behind) => Some((event, behind)),
         None => None,
     }
@@ -50,7 +50,7 @@ fn plain_slot<'a>(items: &Items<'a>) -> Option<(SlotView<'a>, Items<'a>)>
     let Some((slot, rest)) = read_slot(bytes) else {
         return None;
     };
-    match items.behind(bytes.len() - rest.len(), 6) {
+    match items.behind(bytes.len() - rest.len()) {
         Some(behind) => Some((slot, behind)),
         None => None,
     }

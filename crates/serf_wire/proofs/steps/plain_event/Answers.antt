@@ -1,6 +1,6 @@
-use Rattle.std.proofs.Common.{◌≡◌, ◌-◌, ◌∷◌, ℕ, length, subst, sym, take}
+use Rattle.std.proofs.Common.{◌≡◌, ◌-◌, ◌∷◌, ℕ, length, arith, subst, sym, take}
 use Rattle.serf_pack.specs.Tree.{Tree}
-use Rattle.serf_pack.specs.Walk.{items_left, PacksBelow}
+use Rattle.serf_pack.specs.Walk.{items_left, PacksAlone}
 use Rattle.serf_wire.specs.Fields.{event_text}
 use Rattle.serf_wire.specs.Lists.{event_of}
 use Rattle.serf_wire.specs.Lookups.{event_text_in}
@@ -14,5 +14,5 @@ returns-in-Some-behind c =
     let rest = c.in-Some.rest.now in
     let old = items_left c.args.items.now in
     let new = items_left c.in-Some-behind.behind in
-    plain_step 8 event_text event_text_in _ (event_of c.in-Some.event) bytes rest old new event_text_exact c.in-Some.ensures
-    (subst (λ b. (tree : ℕ → Tree) → PacksBelow 8 tree (take (length bytes - length rest) b) → (p : ℕ) × (old ≡ tree p ∷ new)) (sym c.bytes-bytes.ensures) c.in-Some-behind.ensures)
+    plain_step 8 event_text event_text_in _ (event_of c.in-Some.event) bytes rest old new event_text_exact (omega arith) c.in-Some.ensures
+    (subst (λ b. (tree : ℕ → Tree) → PacksAlone tree (take (length bytes - length rest) b) → (p : ℕ) × (old ≡ tree p ∷ new)) (sym c.bytes-bytes.ensures) c.in-Some-behind.ensures.some)
