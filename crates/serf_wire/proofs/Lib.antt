@@ -3,6 +3,7 @@ pub mod Sound
 pub mod Meanings
 pub mod MessageFields
 pub mod Packets
+pub mod SpelledRanges
 pub mod Mapped
 pub mod Ranged
 pub mod Short

@@ -80,6 +80,21 @@ fields_clean types.PushPull (query_response e) ps h = absurd h
 fields_clean types.PushPull (push_pull e) ps h = (push_pull_clean e ps h, ap push_pull (push_pull_is e ps h))
 fields_clean types.PushPull (foreign k) ps h = absurd h
 
+-- ---- what holds of each fault and of each message of a type holds of what is read of a value
+
+pub read_has : (P : Result Message WireFault → Type 0) (message : MessageType) (r : Result Tree PackFault) → ((f : WireFault) → P (Err f)) → ((ps : List (Tree × Tree)) → P (Ok (message_in message ps))) → P (read_value message r)
+read_has P message (Err f) bad good = bad _
+read_has P message (Ok (nil p)) bad good = bad _
+read_has P message (Ok (flag p b)) bad good = bad _
+read_has P message (Ok (int p z)) bad good = bad _
+read_has P message (Ok (raw p s)) bad good = bad _
+read_has P message (Ok (array p vs)) bad good = bad _
+read_has P message (Ok (pairs p ps)) bad good = by (first (message_faults message (pair_list ps)))
+  where
+    by : (o : Option WireFault) → P (unless_fault o (message_in message (pair_list ps)))
+    by None = good (pair_list ps)
+    by (Some f) = bad f
+
 -- ---- what is read of a value is exact
 
 abbrev IsAnswer : MessageType → List ℕ → Result Message WireFault → Type 0

@@ -1,25 +1,18 @@
 -- Which events the packets carry that agents send.
-use Rattle.std.proofs.Common.{◌≡◌, ℕ, ◌<◌, ◌≤◌, ◌-◌, ◌^◌, ◌==◌, Bool, false, List, [], ◌∷◌, Option, Some, None, Result, Ok, Err, refl, sym, ap, subst, arith, map}
+use Rattle.std.proofs.Common.{◌≡◌, ℕ, ◌<◌, ◌≤◌, ◌-◌, ◌^◌, ◌==◌, Bool, false, List, [], ◌∷◌, refl, sym, ap, subst, arith, map}
 use Rattle.std.specs.Prelude.{All}
 use Rattle.std.specs.List.{AllByRecursion}
 use Rattle.std.proofs.lemmas.List.Elements.{All-nil, All-head, All-tail, All-append, All-map, All-filter, All-weaker}
-use Rattle.serf_pack.specs.declared.fault.PackFault.{PackFault}
-use Rattle.serf_pack.specs.Tree.{Tree, nil, flag, int, raw, array, pairs}
 use Rattle.serf_pack.specs.Reading.{whole_at}
-use Rattle.serf_pack.specs.View.{pair_list}
-use Rattle.serf_wire.specs.declared.fault.WireFault.{WireFault}
-use Rattle.serf_wire.specs.declared.layout.MessageType.{MessageType}
 use Rattle.serf_wire.specs.declared.layout.MessageType.TheVariants as types
 use Rattle.serf_wire.specs.declared.texts.EventText.{EventText}
 use Rattle.serf_wire.specs.Canonical.{canonical, has_long, without_events}
-use Rattle.serf_wire.specs.Decoded.{decoded, read_value}
-use Rattle.serf_wire.specs.Faults.{message_faults, first}
-use Rattle.serf_wire.specs.Message.{Message, UserEvent, Query, PushPull, user_event, query, push_pull, response_of}
+use Rattle.serf_wire.specs.Decoded.{decoded}
+use Rattle.serf_wire.specs.Message.{UserEvent, Query, PushPull, user_event, query, push_pull, response_of}
 use Rattle.serf_wire.specs.Ranges.{IsRangedPushPull, IsTimed}
-use Rattle.serf_wire.specs.Reading.{unless_fault, message_in}
 use Rattle.serf_wire.specs.Slots.{held}
 use Rattle.serf_wire.proofs.CanonicalPackets.{canonical_spells}
-use Rattle.serf_wire.proofs.Packets.{spelled_decoded}
+use Rattle.serf_wire.proofs.Packets.{read_has, spelled_decoded}
 use Rattle.serf_window.specs.Texts.{event_of}
 use Rattle.serf_window.specs.Window.{Timed, SlotOf, slots_of}
 use Rattle.serf_window.proofs.WindowLaws.{slots_of-each, slots_of-below}
@@ -41,26 +34,13 @@ carried-event t what coalesce small short =
 
 -- ---- packets of other types carry no events
 
-pub brings-read : {X : Type 0} (f : Result Message WireFault → List X) (t : MessageType) (r : Result Tree PackFault) → ((fault : WireFault) → f (Err fault) ≡ []) → ((ps : List (Tree × Tree)) → f (Ok (message_in t ps)) ≡ []) → f (read_value t r) ≡ []
-brings-read f t (Err e) bad none = bad _
-brings-read f t (Ok (nil p)) bad none = bad _
-brings-read f t (Ok (flag p b)) bad none = bad _
-brings-read f t (Ok (int p z)) bad none = bad _
-brings-read f t (Ok (raw p s)) bad none = bad _
-brings-read f t (Ok (array p vs)) bad none = bad _
-brings-read f t (Ok (pairs p ps)) bad none = by (first (message_faults t (pair_list ps)))
-  where
-    by : (o : Option WireFault) → f (unless_fault o (message_in t (pair_list ps))) ≡ []
-    by None = none (pair_list ps)
-    by (Some e) = bad e
-
 behind-query : (bytes : List ℕ) → carried (4 ∷ bytes) ≡ []
 unfolding decoded
-behind-query bytes = brings-read events_brought types.Query (whole_at 8 bytes) (λ f. refl) (λ ps. refl)
+behind-query bytes = read_has (λ r. events_brought r ≡ []) types.Query (whole_at 8 bytes) (λ f. refl) (λ ps. refl)
 
 behind-response : (bytes : List ℕ) → carried (5 ∷ bytes) ≡ []
 unfolding decoded
-behind-response bytes = brings-read events_brought types.QueryResponse (whole_at 8 bytes) (λ f. refl) (λ ps. refl)
+behind-response bytes = read_has (λ r. events_brought r ≡ []) types.QueryResponse (whole_at 8 bytes) (λ f. refl) (λ ps. refl)
 
 pub carried-query : (q : Query) → carried (canonical (query q)) ≡ []
 unfolding canonical
@@ -74,15 +54,15 @@ carried-response t id from flags payload = behind-response _
 
 query-behind-event : (bytes : List ℕ) → query_brought (decoded (3 ∷ bytes)) ≡ []
 unfolding decoded
-query-behind-event bytes = brings-read query_brought types.UserEvent (whole_at 8 bytes) (λ f. refl) (λ ps. refl)
+query-behind-event bytes = read_has (λ r. query_brought r ≡ []) types.UserEvent (whole_at 8 bytes) (λ f. refl) (λ ps. refl)
 
 query-behind-state : (bytes : List ℕ) → query_brought (decoded (2 ∷ bytes)) ≡ []
 unfolding decoded
-query-behind-state bytes = brings-read query_brought types.PushPull (whole_at 8 bytes) (λ f. refl) (λ ps. refl)
+query-behind-state bytes = read_has (λ r. query_brought r ≡ []) types.PushPull (whole_at 8 bytes) (λ f. refl) (λ ps. refl)
 
 query-behind-response : (bytes : List ℕ) → query_brought (decoded (5 ∷ bytes)) ≡ []
 unfolding decoded
-query-behind-response bytes = brings-read query_brought types.QueryResponse (whole_at 8 bytes) (λ f. refl) (λ ps. refl)
+query-behind-response bytes = read_has (λ r. query_brought r ≡ []) types.QueryResponse (whole_at 8 bytes) (λ f. refl) (λ ps. refl)
 
 pub no-query-event : (t : ℕ) (what : EventText) (coalesce : Bool) → query_brought (decoded (event_packet t what coalesce)) ≡ []
 unfolding canonical

@@ -1,6 +1,5 @@
 pub mod TurnLaws
 pub mod CallLaws
-pub mod PacketLaws
 pub mod ReadyLaws
 pub mod RunLaws
 pub mod OnceLaws

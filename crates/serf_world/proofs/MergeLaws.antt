@@ -5,6 +5,7 @@ use Rattle.serf_wire.specs.declared.fault.WireFault.{WireFault}
 use Rattle.serf_wire.specs.declared.texts.EventText.{EventText}
 use Rattle.serf_wire.specs.Decoded.{decoded}
 use Rattle.serf_wire.specs.Message.{Message, PushPull, user_event, query, query_response, push_pull, foreign}
+use Rattle.serf_wire.proofs.SpelledRanges.{decoded_ranged}
 use Rattle.serf_window.specs.Window.{Timed}
 use Rattle.serf_snap.specs.Notes.{Kept}
 use Rattle.serf_agent.specs.declared.outcome.EventOut.{EventOut}
@@ -25,7 +26,6 @@ use Rattle.serf_world.specs.declared.line.Refusal.TheVariants.{SinkFault as Fail
 use Rattle.serf_world.specs.Cluster.{Member, Merged, merges_as, merges_events, merges_on, merges_packet}
 use Rattle.serf_world.specs.Seats.{DoesCall, done_of, merge_answer}
 use Rattle.serf_world.specs.Ready.{IsGood}
-use Rattle.serf_world.proofs.PacketLaws.{state-times}
 use Rattle.serf_world.proofs.ReadyLaws.{good-received, good-joined, runs-on, times-of, none-if}
 use Rattle.serf_world.proofs.SeatLaws.{may-will, steps-planned}
 
@@ -88,9 +88,9 @@ receives-planned (e ∷ es) i gains new fault good runs times memory (inr h) = b
 pub merges-planned : (i : IdealAgent) (packet : List ℕ) (m : PushPull) (join : Bool) (gains : List EventOut) (new : Stored) (fault : Option MergeFault) → IsGood i → decoded packet ≡ Ok (push_pull m) → merge_refusal (view_of i) (Ok (push_pull m)) ≡ None → fault ≢ Some merges.OutOfMemory
     → Receives (joined m join i) (events_of m.slots) gains new fault → Merging (merges_events (events_of m.slots) (joined m join i)) gains new fault
 merges-planned i packet m join gains new fault good is refuses memory h =
-    let times = state-times packet m is in
+    let ranged = decoded_ranged packet (push_pull m) is in
     let runs = none-if i.snapshot.stopped merges.Stopped None refuses in
-    receives-planned (events_of m.slots) (joined m join i) gains new fault (good-joined m join i good times) runs.0 (times-of m.slots times.slots) memory h
+    receives-planned (events_of m.slots) (joined m join i) gains new fault (good-joined m join i good ranged) runs.0 (times-of m.slots ranged.slots) memory h
 
 not-state : (b : Bool) → cond b (Some merges.Stopped) (Some merges.NotPushPull) ≡ None → ⊥
 not-state true e = cc

@@ -14,6 +14,8 @@ use Rattle.serf_wire.specs.declared.fault.WireFault.{WireFault}
 use Rattle.serf_wire.specs.declared.texts.EventText.{EventText}
 use Rattle.serf_wire.specs.Decoded.{decoded}
 use Rattle.serf_wire.specs.Message.{Message, Query, QueryResponse, PushPull, user_event, query, query_response, push_pull, foreign}
+use Rattle.serf_wire.specs.Ranges.{IsRangedPushPull, IsTimed}
+use Rattle.serf_wire.proofs.SpelledRanges.{decoded_ranged}
 use Rattle.serf_window.specs.Texts.{event_of}
 use Rattle.serf_window.specs.Window.{Timed}
 use Rattle.serf_snap.specs.declared.kind.ClockKind.{ClockKind}
@@ -61,7 +63,6 @@ use Rattle.serf_world.specs.declared.action.Action.{Action}
 use Rattle.serf_world.specs.declared.action.Action.TheVariants as actions
 use Rattle.serf_world.specs.Ready.{IsReady, IsGood}
 use Rattle.serf_world.specs.Cluster.{Member, Merged, acts, merges_events, merges_on, merges_as, merges_given, delivers, responds, responds_as, reopened, text_after, newborn, with_plan, plan_with}
-use Rattle.serf_world.proofs.PacketLaws.{event-time, query-time, state-times, IsTimedState, IsTimedSlot}
 
 -- ---- what a sink with a plan does
 
@@ -369,8 +370,8 @@ good-closed i now g =
 
 good-read : (i : IdealAgent) (packet : List ℕ) (now : ℕ) (r : Result Message WireFault) → IsGood i → i.snapshot.stopped ≡ false → decoded packet ≡ r → IsGood (planned i (receive_read i now r)).agent
 good-read i packet now (Err fault) g runs is = g
-good-read i packet now (Ok (user_event e)) g runs is = good-received i e.time (event_of e.name e.payload) e.cc (admission i e.time (event_of e.name e.payload)) g runs (event-time packet e is) refl
-good-read i packet now (Ok (query q)) g runs is = good-query_received i now q (query_admission i q.time q.id) g runs (query-time packet q is) refl
+good-read i packet now (Ok (user_event e)) g runs is = good-received i e.time (event_of e.name e.payload) e.cc (admission i e.time (event_of e.name e.payload)) g runs (decoded_ranged packet (user_event e) is) refl
+good-read i packet now (Ok (query q)) g runs is = good-query_received i now q (query_admission i q.time q.id) g runs (decoded_ranged packet (query q) is).time refl
 good-read i packet now (Ok (query_response r)) g runs is = good-response i now r (asked_at r.time i.asked) g refl
 good-read i packet now (Ok (push_pull m)) g runs is = g
 good-read i packet now (Ok (foreign kind)) g runs is = g
@@ -385,11 +386,11 @@ good-receive i packet now g = by i.snapshot.stopped refl
 -- ---- merges
 
 -- an agent that is stopped receives no more events
-pub good-joined : (m : PushPull) (join : Bool) (i : IdealAgent) → IsGood i → IsTimedState m → IsGood (joined m join i)
-good-joined m join i g t = record {
-  ready = record { sound = sound-joined m join i g.ready.sound t.member; told = g.ready.told };
-  events = omega (arith, g.events, t.event);
-  queries = omega (arith, g.queries, t.query);
+pub good-joined : (m : PushPull) (join : Bool) (i : IdealAgent) → IsGood i → IsRangedPushPull m → IsGood (joined m join i)
+good-joined m join i g r = record {
+  ready = record { sound = sound-joined m join i g.ready.sound (omega (arith, r.member)); told = g.ready.told };
+  events = omega (arith, g.events, r.event);
+  queries = omega (arith, g.queries, r.query);
 }
 
 -- where an event is received, the sink hasn't failed
@@ -424,7 +425,7 @@ times-slot : (t : ℕ) (es : List EventText) → t < 2 ^ 64 - 1 → AllByRecursi
 times-slot t [] small = tt
 times-slot t (e ∷ es) small = (small, times-slot t es small)
 
-pub times-of : (ss : List SlotContent) → AllByRecursion IsTimedSlot ss → AllByRecursion (λ (e : Timed EventText). e.time < 2 ^ 64 - 1) (events_of ss)
+pub times-of : (ss : List SlotContent) → AllByRecursion IsTimed ss → AllByRecursion (λ (e : Timed EventText). e.time < 2 ^ 64 - 1) (events_of ss)
 times-of [] times = tt
 times-of (empty ∷ ss) times = times-of ss times.1
 times-of (held t es ∷ ss) times = all-append (λ (e : Timed EventText). e.time < 2 ^ 64 - 1) (events_of_slot (held t es)) (events_of ss) (times-slot t es times.0) (times-of ss times.1)
@@ -437,9 +438,9 @@ good-merge m join packet None (Ok (query e)) g is refuses = g
 good-merge m join packet None (Ok (query_response e)) g is refuses = g
 good-merge m join packet None (Ok (foreign e)) g is refuses = g
 good-merge m join packet None (Ok (push_pull s)) g is refuses =
-    let times = state-times packet s is in
+    let ranged = decoded_ranged packet (push_pull s) is in
     let runs = none-if m.agent.snapshot.stopped merges.Stopped None refuses in
-    good-merges (events_of s.slots) (joined s join m.agent) (good-joined s join m.agent g times) runs.0 (times-of s.slots times.slots)
+    good-merges (events_of s.slots) (joined s join m.agent) (good-joined s join m.agent g ranged) runs.0 (times-of s.slots ranged.slots)
 
 -- ---- snapshots
 

@@ -13,7 +13,8 @@ use Rattle.serf_wire.specs.Decoded.{decoded}
 use Rattle.serf_wire.specs.Message.{Message, PushPull, Query, QueryResponse, user_event, query, query_response, push_pull, foreign}
 use Rattle.serf_wire.specs.Ranges.{IsRangedResponse}
 use Rattle.serf_wire.proofs.CanonicalPackets.{canonical_spells}
-use Rattle.serf_wire.proofs.Packets.{spelled_decoded}
+use Rattle.serf_wire.proofs.Packets.{read_has, spelled_decoded}
+use Rattle.serf_wire.proofs.SpelledRanges.{decoded_ranged}
 use Rattle.serf_window.specs.Texts.{event_of}
 use Rattle.serf_snap.specs.Notes.{Writing, Kept, Failed}
 use Rattle.serf_snap.specs.declared.snapshot.NoteFault.{NoteFault}
@@ -44,24 +45,22 @@ use Rattle.serf_world.specs.Cluster.{Done, Member, acts, delivers, fire_gives, m
 use Rattle.serf_world.specs.Ready.{IsGood}
 use Rattle.serf_world.specs.Sizes.{HasSizes}
 use Rattle.serf_world.proofs.AskedLaws.{sends-merge}
-use Rattle.serf_world.proofs.CarriedLaws.{brings-read}
 use Rattle.serf_world.proofs.HandedLaws.{merge-hands}
-use Rattle.serf_world.proofs.PacketLaws.{query-id, query-time}
 use Rattle.serf_world.proofs.ReadyLaws.{MayAsk, may-ask, none-if}
 
 -- ---- what packets of each kind bring
 
 none-behind-event : (bytes : List ℕ) → answer_brought (decoded (3 ∷ bytes)) ≡ []
 unfolding decoded
-none-behind-event bytes = brings-read answer_brought types.UserEvent (whole_at 8 bytes) (λ f. refl) (λ ps. refl)
+none-behind-event bytes = read_has (λ r. answer_brought r ≡ []) types.UserEvent (whole_at 8 bytes) (λ f. refl) (λ ps. refl)
 
 none-behind-query : (bytes : List ℕ) → answer_brought (decoded (4 ∷ bytes)) ≡ []
 unfolding decoded
-none-behind-query bytes = brings-read answer_brought types.Query (whole_at 8 bytes) (λ f. refl) (λ ps. refl)
+none-behind-query bytes = read_has (λ r. answer_brought r ≡ []) types.Query (whole_at 8 bytes) (λ f. refl) (λ ps. refl)
 
 none-behind-state : (bytes : List ℕ) → answer_brought (decoded (2 ∷ bytes)) ≡ []
 unfolding decoded
-none-behind-state bytes = brings-read answer_brought types.PushPull (whole_at 8 bytes) (λ f. refl) (λ ps. refl)
+none-behind-state bytes = read_has (λ r. answer_brought r ≡ []) types.PushPull (whole_at 8 bytes) (λ f. refl) (λ ps. refl)
 
 none-in-event : (t : ℕ) (what : EventText) (coalesce : Bool) → answers_in (event_packet t what coalesce ∷ []) ≡ []
 unfolding canonical
@@ -177,8 +176,9 @@ sends-query m action packet now q None good is = by (will m.agent (query_receive
 
     by : (w : Writing) → Sends m action (receive_gives packet (ended m.agent (query_received_as None m.agent now q) w).answer)
     by Kept =
+        let ranged = decoded_ranged packet (query q) is in
         sends-entered m action lines.Query now q (cond (not (has_flag no_broadcast_flag q.flags)) (packet ∷ []) []) (all_pass q.filters m.agent.config.name) (has_flag ack_flag q.flags) good (front (not (has_flag no_broadcast_flag q.flags)))
-        (query-time packet q is) (query-id packet q is)
+        ranged.time ranged.id
     by (Failed kept) = sends-nothing m action _ refl refl
 
 sends-response : (m : Member) (action : Action) (packet : List ℕ) (now : ℕ) (r : QueryResponse) (o : Option OpenQuery) → Sends m action (receive_gives packet (planned m.agent (response_received_at o m.agent now r)).answer)
