@@ -1,8 +1,8 @@
 -- Where the acks and responses of each run come from.
 use Rattle.std.proofs.Common.{◌≡◌, ◌≢◌, ℕ, List, [], ◌∷◌, ◌++◌, Option, Some, None, Result, Ok, Err, refl, sym, ap, subst, ◌∙◌, arith, map, length}
-use Rattle.std.specs.Prelude.{All, AllPairs, filter, slice_get}
+use Rattle.std.specs.Prelude.{All, AllPairs, Contains, filter, slice_get}
 use Rattle.std.specs.List.{flat_map}
-use Rattle.std.specs.Option.{option_map}
+use Rattle.std.specs.Option.{option_map, option_to_list}
 use Rattle.std.proofs.lemmas.List.Elements.{All-nil, All-cons, All-head, All-tail}
 use Rattle.serf_wire.specs.declared.fault.WireFault.{WireFault}
 use Rattle.serf_wire.specs.Decoded.{decoded}
@@ -19,6 +19,7 @@ use Rattle.serf_world.specs.Ready.{IsGood}
 use Rattle.serf_world.specs.Trace.{Turn, actor_of, turns_by}
 use Rattle.serf_world.proofs.CallLaws.{keeps-acts}
 use Rattle.serf_world.proofs.EachLaws.{AreNobodys, Each, IsRefused, each-step, each-start, is-mine, nobodys-step, nobodys-start, turns-mine}
+use Rattle.serf_world.proofs.Lives.{own_life}
 use Rattle.serf_world.proofs.OnceLaws.{query-once}
 use Rattle.serf_world.proofs.RunLaws.{IsAfter, after-agent, all-at}
 use Rattle.serf_world.proofs.SendLaws.{Makes, Sends, makes_ack, makes_none, makes_reply, sends-acts}
@@ -73,7 +74,7 @@ made-acted configs c turns action b m serving actor (makes_reply agent number no
       replied = replies;
       from = record { config = m.agent.config; settings = serving.settings; name = handable.node_is };
       line = shown.line;
-      handed = shown.there;
+      handed = subst (λ l. Contains (flat_map (λ t. option_to_list t.line.handed) l) shown.line) (sym (own_life b turns)) shown.there;
       index = shown.index;
       query = shown.query;
       ack = refl;

@@ -1,5 +1,5 @@
 -- What enters at an agent in one life is bounded by its settings, in every run.
-use Rattle.std.proofs.Common.{zero, suc, ◌≡◌, ℕ, ◌*◌, ◌≤◌, ◌==◌, ◌&&◌, ◌⊎◌, inl, inr, Bool, true, false, cond, List, [], ◌∷◌, ◌++◌, Option, Some, None, Result, refl, sym, ap, subst, ◌∙◌, arith, map, length, set, get_or, ◌%◌}
+use Rattle.std.proofs.Common.{zero, suc, ◌≡◌, ℕ, ◌*◌, ◌≤◌, ◌==◌, ◌&&◌, inl, inr, Bool, true, false, cond, List, [], ◌∷◌, ◌++◌, Option, Some, None, Result, refl, sym, ap, subst, ◌∙◌, arith, map, length, set, get_or, ◌%◌}
 use Rattle.std.specs.Prelude.{slice_get}
 use Rattle.std.specs.List.{filter, range_with_len}
 use Rattle.std.specs.Option.{option_map}
@@ -18,7 +18,7 @@ use Rattle.serf_world.specs.declared.action.Action.TheVariants as actions
 use Rattle.serf_world.specs.declared.fault.RunFault.{RunFault}
 use Rattle.serf_world.specs.declared.line.EventLine.{EventLine}
 use Rattle.serf_world.specs.declared.trace.Trace.{Trace}
-use Rattle.serf_world.specs.Bounds.{AtMostOfOneTime, EventsBounded, IsBounded, QueriesBounded, events_of_life, is_restarted, lived_on, present_life, queries_of_life, reopens, restarted_by}
+use Rattle.serf_world.specs.Bounds.{AtMostOfOneTime, EventsBounded, IsBounded, QueriesBounded, events_of_life, is_restarted, lived_on, present_life, queries_of_life, reopens}
 use Rattle.serf_world.specs.Cluster.{Acted, Cluster, Member, Run, Stepped, acted, acts, after, joining, on_agent, run_of, start, step, step_by, with_handed}
 use Rattle.serf_world.specs.Ready.{IsGood}
 use Rattle.serf_world.specs.Runs.{AreConfigs, IsRun, OfTurns}
@@ -26,6 +26,7 @@ use Rattle.serf_world.specs.Trace.{Turn, actor_of, entered_by, event_in, events_
 use Rattle.serf_world.proofs.CallLaws.{entries, keeps-acts}
 use Rattle.serf_world.proofs.LifeLaws.{GoesOn, enters-entries, goes-acts, none-of-next}
 use Rattle.serf_world.proofs.OnceLaws.{after-start}
+use Rattle.serf_world.proofs.OpenLaws.{opening-restarts, opens-acts}
 use Rattle.serf_world.proofs.PromiseLaws.{all-sound, of-runs}
 use Rattle.serf_world.proofs.RunLaws.{IsAfter, added, after-step, all-at, by-push, events_to-push, lines-other, lines-same, slice_get-set_other, slice_get-set_same}
 use Rattle.serf_world.proofs.TurnLaws.{at_each_nil, at_each_push, fold_keeps}
@@ -169,31 +170,9 @@ lived-still : (configs : List Config) (c : Cluster) (turns : List Turn) (s : Ste
 lived-still configs c turns s h members goes none no_query a =
     subst (λ (ms : List Member). IsLivedAt configs (turns ++ s.turn ∷ []) a (slice_get ms a)) (sym members)
     (lived-other configs turns s.turn a (slice_get c.members a) (h a)
-    (ap (λ b. is_agent a (restarted_by s.turn.action) && b) goes ∙ and-false (is_agent a (restarted_by s.turn.action)))
+    (ap (λ b. is_agent a (actor_of s.turn.action) && b) goes ∙ and-false (is_agent a (actor_of s.turn.action)))
     (ap (λ es. map event_in (filter (λ (e : EventLine). e.agent == a) es)) none)
     (ap (λ l. cond (is_agent a (actor_of s.turn.action)) l []) no_query ∙ none-either (is_agent a (actor_of s.turn.action))))
-
--- an action that restarts an agent, or none
-cases-restart : (action : Action) → (restarted_by action ≡ None) ⊎ ((b : ℕ) × (tail : List ℕ) × (action ≡ actions.Restart b tail))
-cases-restart (actions.Restart agent tail) = inr (agent, tail, refl)
-cases-restart (actions.Fire agent name payload coalesce) = inl refl
-cases-restart (actions.Deliver to packet now) = inl refl
-cases-restart (actions.State agent) = inl refl
-cases-restart (actions.Merge to packet join) = inl refl
-cases-restart (actions.Query agent now id name payload params) = inl refl
-cases-restart (actions.Respond agent h now payload) = inl refl
-cases-restart (actions.Break agent call n) = inl refl
-cases-restart (actions.Inject bytes) = inl refl
-cases-restart (actions.Close agent now) = inl refl
-cases-restart (actions.Save agent) = inl refl
-cases-restart (actions.Compact agent) = inl refl
-
--- no agent is opened again by the action of another
-not-restarted : (a b : ℕ) (action : Action) → actor_of action ≡ Some b → (b == a) ≡ false → is_agent a (restarted_by action) ≡ false
-not-restarted a b action actor other = elim (cases-restart action) [
-  | inl none ↦ ap (is_agent a) none
-  | inr is ↦ let same : is.0 ≡ b = let e : Some is.0 ≡ Some b = sym (ap actor_of is.2) ∙ actor in cc in ap (λ x. is_agent a (restarted_by x)) is.2 ∙ ap (λ n. n == a) same ∙ other
-]
 
 -- the turn of the agent that acts
 abbrev OwnAct : List Config → Cluster → List Turn → ℕ → Member → Action → Type 0
@@ -206,20 +185,19 @@ own-restart configs c turns b m tail good h =
     lived-anew configs turns _ b m _ h (ap (λ x. x && true) (eq-eqb b b refl)) refl (none-of-next m.agent.life m.agent.events.history s.events.lives) (none-of-next m.agent.life m.agent.queries.history s.queries.lives)
 
 own-act : (configs : List Config) (c : Cluster) (turns : List Turn) (b : ℕ) (m : Member) (action : Action) → IsGood m.agent → actor_of action ≡ Some b → IsLivedAt configs turns b (Some m) → OwnAct configs c turns b m action
-own-act configs c turns b m action good actor h = elim (cases-restart action) [
-  | inl none ↦ on none
-  | inr is ↦ let same : is.0 ≡ b = let e : Some is.0 ≡ Some b = sym (ap actor_of is.2) ∙ actor in cc in
-      subst (OwnAct configs c turns b m) (sym (is.2 ∙ ap (λ n. actions.Restart n is.1) same)) (own-restart configs c turns b m is.1 good h)
-]
+own-act configs c turns b m action good actor h = by (is_restarted (acts m c.sent action).done.answer) refl
   where
-    o : Acted
-    o = acts m c.sent action
+    anew : (agent : ℕ) (tail : List ℕ) → action ≡ actions.Restart agent tail → OwnAct configs c turns b m action
+    anew agent tail is =
+        let same : agent ≡ b = let e : Some agent ≡ Some b = sym (ap actor_of is) ∙ actor in cc in
+        subst (OwnAct configs c turns b m) (sym (is ∙ ap (λ n. actions.Restart n tail) same)) (own-restart configs c turns b m tail good h)
 
-    on : restarted_by action ≡ None → OwnAct configs c turns b m action
-    on none =
+    by : (x : Bool) → is_restarted (acts m c.sent action).done.answer ≡ x → OwnAct configs c turns b m action
+    by true opening = opening-restarts (OwnAct configs c turns b m action) m.agent (acts m c.sent action).member.agent action (packet_given c.sent action) (acts m c.sent action).done.answer (opens-acts m c.sent action) opening anew
+    by false goes =
         let k = keeps-acts m c.sent action in
         let mine : (b == b) ≡ true = eq-eqb b b refl in
-        lived-same configs turns (acted c action b (acts m c.sent action)).turn b m _ h (ap (λ x. is_agent b x && is_restarted (acts m c.sent action).done.answer) none) (goes-acts m c.sent action good.ready.sound none)
+        lived-same configs turns (acted c action b (acts m c.sent action)).turn b m _ h (ap (λ x. is_agent b (actor_of action) && x) goes ∙ and-false (is_agent b (actor_of action))) (goes-acts m c.sent action good.ready.sound goes)
         (k.events ∙ ap (λ l. entries m.agent.events.history ++ l) (sym (lines-same b b (acts m c.sent action).done.events mine)))
         (k.queries ∙ ap (λ x. entries m.agent.queries.history ++ cond x (entered_by action (packet_given c.sent action) (acts m c.sent action).done.answer) []) (sym (ap (is_agent b) actor ∙ mine)))
 
@@ -245,7 +223,7 @@ lived-acted configs c turns action b m is h actor at a = by (b == a) refl
     by false t =
         subst (IsLivedAt configs (turns ++ turn ∷ []) a) (sym (slice_get-set_other c.members b a new (eqb-false b a t)))
         (lived-other configs turns turn a (slice_get c.members a) (h a)
-        (ap (λ x. x && is_restarted turn.line.answer) (not-restarted a b action actor t))
+        (ap (λ x. x && is_restarted turn.line.answer) (ap (is_agent a) actor ∙ t))
         (lines-other a b o.done.events t)
         (ap (λ x. cond x (entered turn) []) (ap (is_agent a) actor ∙ t)))
 

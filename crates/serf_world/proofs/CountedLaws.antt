@@ -8,11 +8,12 @@ use Rattle.serf_wire.specs.Message.{Message}
 use Rattle.serf_agent.specs.declared.config.Config.{Config}
 use Rattle.serf_world.specs.declared.action.Action.{Action}
 use Rattle.serf_world.specs.declared.action.Action.TheVariants as actions
-use Rattle.serf_world.specs.AnswerPromises.{CountedInTime, CountedOnce, CountedSent, HoldsCounted, IsAwaited, IsDelivered, OpenQueriesHold, answer_brought, answers_in, counted_at, counted_by, is_counted, life_of}
+use Rattle.serf_world.specs.AnswerPromises.{CountedInTime, CountedOnce, CountedSent, HoldsCounted, IsAwaited, IsDelivered, OpenQueriesHold, answer_brought, answers_in, as_fired, counted_at, counted_by, is_counted, life_of, own_queries}
 use Rattle.serf_world.specs.Cluster.{Member, Cluster, Run, acted, acts, after, on_agent, start, step, step_by}
 use Rattle.serf_world.specs.Ready.{IsGood}
 use Rattle.serf_world.specs.Trace.{Turn, actor_of, packet_given, turns_by}
 use Rattle.serf_world.proofs.EachLaws.{Each, AreNobodys, IsRefused, each-step, each-start, nobodys-step, nobodys-start}
+use Rattle.serf_world.proofs.Lives.{last_life, own_life}
 use Rattle.serf_world.proofs.OpenLaws.{opens-acts}
 use Rattle.serf_world.proofs.RunLaws.{IsAfter, all-at, queries_of}
 use Rattle.serf_world.proofs.TallyLaws.{IsOpen, IsTallied, Tells, counted_in, tallied-step, tells}
@@ -82,7 +83,9 @@ in_time-agent c turns action b (Some m) h actor at a packet now ack is = by (is_
         let deliver : actions.Deliver t.to t.number t.now ≡ actions.Deliver a packet now = sym t.action ∙ is in
         let moment : t.now ≡ now = cc deliver in
         let one : answers_in (option_to_list (packet_given c.sent action)) ≡ t.answer ∷ [] = ap (λ g. answers_in (option_to_list g)) t.given ∙ ap (λ (d : Result Message WireFault). answer_brought d ++ []) t.says in
-        let here : IsAwaited (life_of a turns) now t.answer = subst (λ (n : ℕ). IsAwaited (life_of a turns) n t.answer) moment (subst (λ (n : ℕ). IsAwaited (life_of n turns) t.now t.answer) agent t.awaited) in
+        let own : IsAwaited (last_life (turns_by a turns)) now t.answer =
+        subst (λ (n : ℕ). IsAwaited (last_life (turns_by a turns)) n t.answer) moment (subst (λ (n : ℕ). IsAwaited (last_life (turns_by n turns)) t.now t.answer) agent t.awaited) in
+        let here : IsAwaited (life_of a turns) now t.answer = subst (λ (l : List Turn). IsAwaited l now t.answer) (sym (own_life a turns)) own in
         subst (All (IsAwaited (life_of a turns) now)) (sym one) (All-cons (IsAwaited (life_of a turns) now) t.answer [] here (All-nil (IsAwaited (life_of a turns) now)))
 
 in_time-by : (c : Cluster) (turns : List Turn) (action : Action) (o : Option ℕ) → IsCounting c turns → actor_of action ≡ o → InTimeAt turns (step_by c action o).turn
@@ -127,4 +130,4 @@ counted-once c turns h a ack = by (slice_get c.members a) refl
     by (Some m) at = (h.each a m at).once ack
 
 pub open-hold : (r : Run) → IsCounting r.cluster r.turns → OpenQueriesHold r
-open-hold r h a m at = All-weaker (IsOpen (turns_by a r.turns)) (HoldsCounted a r.turns) (λ q o. record { fired = o.fired; acks = o.acks; responses = o.responses }) m.agent.asked (h.each a m at).asked
+open-hold r h a m at = All-weaker (IsOpen (turns_by a r.turns)) (HoldsCounted a r.turns) (λ q o. record { fired = subst (λ l. Contains (own_queries l) (as_fired q)) (sym (own_life a r.turns)) o.fired; acks = o.acks; responses = o.responses }) m.agent.asked (h.each a m at).asked

@@ -19,7 +19,7 @@ Each P c turns = (a : ℕ) (m : Member) → slice_get c.members a ≡ Some m →
 pub turns-mine : (a : ℕ) (turns : List Turn) (turn : Turn) → is_agent a (actor_of turn.action) ≡ true → turns_by a (turns ++ turn ∷ []) ≡ turns_by a turns ++ turn ∷ []
 turns-mine a turns turn mine = filter-append (λ (t : Turn). is_agent a (actor_of t.action)) turns (turn ∷ []) ∙ ap (λ b. turns_by a turns ++ cond b (turn ∷ []) []) mine
 
-turns-other : (a : ℕ) (turns : List Turn) (turn : Turn) → is_agent a (actor_of turn.action) ≡ false → turns_by a (turns ++ turn ∷ []) ≡ turns_by a turns
+pub turns-other : (a : ℕ) (turns : List Turn) (turn : Turn) → is_agent a (actor_of turn.action) ≡ false → turns_by a (turns ++ turn ∷ []) ≡ turns_by a turns
 turns-other a turns turn other = filter-append (λ (t : Turn). is_agent a (actor_of t.action)) turns (turn ∷ []) ∙ ap (λ b. turns_by a turns ++ cond b (turn ∷ []) []) other ∙ append-nil (turns_by a turns)
 
 pub is-mine : (a : ℕ) (action : Action) → actor_of action ≡ Some a → is_agent a (actor_of action) ≡ true

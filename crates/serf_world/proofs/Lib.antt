@@ -11,14 +11,15 @@ pub mod HandedLaws
 pub mod AskedLaws
 pub mod PromiseLaws
 pub mod LifeLaws
+pub mod OpenLaws
 pub mod BoundLaws
 pub mod QueriedLaws
 pub mod SeatLaws
 pub mod MergeLaws
-pub mod OpenLaws
+pub mod EachLaws
+pub mod Lives
 pub mod CountLaws
 pub mod TallyLaws
-pub mod EachLaws
 pub mod CountedLaws
 pub mod SendLaws
 pub mod ServeLaws

@@ -44,7 +44,7 @@ use Rattle.serf_agent.specs.View.{view_of}
 use Rattle.serf_agent.proofs.TrackLaws.{none-from}
 use Rattle.serf_world.specs.declared.action.Action.{Action}
 use Rattle.serf_world.specs.declared.action.Action.TheVariants as actions
-use Rattle.serf_world.specs.Bounds.{AtMostOfOneTime, restarted_by}
+use Rattle.serf_world.specs.Bounds.{AtMostOfOneTime, is_restarted}
 use Rattle.serf_world.specs.Cluster.{Member, Merged, acts, delivers, merges_as, merges_events, merges_given, merges_on, responds, responds_as}
 use Rattle.serf_world.proofs.CallLaws.{entries}
 
@@ -324,24 +324,24 @@ goes-responds m h (Some (Some q)) now payload = by (respond_fault q now payload)
     by (Some fault) = same m.agent
     by None = same m.agent
 
--- each action but a restart goes on with its agent's life
-pub goes-acts : (m : Member) (sent : List (List ℕ)) (action : Action) → IsSound m.agent → restarted_by action ≡ None → GoesOn m.agent (acts m sent action).member.agent
-goes-acts m sent (actions.Fire agent name payload coalesce) s none =
+-- an action that doesn't open its agent again goes on with the agent's life
+pub goes-acts : (m : Member) (sent : List (List ℕ)) (action : Action) → IsSound m.agent → is_restarted (acts m sent action).done.answer ≡ false → GoesOn m.agent (acts m sent action).member.agent
+goes-acts m sent (actions.Fire agent name payload coalesce) s goes =
     goes-planned m.agent (fire m.agent (event_of name payload) coalesce) (ending-fired m.agent (event_of name payload) coalesce (fire_fault m.agent (event_of name payload) coalesce) s)
-goes-acts m sent (actions.Deliver to packet now) s none = goes-delivers m now (slice_get sent packet)
-goes-acts m sent (actions.State agent) s none = same m.agent
-goes-acts m sent (actions.Merge to packet join) s none = goes-given m join (slice_get sent packet)
-goes-acts m sent (actions.Query agent now id name payload params) s none =
+goes-acts m sent (actions.Deliver to packet now) s goes = goes-delivers m now (slice_get sent packet)
+goes-acts m sent (actions.State agent) s goes = same m.agent
+goes-acts m sent (actions.Merge to packet join) s goes = goes-given m join (slice_get sent packet)
+goes-acts m sent (actions.Query agent now id name payload params) s goes =
     let q : Query = query_at m.agent.queries.clock m.agent.config.name id name payload params in
     let r : Option QueryFault = query_fault m.agent id name payload params in
     goes-planned m.agent (query_fired_as r m.agent now q) (ending-asked m.agent now q r s refl)
-goes-acts m sent (actions.Respond agent h now payload) s none = goes-responds m h (slice_get m.handed h) now payload
-goes-acts m sent (actions.Restart agent tail) s none = absurd (cc none)
-goes-acts m sent (actions.Break agent call n) s none = still m.agent _ refl refl refl refl
-goes-acts m sent (actions.Inject bytes) s none = same m.agent
-goes-acts m sent (actions.Close agent now) s none = still m.agent _ refl refl refl refl
-goes-acts m sent (actions.Save agent) s none = goes-planned m.agent (save m.agent) (ending-save m.agent)
-goes-acts m sent (actions.Compact agent) s none = goes-planned m.agent (compact m.agent) (ending-compact m.agent)
+goes-acts m sent (actions.Respond agent h now payload) s goes = goes-responds m h (slice_get m.handed h) now payload
+goes-acts m sent (actions.Restart agent tail) s goes = absurd (cc goes)
+goes-acts m sent (actions.Break agent call n) s goes = still m.agent _ refl refl refl refl
+goes-acts m sent (actions.Inject bytes) s goes = same m.agent
+goes-acts m sent (actions.Close agent now) s goes = still m.agent _ refl refl refl refl
+goes-acts m sent (actions.Save agent) s goes = goes-planned m.agent (save m.agent) (ending-save m.agent)
+goes-acts m sent (actions.Compact agent) s goes = goes-planned m.agent (compact m.agent) (ending-compact m.agent)
 
 -- a new life has entered nothing
 pub none-of-next : {K : Type 0} (life : ℕ) (h : List (Past K)) → All (λ p. p.life ≤ life) h → of_life (life + 1) h ≡ []

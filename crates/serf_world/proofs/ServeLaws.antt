@@ -16,12 +16,13 @@ use Rattle.serf_agent.specs.Queries.{is_ack, respond_fault}
 use Rattle.serf_world.specs.declared.action.Action.{Action}
 use Rattle.serf_world.specs.declared.action.Action.TheVariants as actions
 use Rattle.serf_world.specs.declared.line.HandedLine.{HandedLine}
-use Rattle.serf_world.specs.AnswerPromises.{answers_in, last_life, lives_on, query_answered}
+use Rattle.serf_world.specs.AnswerPromises.{answers_in, query_answered}
 use Rattle.serf_world.specs.Bounds.{is_restarted}
 use Rattle.serf_world.specs.Cluster.{Member, Cluster, acted, acts, handed_line, responds, responds_as, with_handed}
 use Rattle.serf_world.specs.Trace.{Turn, entered_by, handed_in, packet_given}
 use Rattle.serf_world.proofs.CallLaws.{delivers-handed, merges-handed}
 use Rattle.serf_world.proofs.HandedLaws.{fresh-last, hands-acts}
+use Rattle.serf_world.proofs.Lives.{last_life, lives_on}
 use Rattle.serf_world.proofs.OpenLaws.{opening-restarts, opens-acts}
 use Rattle.serf_world.proofs.SendLaws.{AreHandable, IsHandable, Makes, Sends, makes_none, makes_ack, makes_reply}
 use Rattle.serf_world.proofs.TallyLaws.{queries_in}

@@ -20,11 +20,12 @@ use Rattle.serf_agent.specs.Ideal.{IdealAgent, Past}
 use Rattle.serf_agent.specs.Queries.{ack_flag, ack_refusal, answer_refusal, asked_at, counted, deadline_of, flags_of, has_acked, has_flag, has_responded, is_ack, is_due, opened_query, query_at, response_refusal, with_asked_at}
 use Rattle.serf_world.specs.declared.action.Action.TheVariants as actions
 use Rattle.serf_world.specs.declared.line.Answer.TheVariants as lines
-use Rattle.serf_world.specs.AnswerPromises.{OwnQuery, IsAwaited, answer_brought, answers_in, as_fired, counted_at, is_counted, last_life, lives_on, own_queries, own_query, query_answered, response_held, to_time}
+use Rattle.serf_world.specs.AnswerPromises.{OwnQuery, IsAwaited, answer_brought, answers_in, as_fired, counted_at, is_counted, own_queries, own_query, query_answered, response_held, to_time}
 use Rattle.serf_world.specs.Bounds.{is_restarted}
 use Rattle.serf_world.specs.Ready.{IsGood}
 use Rattle.serf_world.specs.Trace.{Turn, entered_by}
 use Rattle.serf_world.proofs.CallLaws.{entries}
+use Rattle.serf_world.proofs.Lives.{last_life, lives_on}
 use Rattle.serf_world.proofs.OpenLaws.{IsQuiet, Opens, stays, closes, restarts, asks, counts, opens-none, quiet-counts, quiet-opens}
 use Rattle.serf_world.proofs.ReadyLaws.{fresh-name, fresh-response, none-if}
 use Rattle.serf_world.proofs.TurnLaws.{flat_map-push}

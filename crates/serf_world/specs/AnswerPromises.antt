@@ -1,7 +1,7 @@
 -- What is promised of acks and responses in every run, said of its turns. "Before" is all that came before a turn. An
 -- answer to a query is an ack or a response; where both are meant, a truth value says which: true for acks.
-use Rattle.std.specs.Prelude.{◌≡◌, ◌≢◌, ℕ, ◌≤◌, ◌==◌, Bool, true, false, not, if◌then◌else◌, List, [], ◌∷◌, ◌++◌, map, filter, Some, Result, Ok, All, AllPairs, Contains, slice_get}
-use Rattle.std.specs.List.{flat_map, fold}
+use Rattle.std.specs.Prelude.{◌≡◌, ◌≢◌, ℕ, ◌≤◌, ◌==◌, Bool, true, false, not, if◌then◌else◌, List, [], ◌∷◌, map, filter, Some, Result, Ok, All, AllPairs, Contains, slice_get}
+use Rattle.std.specs.List.{flat_map}
 use Rattle.std.specs.Option.{option_to_list}
 use Rattle.serf_wire.specs.declared.fault.WireFault.{WireFault}
 use Rattle.serf_wire.specs.Decoded.{decoded}
@@ -17,22 +17,14 @@ use Rattle.serf_world.specs.declared.line.Answer.{Answer}
 use Rattle.serf_world.specs.declared.line.Answer.TheVariants as answers
 use Rattle.serf_world.specs.declared.line.HandedLine.{HandedLine}
 use Rattle.serf_world.specs.Cluster.{Member, Run}
-use Rattle.serf_world.specs.Bounds.{is_restarted}
+use Rattle.serf_world.specs.Bounds.{present_life}
 use Rattle.serf_world.specs.Trace.{Turn, AtEach, actor_of, handed_in, sent_in, turns_by}
 
 -- Lives
 
--- a life goes on with a turn, unless the turn begins another
-abbrev pub lives_on : List Turn → Turn → List Turn
-lives_on life turn = if is_restarted turn.line.answer then [] else life ++ turn ∷ []
-
--- of the turns of one agent those since it was opened last
-abbrev pub last_life : List Turn → List Turn
-last_life turns = fold lives_on [] turns
-
 -- the turns of an agent in its present life
 abbrev pub life_of : ℕ → List Turn → List Turn
-life_of a turns = last_life (turns_by a turns)
+life_of a turns = turns_by a (present_life a turns)
 
 -- Queries that an agent fired
 

@@ -1,30 +1,23 @@
 -- How much each agent holds of what enters, whatever it is sent: said of a run's turns, as every promise is.
-use Rattle.std.specs.Prelude.{◌≡◌, ◌≤◌, ◌*◌, ℕ, ◌&&◌, Bool, true, false, if◌then◌else◌, List, [], ◌∷◌, ◌++◌, Option, Some, None, slice_get}
+use Rattle.std.specs.Prelude.{◌≡◌, ◌≤◌, ◌*◌, ℕ, ◌&&◌, Bool, true, false, if◌then◌else◌, List, [], ◌∷◌, ◌++◌, Some, slice_get}
 use Rattle.std.specs.List.{fold}
 use Rattle.serf_wire.specs.declared.texts.EventText.{EventText}
 use Rattle.serf_window.specs.Window.{Timed, count_at, held_count, slots_of}
 use Rattle.serf_agent.specs.declared.config.Config.{Config}
-use Rattle.serf_world.specs.declared.action.Action.{Action}
-use Rattle.serf_world.specs.declared.action.Action.TheVariants as actions
 use Rattle.serf_world.specs.declared.line.Answer.{Answer}
 use Rattle.serf_world.specs.declared.line.Answer.TheVariants as answers
-use Rattle.serf_world.specs.Trace.{Turn, AtEach, is_agent, events_to, queries_at}
+use Rattle.serf_world.specs.Trace.{Turn, AtEach, actor_of, is_agent, events_to, queries_at}
 
 -- Lives
-
--- the agent that an action is to open again
-abbrev pub restarted_by : Action → Option ℕ
-restarted_by (actions.Restart agent tail) = Some agent
-restarted_by _ = None
 
 -- whether this is the answer of an agent that was opened again
 abbrev pub is_restarted : Answer → Bool
 is_restarted (answers.Restarted member event query) = true
 is_restarted _ = false
 
--- whether a turn opens an agent again; a restart that is refused opens none
+-- whether a turn opens an agent again: the agent acts, and the answer says that it was opened
 abbrev pub reopens : ℕ → Turn → Bool
-reopens a turn = is_agent a (restarted_by turn.action) && is_restarted turn.line.answer
+reopens a turn = is_agent a (actor_of turn.action) && is_restarted turn.line.answer
 
 -- an agent's life goes on with each turn, until one opens the agent again: then its next life has no turn yet
 abbrev pub lived_on : ℕ → List Turn → Turn → List Turn
