@@ -82,7 +82,7 @@ fn bad_config(configs: &[Config]) -> Option<usize>
 fn open_all(alloc: Global, configs: Vec<Config>) -> Result<Vec<Seat>, AllocError>
     ensures { IfOk result (λ seats. seats.items ≡ map (λ c. seat_of (joining c)) configs.items) }
 {
-    let mut seats = Vec::new(alloc);
+    let mut seats = Vec::with_capacity(alloc, configs.len())?;
     for config in configs {
         let agent = open_on(alloc, config, b"")?;
         seats.push(Seat {
