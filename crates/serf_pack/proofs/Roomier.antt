@@ -31,7 +31,7 @@ unfolding pairs_at
 pairs_also less more also zero bytes = λ x e. e
 pairs_also less more also (suc n) bytes =
     step_also (less bytes) (more bytes) _ _ (also bytes) (λ k. step_also (less k.1) (more k.1) _ _ (also k.1)
-        (λ v. step_also (pairs_at less n v.1) (pairs_at more n v.1) (λ ps. Ok (pair k.0 v.0 ps.0, ps.1)) (λ ps. Ok (pair k.0 v.0 ps.0, ps.1)) (pairs_also less more also n v.1) (λ ps y e. e)))
+    (λ v. step_also (pairs_at less n v.1) (pairs_at more n v.1) (λ ps. Ok (pair k.0 v.0 ps.0, ps.1)) (λ ps. Ok (pair k.0 v.0 ps.0, ps.1)) (pairs_also less more also n v.1) (λ ps y e. e)))
 
 parts_also : (items items' : ℕ → Reader Items) (members members' : ℕ → Reader Pairs) → ((n : ℕ) → ReadsAlso (items n) (items' n)) → ((n : ℕ) → ReadsAlso (members n) (members' n)) → (p : ℕ) (h : Head) (rest : List ℕ)
     → GivesAlso (parts_by items members p h rest) (parts_by items' members' p h rest)

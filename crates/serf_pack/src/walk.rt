@@ -84,6 +84,14 @@ impl<'a> Items<'a> {
         self.rest
     }
 
+    /// How many items are still to come. Takes no memory.
+    #[inline]
+    pub fn left(&self) -> u64
+        ensures { result ≡ length (items_left self.now) }
+    {
+        self.left
+    }
+
     /// The items behind the next one, for whoever knows its bytes, which are the first `len` of [`Items::bytes`]: a
     /// step that doesn't go over them. Alone they pack a value, wherever in the input it begins. `None` behind the
     /// last item. Takes no memory.

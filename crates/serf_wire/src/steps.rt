@@ -31,6 +31,9 @@ pub fn next_event<'a>(items: &Items<'a>) -> Option<(EventView<'a>, Items<'a>)>
     ensures some { IfSome result (λ x. map event_text_in (items_left items.now) ≡ event_of x.0 ∷ map event_text_in (items_left x.1)) }
     ensures none { IfNone result (items_left items.now ≡ []) }
 {
+    if items.left() == 0 {
+        return None;
+    }
     if let Some(found) = plain_event(items) {
         return Some(found);
     }

@@ -31,9 +31,9 @@ front_read : (room total : ℕ) (bytes : List ℕ) (x : Tree × List ℕ) → va
 front_read room total bytes x e good =
     elim (cases_lt room 8) [
       | inl lt ↦
-        let less = was_read room total bytes (value_at room total bytes) refl good in
-        let same = value_also room 8 total (omega (arith, lt)) bytes less.0 less.1 in
-        less.1 ∙ sym same ∙ e
+          let less = was_read room total bytes (value_at room total bytes) refl good in
+          let same = value_also room 8 total (omega (arith, lt)) bytes less.0 less.1 in
+          less.1 ∙ sym same ∙ e
       | inr ge ↦ value_also 8 room total ge bytes x e
     ]
 

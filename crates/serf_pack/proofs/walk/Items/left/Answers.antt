@@ -1,0 +1,11 @@
+use Rattle.std.proofs.Common.{sym}
+use Rattle.serf_pack.specs.Reading.{value_at}
+use Rattle.serf_pack.specs.Walk.{items_left}
+use Rattle.serf_pack.proofs.PartCounts.{item_count_is}
+use Rattle.serf_pack.proofs.walk.Items.left.Goals as goal
+
+pub returns : goal.returns
+unfolding items_left
+returns c =
+    let walk = c.args.self.now in
+    sym (item_count_is (value_at walk.room walk.total) walk.left walk.rest.now walk.checked)
