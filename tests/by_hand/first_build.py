@@ -1,0 +1,40 @@
+"""By hand, since it takes as long as the build: ./prove on a fresh clone, and that the proved program then runs.
+
+    tests/by_hand/first_build.py [SECONDS]
+
+It fails where the build takes more than so many seconds (900 where left out, on four processors).
+"""
+
+import os
+import subprocess
+import sys
+import tempfile
+import time
+
+TOP = os.path.dirname(os.path.dirname(os.path.dirname(os.path.abspath(__file__))))
+EXAMPLE = os.path.join("examples", "deploy_gossiped_twice")
+
+
+def main(words):
+    most = int(words[0]) if words else 900
+    with tempfile.TemporaryDirectory(prefix="first-build-") as root:
+        top = os.path.join(root, "clone")
+        subprocess.run(["git", "clone", "--quiet", TOP, top], check=True)
+        began = time.monotonic()
+        built = subprocess.run(["./prove"], cwd=top).returncode
+        took = time.monotonic() - began
+        ran = subprocess.run(["./serf-replay", "replay", EXAMPLE + ".schedule"], cwd=top, capture_output=True)
+        with open(os.path.join(top, EXAMPLE + ".trace"), "rb") as trace:
+            runs = (ran.returncode, ran.stdout, ran.stderr) == (0, trace.read(), b"")
+    results = [("the program is built", built == 0), ("the proved program runs", runs), (f"within {most} seconds", took <= most)]
+    for name, holds in results:
+        if not holds:
+            print(f"FAILED {name}")
+    print(f"./prove took {took:.0f} seconds on {os.cpu_count()} processors")
+    failed = sum(not holds for _, holds in results)
+    print(f"{len(results) - failed} passed, {failed} failed")
+    return 1 if failed else 0
+
+
+if __name__ == "__main__":
+    sys.exit(main(sys.argv[1:]))

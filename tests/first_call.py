@@ -1,0 +1,191 @@
+"""The first calls of a fresh clone: ./serf-replay answers at once, and never runs a program that isn't current.
+
+Two calls are real, over a copy of what git tracks. All others go through a stand-in for the toolchain's command, in
+tests/first_call, so that a build takes no time: a changed source, one that was taken away, one that changes during the
+build, a build that is broken off, a failed proof, no toolchain, and a folder that can't be written.
+"""
+
+import os
+import shutil
+import signal
+import subprocess
+import sys
+import tempfile
+import time
+
+TOP = os.path.dirname(os.path.dirname(os.path.abspath(__file__)))
+EXAMPLE = os.path.join("examples", "deploy_gossiped_twice")
+
+# How long the first call of a fresh clone may take.
+MOST_SECONDS = 120
+
+UNPROVED = "this run is compiled without its proofs"
+
+
+class Count:
+    """How many checks passed, and how many failed."""
+
+    def __init__(self):
+        self.passed = self.failed = 0
+
+    def check(self, name, holds, said=""):
+        if holds:
+            self.passed += 1
+        else:
+            self.failed += 1
+            print(f"FAILED {name}: {str(said)[-600:]}")
+
+
+class Clone:
+    """A repository of one program over one library, with this one's scripts and the stand-in."""
+
+    def __init__(self, root):
+        self.top = os.path.join(root, "clone")
+        self.bin = os.path.join(root, "bin")
+        self.source = os.path.join(self.top, "crates", "serf_replay_program", "src", "main.rt")
+        for crate in ("low", "serf_replay_program"):
+            os.makedirs(os.path.join(self.top, "crates", crate, "src"))
+        self.write(self.source, "one\n")
+        self.write(os.path.join(self.top, "crates", "low", "src", "lib.rt"), "low\n")
+        self.write(os.path.join(self.top, "crates.txt"), "low:\nserf_replay_program: low\n")
+        shutil.copytree(os.path.join(TOP, "tools"), os.path.join(self.top, "tools"))
+        for name in ("serf-replay", "prove", "test"):
+            shutil.copy(os.path.join(TOP, name), self.top)
+        shutil.copytree(os.path.join(TOP, "tests", "first_call"), self.bin)
+
+    @staticmethod
+    def write(path, text):
+        with open(path, "w", encoding="utf-8") as file:
+            file.write(text)
+
+    def order(self, *words):
+        self.write(os.path.join(self.bin, "orders"), " ".join(words))
+
+    def environment(self, has_rt=True):
+        path = [self.bin] if has_rt else []
+        return {**os.environ, "PATH": os.pathsep.join([*path, os.path.dirname(sys.executable), "/usr/bin", "/bin"])}
+
+    def run(self, *words, has_rt=True):
+        ran = subprocess.run([os.path.join(self.top, words[0]), *words[1:]], env=self.environment(has_rt), stdin=subprocess.DEVNULL, capture_output=True, text=True, timeout=120)
+        return ran.returncode, ran.stdout, ran.stderr
+
+    def is_unproved(self, text):
+        status, out, err = self.run("serf-replay", "x")
+        return (status, out) == (0, f"unproved {text} x\n") and UNPROVED in err and "./prove" in err and "run=ended" not in err
+
+    def is_proved(self, text):
+        return self.run("serf-replay", "x") == (0, f"proved {text} x\n", "")
+
+
+def builds(count, clone):
+    count.check("nothing is built yet", clone.is_unproved("one"), clone.run("serf-replay", "x"))
+    status, out, err = clone.run("prove")
+    count.check("a build", status == 0 and out == "" and "proving low" in err and "low is proved" in err, (status, out, err))
+    count.check("the proved program runs", clone.is_proved("one"), clone.run("serf-replay", "x"))
+    count.check("nothing to build", clone.run("prove")[0] == 0)
+
+
+def sources(count, clone):
+    old = os.stat(clone.source)
+    clone.write(clone.source, "two\n")
+    os.utime(clone.source, ns=(old.st_atime_ns, old.st_mtime_ns))
+    count.check("a changed source of the same age", clone.is_unproved("two"), clone.run("serf-replay", "x"))
+    clone.write(clone.source, "one\n")
+    count.check("a source that is put back", clone.is_proved("one"), clone.run("serf-replay", "x"))
+    library = os.path.join(clone.top, "crates", "low", "src", "lib.rt")
+    os.rename(library, library + ".gone")
+    clone.write(library + ".gone", "low\n")
+    count.check("a source that was renamed", clone.is_unproved("one"), clone.run("serf-replay", "x"))
+    os.remove(library + ".gone")
+    count.check("a source that was taken away", clone.is_unproved("one"), clone.run("serf-replay", "x"))
+    clone.write(library, "low\n")
+    program = os.path.join(clone.top, "crates", "serf_replay_program", "out", "serf_replay_program")
+    with open(program, "a", encoding="utf-8") as file:
+        file.write("echo another\n")
+    count.check("another program in its place", clone.is_unproved("one"), clone.run("serf-replay", "x"))
+
+
+def changing(count, clone):
+    clone.order("changes")
+    status, _, err = clone.run("prove")
+    count.check("a source that changes during the build", status == 3 and "a source changed" in err, (status, err))
+    count.check("what it built is not current", clone.is_unproved("one\nmore"), clone.run("serf-replay", "x"))
+    clone.order()
+    clone.write(clone.source, "three\n")
+    count.check("the next build", clone.run("prove")[0] == 0 and clone.is_proved("three"))
+
+
+def broken_off(count, clone):
+    clone.write(clone.source, "four\n")
+    clone.order("hangs")
+    ran = subprocess.Popen([os.path.join(clone.top, "prove")], env=clone.environment(), stdin=subprocess.DEVNULL, stdout=subprocess.DEVNULL, stderr=subprocess.DEVNULL, start_new_session=True)
+    for _ in range(600):
+        if os.path.exists(os.path.join(clone.bin, "hanging")):
+            break
+        time.sleep(0.05)
+    os.killpg(ran.pid, signal.SIGINT)
+    count.check("a build that is broken off ends", ran.wait(timeout=60) != 0)
+    clone.order()
+    count.check("what it left is not current", clone.is_unproved("four"), clone.run("serf-replay", "x"))
+    count.check("the next build begins anew", clone.run("prove")[0] == 0 and clone.is_proved("four"))
+
+
+def refused(count, clone):
+    clone.write(clone.source, "five\n")
+    shutil.rmtree(os.path.join(clone.top, "crates", "low", "out"))
+    clone.order("unproved")
+    status, _, err = clone.run("prove")
+    count.check("a failed proof", status == 3 and "low: not proved" in err and "low is not proved" in err, (status, err))
+    clone.order()
+    for name in ("serf-replay", "prove", "test"):
+        status, out, err = clone.run(name, has_rt=False)
+        count.check(f"{name} without the toolchain", (status, out) == (3, "") and "not on PATH" in err, (status, out, err))
+    out = os.path.join(clone.top, "crates", "serf_replay_program", "out")
+    shutil.rmtree(out)
+    clone.write(out, "a file\n")
+    status, _, err = clone.run("prove")
+    count.check("a folder that can't be written", status == 3 and "prove: " in err and "Traceback" not in err, (status, err))
+
+
+def fresh_clone(count, root):
+    """The first call, and one whose schedule is refused, over what git tracks."""
+    top = os.path.join(root, "fresh")
+    listed = subprocess.run(["git", "ls-files", "-z"], cwd=TOP, stdout=subprocess.PIPE, check=True).stdout.decode().split("\0")
+    for name in filter(None, listed):
+        if os.path.isfile(os.path.join(TOP, name)):
+            os.makedirs(os.path.dirname(os.path.join(top, name)), exist_ok=True)
+            shutil.copy(os.path.join(TOP, name), os.path.join(top, name))
+    began = time.monotonic()
+    ran = subprocess.run(["./serf-replay", "replay", EXAMPLE + ".schedule"], cwd=top, capture_output=True, text=True, timeout=900)
+    took = time.monotonic() - began
+    print(f"the first call of a fresh clone took {took:.0f} seconds")
+    with open(os.path.join(TOP, EXAMPLE + ".trace"), encoding="utf-8") as trace:
+        count.check("the first call's trace", (ran.returncode, ran.stdout) == (0, trace.read()), ran)
+    count.check("its sentence", ran.stderr.count("\n") == 1 and UNPROVED in ran.stderr and "./prove" in ran.stderr, ran.stderr)
+    count.check(f"it takes at most {MOST_SECONDS} seconds", took <= MOST_SECONDS, took)
+    ran = subprocess.run(["./serf-replay", "replay"], cwd=top, input="agent 61 4 4 512 8 keep\nfirst\n", capture_output=True, text=True, timeout=900)
+    count.check("a refused schedule", (ran.returncode, ran.stdout) == (1, "") and ran.stderr.endswith("\nbad line 2 UnknownWord\n"), ran)
+
+
+def one_figure(count):
+    """The build's time is told in three places, in the same words."""
+    figure = "about 10 minutes on four processors"
+    for name in ("README.md", "serf-replay", os.path.join("bench", "run")):
+        with open(os.path.join(TOP, name), encoding="utf-8") as file:
+            count.check(f"the build's time in {name}", figure in file.read())
+
+
+def main():
+    count = Count()
+    with tempfile.TemporaryDirectory(prefix="first-call-") as root:
+        clone = Clone(root)
+        for part in (builds, sources, changing, broken_off, refused):
+            part(count, clone)
+        fresh_clone(count, root)
+    one_figure(count)
+    print(f"{count.passed} passed, {count.failed} failed")
+    return 1 if count.failed else 0
+
+
+if __name__ == "__main__":
+    sys.exit(main())
