@@ -16,7 +16,7 @@ ghost use Rattle.serf_model.specs.Trace.{turns_of};
 
 /// Every run keeps every promise, whatever its settings and its actions are. Does nothing.
 ///
-/// Some promises on queries rest on what the types say of an action's numbers (`HasSizes`).
+/// Three promises on queries and answers rest on what the types say of an action's numbers (`HasSizes`).
 pub fn run_promises()
     // What the turns of every run keep.
     ensures once { (configs : List Config) (actions : List Action) → AreConfigs configs → Once (run_of configs actions).turns }
@@ -49,8 +49,8 @@ pub fn turns_shown()
     ensures { (configs : List Config) (done left : List Action) → AreConfigs configs → turns_of (done ++ left) (trace_of (run_of configs done)) ≡ (run_of configs done).turns }
 {}
 
-/// The agents of a cluster are good when it starts, and each action leaves its agent good; a text that a good agent
-/// is opened again on has all that entered. Does nothing.
+/// The agents of a cluster that has done nothing are good, and an action leaves its agent good. What a good agent's sink
+/// keeps has the times of all that entered, whatever tail comes behind. Does nothing.
 pub fn good_agents()
     ensures start { (configs : List Config) → AreConfigs configs → AreGood (start configs).cluster }
     ensures acts { (m : Member) (sent : List (List ℕ)) (action : Action) → IsGood m.agent → IsGood (acts m sent action).member.agent }

@@ -3,37 +3,35 @@ use Rattle.std.proofs.Common.{zero, suc, ◌<◌, ◌≤◌, arith, length, set,
 use Rattle.std.specs.Prelude.{slice_get, IfOk}
 use Rattle.std.specs.List.{AllByRecursion}
 use Rattle.std.specs.declared.alloc.AllocError.{AllocError}
+use Rattle.std.proofs.lemmas.List.{length-map, map-set}
+use Rattle.std.proofs.lemmas.List.Elements.{All-from_recursion, All-nil, All-set, recursion_from_All}
+use Rattle.std.proofs.lemmas.Option.{get_or_from_slice_get, slice_get_within}
+use Rattle.serf_snap.specs.declared.kind.ClockKind.{ClockKind}
+use Rattle.serf_snap.specs.Clocks.{clock_line}
+use Rattle.serf_snap.specs.Device.{Plan, fresh_device}
+use Rattle.serf_snap.specs.Notes.{SnapshotView, Writing, Kept, Failed, IsTold, MayWrite, MayReplace, will_write, will_replace, left_by, compaction_of, last_line, opened}
 use Rattle.serf_agent.specs.declared.outcome.RespondFault.{RespondFault}
 use Rattle.serf_agent.specs.Handed.{Handed}
 use Rattle.serf_agent.specs.Queries.{respond_fault}
-use Rattle.serf_snap.specs.declared.kind.ClockKind.{ClockKind}
-use Rattle.serf_snap.specs.Clocks.{clock_line}
-use Rattle.serf_snap.specs.Device.{Plan}
-use Rattle.serf_snap.specs.Notes.{SnapshotView, Writing, Kept, Failed, IsTold, MayWrite, MayReplace, will_write, will_replace, left_by, compaction_of, last_line}
 use Rattle.serf_agent.specs.Calls.{Call, Ends, Notes, Replaces, MayNote, MayEnd, planned, ended, will, will_note}
 use Rattle.serf_agent.specs.Ideal.{IdealAgent}
 use Rattle.serf_agent.specs.Steps.{Steps}
 use Rattle.serf_agent.specs.View.{Stored, view_of}
-use Rattle.serf_world.specs.declared.done.Done.{Done as Made}
-use Rattle.std.proofs.lemmas.List.{length-map, map-set}
-use Rattle.std.proofs.lemmas.List.Elements.{All-from_recursion, All-nil, All-set, recursion_from_All}
-use Rattle.std.proofs.lemmas.Option.{get_or_from_slice_get, slice_get_within}
 use Rattle.serf_agent.specs.declared.config.Config.{Config}
 use Rattle.serf_agent.specs.Config.{is_sound}
 use Rattle.serf_agent.specs.Restart.{IsInText, unborn}
 use Rattle.serf_agent.specs.Sound.{IsSound}
 use Rattle.serf_agent.proofs.SoundLaws.{sound-unborn}
-use Rattle.serf_snap.specs.Device.{fresh_device}
-use Rattle.serf_snap.specs.Notes.{opened}
 use Rattle.serf_model.specs.declared.action.Action.{Action}
 use Rattle.serf_model.specs.declared.line.Line.{Line}
 use Rattle.serf_model.specs.declared.line.Answer.TheVariants as answers
 use Rattle.serf_model.specs.declared.line.Refusal.TheVariants.{NoAgent}
-use Rattle.serf_world.specs.declared.turn.Turn.{Turn as Shown}
 use Rattle.serf_model.specs.Cluster.{Member, Cluster, Acted, Done, acts, called, line_only, numbers_from, on_agent, responds, responds_as, with_handed}
+use Rattle.serf_model.specs.Ready.{AreGood, IsGood}
+use Rattle.serf_world.specs.declared.done.Done.{Done as Made}
+use Rattle.serf_world.specs.declared.turn.Turn.{Turn as Shown}
 use Rattle.serf_world.specs.Turns.{TakesTurn}
 use Rattle.serf_world.specs.View.{IsViewed, SeatState, TakesStep, WorldState, seat_of}
-use Rattle.serf_model.specs.Ready.{AreGood, IsGood}
 use Rattle.serf_world.specs.Seats.{DoesCall, DoesAct, DoesRespond, done_of, slot_gives, slot_after, answer_gives, answer_after}
 
 abbrev view : (m e q : ℕ) (stopped : Bool) (k : Option (List ℕ)) (p : Option Plan) → SnapshotView

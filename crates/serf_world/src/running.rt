@@ -86,7 +86,7 @@ fn run_exactly(alloc: Global, configs: Vec<Config>, actions: &[Action]) -> Resul
 ///
 /// A refused action is a line of the trace, and the run goes on. `NameTwice` is looked at first, then `BadConfig`; after
 /// both nothing was done. `OutOfMemory` hands back the trace of the actions that were done before. Every run of the model
-/// keeps these promises ([`run_promises`]), and this is the run of the model.
+/// keeps these promises ([`serf_model::run_promises`]), and this is the run of the model.
 pub fn run(alloc: Global, configs: Vec<Config>, actions: &[Action]) -> Result<Trace, RunFault>
     // The trace is that of the ideal cluster.
     ensures exactly { IsRun configs.items actions.now result }

@@ -1,8 +1,8 @@
+use Rattle.std.proofs.Common.{arith, take}
 use Rattle.serf_model.specs.AnswerPromises.{AckedOnce, AnswersMade, CountedInTime, CountedOnce, CountedSent}
 use Rattle.serf_model.specs.Bounds.{EventsBounded, QueriesBounded}
 use Rattle.serf_model.specs.Promises.{Held, Later, Once, OnlyFired, QueryFired, QueryHandedOnce, QueryLater, QueryOnce}
 use Rattle.serf_model.specs.Queried.{QueryOnlyFired}
-use Rattle.std.proofs.Common.{arith, take}
 use Rattle.serf_world.proofs.ResultLaws.{at-none, of-every, of-runs, of-sized}
 use Rattle.serf_world.proofs.running.run.Goals as goal
 
