@@ -21,7 +21,7 @@ import tempfile
 TOP = os.path.dirname(os.path.dirname(os.path.abspath(__file__)))
 CASES = os.path.join(TOP, "tests", "growths")
 CRATES = os.path.join(TOP, "crates")
-BELOW = ["serf_lamport", "serf_pack", "serf_wire", "serf_snap", "serf_window", "serf_agent", "serf_world", "serf_replay"]
+BELOW = ["serf_lamport", "serf_pack", "serf_wire", "serf_snap", "serf_window", "serf_agent", "serf_model", "serf_world", "serf_replay"]
 
 # The allocation that is refused: REFUSED in tests/growths/lib.rattle.
 REFUSED = 4096

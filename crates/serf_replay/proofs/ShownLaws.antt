@@ -5,8 +5,8 @@ use Rattle.std.specs.List.{flat_map}
 use Rattle.std.specs.Option.{option_to_list}
 use Rattle.std.proofs.lemmas.List.{append-nil, get_or_append_left, length-map, map-append}
 use Rattle.std.proofs.lemmas.Option.{unwrap_or-slice_get}
-use Rattle.serf_world.specs.declared.action.Action.{Action}
-use Rattle.serf_world.specs.declared.line.Line.{Line}
+use Rattle.serf_model.specs.declared.action.Action.{Action}
+use Rattle.serf_model.specs.declared.line.Line.{Line}
 use Rattle.serf_world.specs.Cluster.{Member, Cluster, Run, after, numbers_from, on_agent, step, step_by}
 use Rattle.serf_world.specs.Trace.{Turn, actor_of}
 use Rattle.serf_world.specs.View.{TakesStep, WorldState}

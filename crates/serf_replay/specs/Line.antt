@@ -3,8 +3,8 @@ use Rattle.std.specs.Prelude.{ℕ, pos, ◌==◌, ◌+◌, ◌++◌, ◌%◌, �
 use Rattle.serf_agent.specs.declared.config.Config.{Config}
 use Rattle.serf_agent.specs.declared.outcome.QueryParams.{QueryParams}
 use Rattle.serf_agent.specs.Config.{is_sound}
-use Rattle.serf_world.specs.declared.action.Action.{Action}
-use Rattle.serf_world.specs.declared.action.Action.TheVariants as actions
+use Rattle.serf_model.specs.declared.action.Action.{Action}
+use Rattle.serf_model.specs.declared.action.Action.TheVariants as actions
 use Rattle.serf_world.specs.Runs.{has_name}
 use Rattle.serf_replay.specs.declared.command.Command.{Command}
 use Rattle.serf_replay.specs.declared.command.Command.TheVariants.{Agent, Query, Act}

@@ -4,13 +4,13 @@ use Rattle.std.specs.List.{flat_map}
 use Rattle.std.specs.Option.{option_to_list}
 use Rattle.serf_agent.specs.declared.outcome.Reason.{Reason}
 use Rattle.serf_agent.specs.declared.outcome.Reason.TheVariants as reasons
-use Rattle.serf_world.specs.declared.line.Refusal.{Refusal}
-use Rattle.serf_world.specs.declared.line.Refusal.TheVariants as refusals
-use Rattle.serf_world.specs.declared.line.Answer.{Answer}
-use Rattle.serf_world.specs.declared.line.Answer.TheVariants as answers
-use Rattle.serf_world.specs.declared.line.EventLine.{EventLine}
-use Rattle.serf_world.specs.declared.line.HandedLine.{HandedLine}
-use Rattle.serf_world.specs.declared.line.Line.{Line}
+use Rattle.serf_model.specs.declared.line.Refusal.{Refusal}
+use Rattle.serf_model.specs.declared.line.Refusal.TheVariants as refusals
+use Rattle.serf_model.specs.declared.line.Answer.{Answer}
+use Rattle.serf_model.specs.declared.line.Answer.TheVariants as answers
+use Rattle.serf_model.specs.declared.line.EventLine.{EventLine}
+use Rattle.serf_model.specs.declared.line.HandedLine.{HandedLine}
+use Rattle.serf_model.specs.declared.line.Line.{Line}
 use Rattle.serf_world.specs.Trace.{Outcome}
 use Rattle.serf_replay.specs.TextParts.{flag_text, hex_text, with_number}
 use Rattle.serf_replay.specs.WireText.{wire_text}

@@ -6,8 +6,8 @@ use Rattle.std.specs.Str.{bytes_eq}
 use Rattle.std.specs.Str.Parse.{digits_value}
 use Rattle.std.specs.Result.{result_ok}
 use Rattle.hex.specs.Hex.{decode_of}
-use Rattle.serf_world.specs.declared.action.SinkCall.{SinkCall}
-use Rattle.serf_world.specs.declared.action.SinkCall.TheVariants.{Append, Flush, ReplaceOld, ReplaceNew}
+use Rattle.serf_model.specs.declared.action.SinkCall.{SinkCall}
+use Rattle.serf_model.specs.declared.action.SinkCall.TheVariants.{Append, Flush, ReplaceOld, ReplaceNew}
 use Rattle.serf_replay.specs.declared.cause.Cause.{Cause}
 use Rattle.serf_replay.specs.declared.cause.Cause.TheVariants.{BadWord}
 

@@ -1,7 +1,7 @@
 //! What one line says, once it is cut into words.
 
 ghost use Rattle.std.specs.Prelude.{◌≡◌, ◌≤◌, ◌⊎◌, [], length, map};
-ghost use Rattle.serf_world.specs.declared.action.Action.TheVariants.{State, Save, Compact};
+ghost use Rattle.serf_model.specs.declared.action.Action.TheVariants.{State, Save, Compact};
 ghost use Rattle.serf_replay.specs.Words.{words_of, bytes_of, bytes_in, or_bad};
 ghost use Rattle.serf_replay.specs.Command.{count_of};
 ghost use Rattle.serf_replay.specs.Line.{agent_of, per_time_in, firing_of, delivery_of, merging_of, answer_of, restart_of, break_of, injection_of, closing_of, lone_of, action_of, filters_from, params_of, query_of};

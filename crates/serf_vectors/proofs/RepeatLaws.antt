@@ -4,8 +4,8 @@ use Rattle.std.specs.Prelude.{slice_get}
 use Rattle.std.specs.Option.{option_and_then}
 use Rattle.std.proofs.lemmas.Bool.{and_from, and_parts, cases_lt, cases_order, eq-eqb, eqb-true, true≢false}
 use Rattle.std.proofs.lemmas.Option.{none-some, slice_get-get_or, slice_get_past, slice_get_within}
-use Rattle.serf_world.specs.declared.line.EventLine.{EventLine}
-use Rattle.serf_world.specs.declared.line.Line.{Line}
+use Rattle.serf_model.specs.declared.line.EventLine.{EventLine}
+use Rattle.serf_model.specs.declared.line.Line.{Line}
 use Rattle.serf_vectors.specs.declared.place.Place.{Place}
 use Rattle.serf_vectors.specs.declared.place.Repeat.{Repeat}
 use Rattle.serf_vectors.specs.Repeats.{AreEqual, event_line_at, IsBefore, IsRepeat, IsEqualAt, IsNoneEqual, IsFirstEqual, HasNoRepeat, HasNoRepeatAt, IsFirstRepeat, IsFirstRepeatAt, IsFirstRepeatIn}

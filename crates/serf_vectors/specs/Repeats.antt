@@ -1,8 +1,8 @@
 -- What it means that a trace hands an agent one event twice.
 use Rattle.std.specs.Prelude.{◌≡◌, ◌⊎◌, ℕ, ◌<◌, List, Option, Some, slice_get}
 use Rattle.std.specs.Option.{option_and_then}
-use Rattle.serf_world.specs.declared.line.EventLine.{EventLine}
-use Rattle.serf_world.specs.declared.line.Line.{Line}
+use Rattle.serf_model.specs.declared.line.EventLine.{EventLine}
+use Rattle.serf_model.specs.declared.line.Line.{Line}
 use Rattle.serf_vectors.specs.declared.place.Place.{Place}
 use Rattle.serf_vectors.specs.declared.place.Repeat.{Repeat}
 

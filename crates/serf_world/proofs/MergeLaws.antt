@@ -21,12 +21,12 @@ use Rattle.serf_agent.specs.Ideal.{IdealAgent}
 use Rattle.serf_agent.specs.States.{Receives, EndsAt, Merges, receive_one, taken, gained, handed_by, joined, events_of, merge_refusal}
 use Rattle.serf_agent.specs.View.{Stored, view_of}
 use Rattle.serf_world.specs.declared.done.Done.{Done as Made}
-use Rattle.serf_world.specs.declared.line.Answer.TheVariants as answers
-use Rattle.serf_world.specs.declared.line.Refusal.TheVariants.{SinkFault as FailedSink}
-use Rattle.serf_world.specs.Cluster.{Member, Merged, merges_as, merges_events, merges_on, merges_packet}
+use Rattle.serf_model.specs.declared.line.Answer.TheVariants as answers
+use Rattle.serf_model.specs.declared.line.Refusal.TheVariants.{SinkFault as FailedSink}
+use Rattle.serf_model.specs.Cluster.{Member, Merged, merges_as, merges_events, merges_on, merges_packet}
 use Rattle.serf_world.specs.Seats.{DoesCall, done_of, merge_answer}
-use Rattle.serf_world.specs.Ready.{IsGood}
-use Rattle.serf_world.proofs.ReadyLaws.{good-received, good-joined, runs-on, times-of, none-if}
+use Rattle.serf_model.specs.Ready.{IsGood}
+use Rattle.serf_model.proofs.ReadyLaws.{good-received, good-joined, runs-on, times-of, none-if}
 use Rattle.serf_world.proofs.SeatLaws.{may-will, steps-planned}
 
 -- what a merge came to

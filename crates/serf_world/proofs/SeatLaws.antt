@@ -1,31 +1,37 @@
 -- Over a sink with a plan a call of an agent has one end.
 use Rattle.std.proofs.Common.{zero, suc, ◌<◌, ◌≤◌, arith, length, set, get_or, ◌≡◌, ℕ, nat_le, cond, Bool, true, false, List, [], ◌∷◌, ◌++◌, Option, Some, None, IsSome, MatchBool, map, Result, Ok, Err, refl, sym, ap, subst, ◌∙◌}
 use Rattle.std.specs.Prelude.{slice_get, IfOk}
+use Rattle.std.specs.List.{AllByRecursion}
 use Rattle.std.specs.declared.alloc.AllocError.{AllocError}
+use Rattle.std.proofs.lemmas.List.{length-map, map-set}
+use Rattle.std.proofs.lemmas.List.Elements.{All-from_recursion, All-nil, All-set, recursion_from_All}
+use Rattle.std.proofs.lemmas.Option.{get_or_from_slice_get, slice_get_within}
+use Rattle.serf_snap.specs.declared.kind.ClockKind.{ClockKind}
+use Rattle.serf_snap.specs.Clocks.{clock_line}
+use Rattle.serf_snap.specs.Device.{Plan, fresh_device}
+use Rattle.serf_snap.specs.Notes.{SnapshotView, Writing, Kept, Failed, IsTold, MayWrite, MayReplace, will_write, will_replace, left_by, compaction_of, last_line, opened}
 use Rattle.serf_agent.specs.declared.outcome.RespondFault.{RespondFault}
 use Rattle.serf_agent.specs.Handed.{Handed}
 use Rattle.serf_agent.specs.Queries.{respond_fault}
-use Rattle.serf_snap.specs.declared.kind.ClockKind.{ClockKind}
-use Rattle.serf_snap.specs.Clocks.{clock_line}
-use Rattle.serf_snap.specs.Device.{Plan}
-use Rattle.serf_snap.specs.Notes.{SnapshotView, Writing, Kept, Failed, IsTold, MayWrite, MayReplace, will_write, will_replace, left_by, compaction_of, last_line}
 use Rattle.serf_agent.specs.Calls.{Call, Ends, Notes, Replaces, MayNote, MayEnd, planned, ended, will, will_note}
 use Rattle.serf_agent.specs.Ideal.{IdealAgent}
 use Rattle.serf_agent.specs.Steps.{Steps}
 use Rattle.serf_agent.specs.View.{Stored, view_of}
+use Rattle.serf_agent.specs.declared.config.Config.{Config}
+use Rattle.serf_agent.specs.Config.{is_sound}
+use Rattle.serf_agent.specs.Restart.{IsInText, unborn}
+use Rattle.serf_agent.specs.Sound.{IsSound}
+use Rattle.serf_agent.proofs.SoundLaws.{sound-unborn}
+use Rattle.serf_model.specs.declared.action.Action.{Action}
+use Rattle.serf_model.specs.declared.line.Line.{Line}
+use Rattle.serf_model.specs.declared.line.Answer.TheVariants as answers
+use Rattle.serf_model.specs.declared.line.Refusal.TheVariants.{NoAgent}
+use Rattle.serf_model.specs.Cluster.{Member, Cluster, Acted, Done, acts, called, line_only, numbers_from, on_agent, responds, responds_as, with_handed}
+use Rattle.serf_model.specs.Ready.{AreGood, IsGood}
 use Rattle.serf_world.specs.declared.done.Done.{Done as Made}
-use Rattle.std.proofs.lemmas.List.{length-map, map-set}
-use Rattle.serf_world.specs.declared.action.Action.{Action}
-use Rattle.serf_world.specs.declared.line.Line.{Line}
-use Rattle.serf_world.specs.declared.line.Answer.TheVariants as answers
-use Rattle.serf_world.specs.declared.line.Refusal.TheVariants.{NoAgent}
 use Rattle.serf_world.specs.declared.turn.Turn.{Turn as Shown}
-use Rattle.serf_world.specs.Cluster.{Member, Cluster, Acted, Done, acts, called, line_only, numbers_from, on_agent, responds, responds_as, with_handed}
 use Rattle.serf_world.specs.Turns.{TakesTurn}
 use Rattle.serf_world.specs.View.{IsViewed, SeatState, TakesStep, WorldState, seat_of}
-use Rattle.serf_world.proofs.ReadyLaws.{good-acts}
-use Rattle.serf_world.proofs.RunLaws.{all-at, all-put}
-use Rattle.serf_world.specs.Ready.{AreGood, IsGood}
 use Rattle.serf_world.specs.Seats.{DoesCall, DoesAct, DoesRespond, done_of, slot_gives, slot_after, answer_gives, answer_after}
 
 abbrev view : (m e q : ℕ) (stopped : Bool) (k : Option (List ℕ)) (p : Option Plan) → SnapshotView
@@ -100,6 +106,15 @@ responds-there m h now payload slot new handed d same within at gives after =
     subst (λ (o : Option (Option Handed)). DoesRespond (responds m h o now payload) (set handed h new) d) (sym found)
     (record { state = ap (λ l. set l h new) same ∙ ap (λ s. set m.handed h s) after ∙ here.state; gives = here.gives })
 
+pub responds-agent : (m : Member) (h : ℕ) (q : Option (Option Handed)) (now : ℕ) (payload : List ℕ) → (responds m h q now payload).member.agent ≡ m.agent
+responds-agent m h None now payload = refl
+responds-agent m h (Some None) now payload = refl
+responds-agent m h (Some (Some q)) now payload = by (respond_fault q now payload)
+  where
+    by : (r : Option RespondFault) → (responds_as r m h q payload).member.agent ≡ m.agent
+    by (Some fault) = refl
+    by None = refl
+
 -- ---- a seat, by its agent's call
 
 pub does-act : (o : Acted) (result : Result Made AllocError) (new : Stored) (handed : List (Option Handed)) → handed ≡ o.member.handed → IfOk result (DoesCall o new) → IfOk result (DoesAct o (record { stored = new; handed = handed }))
@@ -138,14 +153,25 @@ same-at f (w ∷ xs) (z ∷ ys) (suc a) x y e within at found =
     let tail : map f ys ≡ xs = cc e in
     same-at f xs ys a x y tail (omega arith) at found
 
+-- what holds of each element of a list holds of the one at a place, and of each after one was put there
+all-at : {X : Type 0} (P : X → Type 0) (xs : List X) (a : ℕ) (x : X) → AllByRecursion P xs → slice_get xs a ≡ Some x → P x
+all-at P xs a x all found = subst P (get_or_from_slice_get xs a x x found) (All-from_recursion P xs all a x (slice_get_within xs a x found))
+
+all-put : {X : Type 0} (P : X → Type 0) (xs : List X) (a : ℕ) (x : X) → AllByRecursion P xs → P x → AllByRecursion P (set xs a x)
+all-put P xs a x all new = recursion_from_All P (set xs a x) (All-set P xs a x new (All-from_recursion P xs all))
+
+-- the law of `good_agents`: an action leaves its agent good
+abbrev pub KeepsGood : Type 0
+KeepsGood = (m : Member) (sent : List (List ℕ)) (action : Action) → IsGood m.agent → IsGood (acts m sent action).member.agent
+
 -- what a world owes after a turn of the agent found
 abbrev Owes : Cluster → Action → ℕ → Option Member → WorldState → Line → Type 0
 Owes c action a r w line = TakesStep (on_agent c action a r) w line
 
-pub owes-turn : (c : Cluster) (w : WorldState) (more : List (List ℕ)) (numbers : List ℕ) (action : Action) (a : ℕ) (old new : SeatState) (turn : Shown) → IsViewed c w → AreGood c → a < length w.seats → old ≡ get_or w.seats a old
+pub owes-turn : KeepsGood → (c : Cluster) (w : WorldState) (more : List (List ℕ)) (numbers : List ℕ) (action : Action) (a : ℕ) (old new : SeatState) (turn : Shown) → IsViewed c w → AreGood c → a < length w.seats → old ≡ get_or w.seats a old
     → ((m : Member) → IsGood m.agent → old ≡ seat_of m → TakesTurn a (acts m w.sent action) new turn) → more ≡ w.sent ++ turn.packets → numbers ≡ numbers_from (length w.sent) turn.packets
     → Owes c action a (slice_get c.members a) (record { seats = set w.seats a new; sent = more; spent = w.spent }) (record { answer = turn.answer; sent = numbers; events = turn.events; handed = turn.handed })
-owes-turn c w more numbers action a old new turn v good within at does grown counted = by (slice_get c.members a) refl
+owes-turn keeps c w more numbers action a old new turn v good within at does grown counted = by (slice_get c.members a) refl
   where
     by : (r : Option Member) → slice_get c.members a ≡ r → Owes c action a r (record { seats = set w.seats a new; sent = more; spent = w.spent }) (record { answer = turn.answer; sent = numbers; events = turn.events; handed = turn.handed })
     by None none = absurd (let past = none-past c.members a none in let n = ap length v.seats in let l = length-map c.members seat_of in omega arith)
@@ -165,7 +191,7 @@ owes-turn c w more numbers action a old new turn v good within at does grown cou
             seats = map-set seat_of c.members a (with_handed o.done.handed o.member) ∙ ap (λ l. set l a (seat_of (with_handed o.done.handed o.member))) v.seats ∙ ap (λ s. set w.seats a s) (sym did.state);
             sent = ap (λ l. l ++ o.done.packets) v.sent ∙ ap (λ l. w.sent ++ l) (sym did.packets) ∙ sym grown;
           };
-          good = all-put (λ m. IsGood m.agent) c.members a (with_handed o.done.handed o.member) good (good-acts m c.sent action well);
+          good = all-put (λ m. IsGood m.agent) c.members a (with_handed o.done.handed o.member) good (keeps m c.sent action well);
         }
 
 pub owes-none : (c : Cluster) (w : WorldState) (action : Action) (a : ℕ) (line : Line) → IsViewed c w → AreGood c → length w.seats ≤ a → line ≡ line_only (answers.Refused NoAgent) → Owes c action a (slice_get c.members a) w line
@@ -178,3 +204,11 @@ owes-none c w action a line v good past is =
 pub map-map : {X Y Z : Type 0} (f : Y → Z) (g : X → Y) (xs : List X) → map f (map g xs) ≡ map (λ x. f (g x)) xs
 map-map f g [] = refl
 map-map f g (x ∷ xs) = ap (λ l. f (g x) ∷ l) (map-map f g xs)
+
+-- ---- an agent before its first life
+
+pub born-sound : (config : Config) → is_sound config ≡ true → IsSound (unborn config (opened [] (fresh_device [])))
+born-sound config ok = sound-unborn config [] (fresh_device []) ok (omega arith)
+
+pub born-text : (config : Config) → IsInText (unborn config (opened [] (fresh_device []))) []
+born-text config = record { events = All-nil (λ p. p.entry.time ≤ 0); queries = All-nil (λ p. p.entry.time ≤ 0) }

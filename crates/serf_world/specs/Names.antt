@@ -2,7 +2,7 @@
 use Rattle.std.specs.Prelude.{◌≡◌, List, Some, None, Result, Ok, Err}
 use Rattle.std.specs.declared.vec.Vec.{Vec}
 use Rattle.serf_agent.specs.declared.config.Config.{Config}
-use Rattle.serf_world.specs.Runs.{first_twice}
+use Rattle.serf_model.specs.Runs.{first_twice}
 use Rattle.serf_world.specs.declared.names.NamesFault.{NamesFault}
 use Rattle.serf_world.specs.declared.names.NamesFault.TheVariants as names
 

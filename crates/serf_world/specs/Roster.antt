@@ -4,7 +4,7 @@ use Rattle.std.specs.HashSet.{HashSet, contains}
 use Rattle.std.specs.declared.vec.Vec.{Vec}
 use Rattle.std.specs.Str.{bytes_eq}
 use Rattle.serf_agent.specs.declared.config.Config.{Config}
-use Rattle.serf_world.specs.Runs.{has_name}
+use Rattle.serf_model.specs.Runs.{has_name}
 
 -- the set has just the names of these agents
 abbrev pub AreNames : {A S : Type 0} → HashSet (Vec ℕ A) S → List Config → Type 0

@@ -6,10 +6,10 @@ use Rattle.serf_agent.specs.Handed.{Handed}
 use Rattle.serf_agent.specs.Queries.{respond_fault, response_packet}
 use Rattle.serf_agent.specs.View.{Stored, view_of}
 use Rattle.serf_world.specs.declared.done.Done.{Done as Made}
-use Rattle.serf_world.specs.declared.line.Answer.{Answer}
-use Rattle.serf_world.specs.declared.line.Answer.TheVariants as answers
-use Rattle.serf_world.specs.declared.line.Refusal.TheVariants.{NoQuery}
-use Rattle.serf_world.specs.Cluster.{Acted, Done, refused, respond_refusal, merge_refusal_of}
+use Rattle.serf_model.specs.declared.line.Answer.{Answer}
+use Rattle.serf_model.specs.declared.line.Answer.TheVariants as answers
+use Rattle.serf_model.specs.declared.line.Refusal.TheVariants.{NoQuery}
+use Rattle.serf_model.specs.Cluster.{Acted, Done, refused, respond_refusal, merge_refusal_of}
 use Rattle.serf_world.specs.View.{SeatState, seat_of}
 
 abbrev pub done_of : Made → Done

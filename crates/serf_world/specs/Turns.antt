@@ -2,7 +2,7 @@
 use Rattle.std.specs.Prelude.{◌≡◌, ℕ, length, map}
 use Rattle.std.specs.Option.{option_map}
 use Rattle.serf_world.specs.declared.turn.Turn.{Turn as Shown}
-use Rattle.serf_world.specs.Cluster.{Acted, event_line, handed_line, with_handed}
+use Rattle.serf_model.specs.Cluster.{Acted, event_line, handed_line, with_handed}
 use Rattle.serf_world.specs.View.{SeatState, seat_of}
 
 -- a seat took the turn that the member takes

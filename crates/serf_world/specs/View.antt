@@ -3,9 +3,9 @@ use Rattle.std.specs.Prelude.{◌≡◌, ℕ, Bool, List, [], ◌∷◌, ◌++�
 use Rattle.std.specs.Option.{option_map}
 use Rattle.serf_agent.specs.Handed.{Handed}
 use Rattle.serf_agent.specs.View.{Stored, view_of}
-use Rattle.serf_world.specs.declared.line.Line.{Line}
-use Rattle.serf_world.specs.Cluster.{Member, Cluster, Run, Stepped}
-use Rattle.serf_world.specs.Ready.{AreGood}
+use Rattle.serf_model.specs.declared.line.Line.{Line}
+use Rattle.serf_model.specs.Cluster.{Member, Cluster, Run, Stepped}
+use Rattle.serf_model.specs.Ready.{AreGood}
 
 -- an agent as it is stored, and the queries that were handed to it in this life; one that was answered is gone
 pub record SeatState : Type 0 where

@@ -2,21 +2,20 @@
 
 ghost use Rattle.std.specs.Prelude.{◌≡◌, ℕ, IfOk, slice_get};
 ghost use Rattle.serf_agent.specs.View.{view_of};
-ghost use Rattle.serf_world.specs.Cluster.{Member, acts, closes, delivers, merges_given};
-ghost use Rattle.serf_world.specs.Ready.{IsGood};
+ghost use Rattle.serf_model.specs.Cluster.{Member, acts, closes, delivers, merges_given};
+ghost use Rattle.serf_model.specs.Ready.{IsGood};
 ghost use Rattle.serf_world.specs.Seats.{DoesAct, DoesCall, done_of};
 ghost use Rattle.serf_world.specs.View.{seat_of};
 
-use crate::action::Action;
 use crate::calls::{
     break_at, compact_at, fire_at, query_at, receive_at, restart_at, save_at, state_at,
 };
 use crate::done::{Done, only_answer, refusal};
-use crate::line::{Answer, Refusal};
 use crate::merging::merge_at;
 use crate::respond::respond_at;
 use crate::seat::Seat;
 use serf_agent::Agent;
+use serf_model::{Action, Answer, Refusal};
 use serf_snap::MemSink;
 use serf_wire::Bytes;
 use std::alloc::{AllocError, Global};

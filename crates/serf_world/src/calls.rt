@@ -7,14 +7,13 @@ ghost use Rattle.serf_agent.specs.Restart.{IsInText};
 ghost use Rattle.serf_agent.specs.Config.{is_sound};
 ghost use Rattle.serf_agent.specs.Sound.{IsSound};
 ghost use Rattle.serf_agent.specs.View.{view_of};
-ghost use Rattle.serf_world.specs.Cluster.{Member, breaks, compacts, fires_event, fires_query, receives_packet, reopened, restarts, saves, sends_state};
-ghost use Rattle.serf_world.specs.Ready.{IsGood};
+ghost use Rattle.serf_model.specs.Cluster.{Member, breaks, compacts, fires_event, fires_query, receives_packet, reopened, restarts, saves, sends_state};
+ghost use Rattle.serf_model.specs.Ready.{IsGood};
 ghost use Rattle.serf_world.specs.Seats.{DoesCall, done_of};
 
-use crate::action::SinkCall;
 use crate::done::{Done, fire_done, note_done, only_answer, query_done, receive_done, state_done};
-use crate::line::Answer;
 use serf_agent::{Agent, Config, QueryParams};
+use serf_model::{Answer, SinkCall, good_agents};
 use serf_snap::MemSink;
 use serf_wire::Bytes;
 use std::alloc::{AllocError, Global};
@@ -158,6 +157,7 @@ pub(crate) fn restart_at(
 ) -> Result<Done, AllocError>
     ensures { (m : Member) → IsGood m.agent → agent.old.stored ≡ view_of m.agent → IfOk result (DoesCall (restarts m tail.now) agent.new.stored) }
 {
+    good_agents();
     let text = text_of(alloc, agent, tail)?;
     let config = copied(alloc, agent.config())?;
     let opened = open_on(alloc, config, text.as_slice())?;

@@ -2,14 +2,14 @@
 
 ghost use Rattle.std.specs.Prelude.{◌≡◌, ◌≢◌, ◌∷◌, ◌++◌, [], IfOk, OnOk, if◌then◌else◌};
 ghost use Rattle.std.specs.Option.{option_to_list};
-ghost use Rattle.serf_world.specs.Cluster.{fire_gives, note_gives, only, query_gives, receive_gives, refused, state_gives};
+ghost use Rattle.serf_model.specs.Cluster.{fire_gives, note_gives, only, query_gives, receive_gives, refused, state_gives};
 ghost use Rattle.serf_world.specs.Seats.{done_of};
 
-use crate::line::{Answer, Refusal};
 use serf_agent::{
     BytesList, EventOut, FireFault, Fired, FiredQuery, HandedQuery, Outcome, PushPullFault,
     QueryFault, ReceiveFault,
 };
+use serf_model::{Answer, Refusal};
 use serf_snap::NoteFault;
 use serf_wire::Bytes;
 use std::alloc::{AllocError, Global};

@@ -2,14 +2,10 @@
 //! and queries do, one action after another.
 #![tactic(auto)]
 
-mod action;
 mod acts;
-mod boxed;
 mod calls;
 mod done;
 mod fault;
-mod line;
-mod lists;
 mod merging;
 mod names;
 mod respond;
@@ -17,17 +13,15 @@ mod roster;
 mod running;
 mod seat;
 mod sizes;
-mod trace;
 mod turn;
 mod world;
 
-pub use action::{Action, SinkCall};
-pub use boxed::{BoxedBytes, BoxedParams};
-pub use fault::{NewFault, RunFault, StepFault};
-pub use line::{Answer, EventLine, HandedLine, Line, Refusal};
-pub use lists::{EventLines, Lines, Numbers};
+pub use fault::StepFault;
 pub use running::run;
-pub use trace::Trace;
+pub use serf_model::{
+    Action, Answer, BoxedBytes, BoxedParams, EventLine, EventLines, HandedLine, Line, Lines,
+    NewFault, Numbers, Refusal, RunFault, SinkCall, Trace,
+};
 pub use world::World;
 
 #[cfg(test)]

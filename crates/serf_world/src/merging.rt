@@ -4,13 +4,13 @@ ghost use Rattle.std.specs.Prelude.{◌≡◌, ◌≢◌, ◌++◌, [], IfOk, Er
 ghost use Rattle.serf_wire.specs.Decoded.{decoded};
 ghost use Rattle.serf_agent.specs.States.{fault_in};
 ghost use Rattle.serf_agent.specs.View.{view_of};
-ghost use Rattle.serf_world.specs.Cluster.{Member, merge_refusal_of, merges_packet};
-ghost use Rattle.serf_world.specs.Ready.{IsGood};
+ghost use Rattle.serf_model.specs.Cluster.{Member, merge_refusal_of, merges_packet};
+ghost use Rattle.serf_model.specs.Ready.{IsGood};
 ghost use Rattle.serf_world.specs.Seats.{DoesCall, done_of, merge_answer};
 
 use crate::done::Done;
-use crate::line::{Answer, Refusal};
 use serf_agent::{Agent, BytesList, EventOut, MergeFault, PushPull};
+use serf_model::{Answer, Refusal};
 use serf_snap::MemSink;
 use std::alloc::{AllocError, Global};
 

@@ -1,12 +1,12 @@
 //! A query that was handed to an agent is answered.
 
 ghost use Rattle.std.specs.Prelude.{◌≡◌, ℕ, IfOk, OnOk, slice_get};
-ghost use Rattle.serf_world.specs.Cluster.{Member, responds};
+ghost use Rattle.serf_model.specs.Cluster.{Member, responds};
 ghost use Rattle.serf_world.specs.Seats.{DoesRespond, done_of, slot_after, slot_gives};
 
 use crate::done::{Done, refusal, with_packet};
-use crate::line::{Answer, Refusal};
 use serf_agent::{HandedQuery, RespondFault};
+use serf_model::{Answer, Refusal};
 use std::alloc::{AllocError, Global};
 
 /// Answers the query in a slot, if there is one; a success leaves the slot empty.

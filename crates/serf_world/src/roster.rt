@@ -1,7 +1,7 @@
 //! The agents of a schedule, no two of one name.
 
 ghost use Rattle.std.specs.Prelude.{◌≡◌, [], ◌∷◌, ◌++◌, if◌then◌else◌, IfOk, OnErr, length, not};
-ghost use Rattle.serf_world.specs.Runs.{has_name};
+ghost use Rattle.serf_model.specs.Runs.{has_name};
 
 use serf_agent::Config;
 use std::alloc::{AllocError, Global};

@@ -2,24 +2,20 @@
 
 ghost use Rattle.std.specs.Prelude.{◌≡◌, ◌≤◌, ◌++◌, ◌∷◌, ℕ, [], IfErr, IfOk, OnErr, OnOk, length, take};
 ghost use Rattle.std.specs.List.{fold};
-ghost use Rattle.serf_world.specs.AnswerPromises.{AckedOnce, AnswersMade, CountedInTime, CountedOnce, CountedSent, OpenQueriesHold};
-ghost use Rattle.serf_world.specs.Bounds.{EventsBounded, QueriesBounded};
-ghost use Rattle.serf_world.specs.Cluster.{Cluster, Run, after, run_of, step, trace_of};
-ghost use Rattle.serf_world.specs.Promises.{Held, Later, Once, OnlyFired, QueryFired, QueryHandedOnce, QueryLater, QueryOnce};
-ghost use Rattle.serf_world.specs.Queried.{QueryOnlyFired};
-ghost use Rattle.serf_world.specs.Ready.{AreGood};
-ghost use Rattle.serf_world.specs.Runs.{AreConfigs, IsRun, OfTurns};
-ghost use Rattle.serf_world.specs.Trace.{outcome_of};
+ghost use Rattle.serf_model.specs.AnswerPromises.{AckedOnce, AnswersMade, CountedInTime, CountedOnce, CountedSent, OpenQueriesHold};
+ghost use Rattle.serf_model.specs.Bounds.{EventsBounded, QueriesBounded};
+ghost use Rattle.serf_model.specs.Cluster.{Cluster, Run, after, run_of, step, trace_of};
+ghost use Rattle.serf_model.specs.Promises.{Held, Later, Once, OnlyFired, QueryFired, QueryHandedOnce, QueryLater, QueryOnce};
+ghost use Rattle.serf_model.specs.Queried.{QueryOnlyFired};
+ghost use Rattle.serf_model.specs.Ready.{AreGood};
+ghost use Rattle.serf_model.specs.Runs.{AreConfigs, IsRun, OfTurns};
+ghost use Rattle.serf_model.specs.Trace.{outcome_of};
 ghost use Rattle.serf_world.specs.View.{AddsLine, IsViewed};
 
-use crate::action::Action;
-use crate::fault::{NewFault, RunFault};
-use crate::line::Line;
-use crate::lists::Lines;
 use crate::sizes::read_all_numbers;
-use crate::trace::Trace;
 use crate::world::World;
 use serf_agent::{BytesList, Config};
+use serf_model::{Action, Line, Lines, NewFault, RunFault, Trace, run_promises, turns_shown};
 use std::alloc::{AllocError, Global};
 
 /// Does one action, and adds its line. Where there is no memory for it, nothing was sent, and no line added.
@@ -89,8 +85,8 @@ fn run_exactly(alloc: Global, configs: Vec<Config>, actions: &[Action]) -> Resul
 /// Does all actions, one after another, in a cluster of agents of these settings.
 ///
 /// A refused action is a line of the trace, and the run goes on. `NameTwice` is looked at first, then `BadConfig`; after
-/// both nothing was done. `OutOfMemory` hands back the trace of the actions that were done before.
-#[tactic(auto, using(crate::proofs::PromiseLaws::run_once, crate::proofs::PromiseLaws::run_only_fired, crate::proofs::PromiseLaws::run_later, crate::proofs::PromiseLaws::run_held, crate::proofs::PromiseLaws::run_query_once, crate::proofs::PromiseLaws::run_query_later, crate::proofs::PromiseLaws::run_query_handed, crate::proofs::PromiseLaws::run_query_fired, crate::proofs::AnswerPromiseLaws::run_counted_once, crate::proofs::AnswerPromiseLaws::run_counted_in_time, crate::proofs::AnswerPromiseLaws::run_counted_sent, crate::proofs::AnswerPromiseLaws::run_answers_made, crate::proofs::AnswerPromiseLaws::run_acked_once, crate::proofs::BoundLaws::run_events_bounded, crate::proofs::BoundLaws::run_queries_bounded, crate::proofs::QueriedLaws::run_query_only_fired))]
+/// both nothing was done. `OutOfMemory` hands back the trace of the actions that were done before. Every run of the model
+/// keeps these promises ([`serf_model::run_promises`]), and this is the run of the model.
 pub fn run(alloc: Global, configs: Vec<Config>, actions: &[Action]) -> Result<Trace, RunFault>
     // The trace is that of the ideal cluster.
     ensures exactly { IsRun configs.items actions.now result }
@@ -120,6 +116,8 @@ pub fn run(alloc: Global, configs: Vec<Config>, actions: &[Action]) -> Result<Tr
     // After each action the ideal agents' open queries hold what was counted.
     ensures open_queries { (n : ℕ) → AreConfigs configs.items → OpenQueriesHold (run_of configs.items (take n actions.now)) }
 {
+    run_promises();
+    turns_shown();
     read_all_numbers(actions);
     run_exactly(alloc, configs, actions)
 }

@@ -1,9 +1,9 @@
 //! What the types of an action's numbers say of them.
 
 ghost use Rattle.std.specs.Prelude.{All};
-ghost use Rattle.serf_world.specs.Sizes.{HasSizes, IsSized};
+ghost use Rattle.serf_model.specs.Sizes.{HasSizes, IsSized};
 
-use crate::action::Action;
+use serf_model::Action;
 
 /// Numbers have their types' sizes. Does nothing.
 #[tactic(auto, using(serf_wire::proofs::Ranged::fits_signed))]

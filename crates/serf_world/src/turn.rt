@@ -2,18 +2,16 @@
 
 ghost use Rattle.std.specs.Prelude.{◌≡◌, ◌+◌, ◌-◌, ◌^◌, ◌≤◌, ◌++◌, ℕ, IfOk, OnOk, OnErr, Some, length, map};
 ghost use Rattle.std.specs.Option.{option_map, option_to_list};
-ghost use Rattle.serf_world.specs.Cluster.{Member, acts, event_line, handed_line, numbers_from};
-ghost use Rattle.serf_world.specs.Ready.{IsGood};
+ghost use Rattle.serf_model.specs.Cluster.{Member, acts, event_line, handed_line, numbers_from};
+ghost use Rattle.serf_model.specs.Ready.{IsGood};
 ghost use Rattle.serf_world.specs.Turns.{TakesTurn};
 ghost use Rattle.serf_world.specs.View.{seat_of};
 
-use crate::action::Action;
 use crate::acts::act;
 use crate::done::Done;
-use crate::line::{Answer, EventLine, HandedLine};
-use crate::lists::{EventLines, Numbers};
 use crate::seat::Seat;
 use serf_agent::{BytesList, EventOut, HandedQuery};
+use serf_model::{Action, Answer, EventLine, EventLines, HandedLine, Numbers};
 use serf_wire::Bytes;
 use std::alloc::{AllocError, Global};
 

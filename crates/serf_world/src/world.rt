@@ -2,21 +2,19 @@
 
 ghost use Rattle.std.specs.Prelude.{◌≡◌, ◌↔◌, ℕ, [], false, true, map, slice_get, IfErr, IfOk, IsErrOf, IsTrue, OnErr, OnOk};
 ghost use Rattle.std.specs.Option.{option_map};
-ghost use Rattle.serf_world.specs.Cluster.{Cluster, joining, on_agent, start, step};
-ghost use Rattle.serf_world.specs.Ready.{AreGood};
-ghost use Rattle.serf_world.specs.Runs.{AreConfigs, IsNewFault, first_bad};
-ghost use Rattle.serf_world.specs.Trace.{actor_of, injects_of};
+ghost use Rattle.serf_model.specs.Cluster.{Cluster, joining, on_agent, start, step};
+ghost use Rattle.serf_model.specs.Ready.{AreGood};
+ghost use Rattle.serf_model.specs.Runs.{AreConfigs, IsNewFault, first_bad};
+ghost use Rattle.serf_model.specs.Trace.{actor_of, injects_of};
 ghost use Rattle.serf_world.specs.View.{IsViewed, TakesStep, agent_at, seat_of};
 
-use crate::action::Action;
 use crate::calls::open_on;
-use crate::fault::{NewFault, StepFault};
-use crate::line::{Answer, Line, Refusal};
-use crate::lists::{EventLines, Numbers};
+use crate::fault::StepFault;
 use crate::names::{NamesFault, distinct};
 use crate::seat::Seat;
 use crate::turn::{Turn, send, take_turn};
 use serf_agent::{Agent, BytesList, Config};
+use serf_model::{Action, Answer, EventLines, Line, NewFault, Numbers, Refusal, good_agents};
 use serf_snap::MemSink;
 use serf_wire::Bytes;
 use std::alloc::{AllocError, Global};
@@ -113,8 +111,10 @@ impl World {
         ensures start { IfOk result (IsViewed (start configs.items).cluster) }
         ensures fresh { IfOk result (λ world. world.spent ≡ false) }
         ensures configs { OnOk result (AreConfigs configs.items) }
+        ensures good { OnOk result (AreGood (start configs.items).cluster) }
         ensures fault { IfErr result (IsNewFault configs.items) }
     {
+        good_agents();
         let configs = match distinct(alloc, configs) {
             Ok(configs) => configs,
             Err(NamesFault::Twice(number)) => return Err(NewFault::NameTwice(number)),
@@ -181,6 +181,7 @@ impl World {
         ensures spent { self.new.spent ≡ self.old.spent }
         ensures err { OnErr result (self.new.sent ≡ self.old.sent) }
     {
+        good_agents();
         let number = agent as usize;
         if number >= self.seats.len() {
             return Ok(line_only(alloc, Answer::Refused(Refusal::NoAgent)));

@@ -4,7 +4,6 @@ use Rattle.std.specs.Vec.Iter.{into_iter_items}
 use Rattle.std.proofs.lemmas.Grind.{common_steps}
 use Rattle.std.proofs.lemmas.List.{append-nil}
 use Rattle.serf_world.specs.Cluster.{Run, after, run_of, start, step, trace_of}
-use Rattle.serf_world.proofs.PromiseLaws.{good-start}
 use Rattle.serf_replay.specs.Show.{actions_text, trace_text}
 use Rattle.serf_replay.proofs.job.run_text.Goals as goal
 
@@ -12,7 +11,7 @@ pub loop-action-init : goal.loop-action-init
 loop-action-init g c =
     let all = c.into_iter-action-iterator.ensures.into_iter_gives.0 in (
       start c.args.schedule.configs.items,
-      record { view = c.in-Ok.ensures.start; good = good-start c.args.schedule.configs.items c.requires; shown = λ more. sym c.new-out.ensures.items },
+      record { view = c.in-Ok.ensures.start; good = c.in-Ok.ensures.good; shown = λ more. sym c.new-out.ensures.items },
       refl,
       omega (arith, ap length all),
       ap (fold after (start c.args.schedule.configs.items)) all,

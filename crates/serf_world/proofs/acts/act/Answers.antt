@@ -1,10 +1,10 @@
 use Rattle.std.proofs.Common.{ap, sym, ◌∙◌}
 use Rattle.std.specs.Prelude.{slice_get}
 use Rattle.serf_agent.specs.View.{view_of}
-use Rattle.serf_world.specs.Cluster.{delivers, merges_given}
-use Rattle.serf_world.proofs.CallLaws.{delivers-handed, merges-handed, responds-agent}
+use Rattle.serf_model.specs.Cluster.{delivers, merges_given}
+use Rattle.serf_model.proofs.CallLaws.{delivers-handed, merges-handed}
 use Rattle.serf_world.specs.View.{SeatState}
-use Rattle.serf_world.proofs.SeatLaws.{does-act, does-one, does-respond}
+use Rattle.serf_world.proofs.SeatLaws.{does-act, does-one, does-respond, responds-agent}
 use Rattle.serf_world.proofs.acts.act.Goals as goal
 
 pub returns-in-Fire : goal.returns-in-Fire

@@ -1,6 +1,6 @@
 use Rattle.serf_agent.specs.States.{compact}
-use Rattle.serf_world.specs.declared.line.Answer.TheVariants.{Compacted}
-use Rattle.serf_world.specs.Cluster.{note_gives}
+use Rattle.serf_model.specs.declared.line.Answer.TheVariants.{Compacted}
+use Rattle.serf_model.specs.Cluster.{note_gives}
 use Rattle.serf_world.proofs.SeatLaws.{does-call}
 use Rattle.serf_world.proofs.calls.compact_at.Goals as goal
 

@@ -1,6 +1,6 @@
 use Rattle.serf_window.specs.Texts.{event_of}
 use Rattle.serf_agent.specs.Events.{fire}
-use Rattle.serf_world.specs.Cluster.{fire_gives}
+use Rattle.serf_model.specs.Cluster.{fire_gives}
 use Rattle.serf_world.proofs.SeatLaws.{does-call}
 use Rattle.serf_world.proofs.calls.fire_at.Goals as goal
 

@@ -1,5 +1,5 @@
 use Rattle.serf_agent.specs.Receive.{receive}
-use Rattle.serf_world.specs.Cluster.{receive_gives}
+use Rattle.serf_model.specs.Cluster.{receive_gives}
 use Rattle.serf_world.proofs.SeatLaws.{does-call}
 use Rattle.serf_world.proofs.calls.receive_at.Goals as goal
 

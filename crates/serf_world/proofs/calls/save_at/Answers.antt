@@ -1,6 +1,6 @@
 use Rattle.serf_agent.specs.States.{save}
-use Rattle.serf_world.specs.declared.line.Answer.TheVariants.{Saved}
-use Rattle.serf_world.specs.Cluster.{note_gives}
+use Rattle.serf_model.specs.declared.line.Answer.TheVariants.{Saved}
+use Rattle.serf_model.specs.Cluster.{note_gives}
 use Rattle.serf_world.proofs.SeatLaws.{does-call}
 use Rattle.serf_world.proofs.calls.save_at.Goals as goal
 

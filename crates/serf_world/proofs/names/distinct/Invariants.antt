@@ -1,6 +1,6 @@
 use Rattle.std.proofs.Common.{◌≡◌, ◌++◌}
 use Rattle.std.specs.Vec.Iter.{into_iter_items}
-use Rattle.serf_world.specs.Runs.{twice_after, first_twice}
+use Rattle.serf_model.specs.Runs.{twice_after, first_twice}
 use Rattle.serf_world.proofs.names.distinct.Given as goal
 
 -- the agents so far have names of their own, and those that are left give the answer

@@ -1,15 +1,14 @@
 use Rattle.std.proofs.Common.{refl, inr}
-use Rattle.serf_world.specs.Cluster.{start}
-use Rattle.serf_world.proofs.PromiseLaws.{good-start}
+use Rattle.serf_model.specs.Cluster.{start}
 use Rattle.serf_world.proofs.running.run_exactly.Goals as goal
 
 pub returns-in-Ok-run_in : goal.returns-in-Ok-run_in
 returns-in-Ok-run_in c =
     let ok = c.in-Ok.ensures.configs in
-    (ok, c.in-Ok-run_in.ensures.done (start c.args.configs.items) c.in-Ok.ensures.start (good-start c.args.configs.items ok) refl)
+    (ok, c.in-Ok-run_in.ensures.done (start c.args.configs.items) c.in-Ok.ensures.start c.in-Ok.ensures.good refl)
 
 pub returns-in-Err : goal.returns-in-Err
 returns-in-Err c =
     let ok = c.in-Ok.ensures.configs in
-    let m = c.in-Err.ensures.memory (start c.args.configs.items) c.in-Ok.ensures.start (good-start c.args.configs.items ok) refl in
+    let m = c.in-Err.ensures.memory (start c.args.configs.items) c.in-Ok.ensures.start c.in-Ok.ensures.good refl in
     (m.0, m.1, inr ok, m.2)

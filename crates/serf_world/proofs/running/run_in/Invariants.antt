@@ -1,7 +1,7 @@
 use Rattle.std.proofs.Common.{◌≡◌, [], take}
 use Rattle.std.specs.List.{fold}
-use Rattle.serf_world.specs.Cluster.{Run, after}
-use Rattle.serf_world.specs.Ready.{AreGood}
+use Rattle.serf_model.specs.Cluster.{Run, after}
+use Rattle.serf_model.specs.Ready.{AreGood}
 use Rattle.serf_world.specs.View.{IsAt, IsViewed}
 use Rattle.serf_world.proofs.running.run_in.Given as goal
 

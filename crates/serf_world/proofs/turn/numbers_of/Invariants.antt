@@ -1,5 +1,5 @@
 use Rattle.std.proofs.Common.{◌≡◌, ◌+◌, ◌++◌, drop}
-use Rattle.serf_world.specs.Cluster.{numbers_from}
+use Rattle.serf_model.specs.Cluster.{numbers_from}
 use Rattle.serf_world.proofs.turn.numbers_of.Given as goal
 
 -- the numbers so far, and those of the packets that are left

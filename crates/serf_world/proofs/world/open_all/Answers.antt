@@ -4,9 +4,9 @@ use Rattle.serf_snap.specs.Device.{fresh_device}
 use Rattle.serf_snap.specs.Notes.{opened}
 use Rattle.serf_agent.specs.Restart.{unborn}
 use Rattle.serf_agent.specs.View.{view_of}
-use Rattle.serf_world.specs.Cluster.{newborn, joining}
+use Rattle.serf_model.specs.Cluster.{newborn, joining}
 use Rattle.serf_world.specs.View.{seat_of}
-use Rattle.serf_world.proofs.ReadyLaws.{born-sound, born-text}
+use Rattle.serf_world.proofs.SeatLaws.{born-sound, born-text}
 use Rattle.serf_world.proofs.world.open_all.Goals as goal
 
 pub loop-config-preserved : goal.loop-config-preserved

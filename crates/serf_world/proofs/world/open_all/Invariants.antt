@@ -1,6 +1,6 @@
 use Rattle.std.proofs.Common.{◌≡◌, ◌++◌, map}
 use Rattle.std.specs.Vec.Iter.{into_iter_items}
-use Rattle.serf_world.specs.Cluster.{joining}
+use Rattle.serf_model.specs.Cluster.{joining}
 use Rattle.serf_world.specs.View.{seat_of}
 use Rattle.serf_world.proofs.world.open_all.Given as goal
 

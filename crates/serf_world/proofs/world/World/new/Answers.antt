@@ -1,6 +1,6 @@
 use Rattle.std.proofs.Common.{List, map, ap, sym, ◌∙◌}
 use Rattle.serf_agent.specs.declared.config.Config.{Config}
-use Rattle.serf_world.specs.Cluster.{joining}
+use Rattle.serf_model.specs.Cluster.{joining}
 use Rattle.serf_world.specs.View.{seat_of}
 use Rattle.serf_world.proofs.SeatLaws.{map-map}
 use Rattle.serf_world.proofs.world.World.new.Goals as goal

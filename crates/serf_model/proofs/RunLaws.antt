@@ -1,0 +1,177 @@
+-- What is true after every run: the agents are sound, and their histories are what the turns say.
+use Rattle.std.proofs.Common.{zero, suc, ◌≡◌, ◌≢◌, ℕ, ◌==◌, Bool, true, false, cond, List, [], ◌∷◌, ◌++◌, Option, Some, None, refl, sym, ap, subst, ◌∙◌, map, set}
+use Rattle.std.specs.Prelude.{slice_get}
+use Rattle.std.specs.List.{AllByRecursion, filter, flat_map}
+use Rattle.std.proofs.lemmas.Bool.{eqb-true, eqb-false}
+use Rattle.std.proofs.lemmas.List.{append-nil, map-append}
+use Rattle.std.proofs.lemmas.List.Elements.{filter-append}
+use Rattle.serf_wire.specs.declared.texts.EventText.{EventText}
+use Rattle.serf_window.specs.Window.{Timed}
+use Rattle.serf_agent.specs.declared.outcome.EventOut.{EventOut}
+use Rattle.serf_model.specs.declared.action.Action.{Action}
+use Rattle.serf_model.specs.declared.line.EventLine.{EventLine}
+use Rattle.serf_model.specs.Cluster.{Member, Cluster, Acted, Stepped, Run, acts, acted, on_agent, step_by, step, after, event_line, with_handed}
+use Rattle.serf_model.specs.Trace.{Turn, actor_of, is_agent, turns_by, event_in, events_to, queries_at, entered_by, sent_in, packet_given}
+use Rattle.serf_model.proofs.TurnLaws.{flat_map-push}
+use Rattle.serf_model.proofs.CallLaws.{Keeps, entries, out_in, keeps-acts}
+use Rattle.serf_model.specs.Ready.{IsGood}
+use Rattle.serf_model.proofs.ReadyLaws.{good-acts}
+
+-- ---- places of lists
+
+pub slice_get-set_same : {X : Type 0} (xs : List X) (k : ℕ) (x y : X) → slice_get xs k ≡ Some x → slice_get (set xs k y) k ≡ Some y
+slice_get-set_same [] k x y e = absurd (cc e)
+slice_get-set_same (z ∷ xs) zero x y e = refl
+slice_get-set_same (z ∷ xs) (suc k) x y e = slice_get-set_same xs k x y e
+
+pub slice_get-set_other : {X : Type 0} (xs : List X) (k j : ℕ) (y : X) → k ≢ j → slice_get (set xs k y) j ≡ slice_get xs j
+slice_get-set_other [] k j y n = refl
+slice_get-set_other (z ∷ xs) zero zero y n = absurd (n refl)
+slice_get-set_other (z ∷ xs) zero (suc j) y n = refl
+slice_get-set_other (z ∷ xs) (suc k) zero y n = refl
+slice_get-set_other (z ∷ xs) (suc k) (suc j) y n = slice_get-set_other xs k j y (λ e. n (ap suc e))
+
+pub all-at : {X : Type 0} (P : X → Type 0) (xs : List X) (a : ℕ) (x : X) → AllByRecursion P xs → slice_get xs a ≡ Some x → P x
+all-at P [] a x h e = absurd (cc e)
+all-at P (y ∷ xs) zero x h e = let same : y ≡ x = cc e in subst P same h.0
+all-at P (y ∷ xs) (suc a) x h e = all-at P xs a x h.1 e
+
+pub all-put : {X : Type 0} (P : X → Type 0) (xs : List X) (a : ℕ) (x : X) → AllByRecursion P xs → P x → AllByRecursion P (set xs a x)
+all-put P [] a x h p = tt
+all-put P (y ∷ xs) zero x h p = (p, h.1)
+all-put P (y ∷ xs) (suc a) x h p = (h.0, all-put P xs a x h.1 p)
+
+-- ---- one more turn
+
+pub events_to-push : (a : ℕ) (turns : List Turn) (turn : Turn) → events_to a (turns ++ turn ∷ []) ≡ events_to a turns ++ map event_in (filter (λ e. e.agent == a) turn.line.events)
+events_to-push a turns turn =
+    let mine : EventLine → Bool = λ e. e.agent == a in
+    let lines : List EventLine = flat_map (λ t. t.line.events) turns in
+    ap (λ es. map event_in (filter mine es)) (flat_map-push (λ t. t.line.events) turns turn)
+    ∙ ap (λ es. map event_in es) (filter-append mine lines turn.line.events)
+    ∙ map-append event_in (filter mine lines) (filter mine turn.line.events)
+
+-- what a turn adds for an agent, where it adds something for its own agent
+abbrev pub added : {X : Type 0} → (Turn → List X) → ℕ → Turn → List X
+added f a turn = cond (is_agent a (actor_of turn.action)) (f turn) []
+
+pub by-push : {X : Type 0} (f : Turn → List X) (a : ℕ) (turns : List Turn) (turn : Turn) → flat_map f (turns_by a (turns ++ turn ∷ [])) ≡ flat_map f (turns_by a turns) ++ added f a turn
+by-push {X} f a turns turn =
+    ap (flat_map f) (filter-append (λ t. is_agent a (actor_of t.action)) turns (turn ∷ [])) ∙ by (is_agent a (actor_of turn.action))
+  where
+    by : (b : Bool) → flat_map f (turns_by a turns ++ cond b (turn ∷ []) []) ≡ flat_map f (turns_by a turns) ++ cond b (f turn) []
+    by true = flat_map-push f (turns_by a turns) turn
+    by false = ap (flat_map f) (append-nil (turns_by a turns)) ∙ sym (append-nil (flat_map f (turns_by a turns)))
+
+-- ---- the lines of what an agent hands out
+
+pub lines-same : (a b : ℕ) (outs : List EventOut) → (b == a) ≡ true → map event_in (filter (λ e. e.agent == a) (map (event_line b) outs)) ≡ map out_in outs
+lines-same a b [] t = refl
+lines-same a b (out ∷ outs) t = rw t (ap (λ l. out_in out ∷ l) (lines-same a b outs t))
+
+pub lines-other : (a b : ℕ) (outs : List EventOut) → (b == a) ≡ false → map event_in (filter (λ e. e.agent == a) (map (event_line b) outs)) ≡ []
+lines-other a b [] t = refl
+lines-other a b (out ∷ outs) t = rw t (lines-other a b outs t)
+
+-- ---- after a run
+
+-- what an agent entered in all its lives
+abbrev pub events_at : Option Member → List (Timed EventText)
+events_at None = []
+events_at (Some m) = entries m.agent.events.history
+
+abbrev pub queries_of : Option Member → List (Timed ℕ)
+queries_of None = []
+queries_of (Some m) = entries m.agent.queries.history
+
+pub record IsAfter (c : Cluster) (turns : List Turn) : Type 0 where
+  pub good : AllByRecursion (λ m. IsGood m.agent) c.members
+  pub events : (a : ℕ) → events_at (slice_get c.members a) ≡ events_to a turns
+  pub queries : (a : ℕ) → queries_of (slice_get c.members a) ≡ queries_at a turns
+  pub sent : c.sent ≡ sent_in turns
+
+abbrev entered : Turn → List (Timed ℕ)
+entered t = entered_by t.action t.given t.line.answer
+
+cond-same : {X : Type 0} (b : Bool) (x : X) → cond b x x ≡ x
+cond-same true x = refl
+cond-same false x = refl
+
+-- a turn that leaves the agents, hands no event out and enters no query
+after-still : (c : Cluster) (turns : List Turn) (s : Stepped) → IsAfter c turns → s.cluster.members ≡ c.members → s.cluster.sent ≡ c.sent ++ s.turn.packets → s.turn.line.events ≡ [] → entered s.turn ≡ [] → IsAfter s.cluster (turns ++ s.turn ∷ [])
+after-still c turns s h members sent none no_query = record {
+  good = subst (AllByRecursion (λ m. IsGood m.agent)) (sym members) h.good;
+  events = λ a. ap (λ ms. events_at (slice_get ms a)) members ∙ h.events a
+      ∙ sym (events_to-push a turns s.turn ∙ ap (λ es. events_to a turns ++ map event_in (filter (λ (e : EventLine). e.agent == a) es)) none ∙ append-nil (events_to a turns));
+  queries = λ a. ap (λ ms. queries_of (slice_get ms a)) members ∙ h.queries a
+      ∙ sym (by-push entered a turns s.turn ∙ ap (λ l. queries_at a turns ++ l) (ap (λ l. cond (is_agent a (actor_of s.turn.action)) l []) no_query ∙ cond-same (is_agent a (actor_of s.turn.action)) []) ∙ append-nil (queries_at a turns));
+  sent = sent ∙ ap (λ l. l ++ s.turn.packets) h.sent ∙ sym (flat_map-push (λ t. t.packets) turns s.turn);
+}
+
+after-acted : (c : Cluster) (turns : List Turn) (action : Action) (b : ℕ) (m : Member) (o : Acted) → IsAfter c turns → actor_of action ≡ Some b → slice_get c.members b ≡ Some m
+    → IsGood o.member.agent → Keeps m.agent o.member.agent o.done (entered_by action (packet_given c.sent action) o.done.answer) → IsAfter (acted c action b o).cluster (turns ++ (acted c action b o).turn ∷ [])
+after-acted c turns action b m o h actor at good keeps = record {
+  good = all-put (λ m. IsGood m.agent) c.members b (with_handed o.done.handed o.member) h.good good;
+  events = λ a. events a (b == a) refl;
+  queries = λ a. queries a (b == a) refl;
+  sent = ap (λ l. l ++ o.done.packets) h.sent ∙ sym (flat_map-push (λ t. t.packets) turns (acted c action b o).turn);
+}
+  where
+    new : Member
+    new = with_handed o.done.handed o.member
+
+    events : (a : ℕ) (t : Bool) → (b == a) ≡ t → events_at (slice_get (set c.members b (with_handed o.done.handed o.member)) a) ≡ events_to a (turns ++ (acted c action b o).turn ∷ [])
+    events a true t =
+        let same : b ≡ a = eqb-true b a t in
+        ap (λ j. events_at (slice_get (set c.members b (with_handed o.done.handed o.member)) j)) (sym same)
+        ∙ ap events_at (slice_get-set_same c.members b m (with_handed o.done.handed o.member) at)
+        ∙ keeps.events
+        ∙ ap (λ l. l ++ map out_in o.done.events) (ap events_at (sym at) ∙ ap (λ j. events_at (slice_get c.members j)) same ∙ h.events a)
+        ∙ ap (λ l. events_to a turns ++ l) (sym (lines-same a b o.done.events t))
+        ∙ sym (events_to-push a turns (acted c action b o).turn)
+    events a false t =
+        ap events_at (slice_get-set_other c.members b a (with_handed o.done.handed o.member) (eqb-false b a t)) ∙ h.events a
+        ∙ sym (events_to-push a turns (acted c action b o).turn ∙ ap (λ l. events_to a turns ++ l) (lines-other a b o.done.events t) ∙ append-nil (events_to a turns))
+
+    queries : (a : ℕ) (t : Bool) → (b == a) ≡ t → queries_of (slice_get (set c.members b (with_handed o.done.handed o.member)) a) ≡ queries_at a (turns ++ (acted c action b o).turn ∷ [])
+    queries a true t =
+        let same : b ≡ a = eqb-true b a t in
+        ap (λ j. queries_of (slice_get (set c.members b (with_handed o.done.handed o.member)) j)) (sym same)
+        ∙ ap queries_of (slice_get-set_same c.members b m (with_handed o.done.handed o.member) at)
+        ∙ keeps.queries
+        ∙ ap (λ l. l ++ entered_by action (packet_given c.sent action) o.done.answer) (ap queries_of (sym at) ∙ ap (λ j. queries_of (slice_get c.members j)) same ∙ h.queries a)
+        ∙ ap (λ b. queries_at a turns ++ cond b (entered_by action (packet_given c.sent action) o.done.answer) []) (sym (ap (is_agent a) actor ∙ t))
+        ∙ sym (by-push entered a turns (acted c action b o).turn)
+    queries a false t =
+        ap queries_of (slice_get-set_other c.members b a (with_handed o.done.handed o.member) (eqb-false b a t)) ∙ h.queries a
+        ∙ sym (by-push entered a turns (acted c action b o).turn
+        ∙ ap (λ b. queries_at a turns ++ cond b (entered_by action (packet_given c.sent action) o.done.answer) []) (ap (is_agent a) actor ∙ t)
+        ∙ append-nil (queries_at a turns))
+
+pub after-agent : (c : Cluster) (turns : List Turn) (action : Action) (b : ℕ) (r : Option Member) → IsAfter c turns → actor_of action ≡ Some b → slice_get c.members b ≡ r → IsAfter (on_agent c action b r).cluster (turns ++ (on_agent c action b r).turn ∷ [])
+after-agent c turns action b None h actor at = after-still c turns (on_agent c action b None) h refl (sym (append-nil c.sent)) refl refl
+after-agent c turns action b (Some m) h actor at =
+    after-acted c turns action b m (acts m c.sent action) h actor at (good-acts m c.sent action (all-at (λ m. IsGood m.agent) c.members b m h.good at)) (keeps-acts m c.sent action)
+
+after-by : (c : Cluster) (turns : List Turn) (action : Action) (o : Option ℕ) → IsAfter c turns → actor_of action ≡ o → IsAfter (step_by c action o).cluster (turns ++ (step_by c action o).turn ∷ [])
+after-by c turns action None h actor = after-still c turns (step_by c action None) h refl refl refl refl
+after-by c turns action (Some b) h actor = after-agent c turns action b (slice_get c.members b) h actor refl
+
+pub after-step : (r : Run) (action : Action) → IsAfter r.cluster r.turns → IsAfter (after r action).cluster (after r action).turns
+after-step r action h = after-by r.cluster r.turns action (actor_of action) h refl
+
+-- ---- what a turn says of its action
+
+action-agent : (c : Cluster) (action : Action) (b : ℕ) (r : Option Member) → ((on_agent c action b r).turn.action ≡ action) × ((on_agent c action b r).turn.given ≡ packet_given c.sent action)
+action-agent c action b None = (refl, refl)
+action-agent c action b (Some m) = (refl, refl)
+
+action-by : (c : Cluster) (action : Action) (o : Option ℕ) → ((step_by c action o).turn.action ≡ action) × ((step_by c action o).turn.given ≡ packet_given c.sent action)
+action-by c action None = (refl, refl)
+action-by c action (Some b) = action-agent c action b (slice_get c.members b)
+
+pub turn-action : (c : Cluster) (action : Action) → (step c action).turn.action ≡ action
+turn-action c action = (action-by c action (actor_of action)).0
+
+pub turn-given : (c : Cluster) (action : Action) → (step c action).turn.given ≡ packet_given c.sent action
+turn-given c action = (action-by c action (actor_of action)).1

@@ -1,0 +1,53 @@
+-- A cluster that has done nothing.
+use Rattle.std.proofs.Common.{zero, suc, ◌≡◌, ℕ, ◌+◌, ◌≤◌, nat_lt, Bool, true, false, cond, List, [], ◌∷◌, Some, None, refl, arith, map, length}
+use Rattle.std.specs.Prelude.{not, slice_get}
+use Rattle.std.specs.List.{AllByRecursion, position_or_len}
+use Rattle.std.proofs.lemmas.Bool.{ltb-false}
+use Rattle.serf_agent.specs.declared.config.Config.{Config}
+use Rattle.serf_agent.specs.Config.{is_sound}
+use Rattle.serf_model.specs.Cluster.{joining, start}
+use Rattle.serf_model.specs.Ready.{AreGood, IsGood}
+use Rattle.serf_model.specs.Runs.{AreConfigs, first_bad}
+use Rattle.serf_model.proofs.ReadyLaws.{good-newborn}
+use Rattle.serf_model.proofs.RunLaws.{IsAfter, events_at, queries_of}
+
+-- settings of which none is bad are sound
+none-bad : (configs : List Config) → length configs ≤ position_or_len (λ c. not (is_sound c)) configs → AllByRecursion (λ c. is_sound c ≡ true) configs
+none-bad [] h = tt
+none-bad (c ∷ cs) h = by (is_sound c) refl h (none-bad cs)
+  where
+    by : (b : Bool) → is_sound c ≡ b → length (c ∷ cs) ≤ cond (not (not b)) (1 + position_or_len (λ c. not (is_sound c)) cs) 0
+        → (length cs ≤ position_or_len (λ c. not (is_sound c)) cs → AllByRecursion (λ c. is_sound c ≡ true) cs) → (is_sound c ≡ true) × AllByRecursion (λ c. is_sound c ≡ true) cs
+    by true is h rest = (is, rest (omega arith))
+    by false is h rest = absurd (omega arith)
+
+all-sound : (configs : List Config) → first_bad configs ≡ None → AllByRecursion (λ c. is_sound c ≡ true) configs
+all-sound configs none = none-bad configs (by (nat_lt (position_or_len (λ c. not (is_sound c)) configs) (length configs)) refl none)
+  where
+    by : (b : Bool) → nat_lt (position_or_len (λ c. not (is_sound c)) configs) (length configs) ≡ b → cond b (Some (position_or_len (λ c. not (is_sound c)) configs)) None ≡ None → length configs ≤ position_or_len (λ c. not (is_sound c)) configs
+    by true is e = absurd (cc e)
+    by false is e = ltb-false _ _ is
+
+good-joining : (configs : List Config) → AllByRecursion (λ c. is_sound c ≡ true) configs → AllByRecursion (λ m. IsGood m.agent) (map joining configs)
+good-joining [] ok = tt
+good-joining (c ∷ cs) ok = (good-newborn c ok.0, good-joining cs ok.1)
+
+no-events : (configs : List Config) (a : ℕ) → events_at (slice_get (map joining configs) a) ≡ []
+no-events [] a = refl
+no-events (c ∷ cs) zero = refl
+no-events (c ∷ cs) (suc a) = no-events cs a
+
+no-queries : (configs : List Config) (a : ℕ) → queries_of (slice_get (map joining configs) a) ≡ []
+no-queries [] a = refl
+no-queries (c ∷ cs) zero = refl
+no-queries (c ∷ cs) (suc a) = no-queries cs a
+
+after-sound : (configs : List Config) → AllByRecursion (λ c. is_sound c ≡ true) configs → IsAfter (start configs).cluster []
+after-sound configs ok = record { good = good-joining configs ok; events = no-events configs; queries = no-queries configs; sent = refl }
+
+pub after-start : (configs : List Config) → AreConfigs configs → IsAfter (start configs).cluster []
+after-start configs ok = after-sound configs (all-sound configs ok.sound)
+
+-- the agents of a cluster that has done nothing
+pub good-start : (configs : List Config) → AreConfigs configs → AreGood (start configs).cluster
+good-start configs ok = (after-start configs ok).good

@@ -1,0 +1,40 @@
+-- Lists of turns that grow.
+use Rattle.std.proofs.Common.{◌≡◌, List, [], ◌∷◌, ◌++◌, refl, ap, subst, ◌∙◌, ◌⊎◌, inl, inr}
+use Rattle.std.specs.List.{fold, flat_map}
+use Rattle.std.proofs.lemmas.List.{append-nil}
+use Rattle.std.proofs.lemmas.List.Concat.{flat_map-append}
+use Rattle.serf_model.specs.Trace.{Turn, AtEach}
+
+-- what each step keeps holds in the end
+pub fold_keeps : {A B : Type 0} (P : B → Type 0) (f : B → A → B) (b : B) (xs : List A) → P b → ((c : B) (x : A) → P c → P (f c x)) → P (fold f b xs)
+fold_keeps P f b [] p step = p
+fold_keeps P f b (x ∷ xs) p step = fold_keeps P f (f b x) xs (step b x p) step
+
+-- where a list with one more is cut at an element, that is the last one or stands before it
+pub cut_last : {X : Type 0} (xs : List X) (x : X) (before : List X) (y : X) (rest : List X) → xs ++ x ∷ [] ≡ before ++ y ∷ rest
+    → ((xs ≡ before) × (x ≡ y)) ⊎ ((r : List X) × (xs ≡ before ++ y ∷ r))
+cut_last [] x [] y rest e = let same : x ≡ y = cc e in inl (refl, same)
+cut_last [] x (b ∷ []) y rest e = absurd (cc e)
+cut_last [] x (b ∷ c ∷ bs) y rest e = absurd (cc e)
+cut_last (z ∷ zs) x [] y rest e = let same : z ≡ y = cc e in inr (zs, ap (λ w. w ∷ zs) same)
+cut_last (z ∷ zs) x (b ∷ bs) y rest e =
+    let head : z ≡ b = cc e in
+    let tail : zs ++ x ∷ [] ≡ bs ++ y ∷ rest = cc e in
+    elim (cut_last zs x bs y rest tail) [
+      | inl h ↦ let both : z ∷ zs ≡ b ∷ bs = cc (head, h.0) in inl (both, h.1)
+      | inr h ↦ let both : z ∷ zs ≡ b ∷ (bs ++ y ∷ h.0) = cc (head, h.1) in inr (h.0, both)
+    ]
+
+pub at_each_nil : (P : List Turn → Turn → Type 0) → AtEach P []
+at_each_nil P [] turn rest e = absurd (cc e)
+at_each_nil P (b ∷ bs) turn rest e = absurd (cc e)
+
+pub at_each_push : (P : List Turn → Turn → Type 0) (turns : List Turn) (turn : Turn) → AtEach P turns → P turns turn → AtEach P (turns ++ turn ∷ [])
+at_each_push P turns turn all p before t rest e =
+    elim (cut_last turns turn before t rest e) [
+      | inl h ↦ subst (λ (b : List Turn). P b t) h.0 (subst (P turns) h.1 p)
+      | inr h ↦ all before t h.0 h.1
+    ]
+
+pub flat_map-push : {X A : Type 0} (f : X → List A) (xs : List X) (x : X) → flat_map f (xs ++ x ∷ []) ≡ flat_map f xs ++ f x
+flat_map-push f xs x = flat_map-append f xs (x ∷ []) ∙ ap (λ l. flat_map f xs ++ l) (append-nil (f x))

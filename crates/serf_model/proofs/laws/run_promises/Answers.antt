@@ -1,0 +1,59 @@
+use Rattle.serf_model.specs.Cluster.{run_of}
+use Rattle.serf_model.proofs.AnswerLaws.{acked-once}
+use Rattle.serf_model.proofs.AnswerPromiseLaws.{counting-run, served-run}
+use Rattle.serf_model.proofs.BoundLaws.{events-bounded, queries-bounded}
+use Rattle.serf_model.proofs.CountedLaws.{counted-once, open-hold}
+use Rattle.serf_model.proofs.PromiseLaws.{promised, query-fired}
+use Rattle.serf_model.proofs.QueriedLaws.{query-only-fired}
+use Rattle.serf_model.proofs.laws.run_promises.Goals as goal
+
+pub returns-clause-once : goal.returns-clause-once
+returns-clause-once c = λ configs actions ok. (promised configs actions ok).once
+
+pub returns-clause-fired : goal.returns-clause-fired
+returns-clause-fired c = λ configs actions ok. (promised configs actions ok).only_fired
+
+pub returns-clause-later : goal.returns-clause-later
+returns-clause-later c = λ configs actions ok. (promised configs actions ok).later
+
+pub returns-clause-held : goal.returns-clause-held
+returns-clause-held c = λ configs actions ok. (promised configs actions ok).held
+
+pub returns-clause-query_once : goal.returns-clause-query_once
+returns-clause-query_once c = λ configs actions ok. (promised configs actions ok).query_once
+
+pub returns-clause-query_later : goal.returns-clause-query_later
+returns-clause-query_later c = λ configs actions ok. (promised configs actions ok).query_later
+
+pub returns-clause-query_handed : goal.returns-clause-query_handed
+returns-clause-query_handed c = λ configs actions ok. (promised configs actions ok).query_handed
+
+pub returns-clause-query_fired : goal.returns-clause-query_fired
+returns-clause-query_fired c = query-fired
+
+pub returns-clause-query_only_fired : goal.returns-clause-query_only_fired
+returns-clause-query_only_fired c = query-only-fired
+
+pub returns-clause-counted_once : goal.returns-clause-counted_once
+returns-clause-counted_once c = λ configs actions ok. counted-once (run_of configs actions).cluster (run_of configs actions).turns (counting-run configs actions ok)
+
+pub returns-clause-counted_in_time : goal.returns-clause-counted_in_time
+returns-clause-counted_in_time c = λ configs actions ok. (counting-run configs actions ok).in_time
+
+pub returns-clause-counted_sent : goal.returns-clause-counted_sent
+returns-clause-counted_sent c = λ configs actions ok. (counting-run configs actions ok).sent
+
+pub returns-clause-answers_made : goal.returns-clause-answers_made
+returns-clause-answers_made c = λ configs actions sized ok. (served-run configs actions sized ok).made
+
+pub returns-clause-acked_once : goal.returns-clause-acked_once
+returns-clause-acked_once c = λ configs actions sized ok. acked-once configs (run_of configs actions).cluster (run_of configs actions).turns (served-run configs actions sized ok)
+
+pub returns-clause-events_bounded : goal.returns-clause-events_bounded
+returns-clause-events_bounded c = events-bounded
+
+pub returns-clause-queries_bounded : goal.returns-clause-queries_bounded
+returns-clause-queries_bounded c = queries-bounded
+
+pub returns-clause-open_queries : goal.returns-clause-open_queries
+returns-clause-open_queries c = λ configs actions ok. open-hold (run_of configs actions) (counting-run configs actions ok)

@@ -1,0 +1,197 @@
+-- What is promised of acks and responses in every run, said of its turns. "Before" is all that came before a turn. An
+-- answer to a query is an ack or a response; where both are meant, a truth value says which: true for acks.
+use Rattle.std.specs.Prelude.{◌≡◌, ◌≢◌, ℕ, ◌≤◌, ◌==◌, Bool, true, false, not, if◌then◌else◌, List, [], ◌∷◌, map, filter, Some, Result, Ok, All, AllPairs, Contains, slice_get}
+use Rattle.std.specs.List.{flat_map}
+use Rattle.std.specs.Option.{option_to_list}
+use Rattle.serf_wire.specs.declared.fault.WireFault.{WireFault}
+use Rattle.serf_wire.specs.Decoded.{decoded}
+use Rattle.serf_wire.specs.Message.{Message, QueryResponse, query_response}
+use Rattle.serf_window.specs.Window.{Timed}
+use Rattle.serf_agent.specs.declared.config.Config.{Config}
+use Rattle.serf_agent.specs.declared.lists.Response.{Response}
+use Rattle.serf_agent.specs.declared.open_query.OpenQuery.{OpenQuery}
+use Rattle.serf_agent.specs.Queries.{deadline_of, is_ack}
+use Rattle.serf_model.specs.declared.action.Action.{Action}
+use Rattle.serf_model.specs.declared.action.Action.TheVariants as actions
+use Rattle.serf_model.specs.declared.line.Answer.{Answer}
+use Rattle.serf_model.specs.declared.line.Answer.TheVariants as answers
+use Rattle.serf_model.specs.declared.line.HandedLine.{HandedLine}
+use Rattle.serf_model.specs.Cluster.{Member, Run}
+use Rattle.serf_model.specs.Bounds.{present_life}
+use Rattle.serf_model.specs.Trace.{Turn, AtEach, actor_of, handed_in, sent_in, turns_by}
+
+-- Lives
+
+-- the turns of an agent in its present life
+abbrev pub life_of : ℕ → List Turn → List Turn
+life_of a turns = turns_by a (present_life a turns)
+
+-- Queries that an agent fired
+
+-- a query's time and ID, the last moment at which an answer to it counts, and whether it asks for acks
+pub record OwnQuery : Type 0 where
+  pub time : ℕ
+  pub id : ℕ
+  pub deadline : ℕ
+  pub wants_ack : Bool
+
+abbrev pub own_query_at : ℕ → Action → List OwnQuery
+own_query_at t (actions.Query agent now id name payload params) = record { time = t; id = id; deadline = deadline_of now params.timeout; wants_ack = params.want_ack } ∷ []
+own_query_at t _ = []
+
+abbrev pub own_query : Action → Answer → List OwnQuery
+own_query action (answers.Queried t) = own_query_at t action
+own_query action _ = []
+
+-- the queries that were fired in these turns
+abbrev pub own_queries : List Turn → List OwnQuery
+own_queries turns = flat_map (λ t. own_query t.action t.line.answer) turns
+
+-- Acks and responses
+
+-- the answer to a query that a message is
+abbrev pub answer_brought : Result Message WireFault → List QueryResponse
+answer_brought (Ok (query_response r)) = r ∷ []
+answer_brought _ = []
+
+-- the answers that packets bring
+abbrev pub answers_in : List (List ℕ) → List QueryResponse
+answers_in packets = flat_map (λ p. answer_brought (decoded p)) packets
+
+-- whether an answer of this kind was counted
+abbrev pub is_counted : Bool → Answer → Bool
+is_counted ack answers.Ack = ack
+is_counted ack answers.Response = not ack
+is_counted ack _ = false
+
+-- the answer of a kind that a turn counted, where it counted one: what its packet brings
+abbrev pub counted_at : Bool → Turn → List QueryResponse
+counted_at ack turn = if is_counted ack turn.line.answer then answers_in (option_to_list turn.given) else []
+
+-- the answers of a kind that an agent counted in all its lives
+abbrev pub counted_by : Bool → ℕ → List Turn → List QueryResponse
+counted_by ack a turns = flat_map (counted_at ack) (turns_by a turns)
+
+-- of these those to the query of a time
+abbrev pub to_time : ℕ → List QueryResponse → List QueryResponse
+to_time t rs = filter (λ r. r.time == t) rs
+
+-- What is counted
+
+-- Of the acks that an agent counts, in all its lives, no two have one time and one name, and so with the responses.
+abbrev pub CountedOnce : List Turn → Type 0
+CountedOnce turns = (a : ℕ) (ack : Bool) → AllPairs (λ x y. x.time ≡ y.time → x.from ≢ y.from) (counted_by ack a turns)
+
+-- In this life a query was fired that has the answer's time and ID; the moment is not past its deadline, and it asks for
+-- acks where the answer is one.
+pub record IsAwaited (life : List Turn) (now : ℕ) (r : QueryResponse) : Type 0 where
+  pub query : OwnQuery
+  pub fired : Contains (own_queries life) query
+  pub time : r.time ≡ query.time
+  pub id : r.id ≡ query.id
+  pub in_time : now ≤ query.deadline
+  pub asks : is_ack r ≡ true → query.wants_ack ≡ true
+
+-- An agent counts an answer only to a query that it fired in its present life, and only until the deadline.
+abbrev pub CountedInTime : List Turn → Type 0
+CountedInTime turns =
+    AtEach (λ before turn. (a packet now : ℕ) (ack : Bool) → turn.action ≡ actions.Deliver a packet now → All (IsAwaited (life_of a before) now) (counted_at ack turn)) turns
+
+-- An agent was given a packet that had been sent, and that spells an answer of this kind.
+pub record IsDelivered (before : List Turn) (turn : Turn) (ack : Bool) : Type 0 where
+  pub agent : ℕ
+  pub number : ℕ
+  pub now : ℕ
+  pub action : turn.action ≡ actions.Deliver agent number now
+  pub packet : List ℕ
+  pub given : turn.given ≡ Some packet
+  pub sent : Contains (sent_in before) packet
+  pub answer : QueryResponse
+  pub says : decoded packet ≡ Ok (query_response answer)
+  pub kind : is_ack answer ≡ ack
+
+-- What is counted is what a packet spells that was sent.
+abbrev pub CountedSent : List Turn → Type 0
+CountedSent turns = AtEach (λ before turn. (ack : Bool) → is_counted ack turn.line.answer ≡ true → IsDelivered before turn ack) turns
+
+-- what an open query holds of a response
+abbrev pub response_held : QueryResponse → Response
+response_held r = record { from = r.from; payload = r.payload }
+
+-- an open query, with its time, as it was fired
+abbrev pub as_fired : ℕ × OpenQuery → OwnQuery
+as_fired q = record { time = q.0; id = q.1.id; deadline = q.1.deadline; wants_ack = q.1.wants_ack }
+
+-- An open query of an agent was fired in its present life. It holds the names of the acks that were counted to its time,
+-- and the names and payloads of the responses, in the order in which they came, and nothing else.
+pub record HoldsCounted (a : ℕ) (turns : List Turn) (q : ℕ × OpenQuery) : Type 0 where
+  pub fired : Contains (own_queries (life_of a turns)) (as_fired q)
+  pub acks : q.1.acks ≡ map (λ r. r.from) (to_time q.0 (counted_by true a turns))
+  pub responses : q.1.responses ≡ map response_held (to_time q.0 (counted_by false a turns))
+
+-- After a run each open query of each agent holds just what its turns counted.
+abbrev pub OpenQueriesHold : Run → Type 0
+OpenQueriesHold r = (a : ℕ) (m : Member) → slice_get r.cluster.members a ≡ Some m → All (HoldsCounted a r.turns) m.agent.asked
+
+-- Where an answer comes from
+
+-- the agent of this number has the name that the answer is from
+pub record IsFrom (configs : List Config) (a : ℕ) (r : QueryResponse) : Type 0 where
+  pub config : Config
+  pub settings : slice_get configs a ≡ Some config
+  pub name : r.from ≡ config.name
+
+-- the query that an answer is to: its time and its ID
+abbrev pub query_answered : QueryResponse → Timed ℕ
+query_answered r = record { time = r.time; what = r.id }
+
+-- The turn injected a packet that brings this.
+pub record IsInjected (turn : Turn) (r : QueryResponse) : Type 0 where
+  pub bytes : List ℕ
+  pub action : turn.action ≡ actions.Inject bytes
+  pub says : decoded bytes ≡ Ok (query_response r)
+
+-- The turn handed an agent of the answer's name the query, and this is its ack.
+pub record IsAckOf (configs : List Config) (turn : Turn) (r : QueryResponse) : Type 0 where
+  pub agent : ℕ
+  pub actor : actor_of turn.action ≡ Some agent
+  pub from : IsFrom configs agent r
+  pub line : HandedLine
+  pub hands : turn.line.handed ≡ Some line
+  pub to : line.agent ≡ agent
+  pub query : handed_in line ≡ query_answered r
+  pub ack : is_ack r ≡ true
+  pub empty : r.payload ≡ []
+
+-- An agent of the answer's name answered the query, which was handed to it in this life, and this is its response.
+pub record IsReplyTo (configs : List Config) (before : List Turn) (turn : Turn) (r : QueryResponse) : Type 0 where
+  pub agent : ℕ
+  pub number : ℕ
+  pub now : ℕ
+  pub action : turn.action ≡ actions.Respond agent number now r.payload
+  pub replied : turn.line.answer ≡ answers.Replied
+  pub from : IsFrom configs agent r
+  pub line : HandedLine
+  pub handed : Contains (flat_map (λ t. option_to_list t.line.handed) (life_of agent before)) line
+  pub index : line.index ≡ number
+  pub query : handed_in line ≡ query_answered r
+  pub ack : is_ack r ≡ false
+
+-- where an answer comes from that a turn sends
+pub data IsMade (configs : List Config) (before : List Turn) (turn : Turn) (r : QueryResponse) : Type 0 where
+  injected : IsInjected turn r → IsMade configs before turn r
+  acked : IsAckOf configs turn r → IsMade configs before turn r
+  replied : IsReplyTo configs before turn r → IsMade configs before turn r
+
+-- Each answer in a packet that is sent is injected, or it is the ack of a query that its turn hands out, or a response to
+-- one that was handed out; and what an agent sends is from it.
+abbrev pub AnswersMade : List Config → List Turn → Type 0
+AnswersMade configs turns = AtEach (λ before turn. All (IsMade configs before turn) (answers_in turn.packets)) turns
+
+-- the queries that an agent acked in all its lives
+abbrev pub acked_by : ℕ → List Turn → List (Timed ℕ)
+acked_by a turns = map query_answered (filter is_ack (flat_map (λ t. answers_in t.packets) (turns_by a turns)))
+
+-- An agent acks a query at most once in all its lives.
+abbrev pub AckedOnce : List Turn → Type 0
+AckedOnce turns = (a : ℕ) → AllPairs (λ x y. x ≢ y) (acked_by a turns)

@@ -1,0 +1,57 @@
+-- How much each agent holds of what enters, whatever it is sent: said of a run's turns, as every promise is.
+use Rattle.std.specs.Prelude.{◌≡◌, ◌≤◌, ◌*◌, ℕ, ◌&&◌, Bool, true, false, if◌then◌else◌, List, [], ◌∷◌, ◌++◌, Some, slice_get}
+use Rattle.std.specs.List.{fold}
+use Rattle.serf_wire.specs.declared.texts.EventText.{EventText}
+use Rattle.serf_window.specs.Window.{Timed, count_at, held_count, slots_of}
+use Rattle.serf_agent.specs.declared.config.Config.{Config}
+use Rattle.serf_model.specs.declared.line.Answer.{Answer}
+use Rattle.serf_model.specs.declared.line.Answer.TheVariants as answers
+use Rattle.serf_model.specs.Trace.{Turn, AtEach, actor_of, is_agent, events_to, queries_at}
+
+-- Lives
+
+-- whether this is the answer of an agent that was opened again
+abbrev pub is_restarted : Answer → Bool
+is_restarted (answers.Restarted member event query) = true
+is_restarted _ = false
+
+-- whether a turn opens an agent again: the agent acts, and the answer says that it was opened
+abbrev pub reopens : ℕ → Turn → Bool
+reopens a turn = is_agent a (actor_of turn.action) && is_restarted turn.line.answer
+
+-- an agent's life goes on with each turn, until one opens the agent again: then its next life has no turn yet
+abbrev pub lived_on : ℕ → List Turn → Turn → List Turn
+lived_on a life turn = if reopens a turn then [] else life ++ turn ∷ []
+
+-- the turns of an agent's present life: those since it was last opened
+abbrev pub present_life : ℕ → List Turn → List Turn
+present_life a turns = fold (lived_on a) [] turns
+
+-- the events that were handed to an agent in its present life, and the queries that entered at it
+abbrev pub events_of_life : ℕ → List Turn → List (Timed EventText)
+events_of_life a turns = events_to a (present_life a turns)
+
+abbrev pub queries_of_life : ℕ → List Turn → List (Timed ℕ)
+queries_of_life a turns = queries_at a (present_life a turns)
+
+-- Bounds
+
+-- at most k of these have one time
+abbrev pub AtMostOfOneTime : {K : Type 0} → ℕ → List (Timed K) → Type 0
+AtMostOfOneTime k entered = (t : ℕ) → count_at entered t ≤ k
+
+-- Of what entered at most k have one time, and a window of n slots holds at most n * k of it.
+pub record IsBounded {K : Type 0} (n k : ℕ) (entered : List (Timed K)) : Type 0 where
+  pub of_one_time : AtMostOfOneTime k entered
+  pub in_window : held_count (slots_of n entered) ≤ n * k
+
+-- After each turn the events of each agent's present life are bounded by its settings: by the number of its event
+-- window's slots, and by the number of entries of one time that it takes.
+abbrev pub EventsBounded : List Config → List Turn → Type 0
+EventsBounded configs turns =
+    AtEach (λ before turn. (a : ℕ) (c : Config) → slice_get configs a ≡ Some c → IsBounded c.event_buffer c.per_time (events_of_life a (before ++ turn ∷ []))) turns
+
+-- And so are the queries, each a time and an ID, by its query window's.
+abbrev pub QueriesBounded : List Config → List Turn → Type 0
+QueriesBounded configs turns =
+    AtEach (λ before turn. (a : ℕ) (c : Config) → slice_get configs a ≡ Some c → IsBounded c.query_buffer c.per_time (queries_of_life a (before ++ turn ∷ []))) turns

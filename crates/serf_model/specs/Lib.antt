@@ -1,0 +1,9 @@
+pub mod Trace
+pub mod Cluster
+pub mod Ready
+pub mod Runs
+pub mod Sizes
+pub mod Promises
+pub mod Queried
+pub mod AnswerPromises
+pub mod Bounds

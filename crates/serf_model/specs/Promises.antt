@@ -1,0 +1,64 @@
+-- What is promised of every run, whatever was done in it: said of its turns, which are read off its actions and its
+-- trace. "Before" is all that came before a turn.
+use Rattle.std.specs.Prelude.{◌≡◌, ◌≢◌, ◌⊎◌, ℕ, ◌<◌, List, [], ◌∷◌, ◌++◌, Some, Ok, All, AllPairs, Contains}
+use Rattle.serf_wire.specs.declared.texts.EventText.{EventText}
+use Rattle.serf_wire.specs.Decoded.{decoded}
+use Rattle.serf_wire.specs.Message.{UserEvent, user_event}
+use Rattle.serf_window.specs.Texts.{event_of}
+use Rattle.serf_window.specs.Window.{Timed}
+use Rattle.serf_agent.specs.declared.outcome.Reason.TheVariants as reasons
+use Rattle.serf_model.specs.declared.line.Answer.TheVariants as answers
+use Rattle.serf_model.specs.Trace.{Turn, AtEach, actor_of, event_in, events_to, fired_in, forged_in, carried, injected_in, queried_in, queries_at, queries_to}
+
+-- Events
+
+-- Each agent is handed an event, that is a time, a name and a payload, at most once in all its lives.
+abbrev pub Once : List Turn → Type 0
+Once turns = (a : ℕ) → AllPairs (λ x y. x ≢ y) (events_to a turns)
+
+-- some agent fired this event at its time, or an injected packet carries it
+abbrev pub WasFired : List Turn → Timed EventText → Type 0
+WasFired turns e = Contains (fired_in turns) e ⊎ Contains (forged_in turns) e
+
+-- Each event that is handed out was fired at its time, at this turn or before it, or is forged.
+abbrev pub OnlyFired : List Turn → Type 0
+OnlyFired turns = AtEach (λ before turn. All (λ e. WasFired (before ++ turn ∷ []) (event_in e)) turn.line.events) turns
+
+-- What an agent fires is later than all that was handed to it before, in any life.
+abbrev pub Later : List Turn → Type 0
+Later turns =
+    AtEach (λ before turn. (a t : ℕ) → actor_of turn.action ≡ Some a → turn.line.answer ≡ answers.Fired t → All (λ e. e.time < t) (events_to a before)) turns
+
+-- Each event that a packet carries, one of an agent's whole state too, was fired at its time, or is forged.
+abbrev pub CarriesOnlyFired : List Turn → Type 0
+CarriesOnlyFired turns = AtEach (λ before turn. All (λ packet. All (WasFired (before ++ turn ∷ [])) (carried packet)) turn.packets) turns
+
+-- An event is ignored as seen only where it was handed to this agent before, in some life.
+abbrev pub SeenWasHanded : List Turn → Type 0
+SeenWasHanded turns =
+    AtEach (λ before turn. (a : ℕ) (packet : List ℕ) (e : UserEvent) → actor_of turn.action ≡ Some a → turn.line.answer ≡ answers.Ignored reasons.Seen
+    → turn.given ≡ Some packet → decoded packet ≡ Ok (user_event e) → Contains (events_to a before) (record { time = e.time; what = event_of e.name e.payload })) turns
+
+-- What a push/pull holds, and what is ignored as seen.
+abbrev pub Held : List Turn → Type 0
+Held turns = CarriesOnlyFired turns × SeenWasHanded turns
+
+-- Queries
+
+-- At each agent a query, that is a time and an ID, enters at most once in all its lives.
+abbrev pub QueryOnce : List Turn → Type 0
+QueryOnce turns = (a : ℕ) → AllPairs (λ x y. x ≢ y) (queries_at a turns)
+
+-- Each agent is handed a query at most once in all its lives.
+abbrev pub QueryHandedOnce : List Turn → Type 0
+QueryHandedOnce turns = (a : ℕ) → AllPairs (λ x y. x ≢ y) (queries_to a turns)
+
+-- A query that an agent fires is later than all that entered at it before, in any life.
+abbrev pub QueryLater : List Turn → Type 0
+QueryLater turns =
+    AtEach (λ before turn. (a t : ℕ) → actor_of turn.action ≡ Some a → turn.line.answer ≡ answers.Queried t → All (λ q. q.time < t) (queries_at a before)) turns
+
+-- A query that enters as a packet was fired: just these bytes were sent when an agent fired it, or they were injected.
+abbrev pub QueryFired : List Turn → Type 0
+QueryFired turns =
+    AtEach (λ before turn. (packet : List ℕ) → turn.line.answer ≡ answers.Query → turn.given ≡ Some packet → Contains (queried_in before) packet ⊎ Contains (injected_in before) packet) turns

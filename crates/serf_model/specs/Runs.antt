@@ -1,0 +1,56 @@
+-- What a run answers.
+use Rattle.std.specs.Prelude.{◌≡◌, ◌≤◌, ◌⊎◌, ℕ, ◌++◌, Bool, if◌then◌else◌, not, List, [], ◌∷◌, length, take, position, Option, Some, None, Result, Ok, Err}
+use Rattle.std.specs.List.{list_any}
+use Rattle.std.specs.Str.{bytes_eq}
+use Rattle.serf_agent.specs.declared.config.Config.{Config}
+use Rattle.serf_agent.specs.Config.{is_sound}
+use Rattle.serf_model.specs.declared.action.Action.{Action}
+use Rattle.serf_model.specs.declared.fault.NewFault.{NewFault}
+use Rattle.serf_model.specs.declared.fault.NewFault.TheVariants as news
+use Rattle.serf_model.specs.declared.fault.RunFault.{RunFault}
+use Rattle.serf_model.specs.declared.fault.RunFault.TheVariants as runs
+use Rattle.serf_model.specs.declared.trace.Trace.{Trace}
+use Rattle.serf_model.specs.Cluster.{run_of, trace_of}
+use Rattle.serf_model.specs.Trace.{Turn, outcome_of, turns_of}
+
+-- whether one of these agents has this name
+abbrev pub has_name : List Config → List ℕ → Bool
+has_name configs name = list_any (λ c. bytes_eq c.name name) configs
+
+-- the number of the first agent that has an earlier one's name, after these agents
+abbrev pub twice_after : List Config → List Config → Option ℕ
+twice_after before [] = None
+twice_after before (c ∷ cs) = if has_name before c.name then Some (length before) else twice_after (before ++ c ∷ []) cs
+
+abbrev pub first_twice : List Config → Option ℕ
+first_twice configs = twice_after [] configs
+
+-- the number of the first agent whose settings are out of bounds
+abbrev pub first_bad : List Config → Option ℕ
+first_bad configs = position (λ c. not (is_sound c)) configs
+
+-- agents that can make a cluster
+pub record AreConfigs (configs : List Config) : Type 0 where
+  pub names : first_twice configs ≡ None
+  pub sound : first_bad configs ≡ None
+
+-- why a cluster isn't made
+abbrev pub IsNewFault : List Config → NewFault → Type 0
+IsNewFault configs (news.NameTwice n) = first_twice configs ≡ Some n
+IsNewFault configs (news.BadConfig n) = (first_twice configs ≡ None) × (first_bad configs ≡ Some n)
+IsNewFault configs news.OutOfMemory = Unit {0}
+
+-- The trace is the run's. A refusal names the first agent of its kind; where memory ran out, the trace is that of the
+-- actions done before.
+abbrev pub IsRun : List Config → List Action → Result Trace RunFault → Type 0
+IsRun configs actions (Ok trace) = AreConfigs configs × (outcome_of trace ≡ trace_of (run_of configs actions))
+IsRun configs actions (Err (runs.NameTwice n)) = first_twice configs ≡ Some n
+IsRun configs actions (Err (runs.BadConfig n)) = (first_twice configs ≡ None) × (first_bad configs ≡ Some n)
+IsRun configs actions (Err (runs.OutOfMemory trace)) =
+    (n : ℕ) × (n ≤ length actions) × ((n ≡ 0) ⊎ AreConfigs configs) × (outcome_of trace ≡ trace_of (run_of configs (take n actions)))
+
+-- what holds of the turns of a run, as its actions and its trace show them
+abbrev pub OfTurns : (List Turn → Type 0) → List Action → Result Trace RunFault → Type 0
+OfTurns P actions (Ok trace) = P (turns_of actions (outcome_of trace))
+OfTurns P actions (Err (runs.OutOfMemory trace)) = P (turns_of actions (outcome_of trace))
+OfTurns P actions (Err _) = Unit {0}

@@ -1,0 +1,17 @@
+-- The numbers that an action's fields can hold.
+use Rattle.std.specs.Prelude.{◌≡◌, ℕ, ℤ, ◌<◌, ◌^◌, Some}
+use Rattle.serf_wire.specs.Fields.{fits}
+use Rattle.serf_model.specs.declared.action.Action.{Action}
+use Rattle.serf_model.specs.declared.action.Action.TheVariants as actions
+
+-- The numbers of a query have their types' sizes: 32, 16 and 8 bits, and 64 with a sign.
+pub record IsSized (id port relay_factor : ℕ) (timeout : ℤ) : Type 0 where
+  pub id_fits : id < 2 ^ 32
+  pub port_fits : port < 2 ^ 16
+  pub relay_factor_fits : relay_factor < 2 ^ 8
+  pub timeout_fits : fits timeout ≡ Some timeout
+
+-- and so the numbers of an action
+abbrev pub HasSizes : Action → Type 0
+HasSizes (actions.Query agent now id name payload params) = IsSized id params.port params.relay_factor params.timeout
+HasSizes _ = Unit {0}

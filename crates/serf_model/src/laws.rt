@@ -1,0 +1,58 @@
+//! What holds of every run of the model, as clauses of functions that do nothing.
+
+ghost use Rattle.std.specs.Prelude.{◌≡◌, ◌++◌, ℕ, List, All};
+ghost use Rattle.serf_agent.specs.declared.config.Config.{Config};
+ghost use Rattle.serf_agent.specs.Restart.{IsInText};
+ghost use Rattle.serf_model.specs.declared.action.Action.{Action};
+ghost use Rattle.serf_model.specs.AnswerPromises.{AckedOnce, AnswersMade, CountedInTime, CountedOnce, CountedSent, OpenQueriesHold};
+ghost use Rattle.serf_model.specs.Bounds.{EventsBounded, QueriesBounded};
+ghost use Rattle.serf_model.specs.Cluster.{Member, acts, run_of, start, text_after, trace_of};
+ghost use Rattle.serf_model.specs.Promises.{Held, Later, Once, OnlyFired, QueryFired, QueryHandedOnce, QueryLater, QueryOnce};
+ghost use Rattle.serf_model.specs.Queried.{QueryOnlyFired};
+ghost use Rattle.serf_model.specs.Ready.{AreGood, IsGood};
+ghost use Rattle.serf_model.specs.Runs.{AreConfigs};
+ghost use Rattle.serf_model.specs.Sizes.{HasSizes};
+ghost use Rattle.serf_model.specs.Trace.{turns_of};
+
+/// Every run keeps every promise, whatever its settings and its actions are. Does nothing.
+///
+/// Three promises on queries and answers rest on what the types say of an action's numbers (`HasSizes`).
+pub fn run_promises()
+    // What the turns of every run keep.
+    ensures once { (configs : List Config) (actions : List Action) → AreConfigs configs → Once (run_of configs actions).turns }
+    ensures fired { (configs : List Config) (actions : List Action) → AreConfigs configs → OnlyFired (run_of configs actions).turns }
+    ensures later { (configs : List Config) (actions : List Action) → AreConfigs configs → Later (run_of configs actions).turns }
+    ensures held { (configs : List Config) (actions : List Action) → AreConfigs configs → Held (run_of configs actions).turns }
+    ensures query_once { (configs : List Config) (actions : List Action) → AreConfigs configs → QueryOnce (run_of configs actions).turns }
+    ensures query_later { (configs : List Config) (actions : List Action) → AreConfigs configs → QueryLater (run_of configs actions).turns }
+    ensures query_handed { (configs : List Config) (actions : List Action) → AreConfigs configs → QueryHandedOnce (run_of configs actions).turns }
+    ensures query_fired { (configs : List Config) (actions : List Action) → QueryFired (run_of configs actions).turns }
+    ensures query_only_fired { (configs : List Config) (actions : List Action) → All HasSizes actions → QueryOnlyFired (run_of configs actions).turns }
+
+    // What they keep of acks and responses.
+    ensures counted_once { (configs : List Config) (actions : List Action) → AreConfigs configs → CountedOnce (run_of configs actions).turns }
+    ensures counted_in_time { (configs : List Config) (actions : List Action) → AreConfigs configs → CountedInTime (run_of configs actions).turns }
+    ensures counted_sent { (configs : List Config) (actions : List Action) → AreConfigs configs → CountedSent (run_of configs actions).turns }
+    ensures answers_made { (configs : List Config) (actions : List Action) → All HasSizes actions → AreConfigs configs → AnswersMade configs (run_of configs actions).turns }
+    ensures acked_once { (configs : List Config) (actions : List Action) → All HasSizes actions → AreConfigs configs → AckedOnce (run_of configs actions).turns }
+
+    // What each agent's windows hold, by its settings.
+    ensures events_bounded { (configs : List Config) (actions : List Action) → AreConfigs configs → EventsBounded configs (run_of configs actions).turns }
+    ensures queries_bounded { (configs : List Config) (actions : List Action) → AreConfigs configs → QueriesBounded configs (run_of configs actions).turns }
+
+    // After it the agents' open queries hold what was counted.
+    ensures open_queries { (configs : List Config) (actions : List Action) → AreConfigs configs → OpenQueriesHold (run_of configs actions) }
+{}
+
+/// The turns of a run are what its actions and its trace show, whatever actions come behind. Does nothing.
+pub fn turns_shown()
+    ensures { (configs : List Config) (done left : List Action) → AreConfigs configs → turns_of (done ++ left) (trace_of (run_of configs done)) ≡ (run_of configs done).turns }
+{}
+
+/// The agents of a cluster that has done nothing are good, and an action leaves its agent good. What a good agent's sink
+/// keeps has the times of all that entered, whatever tail comes behind. Does nothing.
+pub fn good_agents()
+    ensures start { (configs : List Config) → AreConfigs configs → AreGood (start configs).cluster }
+    ensures acts { (m : Member) (sent : List (List ℕ)) (action : Action) → IsGood m.agent → IsGood (acts m sent action).member.agent }
+    ensures text { (m : Member) (tail : List ℕ) → IsGood m.agent → IsInText m.agent (text_after m.agent tail) }
+{}
