@@ -1,7 +1,7 @@
 //! What a command line asks for.
 
 use clap::{Arg, ArgAction, ArgMatches, Command, Error};
-use std::alloc::Global;
+use std::alloc::{AllocError, Global};
 
 /// What is to be done.
 #[derive(Clone, Copy)]
@@ -22,42 +22,42 @@ fn place<'a>(alloc: Global, name: &'a str, help: &'a str) -> Arg<'a> {
 }
 
 /// A job that takes one word.
-fn job<'a>(
+fn job_command<'a>(
     alloc: Global,
     name: &'a str,
     about: &'a str,
     example: &'a str,
     word: Arg<'a>,
-) -> Result<Command<'a>, Error> {
+) -> Result<Command<'a>, AllocError> {
     Command::new(alloc, name)
         .about(about)
         .after_help(example)
         .arg(word)
 }
 
-fn replay_command<'a>(alloc: Global) -> Result<Command<'a>, Error> {
+fn replay_command<'a>(alloc: Global) -> Result<Command<'a>, AllocError> {
     let help = "The schedule; standard input where it is left out or `-`";
     let about = "Runs a schedule and writes its trace";
-    job(alloc, "replay", about, EXAMPLE, place(alloc, "FILE", help))
+    job_command(alloc, "replay", about, EXAMPLE, place(alloc, "FILE", help))
 }
 
-fn decode_command<'a>(alloc: Global) -> Result<Command<'a>, Error> {
+fn decode_command<'a>(alloc: Global) -> Result<Command<'a>, AllocError> {
     let hex = place(alloc, "HEX", "The packet in hex digits").required(true);
     let about = "Prints the message that a packet spells";
     let example = "Example: serf-replay decode 0381a44e616d65a178";
-    job(alloc, "decode", about, example, hex)
+    job_command(alloc, "decode", about, example, hex)
 }
 
-fn clocks_command<'a>(alloc: Global) -> Result<Command<'a>, Error> {
+fn clocks_command<'a>(alloc: Global) -> Result<Command<'a>, AllocError> {
     let help = "The snapshot; standard input where it is `-`";
     let about = "Prints the clocks that a snapshot keeps";
     let example = "Example: serf-replay clocks local.snapshot";
     let file = place(alloc, "FILE", help).required(true);
-    job(alloc, "clocks", about, example, file)
+    job_command(alloc, "clocks", about, example, file)
 }
 
 /// The program, without its jobs.
-fn bare_command<'a>(alloc: Global) -> Result<Command<'a>, Error> {
+fn bare_command<'a>(alloc: Global) -> Result<Command<'a>, AllocError> {
     Command::new(alloc, "serf-replay")
         .about("Runs schedules of Serf user events and queries, exactly")
         .after_help(EXAMPLE)
@@ -68,15 +68,15 @@ fn bare_command<'a>(alloc: Global) -> Result<Command<'a>, Error> {
 
 fn with_job<'a>(
     program: Command<'a>,
-    job: Result<Command<'a>, Error>,
-) -> Result<Command<'a>, Error> {
+    job: Result<Command<'a>, AllocError>,
+) -> Result<Command<'a>, AllocError> {
     match job {
         Ok(job) => program.subcommand(job),
         Err(error) => Err(error),
     }
 }
 
-fn whole_command<'a>(alloc: Global) -> Result<Command<'a>, Error> {
+fn whole_command<'a>(alloc: Global) -> Result<Command<'a>, AllocError> {
     let program = bare_command(alloc)?;
     let program = with_job(program, replay_command(alloc))?;
     let program = with_job(program, decode_command(alloc))?;
