@@ -67,14 +67,21 @@ buffer_lines time slots = number_line (codes "EventLTime") time ++ slots_lines 0
 unfoldable pub response_name : List ℕ
 response_name = codes "queryResponse\n"
 
+-- the lines of a query that come before its filters
+unfoldable pub query_head : ℕ → ℕ → List ℕ → ℕ → List ℕ → List ℕ
+query_head time id addr port source = codes "query\n" ++ identity_lines time id ++ asker_lines addr port source
+
+-- the lines of a push/pull that come before its last clock
+unfoldable pub push_pull_head : ℕ → List (List ℕ × ℕ) → List (List ℕ) → ℕ → List SlotContent → List ℕ
+push_pull_head member status left event slots = codes "pushPull\n" ++ member_lines member status left ++ buffer_lines event slots
+
 -- in place of a list of filters there is a line for each; of a type that is not read there is the type alone
 abbrev pub message_text : Message → List ℕ
 message_text (user_event e) = codes "userEvent\n" ++ number_line (codes "LTime") e.time ++ content_lines e.name e.payload ++ flag_line (codes "CC") e.cc
-message_text (query q) = codes "query\n" ++ identity_lines q.time q.id ++ asker_lines q.addr q.port q.source
+message_text (query q) = query_head q.time q.id q.addr q.port q.source
     ++ flat_map (hex_line (codes "filter")) q.filters ++ handling_lines q.flags q.relay_factor q.timeout ++ content_lines q.name q.payload
 message_text (query_response r) = response_name ++ identity_lines r.time r.id ++ answer_lines r.from r.flags r.payload
-message_text (push_pull m) = codes "pushPull\n" ++ member_lines m.member m.status m.left ++ buffer_lines m.event m.slots
-    ++ number_line (codes "QueryLTime") m.query
+message_text (push_pull m) = push_pull_head m.member m.status m.left m.event m.slots ++ number_line (codes "QueryLTime") m.query
 message_text (foreign kind) = number_line (codes "foreign") kind
 
 -- the text of a packet's message, or the packet's first fault

@@ -51,11 +51,10 @@ fn add_lines(
 ) -> Result<(), AllocError>
     ensures { (r : Run) → IsShown r world.old out.old.items → number ≡ length r.turns + 1 → OnOk result (IsShown (after r action) world.new out.new.items) }
 {
-    let Ok(line) = world.step(alloc, &action) else {
-        return Err(AllocError);
-    };
-    put_action(out, world.sent(), number, &line)?;
-    Ok(())
+    match world.step(alloc, &action) {
+        Ok(line) => put_action(out, world.sent(), number, &line),
+        Err(_) => Err(AllocError),
+    }
 }
 
 /// The text of the run of a schedule, of which nothing is left then.

@@ -3,13 +3,13 @@ ghost use Rattle.std.specs.Prelude.{◌≡◌, ◌++◌, OnOk, IfOk, Ok, Err};
 ghost use Rattle.std.specs.List.{flat_map};
 ghost use Rattle.serf_wire.specs.declared.fault.WireFault.{WireFault as Fault};
 ghost use Rattle.serf_wire.specs.Lists.{events_left, event_of, slot_of, slots_left, status_left, status_of, texts_left};
-ghost use Rattle.serf_wire.specs.Message.{Message as Meaning, message_of};
+ghost use Rattle.serf_wire.specs.Message.{Message as Meaning, message_of, response_of, user_event_of};
 ghost use Rattle.serf_wire.specs.Spells.{IsFirstFault, Spells};
 ghost use Rattle.serf_wire.specs.Decoded.{decoded};
 ghost use Rattle.serf_replay.specs.declared.wire_words.WireWords.{WireWords as Words};
 ghost use Rattle.serf_replay.specs.declared.message_lines.DecodeTextFault.TheVariants.{Refused};
 ghost use Rattle.serf_replay.specs.TextParts.{hex_line};
-ghost use Rattle.serf_replay.specs.MessageText.{identity_lines, asker_lines, relay_line, limit_lines, response_name, handling_lines, answer_lines, content_lines, status_line, member_lines, event_line, slot_lines, slots_lines, buffer_lines, message_text, text_or_fault};
+ghost use Rattle.serf_replay.specs.MessageText.{identity_lines, asker_lines, relay_line, limit_lines, response_name, handling_lines, answer_lines, content_lines, status_line, member_lines, event_line, slot_lines, slots_lines, buffer_lines, push_pull_head, query_head, message_text, text_or_fault};
 
 use crate::put::{
     put_flag_line, put_hex_line, put_number_line, put_signed_line, put_with_hex, put_with_number,
@@ -197,6 +197,70 @@ fn put_response_name(out: &mut Vec<u8>) -> Result<(), AllocError>
     out.extend_from_slice(b"queryResponse\n")
 }
 
+fn put_user_event(
+    out: &mut Vec<u8>,
+    time: u64,
+    name: &[u8],
+    payload: &[u8],
+    cc: bool,
+) -> Result<(), AllocError>
+    ensures { OnOk result (out.new.items ≡ out.old.items ++ message_text (user_event_of time name.now payload.now cc)) }
+{
+    out.extend_from_slice(b"userEvent\n")?;
+    put_number_line(out, b"LTime", time)?;
+    put_content(out, name, payload)?;
+    put_flag_line(out, b"CC", cc)
+}
+
+/// Appends the lines of a query that come before its filters.
+#[tactic(auto, unfolding(crate::specs::MessageText::query_head))]
+fn put_query_head(
+    out: &mut Vec<u8>,
+    time: u64,
+    id: u32,
+    addr: &[u8],
+    port: u16,
+    source: &[u8],
+) -> Result<(), AllocError>
+    ensures { OnOk result (out.new.items ≡ out.old.items ++ query_head time id addr.now port source.now) }
+{
+    out.extend_from_slice(b"query\n")?;
+    put_identity(out, time, id)?;
+    put_asker(out, addr, port, source)
+}
+
+fn put_response(
+    out: &mut Vec<u8>,
+    time: u64,
+    id: u32,
+    from: &[u8],
+    flags: u32,
+    payload: &[u8],
+) -> Result<(), AllocError>
+    ensures { OnOk result (out.new.items ≡ out.old.items ++ message_text (response_of time id from.now flags payload.now)) }
+{
+    put_response_name(out)?;
+    put_identity(out, time, id)?;
+    put_answer(out, from, flags, payload)
+}
+
+/// Appends the lines of a push/pull that come before its last clock.
+#[tactic(auto, unfolding(crate::specs::MessageText::push_pull_head))]
+fn put_push_pull_head(
+    out: &mut Vec<u8>,
+    member: u64,
+    status: StatusTimes,
+    left: Texts,
+    event: u64,
+    slots: SlotViews,
+) -> Result<(), AllocError>
+    ensures { OnOk result (out.new.items ≡ out.old.items ++ push_pull_head member (status_left status.entry) (texts_left left.entry) event (slots_left slots.entry)) }
+{
+    out.extend_from_slice(b"pushPull\n")?;
+    put_members(out, member, status, left)?;
+    put_buffer(out, event, slots)
+}
+
 fn put_message(out: &mut Vec<u8>, message: &Message) -> Result<(), AllocError>
     ensures { OnOk result (out.new.items ≡ out.old.items ++ message_text (message_of message.now)) }
 {
@@ -206,12 +270,7 @@ fn put_message(out: &mut Vec<u8>, message: &Message) -> Result<(), AllocError>
             name,
             payload,
             cc,
-        } => {
-            out.extend_from_slice(b"userEvent\n")?;
-            put_number_line(out, b"LTime", time.get())?;
-            put_content(out, name, payload)?;
-            put_flag_line(out, b"CC", *cc)
-        }
+        } => put_user_event(out, time.get(), name, payload, *cc),
         Message::Query {
             time,
             id,
@@ -225,9 +284,7 @@ fn put_message(out: &mut Vec<u8>, message: &Message) -> Result<(), AllocError>
             name,
             payload,
         } => {
-            out.extend_from_slice(b"query\n")?;
-            put_identity(out, time.get(), *id)?;
-            put_asker(out, addr, *port, source)?;
+            put_query_head(out, time.get(), *id, addr, *port, source)?;
             put_hex_lines(out, b"filter", *filters)?;
             put_handling(out, *flags, *relay_factor, *timeout)?;
             put_content(out, name, payload)
@@ -238,11 +295,7 @@ fn put_message(out: &mut Vec<u8>, message: &Message) -> Result<(), AllocError>
             from,
             flags,
             payload,
-        } => {
-            put_response_name(out)?;
-            put_identity(out, *time, *id)?;
-            put_answer(out, from, *flags, payload)
-        }
+        } => put_response(out, *time, *id, from, *flags, payload),
         Message::PushPull {
             member,
             status,
@@ -251,9 +304,7 @@ fn put_message(out: &mut Vec<u8>, message: &Message) -> Result<(), AllocError>
             slots,
             query,
         } => {
-            out.extend_from_slice(b"pushPull\n")?;
-            put_members(out, *member, *status, *left)?;
-            put_buffer(out, *event, *slots)?;
+            put_push_pull_head(out, *member, *status, *left, *event, *slots)?;
             put_number_line(out, b"QueryLTime", *query)
         }
         Message::Foreign(kind) => put_number_line(out, b"foreign", u64::from(*kind)),

@@ -1,7 +1,7 @@
 //! What a command line asks for.
 
 use clap::{Arg, ArgAction, ArgMatches, Command, Error};
-use std::alloc::Global;
+use std::alloc::{AllocError, Global};
 
 /// What is to be done.
 #[derive(Clone, Copy)]
@@ -14,54 +14,73 @@ pub enum Job<'a> {
     Clocks(&'a str),
 }
 
-const EXAMPLES: &str = "Example: serf-replay replay examples/deploy_gossiped_twice.schedule";
+const EXAMPLE: &str = "Example: serf-replay replay examples/deploy_gossiped_twice.schedule";
 
-fn replay_command<'a>(alloc: Global) -> Result<Command<'a>, Error> {
-    let file = Arg::new(alloc, "FILE")
-        .help("The schedule; standard input where it is left out or `-`")
-        .action(ArgAction::Set);
-    let command = Command::new(alloc, "replay")
-        .about("Runs a schedule and writes its trace")
-        .after_help(EXAMPLES)
-        .arg(file)?;
-    Ok(command)
+/// A word that is given in its place.
+fn place<'a>(alloc: Global, name: &'a str, help: &'a str) -> Arg<'a> {
+    Arg::new(alloc, name).help(help).action(ArgAction::Set)
 }
 
-fn decode_command<'a>(alloc: Global) -> Result<Command<'a>, Error> {
-    let hex = Arg::new(alloc, "HEX")
-        .help("The packet in hex digits")
-        .required(true)
-        .action(ArgAction::Set);
-    let command = Command::new(alloc, "decode")
-        .about("Prints the message that a packet spells")
-        .after_help("Example: serf-replay decode 0381a44e616d65a178")
-        .arg(hex)?;
-    Ok(command)
+/// A job that takes one word.
+fn job_command<'a>(
+    alloc: Global,
+    name: &'a str,
+    about: &'a str,
+    example: &'a str,
+    word: Arg<'a>,
+) -> Result<Command<'a>, AllocError> {
+    Command::new(alloc, name)
+        .about(about)
+        .after_help(example)
+        .arg(word)
 }
 
-fn clocks_command<'a>(alloc: Global) -> Result<Command<'a>, Error> {
-    let file = Arg::new(alloc, "FILE")
-        .help("The snapshot; standard input where it is `-`")
-        .required(true)
-        .action(ArgAction::Set);
-    let command = Command::new(alloc, "clocks")
-        .about("Prints the clocks that a snapshot keeps")
-        .after_help("Example: serf-replay clocks local.snapshot")
-        .arg(file)?;
-    Ok(command)
+fn replay_command<'a>(alloc: Global) -> Result<Command<'a>, AllocError> {
+    let help = "The schedule; standard input where it is left out or `-`";
+    let about = "Runs a schedule and writes its trace";
+    job_command(alloc, "replay", about, EXAMPLE, place(alloc, "FILE", help))
 }
 
-fn whole_command<'a>(alloc: Global) -> Result<Command<'a>, Error> {
-    let command = Command::new(alloc, "serf-replay")
+fn decode_command<'a>(alloc: Global) -> Result<Command<'a>, AllocError> {
+    let hex = place(alloc, "HEX", "The packet in hex digits").required(true);
+    let about = "Prints the message that a packet spells";
+    let example = "Example: serf-replay decode 0381a44e616d65a178";
+    job_command(alloc, "decode", about, example, hex)
+}
+
+fn clocks_command<'a>(alloc: Global) -> Result<Command<'a>, AllocError> {
+    let help = "The snapshot; standard input where it is `-`";
+    let about = "Prints the clocks that a snapshot keeps";
+    let example = "Example: serf-replay clocks local.snapshot";
+    let file = place(alloc, "FILE", help).required(true);
+    job_command(alloc, "clocks", about, example, file)
+}
+
+/// The program, without its jobs.
+fn bare_command<'a>(alloc: Global) -> Result<Command<'a>, AllocError> {
+    Command::new(alloc, "serf-replay")
         .about("Runs schedules of Serf user events and queries, exactly")
-        .after_help(EXAMPLES)
+        .after_help(EXAMPLE)
         .version("0.1.0")
-        .bin_name("serf-replay")?
         .subcommand_required(true)
-        .subcommand(replay_command(alloc)?)?
-        .subcommand(decode_command(alloc)?)?
-        .subcommand(clocks_command(alloc)?)?;
-    Ok(command)
+        .bin_name("serf-replay")
+}
+
+fn with_job<'a>(
+    program: Command<'a>,
+    job: Result<Command<'a>, AllocError>,
+) -> Result<Command<'a>, AllocError> {
+    match job {
+        Ok(job) => program.subcommand(job),
+        Err(error) => Err(error),
+    }
+}
+
+fn whole_command<'a>(alloc: Global) -> Result<Command<'a>, AllocError> {
+    let program = bare_command(alloc)?;
+    let program = with_job(program, replay_command(alloc))?;
+    let program = with_job(program, decode_command(alloc))?;
+    with_job(program, clocks_command(alloc))
 }
 
 fn job_of<'a>(matches: &ArgMatches<'a>) -> Option<Job<'a>> {
