@@ -1,4 +1,4 @@
-"""What must not compile: a handed query that is answered twice. Answering spends it.
+"""What must not compile: a handed query that is answered twice, or cloned. Answering spends it.
 
 A scratch crate over copies of the repository's own: `rt try` compiles it without a proof, and runs its one test.
 """
@@ -19,8 +19,8 @@ use serf_agent::HandedQuery;
 use std::alloc::Global;
 
 pub fn answer(alloc: Global, query: HandedQuery) {{
-    let _first = query.respond(alloc, 0, b"yes");
-{second}}}
+{before}    let _first = query.respond(alloc, 0, b"yes");
+{behind}}}
 
 #[cfg(test)]
 mod tests {{
@@ -35,13 +35,15 @@ mod tests {{
 
 SECOND = '    let _second = query.respond(alloc, 0, b"no");\n'
 
+CLONE = "    let _other = query.clone();\n"
 
-def compiled(root, second):
+
+def compiled(root, before="", behind=""):
     """The status and the words of the toolchain, of the scratch crate."""
     source = os.path.join(root, "crates", "spent", "src")
     os.makedirs(source, exist_ok=True)
     with open(os.path.join(source, "lib.rt"), "w", encoding="utf-8") as file:
-        file.write(CODE.format(second=second))
+        file.write(CODE.format(before=before, behind=behind))
     ran = subprocess.run(["rt", "try", "--test"], cwd=os.path.dirname(source), capture_output=True, timeout=600)
     return ran.returncode, (ran.stdout + ran.stderr).decode("utf-8", "replace")
 
@@ -54,11 +56,13 @@ def main():
             lines = [line for line in file if line.split(":")[0] in BELOW]
         with open(os.path.join(root, "crates.txt"), "w", encoding="utf-8") as file:
             file.writelines(lines + ["spent: serf_agent\n"])
-        once = compiled(root, "")
-        twice = compiled(root, SECOND)
+        once = compiled(root)
+        twice = compiled(root, behind=SECOND)
+        cloned = compiled(root, before=CLONE)
     results = [
         ("answering once compiles", once[0] == 0, once[1]),
         ("answering twice does not", twice[0] == 1 and "error[borrow-e0382]" in twice[1], twice[1]),
+        ("cloning does not", cloned[0] == 1 and "`clone`" in cloned[1] and "error[" in cloned[1], cloned[1]),
     ]
     failed = 0
     for name, holds, said in results:

@@ -1,4 +1,4 @@
--- The one canonical packet of a message: all fields in the table's order, each value in its shortest spelling.
+-- The one canonical packet of a message: all fields in the table's order, each value in its canonical spelling.
 use Rattle.std.specs.Prelude.{ℕ, Bool, false, List, [], ◌∷◌, ◌++◌, ◌||◌, length, codes, map, nat_le}
 use Rattle.std.specs.List.{flat_map, list_any}
 use Rattle.serf_pack.specs.Canonical.{map_head, array_head, raw_bytes, uint_bytes, int_bytes, flag_bytes}
