@@ -11,7 +11,7 @@ ghost use Rattle.serf_snap.specs.Device.{HasFailed};
 ghost use Rattle.serf_snap.specs.Notes.{Kept, Failed, MayWrite, noted, written};
 ghost use Rattle.serf_snap.specs.Clocks.{clock_line};
 ghost use Rattle.serf_agent.specs.Calls.{AsksSink, MayNote};
-ghost use Rattle.serf_agent.specs.Ideal.{IdealAgent, with_snapshot};
+ghost use Rattle.serf_agent.specs.Ideal.{IdealAgent, with_asked, with_snapshot};
 ghost use Rattle.serf_agent.specs.Lent.{query_in, response_in};
 ghost use Rattle.serf_agent.specs.Queries.{ack_packet, all_pass, close_due, counted_as, fire_query, fired_query, handed_query, has_flag, is_no_timeout, is_too_large_query, opened_query, query_admission, query_asked, query_at, query_entered, receive_query, receive_response};
 ghost use Rattle.serf_agent.specs.Receive.{TakesMemory};
@@ -361,13 +361,35 @@ impl<S: Sink> Agent<S> {
         let Ok(fired) = fired_of(alloc, &query, now, node) else {
             return Err(LineFault::OutOfMemory);
         };
-        let Ok(entry) = self.queries.prepare(alloc, time, id) else {
+        let open = opened(alloc, &query, now);
+        match self.enter_asked(alloc, time, open) {
+            Ok(()) => Ok(fired),
+            Err(fault) => Err(fault),
+        }
+    }
+
+    /// Takes a query of this agent's own into the buffer, open for answers, once its line is kept.
+    fn enter_asked(&mut self, alloc: Global, time: Time, query: OpenQuery) -> Result<(), LineFault>
+        requires runs { self.old.stored.snapshot.stopped ≡ false }
+        requires at { time ≡ self.old.stored.queries.clock }
+        requires not_later { time_in self.old.stored.queries.slots time ≤ time }
+        requires not_full { count_in self.old.stored.queries.slots time < self.old.stored.config.per_time }
+
+        ensures entered { OnOk result ((i : IdealAgent) → self.old.stored ≡ view_of i
+            → self.new.stored ≡ view_of (with_snapshot (noted kinds.Query time i.snapshot Kept) (with_asked (i.asked ++ (time, query) ∷ []) (query_entered time query.id i)))) }
+        ensures allowed { OnOk result (MayNote kinds.Query time self.old.stored.snapshot Kept) }
+
+        ensures failed { IsErrOf result LineFault.SinkFault → self.new.stored ≡ stored_with (written kinds.Query time self.old.stored.snapshot (Failed self.new.stored.snapshot.kept)) self.old.stored }
+        ensures fault_allowed { IsErrOf result LineFault.SinkFault → MayNote kinds.Query time self.old.stored.snapshot (Failed self.new.stored.snapshot.kept) }
+        ensures cause { IsErrOf result LineFault.SinkFault → HasFailed self.old.device.failures self.new.device.failures }
+        ensures memory { IsErrOf result LineFault.OutOfMemory → self.new ≡ self.old }
+    {
+        let Ok(entry) = self.queries.prepare(alloc, time, query.id) else {
             return Err(LineFault::OutOfMemory);
         };
-        let open = opened(alloc, &query, now);
-        note_asked(&mut self.asked, &mut self.snapshot, alloc, time, open)?;
+        note_asked(&mut self.asked, &mut self.snapshot, alloc, time, query)?;
         self.queries.enter(time, entry);
-        Ok(fired)
+        Ok(())
     }
 
     /// Counts an answer that comes to a query of this agent's own.
