@@ -11,7 +11,7 @@ ghost use Rattle.serf_snap.specs.Device.{HasFailed};
 ghost use Rattle.serf_snap.specs.Notes.{Kept, Failed, MayWrite, noted, written};
 ghost use Rattle.serf_snap.specs.Clocks.{clock_line};
 ghost use Rattle.serf_agent.specs.Calls.{AsksSink, MayNote};
-ghost use Rattle.serf_agent.specs.Ideal.{IdealAgent, with_snapshot};
+ghost use Rattle.serf_agent.specs.Ideal.{IdealAgent, with_asked, with_snapshot};
 ghost use Rattle.serf_agent.specs.Lent.{query_in, response_in};
 ghost use Rattle.serf_agent.specs.Queries.{ack_packet, all_pass, close_due, counted_as, fire_query, fired_query, handed_query, has_flag, is_no_timeout, is_too_large_query, opened_query, query_admission, query_asked, query_at, query_entered, receive_query, receive_response};
 ghost use Rattle.serf_agent.specs.Receive.{TakesMemory};
@@ -105,6 +105,28 @@ fn packet_of(alloc: Global, parts: &QueryParts) -> Result<Bytes, AllocError>
         Err(EncodeFault::TooLong) => unreachable!(),
         Err(EncodeFault::OutOfMemory) => Err(AllocError),
     }
+}
+
+/// What a node answers that fires a query: the packet that is to be sent, and what it hands out and sends itself.
+fn fired_of(
+    alloc: Global,
+    parts: &QueryParts,
+    now: u64,
+    node: &[u8],
+) -> Result<FiredQuery, AllocError>
+    requires node { length node.now ≤ 128 }
+    requires short { length (canonical (query (query_of parts.now))) ≤ 1024 }
+    ensures { IfOk result (λ fired. fired ≡ fired_query node.now now (query_of parts.now)) }
+{
+    let packet = packet_of(alloc, parts)?;
+    let passed = filters_pass(parts.filters, node);
+    let Passed { handed, ack } = pass(alloc, parts, now, node, passed)?;
+    Ok(FiredQuery {
+        time: parts.time,
+        packet,
+        handed,
+        ack,
+    })
 }
 
 /// A query that takes answers from now on, and has none.
@@ -274,16 +296,37 @@ impl<S: Sink> Agent<S> {
         let Ok(passes) = pass(alloc, query, now, node, passed) else {
             return Err(LineFault::OutOfMemory);
         };
-        let Ok(entry) = self.queries.prepare(alloc, query.time, query.id) else {
+        match self.enter_query(alloc, query.time, query.id) {
+            Ok(()) => Ok(passes),
+            Err(fault) => Err(fault),
+        }
+    }
+
+    /// Takes a query into the buffer, once its line is kept.
+    fn enter_query(&mut self, alloc: Global, time: Time, id: u32) -> Result<(), LineFault>
+        requires runs { self.old.stored.snapshot.stopped ≡ false }
+        requires not_later { time_in self.old.stored.queries.slots time ≤ time }
+        requires not_full { count_in self.old.stored.queries.slots time < self.old.stored.config.per_time }
+
+        ensures entered { OnOk result ((i : IdealAgent) → self.old.stored ≡ view_of i
+            → self.new.stored ≡ view_of (with_snapshot (noted kinds.Query time i.snapshot Kept) (query_entered time id i))) }
+        ensures allowed { OnOk result (MayNote kinds.Query time self.old.stored.snapshot Kept) }
+
+        ensures failed { IsErrOf result LineFault.SinkFault → self.new.stored ≡ stored_with (written kinds.Query time self.old.stored.snapshot (Failed self.new.stored.snapshot.kept)) self.old.stored }
+        ensures fault_allowed { IsErrOf result LineFault.SinkFault → MayNote kinds.Query time self.old.stored.snapshot (Failed self.new.stored.snapshot.kept) }
+        ensures cause { IsErrOf result LineFault.SinkFault → HasFailed self.old.device.failures self.new.device.failures }
+        ensures memory { IsErrOf result LineFault.OutOfMemory → self.new ≡ self.old }
+    {
+        let Ok(entry) = self.queries.prepare(alloc, time, id) else {
             return Err(LineFault::OutOfMemory);
         };
-        match self.snapshot.note_query(alloc, query.time) {
+        match self.snapshot.note_query(alloc, time) {
             Ok(()) => {}
             Err(NoteFault::SinkFault) => return Err(LineFault::SinkFault),
             Err(_) => return Err(LineFault::OutOfMemory),
         }
-        self.queries.enter(query.time, entry);
-        Ok(passes)
+        self.queries.enter(time, entry);
+        Ok(())
     }
 
     /// Fires a query of this agent's own at the query clock's time, once its line is kept.
@@ -315,26 +358,38 @@ impl<S: Sink> Agent<S> {
     {
         let node = self.config.name.as_slice();
         let query = params.parts(time, node, id, name, payload);
-        let Ok(packet) = packet_of(alloc, &query) else {
-            return Err(LineFault::OutOfMemory);
-        };
-        let passed = filters_pass(params.filters.as_slice(), node);
-        let Ok(passes) = pass(alloc, &query, now, node, passed) else {
-            return Err(LineFault::OutOfMemory);
-        };
-        let Ok(entry) = self.queries.prepare(alloc, time, id) else {
+        let Ok(fired) = fired_of(alloc, &query, now, node) else {
             return Err(LineFault::OutOfMemory);
         };
         let open = opened(alloc, &query, now);
-        note_asked(&mut self.asked, &mut self.snapshot, alloc, time, open)?;
+        match self.enter_asked(alloc, time, open) {
+            Ok(()) => Ok(fired),
+            Err(fault) => Err(fault),
+        }
+    }
+
+    /// Takes a query of this agent's own into the buffer, open for answers, once its line is kept.
+    fn enter_asked(&mut self, alloc: Global, time: Time, query: OpenQuery) -> Result<(), LineFault>
+        requires runs { self.old.stored.snapshot.stopped ≡ false }
+        requires at { time ≡ self.old.stored.queries.clock }
+        requires not_later { time_in self.old.stored.queries.slots time ≤ time }
+        requires not_full { count_in self.old.stored.queries.slots time < self.old.stored.config.per_time }
+
+        ensures entered { OnOk result ((i : IdealAgent) → self.old.stored ≡ view_of i
+            → self.new.stored ≡ view_of (with_snapshot (noted kinds.Query time i.snapshot Kept) (with_asked (i.asked ++ (time, query) ∷ []) (query_entered time query.id i)))) }
+        ensures allowed { OnOk result (MayNote kinds.Query time self.old.stored.snapshot Kept) }
+
+        ensures failed { IsErrOf result LineFault.SinkFault → self.new.stored ≡ stored_with (written kinds.Query time self.old.stored.snapshot (Failed self.new.stored.snapshot.kept)) self.old.stored }
+        ensures fault_allowed { IsErrOf result LineFault.SinkFault → MayNote kinds.Query time self.old.stored.snapshot (Failed self.new.stored.snapshot.kept) }
+        ensures cause { IsErrOf result LineFault.SinkFault → HasFailed self.old.device.failures self.new.device.failures }
+        ensures memory { IsErrOf result LineFault.OutOfMemory → self.new ≡ self.old }
+    {
+        let Ok(entry) = self.queries.prepare(alloc, time, query.id) else {
+            return Err(LineFault::OutOfMemory);
+        };
+        note_asked(&mut self.asked, &mut self.snapshot, alloc, time, query)?;
         self.queries.enter(time, entry);
-        let Passed { handed, ack } = passes;
-        Ok(FiredQuery {
-            time,
-            packet,
-            handed,
-            ack,
-        })
+        Ok(())
     }
 
     /// Counts an answer that comes to a query of this agent's own.

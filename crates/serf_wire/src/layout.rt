@@ -1,6 +1,7 @@
 //! Which messages there are, and which fields their maps have (Serf's `messages.go`).
 
 ghost use Rattle.std.specs.Prelude.{◌≡◌};
+ghost use Rattle.std.specs.Str.{bytes_eq};
 ghost use Rattle.serf_wire.specs.declared.layout.Layout.TheVariants as layouts;
 ghost use Rattle.serf_wire.specs.Layout.{class_of, fields_of, kind_in, layout_of};
 
@@ -80,17 +81,23 @@ pub fn layout_for(message: MessageType) -> Layout
     }
 }
 
+fn is_name(name: &[u8], known: &[u8]) -> bool
+    ensures { result ≡ bytes_eq name.now known.now }
+{
+    name == known
+}
+
 /// The kind of the field of a user event with this name.
 fn user_event_kind(name: &[u8]) -> Option<Kind>
     ensures { result ≡ kind_in name.now (fields_of layouts.UserEvent) }
 {
-    if name == b"LTime".as_slice() {
+    if is_name(name, b"LTime") {
         Some(Kind::Time)
-    } else if name == b"Name".as_slice() {
+    } else if is_name(name, b"Name") {
         Some(Kind::Text)
-    } else if name == b"Payload".as_slice() {
+    } else if is_name(name, b"Payload") {
         Some(Kind::Text)
-    } else if name == b"CC".as_slice() {
+    } else if is_name(name, b"CC") {
         Some(Kind::Flag)
     } else {
         None
@@ -101,27 +108,27 @@ fn user_event_kind(name: &[u8]) -> Option<Kind>
 fn query_kind(name: &[u8]) -> Option<Kind>
     ensures { result ≡ kind_in name.now (fields_of layouts.Query) }
 {
-    if name == b"LTime".as_slice() {
+    if is_name(name, b"LTime") {
         Some(Kind::Time)
-    } else if name == b"ID".as_slice() {
+    } else if is_name(name, b"ID") {
         Some(Kind::Natural(0xffff_ffff))
-    } else if name == b"Addr".as_slice() {
+    } else if is_name(name, b"Addr") {
         Some(Kind::Text)
-    } else if name == b"Port".as_slice() {
+    } else if is_name(name, b"Port") {
         Some(Kind::Natural(0xffff))
-    } else if name == b"SourceNode".as_slice() {
+    } else if is_name(name, b"SourceNode") {
         Some(Kind::Text)
-    } else if name == b"Filters".as_slice() {
+    } else if is_name(name, b"Filters") {
         Some(Kind::Texts)
-    } else if name == b"Flags".as_slice() {
+    } else if is_name(name, b"Flags") {
         Some(Kind::Natural(0xffff_ffff))
-    } else if name == b"RelayFactor".as_slice() {
+    } else if is_name(name, b"RelayFactor") {
         Some(Kind::Natural(0xff))
-    } else if name == b"Timeout".as_slice() {
+    } else if is_name(name, b"Timeout") {
         Some(Kind::Signed)
-    } else if name == b"Name".as_slice() {
+    } else if is_name(name, b"Name") {
         Some(Kind::Text)
-    } else if name == b"Payload".as_slice() {
+    } else if is_name(name, b"Payload") {
         Some(Kind::Text)
     } else {
         None
@@ -132,15 +139,15 @@ fn query_kind(name: &[u8]) -> Option<Kind>
 fn response_kind(name: &[u8]) -> Option<Kind>
     ensures { result ≡ kind_in name.now (fields_of layouts.QueryResponse) }
 {
-    if name == b"LTime".as_slice() {
+    if is_name(name, b"LTime") {
         Some(Kind::Natural(u64::MAX))
-    } else if name == b"ID".as_slice() {
+    } else if is_name(name, b"ID") {
         Some(Kind::Natural(0xffff_ffff))
-    } else if name == b"From".as_slice() {
+    } else if is_name(name, b"From") {
         Some(Kind::Text)
-    } else if name == b"Flags".as_slice() {
+    } else if is_name(name, b"Flags") {
         Some(Kind::Natural(0xffff_ffff))
-    } else if name == b"Payload".as_slice() {
+    } else if is_name(name, b"Payload") {
         Some(Kind::Text)
     } else {
         None
@@ -151,17 +158,17 @@ fn response_kind(name: &[u8]) -> Option<Kind>
 fn push_pull_kind(name: &[u8]) -> Option<Kind>
     ensures { result ≡ kind_in name.now (fields_of layouts.PushPull) }
 {
-    if name == b"LTime".as_slice() {
+    if is_name(name, b"LTime") {
         Some(Kind::Natural(u64::MAX))
-    } else if name == b"StatusLTimes".as_slice() {
+    } else if is_name(name, b"StatusLTimes") {
         Some(Kind::Status)
-    } else if name == b"LeftMembers".as_slice() {
+    } else if is_name(name, b"LeftMembers") {
         Some(Kind::Texts)
-    } else if name == b"EventLTime".as_slice() {
+    } else if is_name(name, b"EventLTime") {
         Some(Kind::Natural(u64::MAX))
-    } else if name == b"Events".as_slice() {
+    } else if is_name(name, b"Events") {
         Some(Kind::Maps(Layout::Slot))
-    } else if name == b"QueryLTime".as_slice() {
+    } else if is_name(name, b"QueryLTime") {
         Some(Kind::Natural(u64::MAX))
     } else {
         None
@@ -172,9 +179,9 @@ fn push_pull_kind(name: &[u8]) -> Option<Kind>
 fn slot_kind(name: &[u8]) -> Option<Kind>
     ensures { result ≡ kind_in name.now (fields_of layouts.Slot) }
 {
-    if name == b"LTime".as_slice() {
+    if is_name(name, b"LTime") {
         Some(Kind::Time)
-    } else if name == b"Events".as_slice() {
+    } else if is_name(name, b"Events") {
         Some(Kind::Maps(Layout::Event))
     } else {
         None
@@ -185,9 +192,9 @@ fn slot_kind(name: &[u8]) -> Option<Kind>
 fn event_kind(name: &[u8]) -> Option<Kind>
     ensures { result ≡ kind_in name.now (fields_of layouts.Event) }
 {
-    if name == b"Name".as_slice() {
+    if is_name(name, b"Name") {
         Some(Kind::Text)
-    } else if name == b"Payload".as_slice() {
+    } else if is_name(name, b"Payload") {
         Some(Kind::Text)
     } else {
         None

@@ -1,10 +1,40 @@
-use Rattle.std.proofs.Common.{◌≡◌, Ok, ap, sym, subst, refl, ◌∙◌}
+use Rattle.std.proofs.Common.{◌≡◌, Result, Ok, ap, sym, subst, refl, ◌∙◌}
 use Rattle.serf_wire.specs.Message.{Message, message_of}
+use Rattle.serf_agent.specs.declared.outcome.Outcome.{Outcome}
 use Rattle.serf_agent.specs.declared.outcome.Outcome.TheVariants as outcomes
-use Rattle.serf_agent.specs.Receive.{receive_message}
+use Rattle.serf_agent.specs.declared.outcome.ReceiveFault.{ReceiveFault}
+use Rattle.serf_agent.specs.Calls.{AsksSink, Call, Ends, Notes, Replaces}
+use Rattle.serf_agent.specs.Receive.{TakesMemory, receive_message}
 use Rattle.serf_agent.specs.Steps.{Steps}
 use Rattle.serf_agent.proofs.StepLaws.{steps-answers}
 use Rattle.serf_agent.proofs.agent.Agent.receive_message.Goals as goal
+
+takes_memory : (call : Call (Result Outcome ReceiveFault)) → AsksSink call → TakesMemory call
+takes_memory (Ends step) asks = absurd asks
+takes_memory (Notes kind t step fault) asks = tt
+takes_memory (Replaces step fault) asks = tt
+
+-- What a call says of the message that it gets is what is asked, at the message that was matched.
+
+pub returns-in-UserEvent-clause-step : goal.returns-in-UserEvent-clause-step
+returns-in-UserEvent-clause-step g c = λ i sound is not_memory.
+    subst (λ (m : Message). Steps i (receive_message i c.args.now m) c.receive_event.result c.receive_event.new.self.stored) (sym (ap message_of c.in-UserEvent.is))
+    (c.receive_event.ensures.step i sound is not_memory)
+
+pub returns-in-UserEvent-clause-only_new : goal.returns-in-UserEvent-clause-only_new
+returns-in-UserEvent-clause-only_new g c = λ i sound is memory.
+    subst (λ (m : Message). TakesMemory (receive_message i c.args.now m)) (sym (ap message_of c.in-UserEvent.is))
+    (takes_memory _ (c.receive_event.ensures.only_new i sound is memory))
+
+pub returns-in-QueryResponse-clause-step : goal.returns-in-QueryResponse-clause-step
+returns-in-QueryResponse-clause-step g c = λ i sound is not_memory.
+    subst (λ (m : Message). Steps i (receive_message i c.args.now m) c.receive_response.result c.receive_response.new.self.stored) (sym (ap message_of c.in-QueryResponse.is))
+    (c.receive_response.ensures.step i sound is not_memory)
+
+pub returns-in-QueryResponse-clause-only_new : goal.returns-in-QueryResponse-clause-only_new
+returns-in-QueryResponse-clause-only_new g c = λ i sound is memory.
+    subst (λ (m : Message). TakesMemory (receive_message i c.args.now m)) (sym (ap message_of c.in-QueryResponse.is))
+    (c.receive_response.ensures.only_counted i sound is memory)
 
 pub returns-in-PushPull-clause-step : goal.returns-in-PushPull-clause-step
 returns-in-PushPull-clause-step g c = λ i sound is _.
