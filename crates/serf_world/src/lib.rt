@@ -29,6 +29,3 @@ pub use lists::{EventLines, Lines, Numbers};
 pub use running::run;
 pub use trace::Trace;
 pub use world::World;
-
-#[cfg(test)]
-mod tests;
