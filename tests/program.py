@@ -1,9 +1,13 @@
-"""The built program: its statuses, its fault lines, its help, and each example beside its trace."""
+"""The built program: its statuses, its fault lines, its help, its progress, and each example beside its trace."""
 
 import os
 import pty
+import re
 import subprocess
 import sys
+import tempfile
+import threading
+import time
 
 TOP = os.path.dirname(os.path.dirname(os.path.abspath(__file__)))
 PROGRAM = os.path.join(TOP, "serf-replay")
@@ -41,27 +45,72 @@ def read(*parts):
 
 def examples(count):
     names = sorted(name[:-9] for name in os.listdir(os.path.join(TOP, "examples")) if name.endswith(".schedule"))
-    count.check("three examples", len(names) >= 3)
+    count.check("ten examples", len(names) >= 10)
     for name in names:
         path = os.path.join(TOP, "examples", name)
         trace = read("examples", name + ".trace")
         exactly(count, name, ["replay", path + ".schedule"], 0, trace, b"")
         exactly(count, name + " on standard input", ["replay"], 0, trace, b"", read("examples", name + ".schedule"))
+        exactly(count, name + " as `-`", ["replay", "-"], 0, trace, b"", read("examples", name + ".schedule"))
+
+
+def on_a_terminal(words):
+    """The status and the output of a run whose standard error is a terminal, and what that shows."""
+    ours, theirs = pty.openpty()
+    shown = []
+
+    def show():
+        try:
+            while some := os.read(ours, 1000):
+                shown.append(some)
+        except OSError:
+            pass
+
+    reader = threading.Thread(target=show)
+    reader.start()
+    ran = subprocess.run([PROGRAM, *words], stdout=subprocess.PIPE, stderr=theirs, timeout=600)
+    os.close(theirs)
+    reader.join(60)
+    os.close(ours)
+    return ran.returncode, ran.stdout, b"".join(shown)
 
 
 def short_run_on_a_terminal(count):
     """A run of less than a second shows no progress, on a terminal either."""
-    ours, theirs = pty.openpty()
     path = os.path.join(TOP, "examples", "deploy_gossiped_twice.schedule")
-    ran = subprocess.run([PROGRAM, "replay", path], stdout=subprocess.PIPE, stderr=theirs, timeout=600)
-    os.close(theirs)
-    try:
-        shown = os.read(ours, 1000)
-    except OSError:
-        shown = b""
-    os.close(ours)
     trace = read("examples", "deploy_gossiped_twice.trace")
-    count.check("a short run on a terminal", (ran.returncode, ran.stdout, shown) == (0, trace, b""), f"shown {shown}")
+    got = on_a_terminal(["replay", path])
+    count.check("a short run on a terminal", got == (0, trace, b""), f"got {got}")
+
+
+def long_schedule(actions):
+    """A schedule of so many actions, most of which merge a state of many slots."""
+    slots = 20_000
+    state = b"\x02\x81\xa6Events\xdc" + slots.to_bytes(2, "big") + b"\xc0" * slots
+    return b"agent 61 4 4 512 8 keep\ninject " + state.hex().encode() + b"\n" + b"merge 0 0 sync\n" * (actions - 1)
+
+
+def long_run_on_a_terminal(count):
+    """A longer one tells once a second how many actions are done, on a terminal alone, and gives the same trace."""
+    actions, took = 4096, 0
+    while took < 3 and actions < 1_000_000:
+        actions *= 2
+        schedule = long_schedule(actions)
+        before = time.monotonic()
+        piped = run(["replay"], schedule)
+        took = time.monotonic() - before
+    count.check("a long run", (piped.returncode, piped.stderr) == (0, b""), f"{piped.returncode} {piped.stderr}")
+    count.check("its trace", piped.stdout.endswith(b"\n%d merged\n" % actions), str(piped.stdout[-100:]))
+    with tempfile.NamedTemporaryFile() as file:
+        file.write(schedule)
+        file.flush()
+        status, out, shown = on_a_terminal(["replay", file.name])
+    lines = shown.decode("ascii", "replace").splitlines()
+    told = [re.fullmatch(r"(\d+) of (\d+) actions", line) for line in lines]
+    done = [int(line[1]) for line in told if line]
+    well = all(told) and all(int(line[2]) == actions for line in told) and all(number % 1024 == 0 for number in done)
+    count.check("its progress on a terminal", lines and well and done == sorted(set(done)), f"{actions} actions, shown {lines[:5]}")
+    count.check("its trace on a terminal", (status, out) == (0, piped.stdout), f"{status}, {len(out)} bytes of {len(piped.stdout)}")
 
 
 def packets_and_snapshots(count):
@@ -72,6 +121,9 @@ def packets_and_snapshots(count):
         digits = read("examples", "packets", name + ".hex").decode().strip()
         exactly(count, name, ["decode", digits], 0, read("examples", "packets", name + ".text"), b"")
         exactly(count, name + " in capitals", ["decode", digits.upper()], 0, read("examples", "packets", name + ".text"), b"")
+    exactly(count, "decode 06FF", ["decode", "06FF"], 0, b"foreign 6\n", b"")
+    clocks = b"clock 1\nevent-clock 7\nquery-clock 0\n"
+    exactly(count, "clocks on standard input", ["clocks", "-"], 0, clocks, b"", b"event-clock: 007\nclock: 1\n")
     snapshot = os.path.join(TOP, "examples", "snapshots", "after_a_crash")
     exactly(count, "the clocks after a crash", ["clocks", snapshot + ".snapshot"], 0, read("examples", "snapshots", "after_a_crash.clocks"), b"")
 
@@ -114,12 +166,16 @@ def faults(count):
 
 
 def full_device(count):
-    if not os.path.exists("/dev/full"):
-        return
+    """A write that fails is a fault, whatever is written."""
     schedule = read("examples", "deploy_gossiped_twice.schedule")
-    with open("/dev/full", "wb") as full:
-        ran = subprocess.run([PROGRAM, "replay"], input=schedule, stdout=full, stderr=subprocess.PIPE, timeout=600)
-    count.check("a full device", (ran.returncode, ran.stderr) == (3, b"write fault\n"), str(ran))
+    there = os.path.exists("/dev/full")
+    count.check("there is a full device", there)
+    if not there:
+        return
+    for words in (["replay"], ["decode", "06ff"], ["clocks", "-"], ["--help"], ["--version"], ["decode", "--help"]):
+        with open("/dev/full", "wb") as full:
+            ran = subprocess.run([PROGRAM, *words], input=schedule, stdout=full, stderr=subprocess.PIPE, timeout=600)
+        count.check("a full device: " + " ".join(words), (ran.returncode, ran.stderr) == (3, b"write fault\n"), str(ran))
 
 
 def command_line(count):
@@ -129,7 +185,7 @@ def command_line(count):
     for command in ("replay", "decode", "clocks"):
         example = b"Example: serf-replay " + command.encode()
         count.check(f"an example in the help of {command}", example in run([command, "--help"]).stdout)
-    for words in ([], ["first"], ["replay", "a", "b"], ["decode"], ["clocks"]):
+    for words in ([], ["bogus"], ["replay", "a", "b"], ["decode"], ["clocks"]):
         ran = run(words)
         count.check("refused: " + " ".join(words), ran.returncode == 2 and ran.stderr and not ran.stdout, str(ran))
 
@@ -142,7 +198,7 @@ def main():
         print("0 passed, 1 failed")
         return 1
     count = Count()
-    for part in (examples, short_run_on_a_terminal, packets_and_snapshots, refused_packets, faults, full_device, command_line):
+    for part in (examples, short_run_on_a_terminal, long_run_on_a_terminal, packets_and_snapshots, refused_packets, faults, full_device, command_line):
         part(count)
     print(f"{count.passed} passed, {count.failed} failed")
     return 1 if count.failed else 0

@@ -2,31 +2,28 @@
 
 NAME.trace is the whole trace that is wanted; NAME.fault the line on standard error of a schedule that is
 refused; NAME.lines facts about the trace: `N WORDS` is a line of it, `!N WORD` says that action N has no line
-with this second word, and `=N COUNT` that action N has so many lines.
+with this second word, and `=N COUNT` that action N has so many lines. A row has one of the three.
 
-The rows and the examples stand as tests in crates/serf_vectors/src/rows too, where they run without the program.
-Those files are made from the texts by `tests/rows.py --write`, and looked at here: they must agree.
+No schedule hands an agent one event twice: of each row and each example the program `serf_repeats_program` is
+asked too, whose answer comes from a search that is proved.
 """
 
 import os
+import re
 import subprocess
 import sys
 
 TOP = os.path.dirname(os.path.dirname(os.path.abspath(__file__)))
 PROGRAM = os.path.join(TOP, "serf-replay")
+REPEATS = os.path.join(TOP, "crates", "serf_repeats_program", "out", "serf_repeats_program")
 ROWS = os.path.join(TOP, "tests", "rows")
 EXAMPLES = os.path.join(TOP, "examples")
-CODE = os.path.join(TOP, "crates", "serf_vectors", "src", "rows")
 
-# Which rows stand in a file of tests: its head, the folder of the texts, the ending of what is wanted, and the
-# helper that is asked.
-FILES = {
-    "traces": ("Rows with their whole traces.", ROWS, "trace", "shows"),
-    "facts": ("Rows with facts about their traces.", ROWS, "lines", "keeps"),
-    "tails": ("A restart behind a torn text, and the three clocks after it.", ROWS, "lines", "keeps"),
-    "faults": ("Rows that are refused.", ROWS, "fault", "refuses"),
-    "stories": ("The examples, with their whole traces.", EXAMPLES, "trace", "shows"),
-}
+ENDINGS = ("trace", "fault", "lines")
+
+# What a fact may be, and the second words that `!` may have.
+FACT = re.compile(r"(?P<line>\d+) .+|!(?P<absent>\d+) (?P<word>\S+)|=(?P<counted>\d+) \d+")
+ABSENT = ("sent", "event", "handed")
 
 
 def text_of(path):
@@ -38,6 +35,25 @@ def names_in(folder):
     return sorted(name[:-9] for name in os.listdir(folder) if name.endswith(".schedule"))
 
 
+def actions_in(schedule):
+    """How many actions a schedule has: its lines but for agents, comments and empty ones."""
+    lines = [line.split() for line in schedule.split("\n") if not line.startswith("#")]
+    return sum(words[0] != "agent" for words in lines if words)
+
+
+def misshapen(fact, actions):
+    """What is wrong with a fact of a schedule with so many actions, or None."""
+    found = FACT.fullmatch(fact)
+    if not found:
+        return f"{fact!r} is no fact"
+    number = int(found["line"] or found["absent"] or found["counted"])
+    if not 1 <= number <= actions:
+        return f"{fact!r} names action {number} of {actions}"
+    if found["absent"] and found["word"] not in ABSENT:
+        return f"{fact!r}: the word is to be one of {', '.join(ABSENT)}"
+    return None
+
+
 def is_kept(fact, lines):
     if fact.startswith("="):
         number, count = fact[1:].split()
@@ -47,94 +63,92 @@ def is_kept(fact, lines):
     return fact in lines
 
 
+def wrong_facts(path, trace):
+    """What is wrong with the facts of a row, or None."""
+    facts = [fact for fact in text_of(path + ".lines").splitlines() if fact]
+    if not facts:
+        return "there are no facts"
+    actions = actions_in(text_of(path + ".schedule"))
+    shapes = [misshapen(fact, actions) for fact in facts]
+    missing = [f"{fact!r} does not hold" for fact in facts if not is_kept(fact, trace.splitlines())]
+    return "; ".join([*filter(None, shapes), *missing][:3])[:300] or None
+
+
 def wrong(name):
     """What differs in a row, or None."""
     path = os.path.join(ROWS, name)
+    wanted = [ending for ending in ENDINGS if os.path.exists(f"{path}.{ending}")]
+    if len(wanted) != 1:
+        return f"a row has one of {', '.join('.' + ending for ending in ENDINGS)}, and this one has {wanted or 'none'}"
     with open(path + ".schedule", "rb") as schedule:
         ran = subprocess.run([PROGRAM, "replay"], stdin=schedule, capture_output=True, timeout=600)
     out = ran.stdout.decode("ascii", "replace")
     err = ran.stderr.decode("ascii", "replace")
-    if os.path.exists(path + ".fault"):
-        wanted = (1, "", text_of(path + ".fault"))
-        return None if (ran.returncode, out, err) == wanted else f"wanted {wanted}, got {(ran.returncode, out[:200], err)}"
-    if ran.returncode != 0:
+    if wanted == ["fault"]:
+        refused = (1, "", text_of(path + ".fault"))
+        return None if (ran.returncode, out, err) == refused else f"wanted {refused}, got {(ran.returncode, out[:200], err)}"
+    if ran.returncode != 0 or err:
         return f"status {ran.returncode}: {err}"
-    if os.path.exists(path + ".trace") and out != text_of(path + ".trace"):
-        return "the trace differs"
-    if os.path.exists(path + ".lines"):
-        missing = [fact for fact in text_of(path + ".lines").splitlines() if fact and not is_kept(fact, out.splitlines())]
-        return "; ".join(missing[:3])[:300] or None
+    if wanted == ["trace"]:
+        return None if out == text_of(path + ".trace") else "the trace differs"
+    return wrong_facts(path, out)
+
+
+def repeats(folder, name):
+    """What the search for repeats says of a schedule otherwise than it should, or None."""
+    path = os.path.join(folder, name)
+    wanted = "refused\n" if os.path.exists(path + ".fault") else "no repeat\n"
+    with open(path + ".schedule", "rb") as schedule:
+        ran = subprocess.run([REPEATS], stdin=schedule, capture_output=True, timeout=600)
+    got = (ran.returncode, ran.stdout.decode("ascii", "replace"), ran.stderr.decode("ascii", "replace"))
+    return None if got == (0, wanted, "") else f"wanted {wanted!r}, got {got}"
+
+
+def is_current(program):
+    """Whether a program is newer than the crates' sources."""
+    if not os.access(program, os.X_OK):
+        return False
+    made = os.stat(program).st_mtime
+    crates = os.path.join(TOP, "crates")
+    for crate in os.listdir(crates):
+        for part in ("src", "specs", "proofs"):
+            for at, _, files in os.walk(os.path.join(crates, crate, part)):
+                if any(os.stat(os.path.join(at, name)).st_mtime > made for name in files):
+                    return False
+    return True
+
+
+def build():
+    """Builds both programs where they are missing or old, which proves their crates. What went wrong, or None."""
+    built = subprocess.run([PROGRAM, "--version"], capture_output=True, timeout=7200)
+    if built.returncode != 0:
+        return built.stderr.decode("utf-8", "replace")
+    if is_current(REPEATS):
+        return None
+    folder = os.path.dirname(os.path.dirname(REPEATS))
+    with open(os.path.join(folder, "stdin"), "rb") as given:
+        built = subprocess.run(["rt", "run"], cwd=folder, stdin=given, capture_output=True, timeout=7200)
+    if built.returncode != 0:
+        return (built.stdout + built.stderr).decode("utf-8", "replace")[-2000:]
+    os.utime(REPEATS)
     return None
 
 
-def literal(text, indent):
-    """A byte string of the language, a line of the text on each line."""
-    lines = text.replace("\\", "\\\\").replace('"', '\\"').splitlines(keepends=True)
-    if not lines:
-        return 'b""'
-    space = " " * indent
-    parts = [line.replace("\n", "\\n") for line in lines]
-    # what stands before the first word of a continued line is no part of it
-    parts = ["\\x20" + part[1:] if part.startswith(" ") else part for part in parts]
-    return 'b"\\\n' + space + ("\\\n" + space).join(parts) + '"'
-
-
-def belongs(file, name):
-    """Whether a row stands in this file of tests."""
-    _, folder, ending, _ = FILES[file]
-    is_tail = name.startswith("tail_")
-    return os.path.exists(os.path.join(folder, f"{name}.{ending}")) and (file != "facts" or not is_tail) and (file != "tails" or is_tail)
-
-
-def code_of(file):
-    """A file of tests."""
-    head, folder, ending, helper = FILES[file]
-    parts = [f"//! {head} Made by `tests/rows.py --write`.\n\nuse super::{helper};\n"]
-    for name in names_in(folder):
-        if not belongs(file, name):
-            continue
-        path = os.path.join(folder, name)
-        schedule = literal(text_of(path + ".schedule"), 4)
-        wanted = literal(text_of(f"{path}.{ending}"), 8)
-        parts.append(
-            f"pub const {name.upper()}: &[u8] = {schedule};\n\n"
-            f"#[test]\nfn {name}(rt: HostRuntime) {{\n"
-            f"    let wanted = {wanted};\n"
-            f"    assert!(rt; {helper}(rt.alloc(), {name.upper()}, wanted));\n}}\n"
-        )
-    return "\n".join(parts)
-
-
-def stands(file):
-    path = os.path.join(CODE, file + ".rt")
-    return os.path.exists(path) and open(path, encoding="utf-8").read() == code_of(file)
-
-
-def write():
-    os.makedirs(CODE, exist_ok=True)
-    for file in FILES:
-        with open(os.path.join(CODE, file + ".rt"), "w", encoding="utf-8") as code:
-            code.write(code_of(file))
-    return 0
-
-
 def main():
-    names = names_in(ROWS)
-    behind = [file for file in FILES if not stands(file)]
-    for file in behind:
-        print(f"FAILED crates/serf_vectors/src/rows/{file}.rt: the rows say otherwise; tests/rows.py --write makes it anew")
-    built = subprocess.run([PROGRAM, "--version"], capture_output=True, timeout=3600)
-    if built.returncode != 0 or not names:
+    fault = build()
+    rows, examples = names_in(ROWS), names_in(EXAMPLES)
+    if fault or not rows or not examples:
+        print(fault or "no rows, or no examples")
         print("0 passed, 1 failed")
         return 1
-    failed = len(behind)
-    for name in names:
-        differs = wrong(name)
-        if differs:
-            failed += 1
-            print(f"FAILED {name}: {differs}")
-    print(f"{len(names) + len(FILES) - failed} passed, {failed} failed")
+    said = [(name, wrong(name)) for name in rows]
+    said.append(("files without a schedule", ", ".join(name for name in os.listdir(ROWS) if name.rpartition(".")[0] not in rows)))
+    said += [(f"{name}, and repeats", repeats(folder, name)) for folder, names in ((ROWS, rows), (EXAMPLES, examples)) for name in names]
+    failed = [(name, differs) for name, differs in said if differs]
+    for name, differs in failed:
+        print(f"FAILED {name}: {differs}")
+    print(f"{len(said) - len(failed)} passed, {len(failed)} failed")
     return 1 if failed else 0
 
 
-sys.exit(write() if sys.argv[1:] == ["--write"] else main())
+sys.exit(main())

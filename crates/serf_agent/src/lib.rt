@@ -46,6 +46,3 @@ pub use outcome::{
     PushPullFault, QueryFault, QueryParams, Reason, ReceiveFault, Reply, RespondFault,
 };
 pub use push_pull::PushPull;
-
-#[cfg(test)]
-mod tests;

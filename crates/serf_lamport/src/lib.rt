@@ -9,6 +9,3 @@ mod time;
 
 pub use clock::{Clock, Exhausted};
 pub use time::Time;
-
-#[cfg(test)]
-mod tests;

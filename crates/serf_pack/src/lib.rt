@@ -31,6 +31,3 @@ pub use put::{put_array, put_bool, put_int, put_map, put_nil, put_raw, put_uint}
 pub use view::{Kind, View};
 pub use walk::{Items, Pairs};
 pub use whole::{check, view_packed};
-
-#[cfg(test)]
-mod tests;

@@ -31,6 +31,3 @@ pub use schedule::Schedule;
 pub use show::show_trace;
 pub use watch::{Unwatched, Watch};
 pub use wire_words::WireWords;
-
-#[cfg(test)]
-mod tests;

@@ -169,6 +169,3 @@ pub fn run<F: Files, R: Clock + Input + Print + Eprint + AllocGlobal>(
         Err(error) => refuse_command_line(rt, &error),
     }
 }
-
-#[cfg(test)]
-mod tests;

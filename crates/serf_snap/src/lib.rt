@@ -28,6 +28,3 @@ pub use laws::{plan_laws, snapshot_laws, text_laws};
 pub use memory::MemSink;
 pub use sink::{ReplaceFault, ReplaceSink, Sink, SinkFault};
 pub use snapshot::{NoteFault, OpenFault, Snapshot};
-
-#[cfg(test)]
-mod tests;

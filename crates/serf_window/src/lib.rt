@@ -22,6 +22,3 @@ pub use ids::{IdSlot, Ids};
 pub use laws::slot_laws;
 pub use queries::{IdEntry, QueryWindow};
 pub use verdict::{MAX_SIZE, NewWindowFault, Verdict};
-
-#[cfg(test)]
-mod tests;

@@ -35,6 +35,3 @@ pub use message::Message;
 pub use packet::decode;
 pub use parts::{PushPullParts, QueryParts};
 pub use texts::{Bytes, EventText, EventTexts, Slot};
-
-#[cfg(test)]
-mod tests;

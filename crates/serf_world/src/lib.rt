@@ -23,6 +23,3 @@ pub use serf_model::{
     NewFault, Numbers, Refusal, RunFault, SinkCall, Trace,
 };
 pub use world::World;
-
-#[cfg(test)]
-mod tests;
