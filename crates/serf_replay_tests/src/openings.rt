@@ -52,16 +52,20 @@ fn clocks_behind(alloc: Global, tail: &[u8]) -> Result<(u64, u64, u64), Fail> {
     clocks(alloc, &text)
 }
 
+/// Whether an opening is refused with all that was handed in, and the agent opens on what the sink kept.
+fn is_handed_back(alloc: Global, append: u64, flush: u64) -> Result<bool, Fail> {
+    let refused = refused(alloc, append, flush)?;
+    let well = refused.fault == OpenFault::SinkFault
+        && refused.config.name.as_slice() == b"a".as_slice()
+        && refused.sink.kept() == TORN;
+    Ok(well && open_again(alloc, refused)?.event_time() == 6)
+}
+
+/// The append of the seal fails, or its flush.
 #[test]
 fn seal_fails(rt: HostRuntime) -> Result<(), Fail> {
-    for (append, flush) in [(1, 0), (0, 1)] {
-        let refused = refused(rt.alloc(), append, flush)?;
-        assert!(rt; refused.fault == OpenFault::SinkFault);
-        assert!(rt; refused.config.name.as_slice() == b"a".as_slice());
-        assert!(rt; refused.sink.kept() == TORN);
-        let agent = open_again(rt.alloc(), refused)?;
-        assert!(rt; agent.event_time() == 6);
-    }
+    assert!(rt; is_handed_back(rt.alloc(), 1, 0)?);
+    assert!(rt; is_handed_back(rt.alloc(), 0, 1)?);
     Ok(())
 }
 
@@ -74,11 +78,9 @@ fn clocks_behind_tails(rt: HostRuntime) -> Result<(), Fail> {
             20 => (1, 6, 5),
             _ => (1, 6, 1),
         };
-        assert_eq!(rt; clocks_behind(rt.alloc(), tail)?, wanted, "behind {tail:?}");
+        assert!(rt; clocks_behind(rt.alloc(), tail)? == wanted, "behind {tail:?}");
     }
-    assert_eq!(rt;
-        clocks_behind(rt.alloc(), b"event-clock: 18446744073709551614\n")?,
-        (1, u64::MAX, 1)
-    );
+    let greatest = b"event-clock: 18446744073709551614\n";
+    assert!(rt; clocks_behind(rt.alloc(), greatest)? == (1, u64::MAX, 1));
     Ok(())
 }

@@ -5,9 +5,9 @@ use crate::events::EVENTS;
 use crate::queries::QUERIES;
 use crate::states::STATES;
 use serf_agent::Agent;
-use serf_replay::{Schedule, replay};
+use serf_replay::{Schedule, show_trace};
 use serf_snap::MemSink;
-use serf_world::{Action, World};
+use serf_world::{Action, Trace, World, run};
 use std::alloc::Global;
 use std::test::Fail;
 
@@ -27,10 +27,14 @@ pub struct Story<'a> {
 }
 
 /// The trace of a schedule.
-fn replayed(alloc: Global, text: &str) -> Result<Vec<u8>, Fail> {
-    let mut written = Vec::new(alloc);
-    replay(alloc, &mut text.as_bytes(), &mut written)?;
-    Ok(written)
+fn traced(alloc: Global, text: &str) -> Result<Trace, Fail> {
+    let Schedule { configs, actions } = schedule_of(alloc, text.as_bytes())?;
+    Ok(run(alloc, configs, &actions).map_err(|_| "a run")?)
+}
+
+/// The text of it.
+fn shown(alloc: Global, text: &str) -> Result<Vec<u8>, Fail> {
+    Ok(show_trace(alloc, &traced(alloc, text)?)?)
 }
 
 /// Whether a line is as a story says it: the same, or the same but for the bytes of a packet that is sent.
@@ -77,17 +81,22 @@ fn played(alloc: Global, text: &str) -> Result<World, Fail> {
     Ok(world)
 }
 
-fn ends_so(alloc: Global, story: &Story) -> Result<bool, Fail> {
-    match played(alloc, story.schedule)?.agent(0) {
-        Some(agent) => Ok(is_end(agent, story)),
-        None => Ok(false),
+/// Whether a cluster has one agent alone, which is as a story says it.
+fn has_end(world: &World, story: &Story) -> bool {
+    match (world.agent(0), world.agent(1)) {
+        (Some(agent), None) => is_end(agent, story),
+        _ => false,
     }
+}
+
+fn ends_so(alloc: Global, story: &Story) -> Result<bool, Fail> {
+    Ok(has_end(&played(alloc, story.schedule)?, story))
 }
 
 /// The number of the first story that doesn't come out as it says.
 fn first_wrong(alloc: Global, stories: &[Story]) -> Result<Option<usize>, Fail> {
     for (number, story) in stories.iter().enumerate() {
-        let trace = replayed(alloc, story.schedule)?;
+        let trace = shown(alloc, story.schedule)?;
         if !is_trace(&trace, story.trace) || !ends_so(alloc, story)? {
             return Ok(Some(number));
         }
