@@ -181,6 +181,35 @@ impl<S: Sink> Agent<S> {
         let Ok(handed) = handed_out(alloc, time, name, payload, cc) else {
             return Err(LineFault::OutOfMemory);
         };
+        match self.enter_event(alloc, time, name, payload) {
+            Ok(()) => Ok(handed),
+            Err(fault) => Err(fault),
+        }
+    }
+
+    /// Takes an event into the buffer, once its line is kept.
+    fn enter_event(
+        &mut self,
+        alloc: Global,
+        time: Time,
+        name: &[u8],
+        payload: &[u8],
+    ) -> Result<(), LineFault>
+        requires runs { self.old.stored.snapshot.stopped ≡ false }
+        requires not_later { time_in self.old.stored.events.slots time ≤ time }
+        requires not_full { count_in self.old.stored.events.slots time < self.old.stored.config.per_time }
+
+        ensures entered { OnOk result ((i : IdealAgent) → self.old.stored ≡ view_of i
+            → self.new.stored ≡ view_of (with_snapshot (noted kinds.Event time i.snapshot Kept) (event_entered time (event_of name.now payload.now) i))) }
+        ensures allowed { OnOk result (MayNote kinds.Event time self.old.stored.snapshot Kept) }
+        ensures runs { OnOk result (self.new.stored.snapshot.stopped ≡ false) }
+        ensures calm { OnOk result (self.new.device.failures ≡ self.old.device.failures) }
+
+        ensures failed { IsErrOf result LineFault.SinkFault → self.new.stored ≡ stored_with (written kinds.Event time self.old.stored.snapshot (Failed self.new.stored.snapshot.kept)) self.old.stored }
+        ensures fault_allowed { IsErrOf result LineFault.SinkFault → MayNote kinds.Event time self.old.stored.snapshot (Failed self.new.stored.snapshot.kept) }
+        ensures cause { IsErrOf result LineFault.SinkFault → HasFailed self.old.device.failures self.new.device.failures }
+        ensures memory { IsErrOf result LineFault.OutOfMemory → self.new ≡ self.old }
+    {
         let Ok(entry) = self.events.prepare(alloc, time, name, payload) else {
             return Err(LineFault::OutOfMemory);
         };
@@ -190,6 +219,6 @@ impl<S: Sink> Agent<S> {
             Err(_) => return Err(LineFault::OutOfMemory),
         }
         self.events.enter(time, entry);
-        Ok(handed)
+        Ok(())
     }
 }
