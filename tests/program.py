@@ -10,6 +10,10 @@ import threading
 import time
 
 TOP = os.path.dirname(os.path.dirname(os.path.abspath(__file__)))
+sys.path.insert(0, os.path.join(TOP, "tools"))
+sys.dont_write_bytecode = True
+import programs
+
 PROGRAM = os.path.join(TOP, "serf-replay")
 
 
@@ -191,11 +195,9 @@ def command_line(count):
 
 
 def main():
-    # the first call builds the program, which proves its crates
-    built = run(["--version"], seconds=7200)
-    if built.returncode != 0:
-        sys.stdout.buffer.write(built.stderr)
-        print("0 passed, 1 failed")
+    fault = programs.fault_of_build("serf_replay_program")
+    if fault:
+        print(f"{fault}\n0 passed, 1 failed")
         return 1
     count = Count()
     for part in (examples, short_run_on_a_terminal, long_run_on_a_terminal, packets_and_snapshots, refused_packets, faults, full_device, command_line):

@@ -14,6 +14,10 @@ import subprocess
 import sys
 
 TOP = os.path.dirname(os.path.dirname(os.path.abspath(__file__)))
+sys.path.insert(0, os.path.join(TOP, "tools"))
+sys.dont_write_bytecode = True
+import programs
+
 PROGRAM = os.path.join(TOP, "serf-replay")
 REPEATS = os.path.join(TOP, "crates", "serf_repeats_program", "out", "serf_repeats_program")
 ROWS = os.path.join(TOP, "tests", "rows")
@@ -104,38 +108,8 @@ def repeats(folder, name):
     return None if got == (0, wanted, "") else f"wanted {wanted!r}, got {got}"
 
 
-def is_current(program):
-    """Whether a program is newer than the crates' sources."""
-    if not os.access(program, os.X_OK):
-        return False
-    made = os.stat(program).st_mtime
-    crates = os.path.join(TOP, "crates")
-    for crate in os.listdir(crates):
-        for part in ("src", "specs", "proofs"):
-            for at, _, files in os.walk(os.path.join(crates, crate, part)):
-                if any(os.stat(os.path.join(at, name)).st_mtime > made for name in files):
-                    return False
-    return True
-
-
-def build():
-    """Builds both programs where they are missing or old, which proves their crates. What went wrong, or None."""
-    built = subprocess.run([PROGRAM, "--version"], capture_output=True, timeout=7200)
-    if built.returncode != 0:
-        return built.stderr.decode("utf-8", "replace")
-    if is_current(REPEATS):
-        return None
-    folder = os.path.dirname(os.path.dirname(REPEATS))
-    with open(os.path.join(folder, "stdin"), "rb") as given:
-        built = subprocess.run(["rt", "run"], cwd=folder, stdin=given, capture_output=True, timeout=7200)
-    if built.returncode != 0:
-        return (built.stdout + built.stderr).decode("utf-8", "replace")[-2000:]
-    os.utime(REPEATS)
-    return None
-
-
 def main():
-    fault = build()
+    fault = programs.fault_of_build("serf_replay_program", "serf_repeats_program")
     rows, examples = names_in(ROWS), names_in(EXAMPLES)
     if fault or not rows or not examples:
         print(fault or "no rows, or no examples")

@@ -8,6 +8,10 @@ import subprocess
 import sys
 
 TOP = os.path.dirname(os.path.dirname(os.path.abspath(__file__)))
+sys.path.insert(0, os.path.join(TOP, "tools"))
+sys.dont_write_bytecode = True
+import programs
+
 PROGRAM = os.path.join(TOP, "serf-replay")
 
 # Schedules, the number of the first bad line, and what is wrong with it.
@@ -301,10 +305,9 @@ def differs(name, words, given, status, out, err):
 
 
 def main():
-    built = subprocess.run([PROGRAM, "--version"], capture_output=True, timeout=7200)
-    if built.returncode != 0:
-        sys.stdout.buffer.write(built.stderr)
-        print("0 passed, 1 failed")
+    fault = programs.fault_of_build("serf_replay_program")
+    if fault:
+        print(f"{fault}\n0 passed, 1 failed")
         return 1
     failed = 0
     for given, line, cause in BAD_LINES:

@@ -130,7 +130,12 @@ fn is_reply(reply: &Reply) -> bool {
 }
 
 fn longest_reply(alloc: Global) -> Result<usize, Fail> {
-    Ok(reply(handed(alloc)?, alloc, 5, &[0; 986])?.packet.as_slice().len())
+    Ok(
+        reply(handed(alloc)?, alloc, 5, &[0; 986])?
+            .packet
+            .as_slice()
+            .len(),
+    )
 }
 
 #[test]
@@ -173,7 +178,11 @@ fn merged_all(
 
 fn merges(alloc: Global) -> Result<[(Option<u64>, usize); 4], Fail> {
     let mut agent = agent(alloc)?;
-    Ok(merged_all(&mut agent, alloc, [&TWO_SLOTS, &CUT_STATE, &DEPLOY, &STALE_SLOTS])?)
+    Ok(merged_all(
+        &mut agent,
+        alloc,
+        [&TWO_SLOTS, &CUT_STATE, &DEPLOY, &STALE_SLOTS],
+    )?)
 }
 
 #[test]

@@ -154,8 +154,14 @@ fn failing_file_stops_the_snapshot(rt: HostRuntime) -> Result<(), Fail> {
         };
         let mut snapshot = opened_on(rt.alloc(), file, b"")?;
         assert!(rt; noted(rt.alloc(), &mut snapshot, 0)? == Ok(()), "at {at}");
-        assert!(rt; noted(rt.alloc(), &mut snapshot, 1)? == Err(NoteFault::SinkFault), "at {at}");
-        assert!(rt; noted(rt.alloc(), &mut snapshot, 2)? == Err(NoteFault::Stopped), "at {at}");
+        assert!(rt;
+            noted(rt.alloc(), &mut snapshot, 1)? == Err(NoteFault::SinkFault),
+            "at {at}"
+        );
+        assert!(rt;
+            noted(rt.alloc(), &mut snapshot, 2)? == Err(NoteFault::Stopped),
+            "at {at}"
+        );
         assert!(rt; is_refused(rt.alloc(), file), "at {at}");
     }
     Ok(())

@@ -1,9 +1,7 @@
 //! Snapshots on a sink in memory, and the sink itself.
 
 use crate::clock_lines::{AGENT, clocks, time};
-use serf_snap::{
-    MemSink, NoteFault, ReplaceSink, Sink, SinkFault, Snapshot, read_clocks,
-};
+use serf_snap::{MemSink, NoteFault, ReplaceSink, Sink, SinkFault, Snapshot, read_clocks};
 use std::alloc::Global;
 use std::test::Fail;
 

@@ -60,10 +60,7 @@ const STORIES: [Story<'static>; 8] = [
     Story {
         slots: 4,
         per_time: 1024,
-        events: &[
-            (1, b"x", b"2", Verdict::New),
-            (1, b"x", b"1", Verdict::New),
-        ],
+        events: &[(1, b"x", b"2", Verdict::New), (1, b"x", b"1", Verdict::New)],
         has: "0\n1 x=2 x=1\n0\n0\n",
         held: 2,
     },
@@ -262,13 +259,19 @@ fn full_query_time(rt: HostRuntime) -> Result<(), Fail> {
 /// Whether windows of these sizes are refused.
 fn are_refused(alloc: Global, slots: u64, per_time: u64) -> bool {
     matches!(window(alloc, slots, per_time), Err(NewWindowFault::BadSize))
-        && matches!(query_window(alloc, slots, per_time), Err(NewWindowFault::BadSize))
+        && matches!(
+            query_window(alloc, slots, per_time),
+            Err(NewWindowFault::BadSize)
+        )
 }
 
 #[test]
 fn sizes(rt: HostRuntime) -> Result<(), Fail> {
     for (slots, per_time) in [(0u64, 4u64), (65537, 4), (4, 0), (4, 65537), (0, 0)] {
-        assert!(rt; are_refused(rt.alloc(), slots, per_time), "{slots} and {per_time}");
+        assert!(rt;
+            are_refused(rt.alloc(), slots, per_time),
+            "{slots} and {per_time}"
+        );
     }
     assert!(rt; window(rt.alloc(), MAX_SIZE, 1)?.slots().len() == 65536);
     assert!(rt; query_window(rt.alloc(), 1, MAX_SIZE)?.held() == 0);

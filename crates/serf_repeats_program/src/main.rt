@@ -40,11 +40,18 @@ fn tell<R: Print + Eprint>(rt: &R, trace: Option<Trace>) -> u8 {
         Some(None) => (println!(rt; "no repeat"), 0),
         Some(Some(repeat)) => {
             let (at, of) = (repeat.later, repeat.earlier);
-            let said = println!(rt; "repeat: line {}, event {}, of line {}, event {}", at.line, at.event, of.line, of.event);
+            let said = println!(rt;
+                "repeat: line {}, event {}, of line {}, event {}",
+                at.line, at.event, of.line, of.event
+            );
             (said, 1)
         }
     };
-    if said.is_err() { failed(rt, "write fault") } else { status }
+    if said.is_err() {
+        failed(rt, "write fault")
+    } else {
+        status
+    }
 }
 
 /// Tells of a fault, and gives the status.

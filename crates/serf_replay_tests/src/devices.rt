@@ -159,13 +159,7 @@ fn deliver(
     act(alloc, play, plan, &Action::Deliver { to, packet, now: 0 })
 }
 
-fn merge(
-    alloc: Global,
-    play: &mut Play,
-    plan: &Plan,
-    packet: u64,
-    to: u64,
-) -> Result<bool, Fail> {
+fn merge(alloc: Global, play: &mut Play, plan: &Plan, packet: u64, to: u64) -> Result<bool, Fail> {
     let join = false;
     act(alloc, play, plan, &Action::Merge { to, packet, join })
 }

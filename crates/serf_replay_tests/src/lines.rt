@@ -103,7 +103,10 @@ fn words_of_actions(rt: HostRuntime) -> Result<(), Fail> {
         (b"break 1 replace-new 1", Some(SinkCall::ReplaceNew)),
     ];
     for (text, wanted) in rows {
-        assert!(rt; is_only(&schedule_of(rt.alloc(), text)?, wanted), "{text:?}");
+        assert!(rt;
+            is_only(&schedule_of(rt.alloc(), text)?, wanted),
+            "{text:?}"
+        );
     }
     Ok(())
 }

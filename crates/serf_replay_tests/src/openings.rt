@@ -78,7 +78,10 @@ fn clocks_behind_tails(rt: HostRuntime) -> Result<(), Fail> {
             20 => (1, 6, 5),
             _ => (1, 6, 1),
         };
-        assert!(rt; clocks_behind(rt.alloc(), tail)? == wanted, "behind {tail:?}");
+        assert!(rt;
+            clocks_behind(rt.alloc(), tail)? == wanted,
+            "behind {tail:?}"
+        );
     }
     let greatest = b"event-clock: 18446744073709551614\n";
     assert!(rt; clocks_behind(rt.alloc(), greatest)? == (1, u64::MAX, 1));

@@ -112,7 +112,10 @@ fn a_byte_at_a_time(rt: HostRuntime) -> Result<(), Fail> {
 fn each_read_fails(rt: HostRuntime) -> Result<(), Fail> {
     for reads in 0..SCHEDULE.len() + 1 {
         let (outcome, taken) = replayed(&rt, reads, 1000, 1000, true)?;
-        assert!(rt; outcome == Err(ReplayFault::ReadFault) && taken.is_empty(), "after {reads}");
+        assert!(rt;
+            outcome == Err(ReplayFault::ReadFault) && taken.is_empty(),
+            "after {reads}"
+        );
     }
     Ok(())
 }

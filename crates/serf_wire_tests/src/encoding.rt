@@ -30,7 +30,10 @@ fn is_event(
     cc: bool,
     expected: &[u8],
 ) -> Result<bool, Fail> {
-    Ok(is_packet(encode_user_event(alloc, time(1)?, name, payload, cc), expected))
+    Ok(is_packet(
+        encode_user_event(alloc, time(1)?, name, payload, cc),
+        expected,
+    ))
 }
 
 #[test]
@@ -39,7 +42,15 @@ fn events(rt: HostRuntime) -> Result<(), Fail> {
     // From 32 bytes on a text has a longer header.
     let long = b"\x03\x84\xa5LTime\x01\xa4Name\xa0\
           \xa7Payload\xda\x00\x20just thirty-two bytes of payload\xa2CC\xc3";
-    assert!(rt; is_event(rt.alloc(), b"", b"just thirty-two bytes of payload", true, long)?);
+    assert!(rt;
+        is_event(
+            rt.alloc(),
+            b"",
+            b"just thirty-two bytes of payload",
+            true,
+            long
+        )?
+    );
     Ok(())
 }
 
@@ -69,13 +80,11 @@ fn filters_for_b(alloc: Global) -> Result<Vec<Bytes>, Fail> {
 }
 
 /// Whether the query with these filters and this timeout has this packet.
-fn is_query(
-    alloc: Global,
-    filters: &[Bytes],
-    timeout: i64,
-    expected: &[u8],
-) -> Result<bool, Fail> {
-    Ok(is_packet(encode_query(alloc, &load(time(1)?, filters, timeout)), expected))
+fn is_query(alloc: Global, filters: &[Bytes], timeout: i64, expected: &[u8]) -> Result<bool, Fail> {
+    Ok(is_packet(
+        encode_query(alloc, &load(time(1)?, filters, timeout)),
+        expected,
+    ))
 }
 
 fn is_load(alloc: Global) -> Result<bool, Fail> {

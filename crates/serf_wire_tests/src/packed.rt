@@ -1,8 +1,8 @@
 //! MessagePack values: vectors of the format worked out by hand, and each public function once.
 
 use serf_pack::{
-    Kind, PackFault, View, appenders_pack, canonical_heads, check, one_reading, put_array, put_bool,
-    put_int, put_map, put_nil, put_raw, put_uint,
+    Kind, PackFault, View, appenders_pack, canonical_heads, check, one_reading, put_array,
+    put_bool, put_int, put_map, put_nil, put_raw, put_uint,
 };
 use std::alloc::{AllocError, Global};
 use std::test::Fail;
@@ -38,7 +38,13 @@ fn container<'a>(kind: Kind, offset: usize) -> Seen<'a> {
 }
 
 fn seen<'a>(view: View<'a>) -> Seen<'a> {
-    (view.kind(), view.offset(), view.int(), view.flag(), view.raw())
+    (
+        view.kind(),
+        view.offset(),
+        view.int(),
+        view.flag(),
+        view.raw(),
+    )
 }
 
 /// Whether a value has just these items.
@@ -171,7 +177,10 @@ fn faults(rt: HostRuntime) {
         0xc1, 0xc7, 0xc8, 0xc9, 0xca, 0xcb, 0xd4, 0xd5, 0xd6, 0xd7, 0xd8,
     ] {
         let bytes = [0x81, 0xa1, 0x78, byte, 0, 0, 0, 0, 0, 0, 0, 0, 0];
-        assert!(rt; fault_of(&bytes) == Some(PackFault::Unsupported(byte, 3)), "{byte}");
+        assert!(rt;
+            fault_of(&bytes) == Some(PackFault::Unsupported(byte, 3)),
+            "{byte}"
+        );
     }
 }
 
@@ -232,7 +241,10 @@ fn byte_strings_and_containers_of_each_format(rt: HostRuntime) {
         (b"\xdc\x00\x01\x05", 3),
         (b"\xdd\x00\x00\x00\x01\x05", 5),
     ] {
-        assert!(rt; is_value(bytes, container(Kind::Array, 0), &[int(at, 5)], &[]), "{bytes:?}");
+        assert!(rt;
+            is_value(bytes, container(Kind::Array, 0), &[int(at, 5)], &[]),
+            "{bytes:?}"
+        );
     }
     for (bytes, key, value) in [
         (b"\x81\x04\x05".as_slice(), 1, 2),
@@ -240,7 +252,10 @@ fn byte_strings_and_containers_of_each_format(rt: HostRuntime) {
         (b"\xdf\x00\x00\x00\x01\x04\x05", 5, 6),
     ] {
         let pairs = [(int(key, 4), int(value, 5))];
-        assert!(rt; is_value(bytes, container(Kind::Map, 0), &[], &pairs), "{bytes:?}");
+        assert!(rt;
+            is_value(bytes, container(Kind::Map, 0), &[], &pairs),
+            "{bytes:?}"
+        );
     }
 }
 
@@ -279,7 +294,10 @@ fn appends_the_shortest_integers(rt: HostRuntime) {
         (u64::MAX, b"\xcf\xff\xff\xff\xff\xff\xff\xff\xff"),
     ];
     for (number, bytes) in unsigned {
-        assert!(rt; is_list(appended_uint(rt.alloc(), number), bytes), "{number}");
+        assert!(rt;
+            is_list(appended_uint(rt.alloc(), number), bytes),
+            "{number}"
+        );
     }
     let signed: [(i64, &[u8]); 12] = [
         (1000, b"\xcd\x03\xe8"),
@@ -296,7 +314,10 @@ fn appends_the_shortest_integers(rt: HostRuntime) {
         (i64::MIN, b"\xd3\x80\x00\x00\x00\x00\x00\x00\x00"),
     ];
     for (number, bytes) in signed {
-        assert!(rt; is_list(appended_int(rt.alloc(), number), bytes), "{number}");
+        assert!(rt;
+            is_list(appended_int(rt.alloc(), number), bytes),
+            "{number}"
+        );
     }
 }
 
@@ -340,7 +361,10 @@ fn appends_the_shortest_headers(rt: HostRuntime) -> Result<(), Fail> {
         (65536, b"\xdd\x00\x01\x00\x00"),
     ];
     for (count, bytes) in arrays {
-        assert!(rt; is_list(appended_array(rt.alloc(), count), bytes), "{count}");
+        assert!(rt;
+            is_list(appended_array(rt.alloc(), count), bytes),
+            "{count}"
+        );
     }
     let texts: [(u32, &[u8]); 5] = [
         (0, b"\xa0"),
