@@ -275,7 +275,7 @@ def function_of(name):
 def check(rt, crate, batch, kept):
     """What the toolchain says of a copy of the crate with the edits of a batch in it."""
     lib = rt.rtlib
-    stubs = {} if batch[0].is_definition else stubs_for(crate.name, batch)
+    stubs = stubs_for(crate.name, batch)
     with tempfile.TemporaryDirectory(prefix="mutants-") as room:
         for part in lib.PARTS:
             if os.path.isdir(f"{crate.folder}/{part}"):
