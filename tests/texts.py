@@ -73,8 +73,8 @@ def text(of):
     return of.hex() or "-"
 
 
-def event(time=0, name=b"", payload=b"", cc=0):
-    return f"userEvent\nLTime {time}\nName {text(name)}\nPayload {text(payload)}\nCC {cc}\n"
+def event(time=0, name=b"", payload=b"", coalesce=0):
+    return f"userEvent\nLTime {time}\nName {text(name)}\nPayload {text(payload)}\nCC {coalesce}\n"
 
 
 def query(time=0, id=0, port=0, source=b"", filters=(), flags=0, relay=0, timeout=0, name=b"", payload=b""):
@@ -151,7 +151,7 @@ PACKETS = (
     (b"\x03\x81\xa5LTime\xcf\xc8\x01\x00\x02\x00\x00\x00\x03", event(0xC801000200000003)),
     (b"\x03\x81\xa5LTime\xcf\xff\xff\xff\xff\xff\xff\xff\xfe", event(18446744073709551614)),
     # wide keys, a wide length and a time with a sign; an unknown key may come twice, with any value
-    (b"\x03\xde\x00\x02\xc4\x02CC\xc3\xda\x00\x05LTime\xd3\x00\x00\x00\x00\x00\x00\x00\x07", event(7, cc=1)),
+    (b"\x03\xde\x00\x02\xc4\x02CC\xc3\xda\x00\x05LTime\xd3\x00\x00\x00\x00\x00\x00\x00\x07", event(7, coalesce=1)),
     (b"\x03\x82\xa1X\x90\xa1X\x80", event()),
     # a text has its length in its first byte, or in two bytes or four behind it
     (b"\x03\x81\xa4Name\xa6deploy", event(name=b"deploy")),

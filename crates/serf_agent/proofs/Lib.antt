@@ -1,4 +1,4 @@
-pub mod AskedLaws
+pub mod OpenQueries
 pub mod ConfigLaws
 pub mod LineLaws
 pub mod MergeLaws

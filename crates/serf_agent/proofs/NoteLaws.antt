@@ -13,5 +13,5 @@ may-kept kind t s may = by (nat_le t (last_line kind s)) refl
     by true low = refl
     by false high = may (leb-false t (last_line kind s) high)
 
-pub may-failed : (kind : ClockKind) (t : ℕ) (s : SnapshotView) (kept : Option (List ℕ)) → last_line kind s < t → MayWrite s (clock_line kind t) (Failed kept) → MayNote kind t s (Failed kept)
-may-failed kind t s kept above may = let high : nat_le t (last_line kind s) ≡ false = lt-leb t (last_line kind s) above in subst (λ (b : Bool). MatchBool b (Failed kept ≡ Kept) (MayWrite s (clock_line kind t) (Failed kept))) (sym high) may
+pub may-failed : (kind : ClockKind) (t : ℕ) (s : SnapshotView) (durable : Option (List ℕ)) → last_line kind s < t → MayWrite s (clock_line kind t) (Failed durable) → MayNote kind t s (Failed durable)
+may-failed kind t s durable above may = let high : nat_le t (last_line kind s) ≡ false = lt-leb t (last_line kind s) above in subst (λ (b : Bool). MatchBool b (Failed durable ≡ Kept) (MayWrite s (clock_line kind t) (Failed durable))) (sym high) may

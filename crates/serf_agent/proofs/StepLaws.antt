@@ -1,7 +1,7 @@
 -- How a call of the ideal agent ends, by how the real one's ended.
 use Rattle.std.proofs.Common.{◌≡◌, ◌≢◌, ℕ, ◌-◌, ◌^◌, ◌<◌, ◌≤◌, nat_lt, nat_le, not, cond, length, Bool, true, false, List, Option, Some, None, Result, Ok, Err, refl, sym, ◌∙◌, ap, subst, arith}
 use Rattle.std.specs.Prelude.{All}
-use Rattle.serf_wire.specs.declared.texts.EventText.{EventText}
+use Rattle.serf_wire.specs.declared.texts.EventBody.{EventBody}
 use Rattle.serf_snap.specs.declared.kind.ClockKind.{ClockKind}
 use Rattle.serf_snap.specs.declared.kind.ClockKind.TheVariants as kinds
 use Rattle.serf_snap.specs.Notes.{Writing, Kept, Failed, noted, written}
@@ -24,71 +24,71 @@ use Rattle.serf_wire.specs.Decoded.{decoded}
 use Rattle.serf_wire.specs.Message.{Message, Query, QueryResponse}
 use Rattle.serf_agent.specs.declared.open_query.OpenQuery.{OpenQuery}
 use Rattle.serf_agent.specs.Receive.{receive, receive_read}
-use Rattle.serf_agent.specs.Queries.{ack_if_passed, handed_if_passed, has_flag, no_broadcast_flag, query_admission, query_entered, query_observed, query_received_as, receive_query, answer_refusal, asked_at, counted, counted_as, counts, fire_query, fired_query, is_full, is_no_timeout, is_too_large_query, query_asked, query_at, query_fault, query_fired_as, receive_response, response_received_as, response_received_at, with_asked_at}
+use Rattle.serf_agent.specs.Queries.{ack_if_passed, handed_if_passed, has_flag, no_broadcast_flag, query_admission, query_entered, query_observed, query_received_as, receive_query, answer_ignore_reason, asked_at, counted, counted_as, counts, fire_query, fired_query, is_full, is_no_timeout, is_too_large_query, query_asked, query_at, query_fault, query_fired_as, receive_response, response_received_as, response_received_at, with_asked_at}
 use Rattle.serf_agent.specs.Ideal.{IdealAgent, with_asked, with_snapshot}
 use Rattle.serf_agent.specs.Sound.{IsSound}
 use Rattle.serf_agent.specs.Steps.{Steps}
 use Rattle.std.proofs.lemmas.Bool.{or_parts, ltb-false, lt-leb}
 use Rattle.serf_agent.proofs.ConfigLaws.{limit-sound}
-use Rattle.serf_agent.specs.View.{Stored, view_of}
+use Rattle.serf_agent.specs.View.{ConcreteState, view_of}
 use Rattle.serf_agent.proofs.SoundLaws.{admission-new, sound-event_observed, sound-event_entered, sound-note_failed, sound-query_observed, sound-query_entered, query_admission-new, sound-counted, sound-query_asked}
 use Rattle.serf_agent.proofs.TrackLaws.{later-fresh}
 
-pub steps-ends : {R : Type 0} (i : IdealAgent) (step : Step R) (result : R) (new : Stored) → result ≡ step.answer → new ≡ view_of step.agent → IsSound step.agent → Steps i (Ends step) result new
+pub steps-ends : {R : Type 0} (i : IdealAgent) (step : Step R) (result : R) (new : ConcreteState) → result ≡ step.answer → new ≡ view_of step.agent → IsSound step.agent → Steps i (Ends step) result new
 steps-ends i step result new answers state sound = record { writing = Kept; allowed = refl; answers = answers; state = state; sound = sound }
 
-pub steps-answers : {R : Type 0} (i : IdealAgent) (answer result : R) (new : Stored) → IsSound i → result ≡ answer → new ≡ view_of i → Steps i (answers i answer) result new
+pub steps-answers : {R : Type 0} (i : IdealAgent) (answer result : R) (new : ConcreteState) → IsSound i → result ≡ answer → new ≡ view_of i → Steps i (answers i answer) result new
 steps-answers i answer result new sound same state = record { writing = Kept; allowed = refl; answers = same; state = state; sound = sound }
 
-pub steps-kept : {R : Type 0} (i : IdealAgent) (kind : ClockKind) (t : ℕ) (step : Step R) (fault result : R) (new : Stored) → MayNote kind t i.snapshot Kept → result ≡ step.answer → new ≡ view_of (with_snapshot (noted kind t i.snapshot Kept) step.agent) → IsSound (with_snapshot (noted kind t i.snapshot Kept) step.agent)
+pub steps-kept : {R : Type 0} (i : IdealAgent) (kind : ClockKind) (t : ℕ) (step : Step R) (fault result : R) (new : ConcreteState) → MayNote kind t i.snapshot Kept → result ≡ step.answer → new ≡ view_of (with_snapshot (noted kind t i.snapshot Kept) step.agent) → IsSound (with_snapshot (noted kind t i.snapshot Kept) step.agent)
     → Steps i (Notes kind t step fault) result new
 steps-kept i kind t step fault result new may answers state sound = record { writing = Kept; allowed = may; answers = answers; state = state; sound = sound }
 
-pub steps-failed : {R : Type 0} (i : IdealAgent) (kind : ClockKind) (t : ℕ) (step : Step R) (fault result : R) (new : Stored) (kept : Option (List ℕ)) → IsSound i → MayNote kind t i.snapshot (Failed kept) → result ≡ fault → new ≡ view_of (with_snapshot (written kind t i.snapshot (Failed kept)) i)
+pub steps-failed : {R : Type 0} (i : IdealAgent) (kind : ClockKind) (t : ℕ) (step : Step R) (fault result : R) (new : ConcreteState) (durable : Option (List ℕ)) → IsSound i → MayNote kind t i.snapshot (Failed durable) → result ≡ fault → new ≡ view_of (with_snapshot (written kind t i.snapshot (Failed durable)) i)
     → Steps i (Notes kind t step fault) result new
-steps-failed i kind t step fault result new kept sound may answers state = record { writing = Failed kept; allowed = may; answers = answers; state = state; sound = sound-note_failed kind t kept i sound may }
+steps-failed i kind t step fault result new durable sound may answers state = record { writing = Failed durable; allowed = may; answers = answers; state = state; sound = sound-note_failed kind t durable i sound may }
 
 -- ---- an event that comes
 
-pub steps-event_ignored : (i : IdealAgent) (t : ℕ) (what : EventText) (cc_flag : Bool) (reason : Reason) (new : Stored) → IsSound i → admission i t what ≡ Some reason → new ≡ view_of (event_observed t i) → Steps i (receive_event i t what cc_flag) (Ok (outcomes.Ignored reason)) new
+pub steps-event_ignored : (i : IdealAgent) (t : ℕ) (what : EventBody) (coalesce : Bool) (reason : Reason) (new : ConcreteState) → IsSound i → admission i t what ≡ Some reason → new ≡ view_of (event_observed t i) → Steps i (receive_event i t what coalesce) (Ok (outcomes.Ignored reason)) new
 steps-event_ignored i t what flag reason new sound says state =
     subst (λ (r : Option Reason). Steps i (received_as r i t what flag) (Ok (outcomes.Ignored reason)) new) (sym says) (steps-ends i _ _ new refl state (sound-event_observed t i sound))
 
-pub steps-event_entered : (i : IdealAgent) (t : ℕ) (what : EventText) (flag : Bool) (result : Result Outcome ReceiveFault) (new : Stored) → IsSound i → i.snapshot.stopped ≡ false → t < 2 ^ 64 - 1 → admission i t what ≡ None → MayNote kinds.Event t i.snapshot Kept
+pub steps-event_entered : (i : IdealAgent) (t : ℕ) (what : EventBody) (flag : Bool) (result : Result Outcome ReceiveFault) (new : ConcreteState) → IsSound i → i.snapshot.stopped ≡ false → t < 2 ^ 64 - 1 → admission i t what ≡ None → MayNote kinds.Event t i.snapshot Kept
     → result ≡ Ok (outcomes.Event (event_out t what flag)) → new ≡ view_of (with_snapshot (noted kinds.Event t i.snapshot Kept) (event_entered t what i)) → Steps i (receive_event i t what flag) result new
 steps-event_entered i t what flag result new sound runs small says may answers state =
     let parts = admission-new i t what says in
     subst (λ (r : Option Reason). Steps i (received_as r i t what flag) result new) (sym says) (steps-kept i kinds.Event t _ _ result new may answers state (sound-event_entered t what i sound runs small parts.0 parts.1))
 
-pub steps-event_failed : (i : IdealAgent) (t : ℕ) (what : EventText) (flag : Bool) (kept : Option (List ℕ)) (result : Result Outcome ReceiveFault) (new : Stored) → IsSound i → admission i t what ≡ None → MayNote kinds.Event t i.snapshot (Failed kept) → result ≡ Err SinkFault
-    → new ≡ view_of (with_snapshot (written kinds.Event t i.snapshot (Failed kept)) i) → Steps i (receive_event i t what flag) result new
-steps-event_failed i t what flag kept result new sound says may answers state =
-    subst (λ (r : Option Reason). Steps i (received_as r i t what flag) result new) (sym says) (steps-failed i kinds.Event t _ _ result new kept sound may answers state)
+pub steps-event_failed : (i : IdealAgent) (t : ℕ) (what : EventBody) (flag : Bool) (durable : Option (List ℕ)) (result : Result Outcome ReceiveFault) (new : ConcreteState) → IsSound i → admission i t what ≡ None → MayNote kinds.Event t i.snapshot (Failed durable) → result ≡ Err SinkFault
+    → new ≡ view_of (with_snapshot (written kinds.Event t i.snapshot (Failed durable)) i) → Steps i (receive_event i t what flag) result new
+steps-event_failed i t what flag durable result new sound says may answers state =
+    subst (λ (r : Option Reason). Steps i (received_as r i t what flag) result new) (sym says) (steps-failed i kinds.Event t _ _ result new durable sound may answers state)
 
 -- ---- an event that is fired
 
-pub steps-fire_refused : (i : IdealAgent) (what : EventText) (flag : Bool) (fault : FireFault) (new : Stored) → IsSound i → fire_fault i what flag ≡ Some fault → new ≡ view_of i → Steps i (fire i what flag) (Err fault) new
+pub steps-fire_refused : (i : IdealAgent) (what : EventBody) (flag : Bool) (fault : FireFault) (new : ConcreteState) → IsSound i → fire_fault i what flag ≡ Some fault → new ≡ view_of i → Steps i (fire i what flag) (Err fault) new
 steps-fire_refused i what flag fault new sound says state =
     subst (λ (r : Option FireFault). Steps i (fired_as r i what flag) (Err fault) new) (sym says) (steps-answers i (Err fault) (Err fault) new sound refl state)
 
-pub steps-fire_entered : (i : IdealAgent) (what : EventText) (flag : Bool) (result : Result Fired FireFault) (new : Stored) → IsSound i → i.snapshot.stopped ≡ false → i.events.clock < 2 ^ 64 - 1 → texts_len what ≤ 9216 → fire_fault i what flag ≡ None → MayNote kinds.Event i.events.clock i.snapshot Kept
+pub steps-fire_entered : (i : IdealAgent) (what : EventBody) (flag : Bool) (result : Result Fired FireFault) (new : ConcreteState) → IsSound i → i.snapshot.stopped ≡ false → i.events.clock < 2 ^ 64 - 1 → texts_len what ≤ 9216 → fire_fault i what flag ≡ None → MayNote kinds.Event i.events.clock i.snapshot Kept
     → result ≡ Ok record { packet = event_packet i.events.clock what flag; handed = event_out i.events.clock what flag }
     → new ≡ view_of (with_snapshot (noted kinds.Event i.events.clock i.snapshot Kept) (event_entered i.events.clock what i)) → Steps i (fire i what flag) result new
 steps-fire_entered i what flag result new sound runs small short says may answers state =
     subst (λ (r : Option FireFault). Steps i (fired_as r i what flag) result new) (sym says)
     (steps-kept i kinds.Event i.events.clock _ _ result new may answers state (sound-event_entered i.events.clock what i sound runs small short (later-fresh i.events.history i.events.clock what sound.events.below_clock)))
 
-pub steps-fire_failed : (i : IdealAgent) (what : EventText) (flag : Bool) (kept : Option (List ℕ)) (result : Result Fired FireFault) (new : Stored) → IsSound i → fire_fault i what flag ≡ None → MayNote kinds.Event i.events.clock i.snapshot (Failed kept) → result ≡ Err fires.SinkFault
-    → new ≡ view_of (with_snapshot (written kinds.Event i.events.clock i.snapshot (Failed kept)) i) → Steps i (fire i what flag) result new
-steps-fire_failed i what flag kept result new sound says may answers state =
-    subst (λ (r : Option FireFault). Steps i (fired_as r i what flag) result new) (sym says) (steps-failed i kinds.Event i.events.clock _ _ result new kept sound may answers state)
+pub steps-fire_failed : (i : IdealAgent) (what : EventBody) (flag : Bool) (durable : Option (List ℕ)) (result : Result Fired FireFault) (new : ConcreteState) → IsSound i → fire_fault i what flag ≡ None → MayNote kinds.Event i.events.clock i.snapshot (Failed durable) → result ≡ Err fires.SinkFault
+    → new ≡ view_of (with_snapshot (written kinds.Event i.events.clock i.snapshot (Failed durable)) i) → Steps i (fire i what flag) result new
+steps-fire_failed i what flag durable result new sound says may answers state =
+    subst (λ (r : Option FireFault). Steps i (fired_as r i what flag) result new) (sym says) (steps-failed i kinds.Event i.events.clock _ _ result new durable sound may answers state)
 
 -- an agent that runs fires what is small enough, while its clock has a time
-pub fire-allowed : (i : IdealAgent) (what : EventText) (flag : Bool) → i.snapshot.stopped ≡ false → is_too_large i.config.event_limit (drawn i.events.clock) what flag ≡ false → i.events.clock < 2 ^ 64 - 1 → fire_fault i what flag ≡ None
+pub fire-allowed : (i : IdealAgent) (what : EventBody) (flag : Bool) → i.snapshot.stopped ≡ false → is_too_large i.config.event_limit (drawn i.events.clock) what flag ≡ false → i.events.clock < 2 ^ 64 - 1 → fire_fault i what flag ≡ None
 fire-allowed i what flag runs small time = let low : nat_le (2 ^ 64 - 1) i.events.clock ≡ false = lt-leb _ _ time in rw (runs, small, low) refl
 
 -- what isn't too large under a sound agent's limit has short texts
-pub small-short : (i : IdealAgent) (t : ℕ) (what : EventText) (flag : Bool) → IsSound i → is_too_large i.config.event_limit t what flag ≡ false → texts_len what ≤ 9216
+pub small-short : (i : IdealAgent) (t : ℕ) (what : EventBody) (flag : Bool) → IsSound i → is_too_large i.config.event_limit t what flag ≡ false → texts_len what ≤ 9216
 small-short i t what flag sound small =
     let limit : i.config.event_limit ≤ 9216 = limit-sound i.config sound.config in
     let parts = or_parts (nat_lt i.config.event_limit (texts_len what)) (nat_lt i.config.event_limit (length (event_packet t what flag))) small in
@@ -97,34 +97,34 @@ small-short i t what flag sound small =
 
 -- ---- a query that comes
 
-pub steps-query_ignored : (i : IdealAgent) (now : ℕ) (q : Query) (reason : Reason) (new : Stored) → IsSound i → query_admission i q.time q.id ≡ Some reason → new ≡ view_of (query_observed q.time i) → Steps i (receive_query i now q) (Ok (outcomes.Ignored reason)) new
+pub steps-query_ignored : (i : IdealAgent) (now : ℕ) (q : Query) (reason : Reason) (new : ConcreteState) → IsSound i → query_admission i q.time q.id ≡ Some reason → new ≡ view_of (query_observed q.time i) → Steps i (receive_query i now q) (Ok (outcomes.Ignored reason)) new
 steps-query_ignored i now q reason new sound says state =
     subst (λ (r : Option Reason). Steps i (query_received_as r i now q) (Ok (outcomes.Ignored reason)) new) (sym says) (steps-ends i _ _ new refl state (sound-query_observed q.time i sound))
 
-pub steps-query_entered : (i : IdealAgent) (now : ℕ) (q : Query) (result : Result Outcome ReceiveFault) (new : Stored) → IsSound i → i.snapshot.stopped ≡ false → q.time < 2 ^ 64 - 1 → query_admission i q.time q.id ≡ None → MayNote kinds.Query q.time i.snapshot Kept
+pub steps-query_entered : (i : IdealAgent) (now : ℕ) (q : Query) (result : Result Outcome ReceiveFault) (new : ConcreteState) → IsSound i → i.snapshot.stopped ≡ false → q.time < 2 ^ 64 - 1 → query_admission i q.time q.id ≡ None → MayNote kinds.Query q.time i.snapshot Kept
     → result ≡ Ok (outcomes.Query (handed_if_passed i.config.name now q) (ack_if_passed i.config.name q) (not (has_flag no_broadcast_flag q.flags)))
     → new ≡ view_of (with_snapshot (noted kinds.Query q.time i.snapshot Kept) (query_entered q.time q.id i)) → Steps i (receive_query i now q) result new
 steps-query_entered i now q result new sound runs small says may answers state =
     subst (λ (r : Option Reason). Steps i (query_received_as r i now q) result new) (sym says)
     (steps-kept i kinds.Query q.time _ _ result new may answers state (sound-query_entered q.time q.id i sound runs small (query_admission-new i q.time q.id says)))
 
-pub steps-query_failed : (i : IdealAgent) (now : ℕ) (q : Query) (kept : Option (List ℕ)) (result : Result Outcome ReceiveFault) (new : Stored) → IsSound i → query_admission i q.time q.id ≡ None → MayNote kinds.Query q.time i.snapshot (Failed kept) → result ≡ Err SinkFault
-    → new ≡ view_of (with_snapshot (written kinds.Query q.time i.snapshot (Failed kept)) i) → Steps i (receive_query i now q) result new
-steps-query_failed i now q kept result new sound says may answers state =
-    subst (λ (r : Option Reason). Steps i (query_received_as r i now q) result new) (sym says) (steps-failed i kinds.Query q.time _ _ result new kept sound may answers state)
+pub steps-query_failed : (i : IdealAgent) (now : ℕ) (q : Query) (durable : Option (List ℕ)) (result : Result Outcome ReceiveFault) (new : ConcreteState) → IsSound i → query_admission i q.time q.id ≡ None → MayNote kinds.Query q.time i.snapshot (Failed durable) → result ≡ Err SinkFault
+    → new ≡ view_of (with_snapshot (written kinds.Query q.time i.snapshot (Failed durable)) i) → Steps i (receive_query i now q) result new
+steps-query_failed i now q durable result new sound says may answers state =
+    subst (λ (r : Option Reason). Steps i (query_received_as r i now q) result new) (sym says) (steps-failed i kinds.Query q.time _ _ result new durable sound may answers state)
 
 -- ---- an answer that comes
 
-pub steps-counted : (i : IdealAgent) (now : ℕ) (r : QueryResponse) (q : OpenQuery) (result : Result Outcome ReceiveFault) (new : Stored) → IsSound i → asked_at r.time i.asked ≡ Some q → answer_refusal now r q ≡ None → is_full i.config.responders r q ≡ false
+pub steps-counted : (i : IdealAgent) (now : ℕ) (r : QueryResponse) (q : OpenQuery) (result : Result Outcome ReceiveFault) (new : ConcreteState) → IsSound i → asked_at r.time i.asked ≡ Some q → answer_ignore_reason now r q ≡ None → is_full i.config.responders r q ≡ false
     → result ≡ Ok (counted_as r) → new ≡ view_of (with_asked (with_asked_at r.time (counted r q) i.asked) i) → Steps i (receive_response i now r) result new
 steps-counted i now r q result new sound at none room answers state =
     let done : Steps i (counts i r q) result new = rw room (steps-ends i _ result new answers state (sound-counted now r q i sound at none)) in
-    let taken : Steps i (response_received_as (answer_refusal now r q) i r q) result new = subst (λ (o : Option Reason). Steps i (response_received_as o i r q) result new) (sym none) done in
+    let taken : Steps i (response_received_as (answer_ignore_reason now r q) i r q) result new = subst (λ (o : Option Reason). Steps i (response_received_as o i r q) result new) (sym none) done in
     subst (λ (o : Option OpenQuery). Steps i (response_received_at o i now r) result new) (sym at) taken
 
 -- ---- a packet that comes
 
-pub steps-receive : (i : IdealAgent) (now : ℕ) (packet : List ℕ) (read : Result Message WireFault) (result : Result Outcome ReceiveFault) (new : Stored) → i.snapshot.stopped ≡ false → decoded packet ≡ read → Steps i (receive_read i now read) result new → Steps i (receive i now packet) result new
+pub steps-receive : (i : IdealAgent) (now : ℕ) (packet : List ℕ) (read : Result Message WireFault) (result : Result Outcome ReceiveFault) (new : ConcreteState) → i.snapshot.stopped ≡ false → decoded packet ≡ read → Steps i (receive_read i now read) result new → Steps i (receive i now packet) result new
 steps-receive i now packet read result new runs is steps =
     let by_decoded : Steps i (receive_read i now (decoded packet)) result new = subst (λ (m : Result Message WireFault). Steps i (receive_read i now m) result new) (sym is) steps in
     subst (λ (b : Bool). Steps i (cond b (answers i (Err Stopped)) (receive_read i now (decoded packet))) result new) (sym runs) by_decoded
@@ -135,15 +135,15 @@ pub query-allowed : (i : IdealAgent) (id : ℕ) (name payload : List ℕ) (param
     → query_fault i id name payload params ≡ None
 query-allowed i id name payload params runs small some time = let low : nat_le (2 ^ 64 - 1) i.queries.clock ≡ false = lt-leb _ _ time in rw (runs, small, some, low) refl
 
-pub steps-query_asked : (i : IdealAgent) (now id : ℕ) (name payload : List ℕ) (params : QueryParams) (result : Result FiredQuery QueryFault) (new : Stored) → IsSound i → i.snapshot.stopped ≡ false → i.queries.clock < 2 ^ 64 - 1 → query_fault i id name payload params ≡ None → MayNote kinds.Query i.queries.clock i.snapshot Kept
+pub steps-query_asked : (i : IdealAgent) (now id : ℕ) (name payload : List ℕ) (params : QueryParams) (result : Result FiredQuery QueryFault) (new : ConcreteState) → IsSound i → i.snapshot.stopped ≡ false → i.queries.clock < 2 ^ 64 - 1 → query_fault i id name payload params ≡ None → MayNote kinds.Query i.queries.clock i.snapshot Kept
     → result ≡ Ok (fired_query i.config.name now (query_at i.queries.clock i.config.name id name payload params))
     → new ≡ view_of (with_snapshot (noted kinds.Query i.queries.clock i.snapshot Kept) (query_asked now (query_at i.queries.clock i.config.name id name payload params) i)) → Steps i (fire_query i now id name payload params) result new
 steps-query_asked i now id name payload params result new sound runs small says may answers state =
     let q = query_at i.queries.clock i.config.name id name payload params in
     subst (λ (r : Option QueryFault). Steps i (query_fired_as r i now q) result new) (sym says) (steps-kept i kinds.Query i.queries.clock _ _ result new may answers state (sound-query_asked now q i sound runs refl small))
 
-pub steps-query_fire_failed : (i : IdealAgent) (now id : ℕ) (name payload : List ℕ) (params : QueryParams) (kept : Option (List ℕ)) (result : Result FiredQuery QueryFault) (new : Stored) → IsSound i → query_fault i id name payload params ≡ None → MayNote kinds.Query i.queries.clock i.snapshot (Failed kept) → result ≡ Err asks_faults.SinkFault
-    → new ≡ view_of (with_snapshot (written kinds.Query i.queries.clock i.snapshot (Failed kept)) i) → Steps i (fire_query i now id name payload params) result new
-steps-query_fire_failed i now id name payload params kept result new sound says may answers state =
+pub steps-query_fire_failed : (i : IdealAgent) (now id : ℕ) (name payload : List ℕ) (params : QueryParams) (durable : Option (List ℕ)) (result : Result FiredQuery QueryFault) (new : ConcreteState) → IsSound i → query_fault i id name payload params ≡ None → MayNote kinds.Query i.queries.clock i.snapshot (Failed durable) → result ≡ Err asks_faults.SinkFault
+    → new ≡ view_of (with_snapshot (written kinds.Query i.queries.clock i.snapshot (Failed durable)) i) → Steps i (fire_query i now id name payload params) result new
+steps-query_fire_failed i now id name payload params durable result new sound says may answers state =
     let q = query_at i.queries.clock i.config.name id name payload params in
-    subst (λ (r : Option QueryFault). Steps i (query_fired_as r i now q) result new) (sym says) (steps-failed i kinds.Query i.queries.clock _ _ result new kept sound may answers state)
+    subst (λ (r : Option QueryFault). Steps i (query_fired_as r i now q) result new) (sym says) (steps-failed i kinds.Query i.queries.clock _ _ result new durable sound may answers state)

@@ -8,20 +8,20 @@ use Rattle.std.proofs.lemmas.List.Quantifiers.{all_pairs_push}
 use Rattle.std.proofs.lemmas.List.FromFn.{get_or-map-range_with_len, length-map-range_with_len}
 use Rattle.serf_lamport.specs.Clock.{observed}
 use Rattle.serf_window.specs.declared.verdict.Verdict.{Verdict}
-use Rattle.serf_window.specs.Window.{Timed, SlotOf, greatest_time, entries_of, slot_of, slots_of, was_entered, count_at, verdict_of, TimesBelow}
+use Rattle.serf_window.specs.Window.{TimedEntry, SlotOf, greatest_time, entries_of, slot_of, slots_of, was_entered, count_at, verdict_of, TimesBelow}
 use Rattle.serf_agent.specs.declared.outcome.Reason.{Reason}
 use Rattle.serf_agent.specs.declared.outcome.Reason.TheVariants.{BelowMinimum, TooOld, Seen, TimeFull}
 use Rattle.serf_agent.specs.Ideal.{Past, Track}
-use Rattle.serf_agent.specs.Tracks.{of_life, was_ever_entered, track_reason, track_observed, track_entered, track_raised, track_reopened, StoredTrack, view_of_track, IsTrackSound}
+use Rattle.serf_agent.specs.Tracks.{of_life, was_ever_entered, track_reason, track_observed, track_entered, track_raised, track_reopened, ConcreteTrack, view_of_track, IsTrackSound}
 use Rattle.serf_agent.specs.Reasons.{reason_for}
 
 -- ---- a sound track stays sound
 
 -- something new enters
 pub track-entered : {K : Type 0} (track : Track K) (life last new_last t : ℕ) (what : K) → IsTrackSound track life last → last ≤ new_last → t ≤ new_last
-    → All (λ p. p.entry ≢ record { time = t; what = what }) track.history → IsTrackSound (track_entered life t what track) life new_last
+    → All (λ p. p.entry ≢ record { time = t; key = what }) track.history → IsTrackSound (track_entered life t what track) life new_last
 track-entered {K} track life last new_last t what s up reached fresh =
-    let e : Past K = record { life = life; entry = record { time = t; what = what } } in
+    let e : Past K = record { life = life; entry = record { time = t; key = what } } in
     let clock : ℕ = observed track.clock t in
     record {
       lives = All-push (λ p. p.life ≤ life) track.history e s.lives (omega arith);
@@ -76,20 +76,20 @@ track-noted track life last new_last s up = record {
 -- ---- what is new
 
 -- what was never entered differs from each entry
-pub unknown-fresh : {K : Type 0} (same : K → K → Bool) → ((x : K) → same x x ≡ true) → (history : List (Past K)) (t : ℕ) (what : K) → was_ever_entered same history t what ≡ false → All (λ p. p.entry ≢ record { time = t; what = what }) history
-unknown-fresh {K} same itself [] t what u = All-nil (λ p. p.entry ≢ record { time = t; what = what })
+pub unknown-fresh : {K : Type 0} (same : K → K → Bool) → ((x : K) → same x x ≡ true) → (history : List (Past K)) (t : ℕ) (what : K) → was_ever_entered same history t what ≡ false → All (λ p. p.entry ≢ record { time = t; key = what }) history
+unknown-fresh {K} same itself [] t what u = All-nil (λ p. p.entry ≢ record { time = t; key = what })
 unknown-fresh {K} same itself (e ∷ h) t what u =
-    let x : Timed K = record { time = t; what = what } in
-    let parts = or_parts ((e.entry.time == t) && same e.entry.what what) (was_ever_entered same h t what) u in
-    let P : Timed K → Bool = λ y. (y.time == t) && same y.what what in
+    let x : TimedEntry K = record { time = t; key = what } in
+    let parts = or_parts ((e.entry.time == t) && same e.entry.key what) (was_ever_entered same h t what) u in
+    let P : TimedEntry K → Bool = λ y. (y.time == t) && same y.key what in
     All-cons (λ p. p.entry ≢ x) e h
     (λ q. true≢false (sym (and_from _ _ (eq-eqb t t refl) (itself what)) ∙ (sym (ap P q) ∙ parts.0)))
     (unknown-fresh same itself h t what parts.1)
 
 -- what is later than all entries differs from each
-pub later-fresh : {K : Type 0} (history : List (Past K)) (t : ℕ) (what : K) → All (λ p. p.entry.time < t) history → All (λ p. p.entry ≢ record { time = t; what = what }) history
+pub later-fresh : {K : Type 0} (history : List (Past K)) (t : ℕ) (what : K) → All (λ p. p.entry.time < t) history → All (λ p. p.entry ≢ record { time = t; key = what }) history
 later-fresh {K} history t what below =
-    All-weaker (λ p. p.entry.time < t) (λ p. p.entry ≢ record { time = t; what = what }) (λ p b q. let same = ap (λ (y : Timed K). y.time) q in omega arith) history below
+    All-weaker (λ p. p.entry.time < t) (λ p. p.entry ≢ record { time = t; key = what }) (λ p b q. let same = ap (λ (y : TimedEntry K). y.time) q in omega arith) history below
 
 -- there is no reason only where no test finds one
 pub none-from : (b : Bool) (x : Reason) (r : Option Reason) → cond b (Some x) r ≡ None → (b ≡ false) × (r ≡ None)
@@ -109,7 +109,7 @@ no-reason same n k life track t what none =
 -- ---- the window decides as the history does
 
 -- the greatest time of a slot is below what each time is below
-greatest_time-below : {K : Type 0} (n i c : ℕ) (es : List (Timed K)) → 0 < c → All (λ e. e.time < c) es → greatest_time (entries_of n i es) < c
+greatest_time-below : {K : Type 0} (n i c : ℕ) (es : List (TimedEntry K)) → 0 < c → All (λ e. e.time < c) es → greatest_time (entries_of n i es) < c
 greatest_time-below n i c [] pos h = pos
 greatest_time-below n i c (e ∷ es) pos h =
     let ih : greatest_time (entries_of n i es) < c = greatest_time-below n i c es pos (All-tail (λ x. x.time < c) e es h) in
@@ -131,7 +131,7 @@ of_life-below {K} life c (x ∷ hs) h =
 -- each slot's time is below what each entry's is below
 pub slots-below : {K : Type 0} (n life c : ℕ) (hs : List (Past K)) → 0 < c → All (λ p. p.entry.time < c) hs → TimesBelow c (slots_of n (of_life life hs))
 slots-below {K} n life c hs pos all k d within =
-    let mine : List (Timed K) = of_life life hs in
+    let mine : List (TimedEntry K) = of_life life hs in
     let size : length (slots_of n mine) ≡ n = length-map-range_with_len (slot_of n mine) 0 n in
     let inside : k < n = subst (λ (m : ℕ). k < m) size within in
     let at = get_or-map-range_with_len (slot_of n mine) 0 n k k d inside (omega arith) in
@@ -145,7 +145,7 @@ was_ever_entered-life same life minimum t what [] lives earlier low = refl
 was_ever_entered-life same life minimum t what (h ∷ hs) lives earlier low =
     let ih = was_ever_entered-life same life minimum t what hs (All-tail (λ p. p.life ≤ life) h hs lives) (All-tail (λ p. p.life < life → p.entry.time < minimum) h hs earlier) low in
     elim (cases_Bool (h.life == life)) [
-      | inl mine ↦ rw mine (ap (λ b. (h.entry.time == t) && same h.entry.what what || b) ih)
+      | inl mine ↦ rw mine (ap (λ b. (h.entry.time == t) && same h.entry.key what || b) ih)
       | inr other ↦ let ne : h.life ≢ life = eqb-false _ _ other in
           let le : h.life ≤ life = All-head (λ p. p.life ≤ life) h hs lives in
           let before : h.entry.time < minimum = All-head (λ p. p.life < life → p.entry.time < minimum) h hs earlier (omega arith) in
@@ -170,17 +170,17 @@ track_reason-verdict same n k life last track t what sound =
     ]
 
 -- a verdict by the slots is the reason by the history, where the slots are the history's
-pub verdict-ideal : {K : Type 0} (same : K → K → Bool) (old : StoredTrack K) (n k life last : ℕ) (track : Track K) (t clock : ℕ) (what : K) (verdict : Verdict) → IsTrackSound track life last → old ≡ view_of_track n life track → clock ≡ max old.clock (t + 1)
-    → ((es : List (Timed K)) → old.slots ≡ slots_of (length old.slots) es → t < clock → TimesBelow clock old.slots → verdict ≡ verdict_of same (length old.slots) k es clock old.minimum t what)
+pub verdict-ideal : {K : Type 0} (same : K → K → Bool) (old : ConcreteTrack K) (n k life last : ℕ) (track : Track K) (t clock : ℕ) (what : K) (verdict : Verdict) → IsTrackSound track life last → old ≡ view_of_track n life track → clock ≡ max old.clock (t + 1)
+    → ((es : List (TimedEntry K)) → old.slots ≡ slots_of (length old.slots) es → t < clock → TimesBelow clock old.slots → verdict ≡ verdict_of same (length old.slots) k es clock old.minimum t what)
     → reason_for verdict ≡ track_reason same n k life track t what
 verdict-ideal {K} same old n k life last track t clock what verdict sound is clocks says =
-    let mine : List (Timed K) = of_life life track.history in
-    let size : length old.slots ≡ n = ap (λ (s : StoredTrack K). length s.slots) is ∙ length-map-range_with_len (slot_of n mine) 0 n in
-    let clock_is : clock ≡ observed track.clock t = clocks ∙ ap (λ (s : StoredTrack K). max s.clock (t + 1)) is in
+    let mine : List (TimedEntry K) = of_life life track.history in
+    let size : length old.slots ≡ n = ap (λ (s : ConcreteTrack K). length s.slots) is ∙ length-map-range_with_len (slot_of n mine) 0 n in
+    let clock_is : clock ≡ observed track.clock t = clocks ∙ ap (λ (s : ConcreteTrack K). max s.clock (t + 1)) is in
     let all : All (λ (p : Past K). p.entry.time < observed track.clock t) track.history = All-weaker (λ p. p.entry.time < track.clock) (λ p. p.entry.time < observed track.clock t) (λ p h. omega arith) track.history sound.below_clock in
     let below : TimesBelow (observed track.clock t) (slots_of n mine) = slots-below n life (observed track.clock t) track.history (omega arith) all in
-    let below_old : TimesBelow clock old.slots = subst (λ (c : ℕ). TimesBelow c old.slots) (sym clock_is) (subst (λ (s : StoredTrack K). TimesBelow (observed track.clock t) s.slots) (sym is) below) in
-    let said = says mine (ap (λ (s : StoredTrack K). s.slots) is ∙ ap (λ m. slots_of m mine) (sym size)) (omega arith) below_old in
+    let below_old : TimesBelow clock old.slots = subst (λ (c : ℕ). TimesBelow c old.slots) (sym clock_is) (subst (λ (s : ConcreteTrack K). TimesBelow (observed track.clock t) s.slots) (sym is) below) in
+    let said = says mine (ap (λ (s : ConcreteTrack K). s.slots) is ∙ ap (λ m. slots_of m mine) (sym size)) (omega arith) below_old in
     let same_verdict : verdict ≡ verdict_of same n k mine (observed track.clock t) track.minimum t what =
     said ∙ (λ j. verdict_of same (size j) k mine (clock_is j) (is j).minimum t what) in
     ap reason_for same_verdict ∙ sym (track_reason-verdict same n k life last track t what sound)
@@ -188,7 +188,7 @@ verdict-ideal {K} same old n k life last track t clock what verdict sound is clo
 -- ---- what a track stores
 
 -- one more entry of a life
-of_life-append : {K : Type 0} (life : ℕ) (hs : List (Past K)) (e : Timed K) → of_life life (hs ++ record { life = life; entry = e } ∷ []) ≡ of_life life hs ++ e ∷ []
+of_life-append : {K : Type 0} (life : ℕ) (hs : List (Past K)) (e : TimedEntry K) → of_life life (hs ++ record { life = life; entry = e } ∷ []) ≡ of_life life hs ++ e ∷ []
 of_life-append life [] e = rw (eq-eqb life life refl) refl
 of_life-append life (h ∷ hs) e = elim (cases_Bool (h.life == life)) [
   | inl mine ↦ rw mine (ap (λ xs. h.entry ∷ xs) (of_life-append life hs e))
@@ -203,28 +203,28 @@ of_life-none life (x ∷ hs) h =
     let no : (x.life == life + 1) ≡ false = ne_eqb _ _ (λ q. omega arith) in
     rw no (of_life-none life hs (All-tail (λ p. p.life ≤ life) x hs h))
 
-stored-eq : {K : Type 0} (new : StoredTrack K) (clock minimum : ℕ) (slots : List (SlotOf K)) → new.clock ≡ clock → new.minimum ≡ minimum → new.slots ≡ slots → new ≡ record { clock = clock; minimum = minimum; slots = slots }
-stored-eq new clock minimum slots h1 h2 h3 = λ k. record { clock = h1 k; minimum = h2 k; slots = h3 k }
+concrete-eq : {K : Type 0} (new : ConcreteTrack K) (clock minimum : ℕ) (slots : List (SlotOf K)) → new.clock ≡ clock → new.minimum ≡ minimum → new.slots ≡ slots → new ≡ record { clock = clock; minimum = minimum; slots = slots }
+concrete-eq new clock minimum slots h1 h2 h3 = λ k. record { clock = h1 k; minimum = h2 k; slots = h3 k }
 
-pub view-entered : {K : Type 0} (n life : ℕ) (track : Track K) (old new : StoredTrack K) (t : ℕ) (what : K) → old ≡ view_of_track n life track
-    → ((es : List (Timed K)) → old.slots ≡ slots_of (length old.slots) es → new.slots ≡ slots_of (length old.slots) (es ++ record { time = t; what = what } ∷ []))
+pub view-entered : {K : Type 0} (n life : ℕ) (track : Track K) (old new : ConcreteTrack K) (t : ℕ) (what : K) → old ≡ view_of_track n life track
+    → ((es : List (TimedEntry K)) → old.slots ≡ slots_of (length old.slots) es → new.slots ≡ slots_of (length old.slots) (es ++ record { time = t; key = what } ∷ []))
     → new.clock ≡ observed old.clock t → new.minimum ≡ old.minimum → new ≡ view_of_track n life (track_entered life t what track)
 view-entered {K} n life track old new t what is slots clock minimum =
-    let mine : List (Timed K) = of_life life track.history in
-    let e : Timed K = record { time = t; what = what } in
-    let size : length old.slots ≡ n = ap (λ (s : StoredTrack K). length s.slots) is ∙ length-map-range_with_len (slot_of n mine) 0 n in
+    let mine : List (TimedEntry K) = of_life life track.history in
+    let e : TimedEntry K = record { time = t; key = what } in
+    let size : length old.slots ≡ n = ap (λ (s : ConcreteTrack K). length s.slots) is ∙ length-map-range_with_len (slot_of n mine) 0 n in
     let slots_are : new.slots ≡ slots_of n (of_life life (track.history ++ record { life = life; entry = e } ∷ [])) =
-    slots mine (ap (λ (s : StoredTrack K). s.slots) is ∙ ap (λ m. slots_of m mine) (sym size)) ∙ ap (λ m. slots_of m (mine ++ e ∷ [])) size ∙ ap (slots_of n) (sym (of_life-append life track.history e)) in
-    stored-eq new _ _ _ (clock ∙ ap (λ (s : StoredTrack K). observed s.clock t) is) (minimum ∙ ap (λ (s : StoredTrack K). s.minimum) is) slots_are
+    slots mine (ap (λ (s : ConcreteTrack K). s.slots) is ∙ ap (λ m. slots_of m mine) (sym size)) ∙ ap (λ m. slots_of m (mine ++ e ∷ [])) size ∙ ap (slots_of n) (sym (of_life-append life track.history e)) in
+    concrete-eq new _ _ _ (clock ∙ ap (λ (s : ConcreteTrack K). observed s.clock t) is) (minimum ∙ ap (λ (s : ConcreteTrack K). s.minimum) is) slots_are
 
-pub view-observed : {K : Type 0} (n life : ℕ) (track : Track K) (old new : StoredTrack K) (t : ℕ) → old ≡ view_of_track n life track → new.clock ≡ observed old.clock t → new.minimum ≡ old.minimum → new.slots ≡ old.slots → new ≡ view_of_track n life (track_observed t track)
+pub view-observed : {K : Type 0} (n life : ℕ) (track : Track K) (old new : ConcreteTrack K) (t : ℕ) → old ≡ view_of_track n life track → new.clock ≡ observed old.clock t → new.minimum ≡ old.minimum → new.slots ≡ old.slots → new ≡ view_of_track n life (track_observed t track)
 view-observed {K} n life track old new t is clock minimum slots =
-    stored-eq new _ _ _ (clock ∙ ap (λ (s : StoredTrack K). observed s.clock t) is) (minimum ∙ ap (λ (s : StoredTrack K). s.minimum) is) (slots ∙ ap (λ (s : StoredTrack K). s.slots) is)
+    concrete-eq new _ _ _ (clock ∙ ap (λ (s : ConcreteTrack K). observed s.clock t) is) (minimum ∙ ap (λ (s : ConcreteTrack K). s.minimum) is) (slots ∙ ap (λ (s : ConcreteTrack K). s.slots) is)
 
-pub view-raised : {K : Type 0} (n life : ℕ) (track : Track K) (old new : StoredTrack K) (c m : ℕ) → old ≡ view_of_track n life track → new.clock ≡ max old.clock c → new.minimum ≡ max old.minimum m → new.slots ≡ old.slots → new ≡ view_of_track n life (track_raised c m track)
+pub view-raised : {K : Type 0} (n life : ℕ) (track : Track K) (old new : ConcreteTrack K) (c m : ℕ) → old ≡ view_of_track n life track → new.clock ≡ max old.clock c → new.minimum ≡ max old.minimum m → new.slots ≡ old.slots → new ≡ view_of_track n life (track_raised c m track)
 view-raised {K} n life track old new c m is clock minimum slots =
-    stored-eq new _ _ _ (clock ∙ ap (λ (s : StoredTrack K). max s.clock c) is) (minimum ∙ ap (λ (s : StoredTrack K). max s.minimum m) is) (slots ∙ ap (λ (s : StoredTrack K). s.slots) is)
+    concrete-eq new _ _ _ (clock ∙ ap (λ (s : ConcreteTrack K). max s.clock c) is) (minimum ∙ ap (λ (s : ConcreteTrack K). max s.minimum m) is) (slots ∙ ap (λ (s : ConcreteTrack K). s.slots) is)
 
-pub view-reopened : {K : Type 0} (n life last value : ℕ) (track : Track K) (new : StoredTrack K) → IsTrackSound track life last → new.clock ≡ value + 1 → new.minimum ≡ value + 1 → new.slots ≡ slots_of n [] → new ≡ view_of_track n (life + 1) (track_reopened value track)
+pub view-reopened : {K : Type 0} (n life last value : ℕ) (track : Track K) (new : ConcreteTrack K) → IsTrackSound track life last → new.clock ≡ value + 1 → new.minimum ≡ value + 1 → new.slots ≡ slots_of n [] → new ≡ view_of_track n (life + 1) (track_reopened value track)
 view-reopened {K} n life last value track new sound clock minimum slots =
-    stored-eq new _ _ _ clock minimum (slots ∙ ap (slots_of n) (sym (of_life-none life track.history sound.lives)))
+    concrete-eq new _ _ _ clock minimum (slots ∙ ap (slots_of n) (sym (of_life-none life track.history sound.lives)))

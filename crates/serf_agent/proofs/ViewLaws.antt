@@ -1,8 +1,8 @@
 -- What an agent stores of the ideal agent, after each change.
 use Rattle.std.proofs.Common.{◌≡◌, ℕ, ◌+◌, ◌<◌, max, List, [], ◌∷◌, ◌++◌, length, Option, refl, sym, ◌∙◌, ap, subst}
 use Rattle.serf_lamport.specs.Clock.{observed}
-use Rattle.serf_wire.specs.declared.texts.EventText.{EventText}
-use Rattle.serf_window.specs.Window.{Timed, slots_of}
+use Rattle.serf_wire.specs.declared.texts.EventBody.{EventBody}
+use Rattle.serf_window.specs.Window.{TimedEntry, slots_of}
 use Rattle.serf_snap.specs.declared.kind.ClockKind.{ClockKind}
 use Rattle.serf_snap.specs.declared.kind.ClockKind.TheVariants as kinds
 use Rattle.serf_snap.specs.Device.{Device}
@@ -11,21 +11,21 @@ use Rattle.serf_agent.specs.declared.config.Config.{Config}
 use Rattle.serf_agent.specs.declared.open_query.OpenQuery.{OpenQuery}
 use Rattle.serf_agent.specs.Events.{event_observed, event_entered}
 use Rattle.serf_agent.specs.Ideal.{IdealAgent, with_snapshot, with_asked}
-use Rattle.serf_agent.specs.Inside.{first_stored}
+use Rattle.serf_agent.specs.Inside.{first_concrete}
 use Rattle.serf_agent.specs.Queries.{query_observed, query_entered}
 use Rattle.serf_agent.specs.Restart.{restarted}
 use Rattle.serf_agent.specs.Sound.{IsSound}
-use Rattle.serf_agent.specs.Tracks.{StoredTrack, view_of_track, track_observed, track_entered}
-use Rattle.serf_agent.specs.View.{Stored, view_of, stored_with}
+use Rattle.serf_agent.specs.Tracks.{ConcreteTrack, view_of_track, track_observed, track_entered}
+use Rattle.serf_agent.specs.View.{ConcreteState, view_of, concrete_with}
 use Rattle.serf_agent.proofs.TrackLaws.{of_life-none, view-observed, view-entered}
 
-pub stored-eq : (new : Stored) (config : Config) (member : ℕ) (events : StoredTrack EventText) (queries : StoredTrack ℕ) (snapshot : SnapshotView) (asked : List (ℕ × OpenQuery))
-    → new.config ≡ config → new.member ≡ member → new.events ≡ events → new.queries ≡ queries → new.snapshot ≡ snapshot → new.asked ≡ asked
-    → new ≡ record { config = config; member = member; events = events; queries = queries; snapshot = snapshot; asked = asked }
-stored-eq new config member events queries snapshot asked h1 h2 h3 h4 h5 h6 = λ k. record { config = h1 k; member = h2 k; events = h3 k; queries = h4 k; snapshot = h5 k; asked = h6 k }
+pub concrete-eq : (new : ConcreteState) (config : Config) (member_clock : ℕ) (events : ConcreteTrack EventBody) (queries : ConcreteTrack ℕ) (snapshot : SnapshotView) (asked : List (ℕ × OpenQuery))
+    → new.config ≡ config → new.member_clock ≡ member_clock → new.events ≡ events → new.queries ≡ queries → new.snapshot ≡ snapshot → new.asked ≡ asked
+    → new ≡ record { config = config; member_clock = member_clock; events = events; queries = queries; snapshot = snapshot; asked = asked }
+concrete-eq new config member_clock events queries snapshot asked h1 h2 h3 h4 h5 h6 = λ k. record { config = h1 k; member_clock = h2 k; events = h3 k; queries = h4 k; snapshot = h5 k; asked = h6 k }
 
 -- an agent that has entered nothing in this life is the view of one that was restarted
-pub first-view : (i : IdealAgent) (config : Config) (text : List ℕ) (d : Device) → IsSound i → i.config ≡ config → first_stored config (opened text d) ≡ view_of (restarted (opened text d) i)
+pub first-view : (i : IdealAgent) (config : Config) (text : List ℕ) (d : Device) → IsSound i → i.config ≡ config → first_concrete config (opened text d) ≡ view_of (restarted (opened text d) i)
 first-view i config text d sound is =
     let s = opened text d in
     let events = sym (of_life-none i.life i.events.history sound.events.lives) in
@@ -33,27 +33,27 @@ first-view i config text d sound is =
     let same = sym is in
     λ k. record {
       config = same k;
-      member = s.member + 1;
-      events = record { clock = s.event + 1; minimum = s.event + 1; slots = slots_of (same k).event_buffer (events k) };
-      queries = record { clock = s.query + 1; minimum = s.query + 1; slots = slots_of (same k).query_buffer (queries k) };
+      member_clock = s.member_clock + 1;
+      events = record { clock = s.event_clock + 1; minimum = s.event_clock + 1; slots = slots_of (same k).event_buffer (events k) };
+      queries = record { clock = s.query_clock + 1; minimum = s.query_clock + 1; slots = slots_of (same k).query_buffer (queries k) };
       snapshot = s;
       asked = [];
     }
 
 -- an event's time was observed
-pub event_observed-view : (i : IdealAgent) (old : Stored) (new : StoredTrack EventText) (t : ℕ) → old ≡ view_of i → new.clock ≡ observed old.events.clock t → new.minimum ≡ old.events.minimum → new.slots ≡ old.events.slots
-    → record { config = old.config; member = old.member; events = new; queries = old.queries; snapshot = old.snapshot; asked = old.asked } ≡ view_of (event_observed t i)
+pub event_observed-view : (i : IdealAgent) (old : ConcreteState) (new : ConcreteTrack EventBody) (t : ℕ) → old ≡ view_of i → new.clock ≡ observed old.events.clock t → new.minimum ≡ old.events.minimum → new.slots ≡ old.events.slots
+    → record { config = old.config; member_clock = old.member_clock; events = new; queries = old.queries; snapshot = old.snapshot; asked = old.asked } ≡ view_of (event_observed t i)
 event_observed-view i old new t is clock minimum slots =
-    let events = view-observed i.config.event_buffer i.life i.events old.events new t (ap (λ (s : Stored). s.events) is) clock minimum slots in
-    λ k. record { config = (is k).config; member = (is k).member; events = events k; queries = (is k).queries; snapshot = (is k).snapshot; asked = (is k).asked }
+    let events = view-observed i.config.event_buffer i.life i.events old.events new t (ap (λ (s : ConcreteState). s.events) is) clock minimum slots in
+    λ k. record { config = (is k).config; member_clock = (is k).member_clock; events = events k; queries = (is k).queries; snapshot = (is k).snapshot; asked = (is k).asked }
 
 -- a query's time was observed
-pub query_observed-view : (i : IdealAgent) (old : Stored) (new : StoredTrack ℕ) (t : ℕ) → old ≡ view_of i → new.clock ≡ observed old.queries.clock t → new.minimum ≡ old.queries.minimum → new.slots ≡ old.queries.slots
-    → record { config = old.config; member = old.member; events = old.events; queries = new; snapshot = old.snapshot; asked = old.asked } ≡ view_of (query_observed t i)
+pub query_observed-view : (i : IdealAgent) (old : ConcreteState) (new : ConcreteTrack ℕ) (t : ℕ) → old ≡ view_of i → new.clock ≡ observed old.queries.clock t → new.minimum ≡ old.queries.minimum → new.slots ≡ old.queries.slots
+    → record { config = old.config; member_clock = old.member_clock; events = old.events; queries = new; snapshot = old.snapshot; asked = old.asked } ≡ view_of (query_observed t i)
 query_observed-view i old new t is clock minimum slots =
-    let queries = view-observed i.config.query_buffer i.life i.queries old.queries new t (ap (λ (s : Stored). s.queries) is) clock minimum slots in
-    λ k. record { config = (is k).config; member = (is k).member; events = (is k).events; queries = queries k; snapshot = (is k).snapshot; asked = (is k).asked }
+    let queries = view-observed i.config.query_buffer i.life i.queries old.queries new t (ap (λ (s : ConcreteState). s.queries) is) clock minimum slots in
+    λ k. record { config = (is k).config; member_clock = (is k).member_clock; events = (is k).events; queries = queries k; snapshot = (is k).snapshot; asked = (is k).asked }
 
 -- the sink failed at a note
-pub failed-view : (i : IdealAgent) (old new : Stored) (kind : ClockKind) (t : ℕ) (kept : Option (List ℕ)) → old ≡ view_of i → new ≡ stored_with (written kind t old.snapshot (Failed kept)) old → new ≡ view_of (with_snapshot (written kind t i.snapshot (Failed kept)) i)
-failed-view i old new kind t kept is failed = failed ∙ ap (λ (s : Stored). stored_with (written kind t s.snapshot (Failed kept)) s) is
+pub failed-view : (i : IdealAgent) (old new : ConcreteState) (kind : ClockKind) (t : ℕ) (durable : Option (List ℕ)) → old ≡ view_of i → new ≡ concrete_with (written kind t old.snapshot (Failed durable)) old → new ≡ view_of (with_snapshot (written kind t i.snapshot (Failed durable)) i)
+failed-view i old new kind t durable is failed = failed ∙ ap (λ (s : ConcreteState). concrete_with (written kind t s.snapshot (Failed durable)) s) is

@@ -11,7 +11,7 @@ pub record Step (R : Type 0) : Type 0 where
   pub agent : IdealAgent
   pub answer : R
 
--- A call that ends so; or one that notes a time of a kind first: where its line is kept the call ends so, and where
+-- A call that ends so; or one that notes a time of a kind first: where its line is durable the call ends so, and where
 -- the sink fails it answers this and the agent is stopped; or one that replaces the snapshot's text.
 pub data Call (R : Type 0) : Type 0 where
   Ends : Step R → Call R
@@ -26,9 +26,9 @@ answers i answer = Ends record { agent = i; answer = answer }
 abbrev pub ended : {R : Type 0} → IdealAgent → Call R → Writing → Step R
 ended i (Ends step) w = step
 ended i (Notes kind t step fault) Kept = record { agent = with_snapshot (noted kind t i.snapshot Kept) step.agent; answer = step.answer }
-ended i (Notes kind t step fault) (Failed kept) = record { agent = with_snapshot (written kind t i.snapshot (Failed kept)) i; answer = fault }
+ended i (Notes kind t step fault) (Failed durable) = record { agent = with_snapshot (written kind t i.snapshot (Failed durable)) i; answer = fault }
 ended i (Replaces step fault) Kept = record { agent = with_snapshot (compacted i.snapshot Kept) step.agent; answer = step.answer }
-ended i (Replaces step fault) (Failed kept) = record { agent = with_snapshot (compacted i.snapshot (Failed kept)) i; answer = fault }
+ended i (Replaces step fault) (Failed durable) = record { agent = with_snapshot (compacted i.snapshot (Failed durable)) i; answer = fault }
 
 -- what the sink may do at a note: nothing fails where no line is written
 abbrev pub MayNote : ClockKind → ℕ → SnapshotView → Writing → Type 0

@@ -1,7 +1,7 @@
 -- What the ideal agent does with user events (Serf's internals page, "Lamport Clocks"; `serf.go`, `UserEvent` and
 -- `handleUserEvent`).
 use Rattle.std.specs.Prelude.{ℕ, ◌+◌, ◌-◌, ◌^◌, ◌||◌, min, nat_lt, nat_le, Bool, if◌then◌else◌, length, List, Option, Some, None, Result, Ok, Err}
-use Rattle.serf_wire.specs.declared.texts.EventText.{EventText}
+use Rattle.serf_wire.specs.declared.texts.EventBody.{EventBody}
 use Rattle.serf_wire.specs.Canonical.{canonical}
 use Rattle.serf_wire.specs.Message.{UserEvent, user_event}
 use Rattle.serf_window.specs.Texts.{same_texts}
@@ -21,12 +21,12 @@ use Rattle.serf_agent.specs.Tracks.{track_reason, track_observed, track_entered}
 use Rattle.serf_agent.specs.Calls.{Call, Ends, Notes, answers}
 
 -- how many bytes an event's texts have
-abbrev pub texts_len : EventText → ℕ
+abbrev pub texts_len : EventBody → ℕ
 texts_len what = length what.name + length what.payload
 
 -- Why an event of time t is ignored; None where it is new. Oversize, a rule of this project's own, comes first:
 -- its texts have more than 9,216 bytes.
-abbrev pub admission : IdealAgent → ℕ → EventText → Option Reason
+abbrev pub admission : IdealAgent → ℕ → EventBody → Option Reason
 admission i t what =
     if nat_lt 9216 (texts_len what) then Some Oversize else
     track_reason same_texts i.config.event_buffer i.config.per_time i.life i.events t what
@@ -36,20 +36,20 @@ abbrev pub event_observed : ℕ → IdealAgent → IdealAgent
 event_observed t i = with_events (track_observed t i.events) i
 
 -- the agent once an event has entered, its clock line aside
-abbrev pub event_entered : ℕ → EventText → IdealAgent → IdealAgent
+abbrev pub event_entered : ℕ → EventBody → IdealAgent → IdealAgent
 event_entered t what i = with_events (track_entered i.life t what i.events) i
 
 -- an event that is handed out
-abbrev pub event_out : ℕ → EventText → Bool → EventOut
-event_out t what cc = record { time = t; name = what.name; payload = what.payload; cc = cc }
+abbrev pub event_out : ℕ → EventBody → Bool → EventOut
+event_out t what coalesce = record { time = t; name = what.name; payload = what.payload; coalesce = coalesce }
 
 -- An event that comes: where it is new its line is written, and then it enters and is handed out.
-abbrev pub received_as : Option Reason → IdealAgent → ℕ → EventText → Bool → Call (Result Outcome ReceiveFault)
-received_as (Some reason) i t what cc = Ends record { agent = event_observed t i; answer = Ok (Ignored reason) }
-received_as None i t what cc = Notes kinds.Event t (record { agent = event_entered t what i; answer = Ok (Event (event_out t what cc)) }) (Err SinkFault)
+abbrev pub received_as : Option Reason → IdealAgent → ℕ → EventBody → Bool → Call (Result Outcome ReceiveFault)
+received_as (Some reason) i t what coalesce = Ends record { agent = event_observed t i; answer = Ok (Ignored reason) }
+received_as None i t what coalesce = Notes kinds.Event t (record { agent = event_entered t what i; answer = Ok (Event (event_out t what coalesce)) }) (Err SinkFault)
 
-abbrev pub receive_event : IdealAgent → ℕ → EventText → Bool → Call (Result Outcome ReceiveFault)
-receive_event i t what cc = received_as (admission i t what) i t what cc
+abbrev pub receive_event : IdealAgent → ℕ → EventBody → Bool → Call (Result Outcome ReceiveFault)
+receive_event i t what coalesce = received_as (admission i t what) i t what coalesce
 
 -- the time that a clock draws; 2^64 - 1 is no time, and where the clock stands there a packet is measured with the
 -- time before it
@@ -57,28 +57,28 @@ abbrev pub drawn : ℕ → ℕ
 drawn clock = min clock (2 ^ 64 - 2)
 
 -- the packet of an event
-abbrev pub event_packet : ℕ → EventText → Bool → List ℕ
-event_packet t what cc = canonical (user_event (record { time = t; name = what.name; payload = what.payload; cc = cc }))
+abbrev pub event_packet : ℕ → EventBody → Bool → List ℕ
+event_packet t what coalesce = canonical (user_event (record { time = t; name = what.name; payload = what.payload; coalesce = coalesce }))
 
 -- whether an event is too large to be fired: its texts together, or its packet, are longer than the limit
-abbrev pub is_too_large : ℕ → ℕ → EventText → Bool → Bool
-is_too_large limit t what cc = nat_lt limit (texts_len what) || nat_lt limit (length (event_packet t what cc))
+abbrev pub is_too_large : ℕ → ℕ → EventBody → Bool → Bool
+is_too_large limit t what coalesce = nat_lt limit (texts_len what) || nat_lt limit (length (event_packet t what coalesce))
 
 -- why an event isn't fired: the first that holds
-abbrev pub fire_fault : IdealAgent → EventText → Bool → Option FireFault
-fire_fault i what cc =
+abbrev pub fire_fault : IdealAgent → EventBody → Bool → Option FireFault
+fire_fault i what coalesce =
     if i.snapshot.stopped then Some faults.Stopped else
-    if is_too_large i.config.event_limit (drawn i.events.clock) what cc then Some faults.TooLarge else
+    if is_too_large i.config.event_limit (drawn i.events.clock) what coalesce then Some faults.TooLarge else
     if nat_le (2 ^ 64 - 1) i.events.clock then Some faults.Exhausted else None
 
 -- An event that is fired: at the clock's time its line is written, and then it enters and is handed out.
-abbrev pub fired_as : Option FireFault → IdealAgent → EventText → Bool → Call (Result Fired FireFault)
-fired_as (Some fault) i what cc = answers i (Err fault)
-fired_as None i what cc =
+abbrev pub fired_as : Option FireFault → IdealAgent → EventBody → Bool → Call (Result Fired FireFault)
+fired_as (Some fault) i what coalesce = answers i (Err fault)
+fired_as None i what coalesce =
     Notes kinds.Event i.events.clock (record {
       agent = event_entered i.events.clock what i;
-      answer = Ok record { packet = event_packet i.events.clock what cc; handed = event_out i.events.clock what cc };
+      answer = Ok record { packet = event_packet i.events.clock what coalesce; handed = event_out i.events.clock what coalesce };
     }) (Err faults.SinkFault)
 
-abbrev pub fire : IdealAgent → EventText → Bool → Call (Result Fired FireFault)
-fire i what cc = fired_as (fire_fault i what cc) i what cc
+abbrev pub fire : IdealAgent → EventBody → Bool → Call (Result Fired FireFault)
+fire i what coalesce = fired_as (fire_fault i what coalesce) i what coalesce

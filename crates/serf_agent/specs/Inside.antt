@@ -1,13 +1,13 @@
 -- How an agent keeps what it stores: private to the crate.
 use Rattle.std.specs.Prelude.{◌≡◌, ℕ, ◌+◌, ◌<◌, true, List, [], length, All}
-use Rattle.serf_wire.specs.declared.texts.EventText.{EventText}
+use Rattle.serf_wire.specs.declared.texts.EventBody.{EventBody}
 use Rattle.serf_window.specs.Window.{WindowOf, slots_of}
 use Rattle.serf_agent.specs.declared.config.Config.{Config}
 use Rattle.serf_agent.specs.declared.open_query.OpenQuery.{OpenQuery}
 use Rattle.serf_agent.specs.Config.{is_sound}
 use Rattle.serf_snap.specs.Notes.{SnapshotView}
-use Rattle.serf_agent.specs.Tracks.{StoredTrack}
-use Rattle.serf_agent.specs.View.{Stored}
+use Rattle.serf_agent.specs.Tracks.{ConcreteTrack}
+use Rattle.serf_agent.specs.View.{ConcreteState}
 
 -- what a track has: its clock, its least time, and its window
 pub record TrackState (K : Type 0) : Type 0 where
@@ -15,11 +15,11 @@ pub record TrackState (K : Type 0) : Type 0 where
   pub minimum : ℕ
   pub window : WindowOf K
 
-abbrev pub stored_of : {K : Type 0} → TrackState K → StoredTrack K
-stored_of t = record { clock = t.clock; minimum = t.minimum; slots = t.window.slots }
+abbrev pub concrete_of : {K : Type 0} → TrackState K → ConcreteTrack K
+concrete_of t = record { clock = t.clock; minimum = t.minimum; slots = t.window.slots }
 
 -- an agent's parts fit its settings, and its open queries have times below its query clock
-pub record IsBuilt (config : Config) (events : TrackState EventText) (queries : TrackState ℕ) (asked : List (ℕ × OpenQuery)) : Type 0 where
+pub record IsBuilt (config : Config) (events : TrackState EventBody) (queries : TrackState ℕ) (asked : List (ℕ × OpenQuery)) : Type 0 where
   pub config_sound : is_sound config ≡ true
   pub event_size : length events.window.slots ≡ config.event_buffer
   pub event_per_time : events.window.per_time ≡ config.per_time
@@ -28,13 +28,13 @@ pub record IsBuilt (config : Config) (events : TrackState EventText) (queries : 
   pub asked_below : All (λ q. q.0 < queries.clock) asked
 
 -- what an agent stores that has entered nothing in this life, behind the last lines of a snapshot
-abbrev pub first_stored : Config → SnapshotView → Stored
-first_stored config s =
+abbrev pub first_concrete : Config → SnapshotView → ConcreteState
+first_concrete config s =
     record {
       config = config;
-      member = s.member + 1;
-      events = record { clock = s.event + 1; minimum = s.event + 1; slots = slots_of config.event_buffer [] };
-      queries = record { clock = s.query + 1; minimum = s.query + 1; slots = slots_of config.query_buffer [] };
+      member_clock = s.member_clock + 1;
+      events = record { clock = s.event_clock + 1; minimum = s.event_clock + 1; slots = slots_of config.event_buffer [] };
+      queries = record { clock = s.query_clock + 1; minimum = s.query_clock + 1; slots = slots_of config.query_buffer [] };
       snapshot = s;
       asked = [];
     }

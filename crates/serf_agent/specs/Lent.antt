@@ -28,4 +28,4 @@ response_in a = record { time = a.time; id = a.id; from = a.from.now; flags = a.
 
 -- what a lent push/pull says
 abbrev pub push_pull_in : LentPushPull → PushPull
-push_pull_in p = record { member = p.member; status = status_left p.status; left = texts_left p.left; event = p.event; slots = slots_left p.slots; query = p.query }
+push_pull_in p = record { member_clock = p.member_clock; status = status_left p.status; left = texts_left p.left; event_clock = p.event_clock; slots = slots_left p.slots; query_clock = p.query_clock }

@@ -201,18 +201,18 @@ abbrev pub has_responded : OpenQuery → List ℕ → Bool
 has_responded q name = list_any (λ a. bytes_eq a.from name) q.responses
 
 -- why an ack, or a response, of a node is ignored
-abbrev pub ack_refusal : List ℕ → OpenQuery → Option Reason
-ack_refusal from q = if not q.wants_ack then Some AckNotAsked else if has_acked q from then Some AckTwice else None
+abbrev pub ack_ignore_reason : List ℕ → OpenQuery → Option Reason
+ack_ignore_reason from q = if not q.wants_ack then Some AckNotAsked else if has_acked q from then Some AckTwice else None
 
-abbrev pub response_refusal : List ℕ → OpenQuery → Option Reason
-response_refusal from q = if has_responded q from then Some ResponseTwice else None
+abbrev pub response_ignore_reason : List ℕ → OpenQuery → Option Reason
+response_ignore_reason from q = if has_responded q from then Some ResponseTwice else None
 
 -- why an answer to an open query is ignored: the first that holds
-abbrev pub answer_refusal : ℕ → QueryResponse → OpenQuery → Option Reason
-answer_refusal now r q =
+abbrev pub answer_ignore_reason : ℕ → QueryResponse → OpenQuery → Option Reason
+answer_ignore_reason now r q =
     if not (q.id == r.id) then Some OtherId else
     if nat_lt q.deadline now then Some Closed else
-    if is_ack r then ack_refusal r.from q else response_refusal r.from q
+    if is_ack r then ack_ignore_reason r.from q else response_ignore_reason r.from q
 
 -- whether as many names are counted already as the settings allow
 abbrev pub is_full : ℕ → QueryResponse → OpenQuery → Bool
@@ -239,7 +239,7 @@ response_received_as None i r q = counts i r q
 
 abbrev pub response_received_at : Option OpenQuery → IdealAgent → ℕ → QueryResponse → Call (Result Outcome ReceiveFault)
 response_received_at None i now r = answers i (Ok (outcomes.Ignored NotOpen))
-response_received_at (Some q) i now r = response_received_as (answer_refusal now r q) i r q
+response_received_at (Some q) i now r = response_received_as (answer_ignore_reason now r q) i r q
 
 abbrev pub receive_response : IdealAgent → ℕ → QueryResponse → Call (Result Outcome ReceiveFault)
 receive_response i now r = response_received_at (asked_at r.time i.asked) i now r

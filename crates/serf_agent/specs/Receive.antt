@@ -15,10 +15,10 @@ use Rattle.serf_agent.specs.Queries.{receive_query, receive_response}
 
 -- a message that comes at a moment
 abbrev pub receive_message : IdealAgent → ℕ → Message → Call (Result Outcome ReceiveFault)
-receive_message i now (user_event e) = receive_event i e.time (event_of e.name e.payload) e.cc
+receive_message i now (user_event e) = receive_event i e.time (event_of e.name e.payload) e.coalesce
 receive_message i now (query q) = receive_query i now q
 receive_message i now (query_response r) = receive_response i now r
-receive_message i now (push_pull m) = answers i (Ok outcomes.UsePushPull)
+receive_message i now (push_pull m) = answers i (Ok outcomes.PushPull)
 receive_message i now (foreign kind) = answers i (Ok (outcomes.Foreign kind))
 
 abbrev pub receive_read : IdealAgent → ℕ → Result Message WireFault → Call (Result Outcome ReceiveFault)

@@ -15,9 +15,9 @@ restarted s i =
     record {
       config = i.config;
       life = i.life + 1;
-      member = s.member + 1;
-      events = track_reopened s.event i.events;
-      queries = track_reopened s.query i.queries;
+      member_clock = s.member_clock + 1;
+      events = track_reopened s.event_clock i.events;
+      queries = track_reopened s.query_clock i.queries;
       snapshot = s;
       asked = [];
     }
@@ -28,14 +28,14 @@ pub record IsInText (i : IdealAgent) (text : List ℕ) : Type 0 where
   pub queries : All (λ p. p.entry.time ≤ last_clock Query text) i.queries.history
 
 -- the agent before its first life, which has entered nothing
-abbrev pub unborn : Config → SnapshotView → IdealAgent
-unborn config s =
+abbrev pub unopened : Config → SnapshotView → IdealAgent
+unopened config s =
     record {
       config = config;
       life = 0;
-      member = s.member + 1;
-      events = record { clock = s.event + 1; minimum = s.event + 1; history = [] };
-      queries = record { clock = s.query + 1; minimum = s.query + 1; history = [] };
+      member_clock = s.member_clock + 1;
+      events = record { clock = s.event_clock + 1; minimum = s.event_clock + 1; history = [] };
+      queries = record { clock = s.query_clock + 1; minimum = s.query_clock + 1; history = [] };
       snapshot = s;
       asked = [];
     }

@@ -15,11 +15,11 @@ pub record IsSound (i : IdealAgent) : Type 0 where
   -- its settings are within their bounds
   pub config : is_sound i.config ≡ true
   -- the member clock is a u64
-  pub member : i.member ≤ 2 ^ 64 - 1
-  pub events : IsTrackSound i.events i.life i.snapshot.event
-  pub queries : IsTrackSound i.queries i.life i.snapshot.query
+  pub member_clock : i.member_clock ≤ 2 ^ 64 - 1
+  pub events : IsTrackSound i.events i.life i.snapshot.event_clock
+  pub queries : IsTrackSound i.queries i.life i.snapshot.query_clock
   -- each event's texts are short
-  pub short : All (λ p. length p.entry.what.name + length p.entry.what.payload ≤ 9216) i.events.history
+  pub short : All (λ p. length p.entry.key.name + length p.entry.key.payload ≤ 9216) i.events.history
   -- what the sink keeps has the last lines
   pub snapshot : IsSnapshotSound i.snapshot
   -- the open queries have distinct times, each below the query clock

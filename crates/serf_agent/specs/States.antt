@@ -2,11 +2,11 @@
 -- `delegate.go`, `LocalState` and `MergeRemoteState`), with its member clock's line, and with a compaction.
 use Rattle.std.specs.Prelude.{◌≡◌, ℕ, ◌-◌, ◌&&◌, max, Bool, false, if◌then◌else◌, List, [], ◌∷◌, ◌++◌, ◌⊎◌, map, Option, Some, None, Result, Ok, Err}
 use Rattle.serf_wire.specs.declared.fault.WireFault.{WireFault}
-use Rattle.serf_wire.specs.declared.texts.EventText.{EventText}
+use Rattle.serf_wire.specs.declared.texts.EventBody.{EventBody}
 use Rattle.serf_wire.specs.Canonical.{canonical, has_long}
 use Rattle.serf_wire.specs.Message.{Message, PushPull, user_event, query, query_response, push_pull, foreign}
 use Rattle.serf_wire.specs.Slots.{SlotContent, empty, held}
-use Rattle.serf_window.specs.Window.{Timed, SlotOf}
+use Rattle.serf_window.specs.Window.{TimedEntry, SlotOf}
 use Rattle.serf_snap.specs.declared.kind.ClockKind.TheVariants as kinds
 use Rattle.serf_snap.specs.declared.snapshot.NoteFault.{NoteFault}
 use Rattle.serf_snap.specs.declared.snapshot.NoteFault.TheVariants as notes
@@ -26,21 +26,21 @@ use Rattle.serf_agent.specs.Calls.{Call, Notes, Replaces, Step, MayEnd, AsksSink
 use Rattle.serf_agent.specs.Events.{receive_event}
 use Rattle.serf_agent.specs.Sound.{IsSound}
 use Rattle.serf_agent.specs.Steps.{Steps}
-use Rattle.serf_agent.specs.View.{Stored, view_of}
+use Rattle.serf_agent.specs.View.{ConcreteState, view_of}
 
 -- Sending
 
 -- a slot as a push/pull carries it
-abbrev pub slot_sent : SlotOf EventText → SlotContent
+abbrev pub slot_sent : SlotOf EventBody → SlotContent
 slot_sent s = held s.time s.held
 
 -- the whole state of an agent that stores this, with these status times and members that left
-abbrev pub state_of : Stored → List (List ℕ × ℕ) → List (List ℕ) → PushPull
+abbrev pub state_of : ConcreteState → List (List ℕ × ℕ) → List (List ℕ) → PushPull
 state_of a status left =
-    record { member = a.member; status = status; left = left; event = a.events.clock; slots = map slot_sent a.events.slots; query = a.queries.clock }
+    record { member_clock = a.member_clock; status = status; left = left; event_clock = a.events.clock; slots = map slot_sent a.events.slots; query_clock = a.queries.clock }
 
 -- what an agent sends of itself: nothing changes
-abbrev pub send_state : Stored → List (List ℕ × ℕ) → List (List ℕ) → Result (List ℕ) PushPullFault
+abbrev pub send_state : ConcreteState → List (List ℕ × ℕ) → List (List ℕ) → Result (List ℕ) PushPullFault
 send_state a status left =
     if a.snapshot.stopped then Err states.Stopped else
     if has_long (push_pull (state_of a status left)) then Err states.TooLong else
@@ -55,62 +55,62 @@ joined m is_join i =
     record {
       config = i.config;
       life = i.life;
-      member = max i.member m.member;
-      events = track_raised m.event (if is_join && i.config.ignore_old then m.event else 0) i.events;
-      queries = track_raised m.query 0 i.queries;
+      member_clock = max i.member_clock m.member_clock;
+      events = track_raised m.event_clock (if is_join && i.config.ignore_old then m.event_clock else 0) i.events;
+      queries = track_raised m.query_clock 0 i.queries;
       snapshot = i.snapshot;
       asked = i.asked;
     }
 
 -- the events of a time, of a slot, and of slots, in order
-abbrev pub at_time : ℕ → List EventText → List (Timed EventText)
-at_time t events = map (λ e. record { time = t; what = e }) events
+abbrev pub at_time : ℕ → List EventBody → List (TimedEntry EventBody)
+at_time t events = map (λ e. record { time = t; key = e }) events
 
-abbrev pub events_of_slot : SlotContent → List (Timed EventText)
+abbrev pub events_of_slot : SlotContent → List (TimedEntry EventBody)
 events_of_slot empty = []
 events_of_slot (held t events) = at_time t events
 
-abbrev pub events_of : List SlotContent → List (Timed EventText)
+abbrev pub events_of : List SlotContent → List (TimedEntry EventBody)
 events_of [] = []
 events_of (s ∷ ss) = events_of_slot s ++ events_of ss
 
 -- an event of a push/pull is received as one that comes alone, and is never said to be coalescable
-abbrev pub receive_one : IdealAgent → Timed EventText → Call (Result Outcome ReceiveFault)
-receive_one i e = receive_event i e.time e.what false
+abbrev pub receive_one : IdealAgent → TimedEntry EventBody → Call (Result Outcome ReceiveFault)
+receive_one i e = receive_event i e.time e.key false
 
 -- what an answer hands out
 abbrev pub handed_by : Result Outcome ReceiveFault → List EventOut
 handed_by (Ok (Event out)) = out ∷ []
 handed_by _ = []
 
--- the agent once it has received an event whose line is kept, if it has one, and what that hands out
-abbrev pub taken : IdealAgent → Timed EventText → IdealAgent
-taken i e = (ended i (receive_one i e) Kept).agent
+-- the agent once it has received an event whose line is durable, if it has one, and what that hands out
+abbrev pub after_event : IdealAgent → TimedEntry EventBody → IdealAgent
+after_event i e = (ended i (receive_one i e) Kept).agent
 
-abbrev pub gained : IdealAgent → Timed EventText → List EventOut
-gained i e = handed_by (ended i (receive_one i e) Kept).answer
+abbrev pub delivered : IdealAgent → TimedEntry EventBody → List EventOut
+delivered i e = handed_by (ended i (receive_one i e) Kept).answer
 
 -- How a list of events ends at one of them: for want of memory where it is new, the agent unchanged; or with a line
 -- that failed.
-abbrev pub EndsAt : IdealAgent → Timed EventText → Stored → MergeFault → Type 0
+abbrev pub EndsAt : IdealAgent → TimedEntry EventBody → ConcreteState → MergeFault → Type 0
 EndsAt i e new merges.OutOfMemory = AsksSink (receive_one i e) × (new ≡ view_of i) × IsSound i
 EndsAt i e new merges.SinkFault = Steps i (receive_one i e) (Err SinkFault) new
 EndsAt i e new _ = ⊥
 
--- Events are received one after another, and hand out just what is gained. Where none is left, all were received. Else
--- the first is received, its line is kept if it has one, and the others follow; or it ends at the first, and hands out no
--- more.
-abbrev pub Receives : IdealAgent → List (Timed EventText) → List EventOut → Stored → Option MergeFault → Type 0
-Receives i [] gains new fault = (gains ≡ []) × (new ≡ view_of i) × IsSound i × (fault ≡ None)
-Receives i (e ∷ es) gains new fault =
-    (MayEnd i (receive_one i e) Kept × ((rest : List EventOut) × (gains ≡ gained i e ++ rest) × Receives (taken i e) es rest new fault))
-    ⊎ ((gains ≡ []) × ((f : MergeFault) × (fault ≡ Some f) × EndsAt i e new f))
+-- Events are received one after another, and hand out just what is delivered. Where none is left, all were received.
+-- Else the first is received, its line is durable if it has one, and the others follow; or it ends at the first, and
+-- hands out no more.
+abbrev pub Receives : IdealAgent → List (TimedEntry EventBody) → List EventOut → ConcreteState → Option MergeFault → Type 0
+Receives i [] deliveries new fault = (deliveries ≡ []) × (new ≡ view_of i) × IsSound i × (fault ≡ None)
+Receives i (e ∷ es) deliveries new fault =
+    (MayEnd i (receive_one i e) Kept × ((rest : List EventOut) × (deliveries ≡ delivered i e ++ rest) × Receives (after_event i e) es rest new fault))
+    ⊎ ((deliveries ≡ []) × ((f : MergeFault) × (fault ≡ Some f) × EndsAt i e new f))
 
 -- A push/pull was merged: its clocks were heard of, and its events were received.
-pub record Merges (i : IdealAgent) (m : PushPull) (is_join : Bool) (before after : List EventOut) (new : Stored) (fault : Option MergeFault) : Type 0 where
-  pub gains : List EventOut
-  pub out : after ≡ before ++ gains
-  pub receives : Receives (joined m is_join i) (events_of m.slots) gains new fault
+pub record Merges (i : IdealAgent) (m : PushPull) (is_join : Bool) (before after : List EventOut) (new : ConcreteState) (fault : Option MergeFault) : Type 0 where
+  pub deliveries : List EventOut
+  pub out : after ≡ before ++ deliveries
+  pub receives : Receives (joined m is_join i) (events_of m.slots) deliveries new fault
 
 -- the fault of a result, if it is one
 abbrev pub fault_in : {R E : Type 0} → Result R E → Option E
@@ -118,7 +118,7 @@ fault_in (Ok x) = None
 fault_in (Err e) = Some e
 
 -- why a packet isn't merged: the first that holds
-abbrev pub merge_refusal : Stored → Result Message WireFault → Option MergeFault
+abbrev pub merge_refusal : ConcreteState → Result Message WireFault → Option MergeFault
 merge_refusal a (Err f) = if a.snapshot.stopped then Some merges.Stopped else Some (merges.Wire f)
 merge_refusal a (Ok (push_pull m)) = if a.snapshot.stopped then Some merges.Stopped else None
 merge_refusal a (Ok m) = if a.snapshot.stopped then Some merges.Stopped else Some merges.NotPushPull
@@ -127,7 +127,7 @@ merge_refusal a (Ok m) = if a.snapshot.stopped then Some merges.Stopped else Som
 
 -- the member clock's last time is noted
 abbrev pub save : IdealAgent → Call (Result (Unit {0}) NoteFault)
-save i = if i.snapshot.stopped then answers i (Err notes.Stopped) else Notes kinds.Member (i.member - 1) (record { agent = i; answer = Ok tt }) (Err notes.SinkFault)
+save i = if i.snapshot.stopped then answers i (Err notes.Stopped) else Notes kinds.Member (i.member_clock - 1) (record { agent = i; answer = Ok tt }) (Err notes.SinkFault)
 
 -- the snapshot's text is replaced by its last lines
 abbrev pub compact : IdealAgent → Call (Result (Unit {0}) NoteFault)

@@ -3,18 +3,18 @@
 use Rattle.std.specs.Prelude.{◌≡◌, ◌≢◌, ℕ, ◌+◌, ◌<◌, ◌≤◌, ◌==◌, ◌&&◌, max, nat_lt, nat_le, Bool, if◌then◌else◌, List, [], ◌∷◌, ◌++◌, map, filter, Option, Some, None, All, AllPairs}
 use Rattle.std.specs.List.{list_any}
 use Rattle.serf_lamport.specs.Clock.{observed}
-use Rattle.serf_window.specs.Window.{Timed, SlotOf, count_at, slots_of}
+use Rattle.serf_window.specs.Window.{TimedEntry, SlotOf, count_at, slots_of}
 use Rattle.serf_agent.specs.declared.outcome.Reason.{Reason}
 use Rattle.serf_agent.specs.declared.outcome.Reason.TheVariants.{BelowMinimum, TooOld, Seen, TimeFull}
 use Rattle.serf_agent.specs.Ideal.{Past, Track}
 
 -- what was entered in a life, in order
-abbrev pub of_life : {K : Type 0} → ℕ → List (Past K) → List (Timed K)
+abbrev pub of_life : {K : Type 0} → ℕ → List (Past K) → List (TimedEntry K)
 of_life life history = map (λ p. p.entry) (filter (λ p. p.life == life) history)
 
 -- whether this was entered at this time, in any life
 abbrev pub was_ever_entered : {K : Type 0} → (K → K → Bool) → List (Past K) → ℕ → K → Bool
-was_ever_entered same history t what = list_any (λ p. (p.entry.time == t) && same p.entry.what what) history
+was_ever_entered same history t what = list_any (λ p. (p.entry.time == t) && same p.entry.key what) history
 
 -- Why what comes with the time t is ignored, where it is: n is the buffer's size, k the number of entries of one
 -- time at most. The first that holds of:
@@ -39,7 +39,7 @@ track_entered life t what track =
     record {
       clock = observed track.clock t;
       minimum = track.minimum;
-      history = track.history ++ record { life = life; entry = record { time = t; what = what } } ∷ [];
+      history = track.history ++ record { life = life; entry = record { time = t; key = what } } ∷ [];
     }
 
 -- after another agent's clock and minimum were heard of: neither falls
@@ -51,12 +51,12 @@ abbrev pub track_reopened : {K : Type 0} → ℕ → Track K → Track K
 track_reopened value track = record { clock = value + 1; minimum = value + 1; history = track.history }
 
 -- What an agent stores of its events, or of its queries: of its history the slots of this life alone.
-pub record StoredTrack (K : Type 0) : Type 0 where
+pub record ConcreteTrack (K : Type 0) : Type 0 where
   pub clock : ℕ
   pub minimum : ℕ
   pub slots : List (SlotOf K)
 
-abbrev pub view_of_track : {K : Type 0} → ℕ → ℕ → Track K → StoredTrack K
+abbrev pub view_of_track : {K : Type 0} → ℕ → ℕ → Track K → ConcreteTrack K
 view_of_track n life track = record { clock = track.clock; minimum = track.minimum; slots = slots_of n (of_life life track.history) }
 
 -- What is true of the events, or of the queries, of every ideal agent in a life, where the last clock line of their

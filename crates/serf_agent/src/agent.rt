@@ -7,7 +7,7 @@ ghost use Rattle.serf_snap.specs.Notes.{opened, opened_device};
 ghost use Rattle.serf_window.specs.Window.{slots_of};
 ghost use Rattle.serf_agent.specs.Config.{is_sound};
 ghost use Rattle.serf_agent.specs.Ideal.{IdealAgent};
-ghost use Rattle.serf_agent.specs.Inside.{first_stored, stored_of};
+ghost use Rattle.serf_agent.specs.Inside.{first_concrete, concrete_of};
 ghost use Rattle.serf_agent.specs.Restart.{IsInText, restarted};
 ghost use Rattle.serf_agent.specs.Sound.{IsSound};
 ghost use Rattle.serf_agent.specs.View.{view_of};
@@ -26,7 +26,7 @@ use std::marker::Model;
 #[derive(Drop)]
 pub struct Agent<S: Sink> {
     pub(crate) config: Config,
-    pub(crate) member: Clock,
+    pub(crate) member_clock: Clock,
     pub(crate) events: EventTrack,
     pub(crate) queries: QueryTrack,
     pub(crate) asked: Asked,
@@ -38,10 +38,10 @@ impl<S: Sink> Model for Agent<S> {
 
     ghost Value = { AgentState };
 
-    ghost use Rattle.serf_agent.specs.Inside.{IsBuilt, stored_of};
+    ghost use Rattle.serf_agent.specs.Inside.{IsBuilt, concrete_of};
 
     ghost view = { λ a. record {
-      stored = record { config = a.config; member = a.member; events = stored_of a.events; queries = stored_of a.queries; snapshot = a.snapshot.snapshot; asked = a.asked };
+      concrete = record { config = a.config; member_clock = a.member_clock; events = concrete_of a.events; queries = concrete_of a.queries; snapshot = a.snapshot.snapshot; asked = a.asked };
       device = a.snapshot.device;
     } };
 
@@ -51,9 +51,9 @@ impl<S: Sink> Model for Agent<S> {
 /// Two tracks that have nothing.
 fn new_tracks(alloc: Global, config: &Config) -> Result<(EventTrack, QueryTrack), AllocError>
     requires { is_sound config.now ≡ true }
-    ensures events { IfOk result (λ t. stored_of t.0 ≡ record { clock = 1; minimum = 1; slots = slots_of config.now.event_buffer [] }) }
+    ensures events { IfOk result (λ t. concrete_of t.0 ≡ record { clock = 1; minimum = 1; slots = slots_of config.now.event_buffer [] }) }
     ensures event_per_time { IfOk result (λ t. t.0.window.per_time ≡ config.now.per_time) }
-    ensures queries { IfOk result (λ t. stored_of t.1 ≡ record { clock = 1; minimum = 1; slots = slots_of config.now.query_buffer [] }) }
+    ensures queries { IfOk result (λ t. concrete_of t.1 ≡ record { clock = 1; minimum = 1; slots = slots_of config.now.query_buffer [] }) }
     ensures query_per_time { IfOk result (λ t. t.1.window.per_time ≡ config.now.per_time) }
 {
     let events = EventTrack::new(alloc, config.event_buffer, config.per_time)?;
@@ -85,7 +85,7 @@ impl<S: Sink> Agent<S> {
 
         // For each agent whose times the text has, it is that agent in its next life.
         ensures restarted { (i : IdealAgent) → IsSound i → i.config ≡ config → IsInText i text.now
-            → IfOk result (λ a. (a.stored ≡ view_of (restarted (opened text.now (S.device sink)) i)) × IsSound (restarted (opened text.now (S.device sink)) i)) }
+            → IfOk result (λ a. (a.concrete ≡ view_of (restarted (opened text.now (S.device sink)) i)) × IsSound (restarted (opened text.now (S.device sink)) i)) }
         ensures device { IfOk result (λ a. a.device ≡ opened_device text.now (S.device sink)) }
         ensures ok { OnOk result (is_sound config ≡ true) }
 
@@ -136,24 +136,24 @@ impl<S: Sink> Agent<S> {
         snapshot: Snapshot<S>,
     ) -> Self
         requires config_sound { is_sound config ≡ true }
-        requires events { stored_of events ≡ record { clock = 1; minimum = 1; slots = slots_of config.event_buffer [] } }
+        requires events { concrete_of events ≡ record { clock = 1; minimum = 1; slots = slots_of config.event_buffer [] } }
         requires event_per_time { events.window.per_time ≡ config.per_time }
-        requires queries { stored_of queries ≡ record { clock = 1; minimum = 1; slots = slots_of config.query_buffer [] } }
+        requires queries { concrete_of queries ≡ record { clock = 1; minimum = 1; slots = slots_of config.query_buffer [] } }
         requires query_per_time { queries.window.per_time ≡ config.per_time }
 
-        ensures stored { result.stored ≡ first_stored config snapshot.snapshot }
+        ensures concrete { result.concrete ≡ first_concrete config snapshot.snapshot }
         ensures device { result.device ≡ snapshot.device }
     {
         let last = snapshot.clocks();
-        let mut member = Clock::new();
-        member.observe_before(last.member + 1);
+        let mut member_clock = Clock::new();
+        member_clock.observe_before(last.member_clock + 1);
         let mut events = events;
-        events.raise(last.event + 1, last.event + 1);
+        events.raise(last.event_clock + 1, last.event_clock + 1);
         let mut queries = queries;
-        queries.raise(last.query + 1, last.query + 1);
+        queries.raise(last.query_clock + 1, last.query_clock + 1);
         Agent {
             config,
-            member,
+            member_clock,
             events,
             queries,
             asked: Asked::new(alloc),

@@ -2,12 +2,12 @@
 
 ghost use Rattle.std.specs.Prelude.{◌≡◌, ℕ, ◌<◌, ◌≤◌, ◌+◌, ◌-◌, ◌^◌, List, [], ◌∷◌, ◌++◌, max, min, map, length, OnOk, OnErr, IfOk, IfSome, SomeIff};
 ghost use Rattle.serf_lamport.specs.Clock.{observed};
-ghost use Rattle.serf_wire.specs.declared.texts.EventText.{EventText};
-ghost use Rattle.serf_window.specs.Texts.{event_of, same_texts, shown};
-ghost use Rattle.serf_window.specs.Window.{Timed, count_in, room_for, slots_of, time_in};
+ghost use Rattle.serf_wire.specs.declared.texts.EventBody.{EventBody};
+ghost use Rattle.serf_window.specs.Texts.{event_of, same_texts, slot_view};
+ghost use Rattle.serf_window.specs.Window.{TimedEntry, count_in, room_for, slots_of, time_in};
 ghost use Rattle.serf_agent.specs.Events.{drawn};
 ghost use Rattle.serf_agent.specs.Ideal.{Track};
-ghost use Rattle.serf_agent.specs.Inside.{stored_of};
+ghost use Rattle.serf_agent.specs.Inside.{concrete_of};
 ghost use Rattle.serf_agent.specs.Tracks.{IsTrackSound, track_reason, view_of_track};
 
 use crate::outcome::Reason;
@@ -27,10 +27,10 @@ pub(crate) struct EventTrack {
 }
 
 impl Model for EventTrack {
-    ghost use Rattle.serf_wire.specs.declared.texts.EventText.{EventText};
+    ghost use Rattle.serf_wire.specs.declared.texts.EventBody.{EventBody};
     ghost use Rattle.serf_agent.specs.Inside.{TrackState};
 
-    ghost Value = { TrackState EventText };
+    ghost Value = { TrackState EventBody };
 
     ghost use Rattle.serf_window.specs.Window.{TimesBelow};
 
@@ -43,14 +43,18 @@ impl Model for EventTrack {
 
 impl EventTrack {
     /// A track that has nothing, and draws the time 1 first.
-    pub(crate) fn new(alloc: Global, n: u64, k: u64) -> Result<EventTrack, AllocError>
-        requires { 0 < k }
+    pub(crate) fn new(
+        alloc: Global,
+        slot_count: u64,
+        per_time: u64,
+    ) -> Result<EventTrack, AllocError>
+        requires { 0 < per_time }
         ensures clock { IfOk result (λ t. t.clock ≡ 1) }
         ensures minimum { IfOk result (λ t. t.minimum ≡ 1) }
-        ensures slots { IfOk result (λ t. t.window.slots ≡ slots_of n []) }
-        ensures per_time { IfOk result (λ t. t.window.per_time ≡ k) }
+        ensures slots { IfOk result (λ t. t.window.slots ≡ slots_of slot_count []) }
+        ensures per_time { IfOk result (λ t. t.window.per_time ≡ per_time) }
     {
-        let Ok(window) = EventWindow::new(alloc, n, k) else {
+        let Ok(window) = EventWindow::new(alloc, slot_count, per_time) else {
             return Err(AllocError);
         };
         Ok(EventTrack {
@@ -73,7 +77,7 @@ impl EventTrack {
     }
 
     pub(crate) fn slots(&self) -> &[Slot]
-        ensures { map shown result.now ≡ self.now.window.slots }
+        ensures { map slot_view result.now ≡ self.now.window.slots }
     {
         self.window.slots()
     }
@@ -99,7 +103,7 @@ impl EventTrack {
 
     /// Why an event is ignored, if it is, its size aside.
     pub(crate) fn reason(&self, time: Time, name: &[u8], payload: &[u8]) -> Option<Reason>
-        ensures reason { (track : Track EventText) (n life last : ℕ) → IsTrackSound track life last → stored_of self.now ≡ view_of_track n life track
+        ensures reason { (track : Track EventBody) (n life last : ℕ) → IsTrackSound track life last → concrete_of self.now ≡ view_of_track n life track
             → result ≡ track_reason same_texts n self.now.window.per_time life track time (event_of name.now payload.now) }
         ensures not_later { result ≡ None → time_in self.now.window.slots time ≤ time }
         ensures not_full { result ≡ None → count_in self.now.window.slots time < self.now.window.per_time }
@@ -138,9 +142,9 @@ impl EventTrack {
         name: &[u8],
         payload: &[u8],
     ) -> Result<Entry, AllocError>
-        ensures entry { IfOk result (λ entry. entry ≡ record { time = time; what = event_of name.now payload.now }) }
+        ensures entry { IfOk result (λ entry. entry ≡ record { time = time; key = event_of name.now payload.now }) }
         ensures room { OnOk result (0 < room_for self.new.window time) }
-        ensures stored { stored_of self.new ≡ stored_of self.old }
+        ensures concrete { concrete_of self.new ≡ concrete_of self.old }
         ensures per_time { self.new.window.per_time ≡ self.old.window.per_time }
     {
         self.window.prepare(alloc, time, name, payload)
@@ -152,7 +156,7 @@ impl EventTrack {
         requires room { 0 < room_for self.old.window time }
         requires not_later { time_in self.old.window.slots time ≤ time }
         requires not_full { count_in self.old.window.slots time < self.old.window.per_time }
-        ensures slots { (entries : List (Timed EventText)) → self.old.window.slots ≡ slots_of (length self.old.window.slots) entries
+        ensures slots { (entries : List (TimedEntry EventBody)) → self.old.window.slots ≡ slots_of (length self.old.window.slots) entries
             → self.new.window.slots ≡ slots_of (length self.old.window.slots) (entries ++ entry ∷ []) }
         ensures clock { self.new.clock ≡ observed self.old.clock time }
         ensures minimum { self.new.minimum ≡ self.old.minimum }

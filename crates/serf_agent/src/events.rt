@@ -13,7 +13,7 @@ ghost use Rattle.serf_agent.specs.Events.{admission, drawn, event_entered, event
 ghost use Rattle.serf_agent.specs.Ideal.{IdealAgent, with_snapshot};
 ghost use Rattle.serf_agent.specs.Sound.{IsSound};
 ghost use Rattle.serf_agent.specs.Steps.{Steps};
-ghost use Rattle.serf_agent.specs.View.{stored_with, view_of};
+ghost use Rattle.serf_agent.specs.View.{concrete_with, view_of};
 
 use crate::agent::Agent;
 use crate::outcome::{EventOut, FireFault, Fired, LineFault, Outcome, Reason, ReceiveFault};
@@ -31,15 +31,15 @@ fn handed_out(
     time: Time,
     name: &[u8],
     payload: &[u8],
-    cc: bool,
+    coalesce: bool,
 ) -> Result<EventOut, AllocError>
-    ensures { IfOk result (λ out. out ≡ event_out time (event_of name.now payload.now) cc) }
+    ensures { IfOk result (λ out. out ≡ event_out time (event_of name.now payload.now) coalesce) }
 {
     Ok(EventOut {
         time,
         name: Bytes::copy_of(alloc, name)?,
         payload: Bytes::copy_of(alloc, payload)?,
-        cc,
+        coalesce,
     })
 }
 
@@ -49,12 +49,12 @@ fn packet_of(
     time: Time,
     name: &[u8],
     payload: &[u8],
-    cc: bool,
+    coalesce: bool,
 ) -> Result<Bytes, AllocError>
     requires { length name.now + length payload.now ≤ 9216 }
-    ensures { IfOk result (λ packet. packet ≡ event_packet time (event_of name.now payload.now) cc) }
+    ensures { IfOk result (λ packet. packet ≡ event_packet time (event_of name.now payload.now) coalesce) }
 {
-    match encode_user_event(alloc, time, name, payload, cc) {
+    match encode_user_event(alloc, time, name, payload, coalesce) {
         Ok(packet) => Ok(Bytes::from_vec(packet)),
         Err(EncodeFault::TooLong) => unreachable!(),
         Err(EncodeFault::OutOfMemory) => Err(AllocError),
@@ -62,17 +62,17 @@ fn packet_of(
 }
 
 /// Whether an event is too large to be fired under a limit.
-fn is_too_large(limit: u64, time: Time, name: &[u8], payload: &[u8], cc: bool) -> bool
-    ensures { result ≡ is_too_large limit time (event_of name.now payload.now) cc }
+fn is_too_large(limit: u64, time: Time, name: &[u8], payload: &[u8], coalesce: bool) -> bool
+    ensures { result ≡ is_too_large limit time (event_of name.now payload.now) coalesce }
 {
     let limit = limit as u128;
     name.len() as u128 + payload.len() as u128 > limit
-        || user_event_len(time, name, payload, cc) > limit
+        || user_event_len(time, name, payload, coalesce) > limit
 }
 
 impl<S: Sink> Agent<S> {
-    /// Fires an event at the event clock's time: its clock line is kept, it enters the buffer and is handed out here, and
-    /// its packet is to be sent (Serf's `serf.go`, `UserEvent`).
+    /// Fires an event at the event clock's time: its clock line is durable, it enters the buffer and is handed out
+    /// here, and its packet is to be sent (Serf's `serf.go`, `UserEvent`).
     ///
     /// Of the refusals the first that holds is answered. All of them leave the agent as it was, but that `SinkFault` stops
     /// it.
@@ -81,13 +81,13 @@ impl<S: Sink> Agent<S> {
         alloc: Global,
         name: &[u8],
         payload: &[u8],
-        cc: bool,
+        coalesce: bool,
     ) -> Result<Fired, FireFault>
-        ensures step { (i : IdealAgent) → IsSound i → self.old.stored ≡ view_of i → result ≢ Err FireFault.OutOfMemory
-            → Steps i (fire i (event_of name.now payload.now) cc) result self.new.stored }
+        ensures step { (i : IdealAgent) → IsSound i → self.old.concrete ≡ view_of i → result ≢ Err FireFault.OutOfMemory
+            → Steps i (fire i (event_of name.now payload.now) coalesce) result self.new.concrete }
 
         // Memory is wanted only where the event is fired, and its want changes nothing.
-        ensures only_fired { (i : IdealAgent) → IsSound i → self.old.stored ≡ view_of i → IsErrOf result FireFault.OutOfMemory → AsksSink (fire i (event_of name.now payload.now) cc) }
+        ensures only_fired { (i : IdealAgent) → IsSound i → self.old.concrete ≡ view_of i → IsErrOf result FireFault.OutOfMemory → AsksSink (fire i (event_of name.now payload.now) coalesce) }
         ensures memory { IsErrOf result FireFault.OutOfMemory → self.new ≡ self.old }
         ensures cause { IsErrOf result FireFault.SinkFault → HasFailed self.old.device.failures self.new.device.failures }
     {
@@ -95,16 +95,16 @@ impl<S: Sink> Agent<S> {
             return Err(FireFault::Stopped);
         }
         let measured = self.events.measured();
-        if is_too_large(self.config.event_limit, measured, name, payload, cc) {
+        if is_too_large(self.config.event_limit, measured, name, payload, coalesce) {
             return Err(FireFault::TooLarge);
         }
         let Some(time) = self.events.next_time() else {
             return Err(FireFault::Exhausted);
         };
-        let Ok(packet) = packet_of(alloc, time, name, payload, cc) else {
+        let Ok(packet) = packet_of(alloc, time, name, payload, coalesce) else {
             return Err(FireFault::OutOfMemory);
         };
-        match self.take_in(alloc, time, name, payload, cc) {
+        match self.take_in(alloc, time, name, payload, coalesce) {
             Ok(handed) => Ok(Fired { packet, handed }),
             Err(LineFault::OutOfMemory) => Err(FireFault::OutOfMemory),
             Err(LineFault::SinkFault) => Err(FireFault::SinkFault),
@@ -113,9 +113,9 @@ impl<S: Sink> Agent<S> {
 
     /// Why an event is ignored, if it is. Takes no memory.
     pub(crate) fn admission(&self, time: Time, name: &[u8], payload: &[u8]) -> Option<Reason>
-        ensures reason { (i : IdealAgent) → IsSound i → self.now.stored ≡ view_of i → result ≡ admission i time (event_of name.now payload.now) }
-        ensures not_later { result ≡ None → time_in self.now.stored.events.slots time ≤ time }
-        ensures not_full { result ≡ None → count_in self.now.stored.events.slots time < self.now.stored.config.per_time }
+        ensures reason { (i : IdealAgent) → IsSound i → self.now.concrete ≡ view_of i → result ≡ admission i time (event_of name.now payload.now) }
+        ensures not_later { result ≡ None → time_in self.now.concrete.events.slots time ≤ time }
+        ensures not_full { result ≡ None → count_in self.now.concrete.events.slots time < self.now.concrete.config.per_time }
         ensures small { result ≡ None → time < 2 ^ 64 - 1 }
     {
         if name.len() > LONGEST_TEXTS || payload.len() > LONGEST_TEXTS - name.len() {
@@ -131,12 +131,12 @@ impl<S: Sink> Agent<S> {
         time: Time,
         name: &[u8],
         payload: &[u8],
-        cc: bool,
+        coalesce: bool,
     ) -> Result<Outcome, ReceiveFault>
-        requires { self.old.stored.snapshot.stopped ≡ false }
-        ensures step { (i : IdealAgent) → IsSound i → self.old.stored ≡ view_of i → result ≢ Err ReceiveFault.OutOfMemory
-            → Steps i (receive_event i time (event_of name.now payload.now) cc) result self.new.stored }
-        ensures only_new { (i : IdealAgent) → IsSound i → self.old.stored ≡ view_of i → IsErrOf result ReceiveFault.OutOfMemory → AsksSink (receive_event i time (event_of name.now payload.now) cc) }
+        requires { self.old.concrete.snapshot.stopped ≡ false }
+        ensures step { (i : IdealAgent) → IsSound i → self.old.concrete ≡ view_of i → result ≢ Err ReceiveFault.OutOfMemory
+            → Steps i (receive_event i time (event_of name.now payload.now) coalesce) result self.new.concrete }
+        ensures only_new { (i : IdealAgent) → IsSound i → self.old.concrete ≡ view_of i → IsErrOf result ReceiveFault.OutOfMemory → AsksSink (receive_event i time (event_of name.now payload.now) coalesce) }
         ensures memory { IsErrOf result ReceiveFault.OutOfMemory → self.new ≡ self.old }
         ensures cause { IsErrOf result ReceiveFault.SinkFault → HasFailed self.old.device.failures self.new.device.failures }
     {
@@ -145,7 +145,7 @@ impl<S: Sink> Agent<S> {
                 self.events.observe(time);
                 Ok(Outcome::Ignored(reason))
             }
-            None => match self.take_in(alloc, time, name, payload, cc) {
+            None => match self.take_in(alloc, time, name, payload, coalesce) {
                 Ok(handed) => Ok(Outcome::Event(handed)),
                 Err(LineFault::OutOfMemory) => Err(ReceiveFault::OutOfMemory),
                 Err(LineFault::SinkFault) => Err(ReceiveFault::SinkFault),
@@ -153,32 +153,32 @@ impl<S: Sink> Agent<S> {
         }
     }
 
-    /// Takes in an event, once its line is kept.
+    /// Takes in an event, once its line is durable.
     pub(crate) fn take_in(
         &mut self,
         alloc: Global,
         time: Time,
         name: &[u8],
         payload: &[u8],
-        cc: bool,
+        coalesce: bool,
     ) -> Result<EventOut, LineFault>
-        requires runs { self.old.stored.snapshot.stopped ≡ false }
-        requires not_later { time_in self.old.stored.events.slots time ≤ time }
-        requires not_full { count_in self.old.stored.events.slots time < self.old.stored.config.per_time }
+        requires runs { self.old.concrete.snapshot.stopped ≡ false }
+        requires not_later { time_in self.old.concrete.events.slots time ≤ time }
+        requires not_full { count_in self.old.concrete.events.slots time < self.old.concrete.config.per_time }
 
-        ensures out { IfOk result (λ out. out ≡ event_out time (event_of name.now payload.now) cc) }
-        ensures entered { OnOk result ((i : IdealAgent) → self.old.stored ≡ view_of i
-            → self.new.stored ≡ view_of (with_snapshot (noted kinds.Event time i.snapshot Kept) (event_entered time (event_of name.now payload.now) i))) }
-        ensures allowed { OnOk result (MayNote kinds.Event time self.old.stored.snapshot Kept) }
-        ensures runs { OnOk result (self.new.stored.snapshot.stopped ≡ false) }
+        ensures out { IfOk result (λ out. out ≡ event_out time (event_of name.now payload.now) coalesce) }
+        ensures entered { OnOk result ((i : IdealAgent) → self.old.concrete ≡ view_of i
+            → self.new.concrete ≡ view_of (with_snapshot (noted kinds.Event time i.snapshot Kept) (event_entered time (event_of name.now payload.now) i))) }
+        ensures allowed { OnOk result (MayNote kinds.Event time self.old.concrete.snapshot Kept) }
+        ensures runs { OnOk result (self.new.concrete.snapshot.stopped ≡ false) }
         ensures calm { OnOk result (self.new.device.failures ≡ self.old.device.failures) }
 
-        ensures failed { IsErrOf result LineFault.SinkFault → self.new.stored ≡ stored_with (written kinds.Event time self.old.stored.snapshot (Failed self.new.stored.snapshot.kept)) self.old.stored }
-        ensures fault_allowed { IsErrOf result LineFault.SinkFault → MayNote kinds.Event time self.old.stored.snapshot (Failed self.new.stored.snapshot.kept) }
+        ensures failed { IsErrOf result LineFault.SinkFault → self.new.concrete ≡ concrete_with (written kinds.Event time self.old.concrete.snapshot (Failed self.new.concrete.snapshot.durable)) self.old.concrete }
+        ensures fault_allowed { IsErrOf result LineFault.SinkFault → MayNote kinds.Event time self.old.concrete.snapshot (Failed self.new.concrete.snapshot.durable) }
         ensures cause { IsErrOf result LineFault.SinkFault → HasFailed self.old.device.failures self.new.device.failures }
         ensures memory { IsErrOf result LineFault.OutOfMemory → self.new ≡ self.old }
     {
-        let Ok(handed) = handed_out(alloc, time, name, payload, cc) else {
+        let Ok(handed) = handed_out(alloc, time, name, payload, coalesce) else {
             return Err(LineFault::OutOfMemory);
         };
         match self.enter_event(alloc, time, name, payload) {
@@ -187,7 +187,7 @@ impl<S: Sink> Agent<S> {
         }
     }
 
-    /// Takes an event into the buffer, once its line is kept.
+    /// Takes an event into the buffer, once its line is durable.
     fn enter_event(
         &mut self,
         alloc: Global,
@@ -195,18 +195,18 @@ impl<S: Sink> Agent<S> {
         name: &[u8],
         payload: &[u8],
     ) -> Result<(), LineFault>
-        requires runs { self.old.stored.snapshot.stopped ≡ false }
-        requires not_later { time_in self.old.stored.events.slots time ≤ time }
-        requires not_full { count_in self.old.stored.events.slots time < self.old.stored.config.per_time }
+        requires runs { self.old.concrete.snapshot.stopped ≡ false }
+        requires not_later { time_in self.old.concrete.events.slots time ≤ time }
+        requires not_full { count_in self.old.concrete.events.slots time < self.old.concrete.config.per_time }
 
-        ensures entered { OnOk result ((i : IdealAgent) → self.old.stored ≡ view_of i
-            → self.new.stored ≡ view_of (with_snapshot (noted kinds.Event time i.snapshot Kept) (event_entered time (event_of name.now payload.now) i))) }
-        ensures allowed { OnOk result (MayNote kinds.Event time self.old.stored.snapshot Kept) }
-        ensures runs { OnOk result (self.new.stored.snapshot.stopped ≡ false) }
+        ensures entered { OnOk result ((i : IdealAgent) → self.old.concrete ≡ view_of i
+            → self.new.concrete ≡ view_of (with_snapshot (noted kinds.Event time i.snapshot Kept) (event_entered time (event_of name.now payload.now) i))) }
+        ensures allowed { OnOk result (MayNote kinds.Event time self.old.concrete.snapshot Kept) }
+        ensures runs { OnOk result (self.new.concrete.snapshot.stopped ≡ false) }
         ensures calm { OnOk result (self.new.device.failures ≡ self.old.device.failures) }
 
-        ensures failed { IsErrOf result LineFault.SinkFault → self.new.stored ≡ stored_with (written kinds.Event time self.old.stored.snapshot (Failed self.new.stored.snapshot.kept)) self.old.stored }
-        ensures fault_allowed { IsErrOf result LineFault.SinkFault → MayNote kinds.Event time self.old.stored.snapshot (Failed self.new.stored.snapshot.kept) }
+        ensures failed { IsErrOf result LineFault.SinkFault → self.new.concrete ≡ concrete_with (written kinds.Event time self.old.concrete.snapshot (Failed self.new.concrete.snapshot.durable)) self.old.concrete }
+        ensures fault_allowed { IsErrOf result LineFault.SinkFault → MayNote kinds.Event time self.old.concrete.snapshot (Failed self.new.concrete.snapshot.durable) }
         ensures cause { IsErrOf result LineFault.SinkFault → HasFailed self.old.device.failures self.new.device.failures }
         ensures memory { IsErrOf result LineFault.OutOfMemory → self.new ≡ self.old }
     {

@@ -9,8 +9,10 @@
 //! Serf hands an event out before its clock line is written, and goes on after a failed line (`serf.go`, `delegate.go`,
 //! `snapshot.go`, `query.go`). Here:
 //!
-//! - an event or a query is handed out only once its line is kept ([`Agent::receive`], [`Agent::fire`], [`Agent::query`]);
-//! - the least times never fall ([`Agent::merge`]), and a new life begins above all that was noted ([`Agent::open`]);
+//! - an event or a query is handed out only once its line is durable ([`Agent::receive`], [`Agent::fire`],
+//!   [`Agent::query`]);
+//! - the least times never fall ([`Agent::merge_remote_state`]), and a new life begins above all that was noted
+//!   ([`Agent::open`]);
 //! - a sink that failed stops the agent, which fires and takes nothing until it is opened anew;
 //! - a call that wants memory in vain changes nothing, but that a merge keeps what it took before, and may be made again.
 //!

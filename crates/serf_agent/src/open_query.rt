@@ -4,7 +4,7 @@ ghost use Rattle.std.specs.Prelude.{◌≡◌, OnOk, OnErr};
 ghost use Rattle.std.specs.List.{list_any};
 ghost use Rattle.std.specs.Str.{bytes_eq};
 ghost use Rattle.serf_agent.specs.Lent.{response_in};
-ghost use Rattle.serf_agent.specs.Queries.{ack_refusal, answer_refusal, response_refusal, counted, is_full};
+ghost use Rattle.serf_agent.specs.Queries.{ack_ignore_reason, answer_ignore_reason, response_ignore_reason, counted, is_full};
 
 use crate::answer::Answer;
 use crate::flags::{ACK, has_flag};
@@ -44,8 +44,8 @@ fn has_responded(responses: &[Response], name: &[u8]) -> bool
 
 impl OpenQuery {
     /// Why an answer is ignored, if it is.
-    pub(crate) fn refusal(&self, now: u64, answer: &Answer) -> Option<Reason>
-        ensures { result ≡ answer_refusal now (response_in answer.now) self.now }
+    pub(crate) fn ignore_reason(&self, now: u64, answer: &Answer) -> Option<Reason>
+        ensures { result ≡ answer_ignore_reason now (response_in answer.now) self.now }
     {
         if self.id != answer.id {
             return Some(Reason::OtherId);
@@ -54,15 +54,15 @@ impl OpenQuery {
             return Some(Reason::Closed);
         }
         if has_flag(ACK, answer.flags) {
-            self.ack_refusal(answer.from)
+            self.ack_ignore_reason(answer.from)
         } else {
-            self.response_refusal(answer.from)
+            self.response_ignore_reason(answer.from)
         }
     }
 
     /// Why an ack of a node is ignored, if it is.
-    fn ack_refusal(&self, from: &[u8]) -> Option<Reason>
-        ensures { result ≡ ack_refusal from.now self.now }
+    fn ack_ignore_reason(&self, from: &[u8]) -> Option<Reason>
+        ensures { result ≡ ack_ignore_reason from.now self.now }
     {
         if !self.wants_ack {
             return Some(Reason::AckNotAsked);
@@ -74,8 +74,8 @@ impl OpenQuery {
     }
 
     /// Why a response of a node is ignored, if it is.
-    fn response_refusal(&self, from: &[u8]) -> Option<Reason>
-        ensures { result ≡ response_refusal from.now self.now }
+    fn response_ignore_reason(&self, from: &[u8]) -> Option<Reason>
+        ensures { result ≡ response_ignore_reason from.now self.now }
     {
         if has_responded(self.responses.as_slice(), from) {
             return Some(Reason::ResponseTwice);

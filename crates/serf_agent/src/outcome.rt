@@ -14,7 +14,7 @@ pub struct EventOut {
     pub name: Bytes,
     pub payload: Bytes,
     /// Whether it may be coalesced with others of its name. An event that comes in a push/pull never says so.
-    pub cc: bool,
+    pub coalesce: bool,
 }
 
 /// An event that was fired: the packet to send, and the event as it is handed out here.
@@ -73,8 +73,8 @@ pub enum Outcome {
     Ignored(Reason),
     /// A message of this type, which isn't read.
     Foreign(u8),
-    /// A push/pull, which is for `merge`.
-    UsePushPull,
+    /// A push/pull, which is for `merge_remote_state`.
+    PushPull,
 }
 
 /// Why an agent isn't opened.
@@ -226,7 +226,7 @@ pub enum RespondFault {
     OutOfMemory,
 }
 
-/// Why a line isn't kept.
+/// Why a line isn't durable.
 #[derive(Clone, Copy, Debug, PartialEq, Eq)]
 pub(crate) enum LineFault {
     OutOfMemory,

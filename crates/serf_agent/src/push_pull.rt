@@ -6,15 +6,15 @@ use serf_wire::{SlotViews, StatusTimes, Texts};
 #[derive(Clone, Copy)]
 pub struct PushPull<'a> {
     /// The member clock.
-    pub member: u64,
+    pub member_clock: u64,
     /// The members' status times.
     pub status: StatusTimes<'a>,
     /// The members that left.
     pub left: Texts<'a>,
     /// The event clock.
-    pub event: u64,
+    pub event_clock: u64,
     /// The event buffer.
     pub slots: SlotViews<'a>,
     /// The query clock.
-    pub query: u64,
+    pub query_clock: u64,
 }

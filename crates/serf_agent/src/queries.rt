@@ -17,7 +17,7 @@ ghost use Rattle.serf_agent.specs.Queries.{ack_packet, all_pass, close_due, coun
 ghost use Rattle.serf_agent.specs.Receive.{TakesMemory};
 ghost use Rattle.serf_agent.specs.Sound.{IsSound};
 ghost use Rattle.serf_agent.specs.Steps.{Steps};
-ghost use Rattle.serf_agent.specs.View.{stored_with, view_of};
+ghost use Rattle.serf_agent.specs.View.{concrete_with, view_of};
 
 use crate::agent::Agent;
 use crate::answer::Answer;
@@ -142,7 +142,7 @@ fn opened(alloc: Global, query: &QueryParts, now: u64) -> OpenQuery
     }
 }
 
-/// Adds an open query, once its line is kept; else the open queries are as before.
+/// Adds an open query, once its line is durable; else the open queries are as before.
 fn note_asked<S: Sink>(
     asked: &mut Asked,
     snapshot: &mut Snapshot<S>,
@@ -153,11 +153,11 @@ fn note_asked<S: Sink>(
     requires later { All (λ q. q.0 < time) asked.old }
     requires runs { snapshot.old.snapshot.stopped ≡ false }
     ensures ok { OnOk result ((asked.new ≡ asked.old ++ (time, query) ∷ []) × (snapshot.new.snapshot ≡ noted kinds.Query time snapshot.old.snapshot Kept)) }
-    ensures ok_allowed { OnOk result (snapshot.old.snapshot.query < time → MayWrite snapshot.old.snapshot (clock_line kinds.Query time) Kept) }
+    ensures ok_allowed { OnOk result (snapshot.old.snapshot.query_clock < time → MayWrite snapshot.old.snapshot (clock_line kinds.Query time) Kept) }
     ensures asked { OnErr result (asked.new ≡ asked.old) }
-    ensures fault { IsErrOf result LineFault.SinkFault → snapshot.new.snapshot ≡ written kinds.Query time snapshot.old.snapshot (Failed snapshot.new.snapshot.kept) }
-    ensures fault_allowed { IsErrOf result LineFault.SinkFault → MayWrite snapshot.old.snapshot (clock_line kinds.Query time) (Failed snapshot.new.snapshot.kept) }
-    ensures fault_above { IsErrOf result LineFault.SinkFault → snapshot.old.snapshot.query < time }
+    ensures fault { IsErrOf result LineFault.SinkFault → snapshot.new.snapshot ≡ written kinds.Query time snapshot.old.snapshot (Failed snapshot.new.snapshot.durable) }
+    ensures fault_allowed { IsErrOf result LineFault.SinkFault → MayWrite snapshot.old.snapshot (clock_line kinds.Query time) (Failed snapshot.new.snapshot.durable) }
+    ensures fault_above { IsErrOf result LineFault.SinkFault → snapshot.old.snapshot.query_clock < time }
     ensures fault_cause { IsErrOf result LineFault.SinkFault → HasFailed snapshot.old.device.failures snapshot.new.device.failures }
     ensures memory { IsErrOf result LineFault.OutOfMemory → snapshot.new ≡ snapshot.old }
 {
@@ -232,10 +232,10 @@ impl<S: Sink> Agent<S> {
         query: &QueryParts,
         filters: Texts,
     ) -> Result<Outcome, ReceiveFault>
-        requires { self.old.stored.snapshot.stopped ≡ false }
-        ensures step { (i : IdealAgent) → IsSound i → self.old.stored ≡ view_of i → result ≢ Err ReceiveFault.OutOfMemory
-            → Steps i (receive_query i now (query_in query.now (texts_left filters.entry))) result self.new.stored }
-        ensures only_new { (i : IdealAgent) → IsSound i → self.old.stored ≡ view_of i → IsErrOf result ReceiveFault.OutOfMemory → AsksSink (receive_query i now (query_in query.now (texts_left filters.entry))) }
+        requires { self.old.concrete.snapshot.stopped ≡ false }
+        ensures step { (i : IdealAgent) → IsSound i → self.old.concrete ≡ view_of i → result ≢ Err ReceiveFault.OutOfMemory
+            → Steps i (receive_query i now (query_in query.now (texts_left filters.entry))) result self.new.concrete }
+        ensures only_new { (i : IdealAgent) → IsSound i → self.old.concrete ≡ view_of i → IsErrOf result ReceiveFault.OutOfMemory → AsksSink (receive_query i now (query_in query.now (texts_left filters.entry))) }
         ensures memory { IsErrOf result ReceiveFault.OutOfMemory → self.new ≡ self.old }
         ensures cause { IsErrOf result ReceiveFault.SinkFault → HasFailed self.old.device.failures self.new.device.failures }
     {
@@ -261,15 +261,15 @@ impl<S: Sink> Agent<S> {
 
     /// Why a query is ignored, if it is. Takes no memory.
     fn query_admission(&self, time: Time, id: u32) -> Option<Reason>
-        ensures reason { (i : IdealAgent) → IsSound i → self.now.stored ≡ view_of i → result ≡ query_admission i time id }
-        ensures not_later { result ≡ None → time_in self.now.stored.queries.slots time ≤ time }
-        ensures not_full { result ≡ None → count_in self.now.stored.queries.slots time < self.now.stored.config.per_time }
+        ensures reason { (i : IdealAgent) → IsSound i → self.now.concrete ≡ view_of i → result ≡ query_admission i time id }
+        ensures not_later { result ≡ None → time_in self.now.concrete.queries.slots time ≤ time }
+        ensures not_full { result ≡ None → count_in self.now.concrete.queries.slots time < self.now.concrete.config.per_time }
         ensures small { time < 2 ^ 64 - 1 }
     {
         self.queries.reason(time, id)
     }
 
-    /// Takes in a query, once its line is kept.
+    /// Takes in a query, once its line is durable.
     fn take_in_query(
         &mut self,
         alloc: Global,
@@ -277,18 +277,18 @@ impl<S: Sink> Agent<S> {
         query: &QueryParts,
         passed: bool,
     ) -> Result<Passed, LineFault>
-        requires runs { self.old.stored.snapshot.stopped ≡ false }
-        requires not_later { time_in self.old.stored.queries.slots query.now.time ≤ query.now.time }
-        requires not_full { count_in self.old.stored.queries.slots query.now.time < self.old.stored.config.per_time }
+        requires runs { self.old.concrete.snapshot.stopped ≡ false }
+        requires not_later { time_in self.old.concrete.queries.slots query.now.time ≤ query.now.time }
+        requires not_full { count_in self.old.concrete.queries.slots query.now.time < self.old.concrete.config.per_time }
 
-        ensures handed { IfOk result (λ p. p.handed ≡ (if passed then Some (handed_query self.old.stored.config.name now (query_of query.now)) else None)) }
-        ensures ack { IfOk result (λ p. p.ack ≡ (if passed then (if has_flag 1 query.now.flags then Some (ack_packet self.old.stored.config.name (query_of query.now)) else None) else None)) }
-        ensures entered { OnOk result ((i : IdealAgent) → self.old.stored ≡ view_of i
-            → self.new.stored ≡ view_of (with_snapshot (noted kinds.Query query.now.time i.snapshot Kept) (query_entered query.now.time query.now.id i))) }
-        ensures allowed { OnOk result (MayNote kinds.Query query.now.time self.old.stored.snapshot Kept) }
+        ensures handed { IfOk result (λ p. p.handed ≡ (if passed then Some (handed_query self.old.concrete.config.name now (query_of query.now)) else None)) }
+        ensures ack { IfOk result (λ p. p.ack ≡ (if passed then (if has_flag 1 query.now.flags then Some (ack_packet self.old.concrete.config.name (query_of query.now)) else None) else None)) }
+        ensures entered { OnOk result ((i : IdealAgent) → self.old.concrete ≡ view_of i
+            → self.new.concrete ≡ view_of (with_snapshot (noted kinds.Query query.now.time i.snapshot Kept) (query_entered query.now.time query.now.id i))) }
+        ensures allowed { OnOk result (MayNote kinds.Query query.now.time self.old.concrete.snapshot Kept) }
 
-        ensures failed { IsErrOf result LineFault.SinkFault → self.new.stored ≡ stored_with (written kinds.Query query.now.time self.old.stored.snapshot (Failed self.new.stored.snapshot.kept)) self.old.stored }
-        ensures fault_allowed { IsErrOf result LineFault.SinkFault → MayNote kinds.Query query.now.time self.old.stored.snapshot (Failed self.new.stored.snapshot.kept) }
+        ensures failed { IsErrOf result LineFault.SinkFault → self.new.concrete ≡ concrete_with (written kinds.Query query.now.time self.old.concrete.snapshot (Failed self.new.concrete.snapshot.durable)) self.old.concrete }
+        ensures fault_allowed { IsErrOf result LineFault.SinkFault → MayNote kinds.Query query.now.time self.old.concrete.snapshot (Failed self.new.concrete.snapshot.durable) }
         ensures cause { IsErrOf result LineFault.SinkFault → HasFailed self.old.device.failures self.new.device.failures }
         ensures memory { IsErrOf result LineFault.OutOfMemory → self.new ≡ self.old }
     {
@@ -302,18 +302,18 @@ impl<S: Sink> Agent<S> {
         }
     }
 
-    /// Takes a query into the buffer, once its line is kept.
+    /// Takes a query into the buffer, once its line is durable.
     fn enter_query(&mut self, alloc: Global, time: Time, id: u32) -> Result<(), LineFault>
-        requires runs { self.old.stored.snapshot.stopped ≡ false }
-        requires not_later { time_in self.old.stored.queries.slots time ≤ time }
-        requires not_full { count_in self.old.stored.queries.slots time < self.old.stored.config.per_time }
+        requires runs { self.old.concrete.snapshot.stopped ≡ false }
+        requires not_later { time_in self.old.concrete.queries.slots time ≤ time }
+        requires not_full { count_in self.old.concrete.queries.slots time < self.old.concrete.config.per_time }
 
-        ensures entered { OnOk result ((i : IdealAgent) → self.old.stored ≡ view_of i
-            → self.new.stored ≡ view_of (with_snapshot (noted kinds.Query time i.snapshot Kept) (query_entered time id i))) }
-        ensures allowed { OnOk result (MayNote kinds.Query time self.old.stored.snapshot Kept) }
+        ensures entered { OnOk result ((i : IdealAgent) → self.old.concrete ≡ view_of i
+            → self.new.concrete ≡ view_of (with_snapshot (noted kinds.Query time i.snapshot Kept) (query_entered time id i))) }
+        ensures allowed { OnOk result (MayNote kinds.Query time self.old.concrete.snapshot Kept) }
 
-        ensures failed { IsErrOf result LineFault.SinkFault → self.new.stored ≡ stored_with (written kinds.Query time self.old.stored.snapshot (Failed self.new.stored.snapshot.kept)) self.old.stored }
-        ensures fault_allowed { IsErrOf result LineFault.SinkFault → MayNote kinds.Query time self.old.stored.snapshot (Failed self.new.stored.snapshot.kept) }
+        ensures failed { IsErrOf result LineFault.SinkFault → self.new.concrete ≡ concrete_with (written kinds.Query time self.old.concrete.snapshot (Failed self.new.concrete.snapshot.durable)) self.old.concrete }
+        ensures fault_allowed { IsErrOf result LineFault.SinkFault → MayNote kinds.Query time self.old.concrete.snapshot (Failed self.new.concrete.snapshot.durable) }
         ensures cause { IsErrOf result LineFault.SinkFault → HasFailed self.old.device.failures self.new.device.failures }
         ensures memory { IsErrOf result LineFault.OutOfMemory → self.new ≡ self.old }
     {
@@ -329,7 +329,7 @@ impl<S: Sink> Agent<S> {
         Ok(())
     }
 
-    /// Fires a query of this agent's own at the query clock's time, once its line is kept.
+    /// Fires a query of this agent's own at the query clock's time, once its line is durable.
     fn ask(
         &mut self,
         alloc: Global,
@@ -340,19 +340,19 @@ impl<S: Sink> Agent<S> {
         payload: &[u8],
         params: &QueryParams,
     ) -> Result<FiredQuery, LineFault>
-        requires runs { self.old.stored.snapshot.stopped ≡ false }
-        requires at { time ≡ self.old.stored.queries.clock }
-        requires not_later { time_in self.old.stored.queries.slots time ≤ time }
-        requires not_full { count_in self.old.stored.queries.slots time < self.old.stored.config.per_time }
-        requires short { length (canonical (query (query_at time self.old.stored.config.name id name.now payload.now params.now))) ≤ 1024 }
+        requires runs { self.old.concrete.snapshot.stopped ≡ false }
+        requires at { time ≡ self.old.concrete.queries.clock }
+        requires not_later { time_in self.old.concrete.queries.slots time ≤ time }
+        requires not_full { count_in self.old.concrete.queries.slots time < self.old.concrete.config.per_time }
+        requires short { length (canonical (query (query_at time self.old.concrete.config.name id name.now payload.now params.now))) ≤ 1024 }
 
-        ensures fired { IfOk result (λ f. f ≡ fired_query self.old.stored.config.name now (query_at time self.old.stored.config.name id name.now payload.now params.now)) }
-        ensures entered { OnOk result ((i : IdealAgent) → self.old.stored ≡ view_of i
-            → self.new.stored ≡ view_of (with_snapshot (noted kinds.Query time i.snapshot Kept) (query_asked now (query_at time self.old.stored.config.name id name.now payload.now params.now) i))) }
-        ensures allowed { OnOk result (MayNote kinds.Query time self.old.stored.snapshot Kept) }
+        ensures fired { IfOk result (λ f. f ≡ fired_query self.old.concrete.config.name now (query_at time self.old.concrete.config.name id name.now payload.now params.now)) }
+        ensures entered { OnOk result ((i : IdealAgent) → self.old.concrete ≡ view_of i
+            → self.new.concrete ≡ view_of (with_snapshot (noted kinds.Query time i.snapshot Kept) (query_asked now (query_at time self.old.concrete.config.name id name.now payload.now params.now) i))) }
+        ensures allowed { OnOk result (MayNote kinds.Query time self.old.concrete.snapshot Kept) }
 
-        ensures failed { IsErrOf result LineFault.SinkFault → self.new.stored ≡ stored_with (written kinds.Query time self.old.stored.snapshot (Failed self.new.stored.snapshot.kept)) self.old.stored }
-        ensures fault_allowed { IsErrOf result LineFault.SinkFault → MayNote kinds.Query time self.old.stored.snapshot (Failed self.new.stored.snapshot.kept) }
+        ensures failed { IsErrOf result LineFault.SinkFault → self.new.concrete ≡ concrete_with (written kinds.Query time self.old.concrete.snapshot (Failed self.new.concrete.snapshot.durable)) self.old.concrete }
+        ensures fault_allowed { IsErrOf result LineFault.SinkFault → MayNote kinds.Query time self.old.concrete.snapshot (Failed self.new.concrete.snapshot.durable) }
         ensures cause { IsErrOf result LineFault.SinkFault → HasFailed self.old.device.failures self.new.device.failures }
         ensures memory { IsErrOf result LineFault.OutOfMemory → self.new ≡ self.old }
     {
@@ -368,19 +368,19 @@ impl<S: Sink> Agent<S> {
         }
     }
 
-    /// Takes a query of this agent's own into the buffer, open for answers, once its line is kept.
+    /// Takes a query of this agent's own into the buffer, open for answers, once its line is durable.
     fn enter_asked(&mut self, alloc: Global, time: Time, query: OpenQuery) -> Result<(), LineFault>
-        requires runs { self.old.stored.snapshot.stopped ≡ false }
-        requires at { time ≡ self.old.stored.queries.clock }
-        requires not_later { time_in self.old.stored.queries.slots time ≤ time }
-        requires not_full { count_in self.old.stored.queries.slots time < self.old.stored.config.per_time }
+        requires runs { self.old.concrete.snapshot.stopped ≡ false }
+        requires at { time ≡ self.old.concrete.queries.clock }
+        requires not_later { time_in self.old.concrete.queries.slots time ≤ time }
+        requires not_full { count_in self.old.concrete.queries.slots time < self.old.concrete.config.per_time }
 
-        ensures entered { OnOk result ((i : IdealAgent) → self.old.stored ≡ view_of i
-            → self.new.stored ≡ view_of (with_snapshot (noted kinds.Query time i.snapshot Kept) (with_asked (i.asked ++ (time, query) ∷ []) (query_entered time query.id i)))) }
-        ensures allowed { OnOk result (MayNote kinds.Query time self.old.stored.snapshot Kept) }
+        ensures entered { OnOk result ((i : IdealAgent) → self.old.concrete ≡ view_of i
+            → self.new.concrete ≡ view_of (with_snapshot (noted kinds.Query time i.snapshot Kept) (with_asked (i.asked ++ (time, query) ∷ []) (query_entered time query.id i)))) }
+        ensures allowed { OnOk result (MayNote kinds.Query time self.old.concrete.snapshot Kept) }
 
-        ensures failed { IsErrOf result LineFault.SinkFault → self.new.stored ≡ stored_with (written kinds.Query time self.old.stored.snapshot (Failed self.new.stored.snapshot.kept)) self.old.stored }
-        ensures fault_allowed { IsErrOf result LineFault.SinkFault → MayNote kinds.Query time self.old.stored.snapshot (Failed self.new.stored.snapshot.kept) }
+        ensures failed { IsErrOf result LineFault.SinkFault → self.new.concrete ≡ concrete_with (written kinds.Query time self.old.concrete.snapshot (Failed self.new.concrete.snapshot.durable)) self.old.concrete }
+        ensures fault_allowed { IsErrOf result LineFault.SinkFault → MayNote kinds.Query time self.old.concrete.snapshot (Failed self.new.concrete.snapshot.durable) }
         ensures cause { IsErrOf result LineFault.SinkFault → HasFailed self.old.device.failures self.new.device.failures }
         ensures memory { IsErrOf result LineFault.OutOfMemory → self.new ≡ self.old }
     {
@@ -399,16 +399,16 @@ impl<S: Sink> Agent<S> {
         now: u64,
         answer: &Answer,
     ) -> Result<Outcome, ReceiveFault>
-        ensures step { (i : IdealAgent) → IsSound i → self.old.stored ≡ view_of i → result ≢ Err ReceiveFault.OutOfMemory
-            → Steps i (receive_response i now (response_in answer.now)) result self.new.stored }
-        ensures only_counted { (i : IdealAgent) → IsSound i → self.old.stored ≡ view_of i → IsErrOf result ReceiveFault.OutOfMemory → TakesMemory (receive_response i now (response_in answer.now)) }
+        ensures step { (i : IdealAgent) → IsSound i → self.old.concrete ≡ view_of i → result ≢ Err ReceiveFault.OutOfMemory
+            → Steps i (receive_response i now (response_in answer.now)) result self.new.concrete }
+        ensures only_counted { (i : IdealAgent) → IsSound i → self.old.concrete ≡ view_of i → IsErrOf result ReceiveFault.OutOfMemory → TakesMemory (receive_response i now (response_in answer.now)) }
         ensures memory { IsErrOf result ReceiveFault.OutOfMemory → self.new ≡ self.old }
         ensures no_fault { result ≢ Err ReceiveFault.SinkFault }
     {
         let Some(query) = self.asked.get(answer.time) else {
             return Ok(Outcome::Ignored(Reason::NotOpen));
         };
-        match query.refusal(now, answer) {
+        match query.ignore_reason(now, answer) {
             Some(reason) => return Ok(Outcome::Ignored(reason)),
             None => {}
         }
@@ -423,15 +423,16 @@ impl<S: Sink> Agent<S> {
 
     /// Whether the packet of a query is too large to be fired.
     fn query_is_too_large(&self, id: u32, name: &[u8], payload: &[u8], params: &QueryParams) -> bool
-        ensures { result ≡ is_too_large_query self.now.stored.config.name self.now.stored.queries.clock id name.now payload.now params.now }
+        ensures { result ≡ is_too_large_query self.now.concrete.config.name self.now.concrete.queries.clock id name.now payload.now params.now }
     {
         let time = self.queries.measured();
         let query = params.parts(time, self.config.name.as_slice(), id, name, payload);
         query_len(&query) > LONGEST_QUERY
     }
 
-    /// Fires a query at the query clock's time (Serf's `serf.go`, `Query`): its clock line is kept, it enters the buffer and
-    /// is open for answers, its packet is to be sent, and where its filters let this node pass it is handed out here too.
+    /// Fires a query at the query clock's time (Serf's `serf.go`, `Query`): its clock line is durable, it enters the
+    /// buffer and is open for answers, its packet is to be sent, and where its filters let this node pass it is handed
+    /// out here too.
     ///
     /// Of the refusals the first that holds is answered. All of them leave the agent as it was, but that `SinkFault` stops
     /// it.
@@ -444,11 +445,11 @@ impl<S: Sink> Agent<S> {
         payload: &[u8],
         params: &QueryParams,
     ) -> Result<FiredQuery, QueryFault>
-        ensures step { (i : IdealAgent) → IsSound i → self.old.stored ≡ view_of i → result ≢ Err QueryFault.OutOfMemory
-            → Steps i (fire_query i now id name.now payload.now params.now) result self.new.stored }
+        ensures step { (i : IdealAgent) → IsSound i → self.old.concrete ≡ view_of i → result ≢ Err QueryFault.OutOfMemory
+            → Steps i (fire_query i now id name.now payload.now params.now) result self.new.concrete }
 
         // Memory is wanted only where the query is fired, and its want changes nothing.
-        ensures only_fired { (i : IdealAgent) → IsSound i → self.old.stored ≡ view_of i → IsErrOf result QueryFault.OutOfMemory → AsksSink (fire_query i now id name.now payload.now params.now) }
+        ensures only_fired { (i : IdealAgent) → IsSound i → self.old.concrete ≡ view_of i → IsErrOf result QueryFault.OutOfMemory → AsksSink (fire_query i now id name.now payload.now params.now) }
         ensures memory { IsErrOf result QueryFault.OutOfMemory → self.new ≡ self.old }
         ensures cause { IsErrOf result QueryFault.SinkFault → HasFailed self.old.device.failures self.new.device.failures }
     {
@@ -474,8 +475,8 @@ impl<S: Sink> Agent<S> {
     /// Takes out the open queries whose deadline is before a moment, and answers how many they are; the others keep their
     /// order. Works on a stopped agent too. Takes no memory.
     pub fn close_due(&mut self, now: u64) -> usize
-        ensures step { (i : IdealAgent) → IsSound i → self.old.stored ≡ view_of i
-            → (result ≡ (close_due i now).answer) × (self.new.stored ≡ view_of (close_due i now).agent) × IsSound (close_due i now).agent }
+        ensures step { (i : IdealAgent) → IsSound i → self.old.concrete ≡ view_of i
+            → (result ≡ (close_due i now).answer) × (self.new.concrete ≡ view_of (close_due i now).agent) × IsSound (close_due i now).agent }
         ensures device { self.new.device ≡ self.old.device }
     {
         self.asked.close_due(now)

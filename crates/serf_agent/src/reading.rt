@@ -1,10 +1,10 @@
 //! What an agent tells of itself. None of these calls takes memory.
 
 ghost use Rattle.std.specs.Prelude.{◌≡◌, false, map, option_copied};
-ghost use Rattle.serf_window.specs.Texts.{shown};
-ghost use Rattle.serf_snap.specs.Device.{IsClean, append_failing, flush_failing, kept_of, planning, replace_failing};
+ghost use Rattle.serf_window.specs.Texts.{slot_view};
+ghost use Rattle.serf_snap.specs.Device.{IsClean, append_failing, flush_failing, durable_of, with_plan, replace_failing};
 ghost use Rattle.serf_agent.specs.Queries.{asked_at};
-ghost use Rattle.serf_agent.specs.View.{planned_anew};
+ghost use Rattle.serf_agent.specs.View.{with_new_plan};
 
 use crate::agent::Agent;
 use crate::config::Config;
@@ -16,73 +16,73 @@ use serf_wire::Slot;
 impl<S: Sink> Agent<S> {
     /// The agent's settings.
     pub fn config(&self) -> &Config
-        ensures { result.now ≡ self.now.stored.config }
+        ensures { result.now ≡ self.now.concrete.config }
     {
         &self.config
     }
 
     /// The event clock: the time of the next event that is fired, or 2^64 - 1 where none can be.
     pub fn event_time(&self) -> u64
-        ensures { result ≡ self.now.stored.events.clock }
+        ensures { result ≡ self.now.concrete.events.clock }
     {
         self.events.time()
     }
 
     /// The query clock: the time of the next query that is fired, or 2^64 - 1 where none can be.
     pub fn query_time(&self) -> u64
-        ensures { result ≡ self.now.stored.queries.clock }
+        ensures { result ≡ self.now.concrete.queries.clock }
     {
         self.queries.time()
     }
 
     /// The member clock.
     pub fn member_time(&self) -> u64
-        ensures { result ≡ self.now.stored.member }
+        ensures { result ≡ self.now.concrete.member_clock }
     {
-        self.member.time()
+        self.member_clock.time()
     }
 
     /// The least time of an event that is taken.
     pub fn event_minimum(&self) -> u64
-        ensures { result ≡ self.now.stored.events.minimum }
+        ensures { result ≡ self.now.concrete.events.minimum }
     {
         self.events.minimum()
     }
 
     /// The least time of a query that is taken.
     pub fn query_minimum(&self) -> u64
-        ensures { result ≡ self.now.stored.queries.minimum }
+        ensures { result ≡ self.now.concrete.queries.minimum }
     {
         self.queries.minimum()
     }
 
     /// Whether the sink has failed, after which the agent takes and fires nothing.
     pub fn is_stopped(&self) -> bool
-        ensures { result ≡ self.now.stored.snapshot.stopped }
+        ensures { result ≡ self.now.concrete.snapshot.stopped }
     {
         self.snapshot.is_stopped()
     }
 
     /// The slots of the event buffer, in order. A slot that holds nothing has no events.
     pub fn slots(&self) -> &[Slot]
-        ensures { map shown result.now ≡ self.now.stored.events.slots }
+        ensures { map slot_view result.now ≡ self.now.concrete.events.slots }
     {
         self.events.slots()
     }
 
     /// The query of this agent's own that was fired at a time, while it is open.
     pub fn open_query(&self, time: Time) -> Option<&OpenQuery>
-        ensures { option_copied result ≡ asked_at time self.now.stored.asked }
+        ensures { option_copied result ≡ asked_at time self.now.concrete.asked }
     {
         self.asked.get(time.get())
     }
 
-    /// The sink, lent for reading. Nothing is pending in it while the agent isn't stopped.
+    /// The sink, lent for reading. Nothing is buffered in it while the agent isn't stopped.
     pub fn sink(&self) -> &S
         ensures device { S.device result.now ≡ self.now.device }
-        ensures kept { kept_of self.now.device ≡ self.now.stored.snapshot.kept }
-        ensures plan { self.now.device.plan ≡ self.now.stored.snapshot.plan }
-        ensures clean { self.now.stored.snapshot.stopped ≡ false → IsClean self.now.device }
+        ensures durable { durable_of self.now.device ≡ self.now.concrete.snapshot.durable }
+        ensures plan { self.now.device.plan ≡ self.now.concrete.snapshot.plan }
+        ensures clean { self.now.concrete.snapshot.stopped ≡ false → IsClean self.now.device }
     {
         self.snapshot.sink()
     }
@@ -91,21 +91,21 @@ impl<S: Sink> Agent<S> {
 impl Agent<MemSink> {
     /// The n-th append of the sink from now on fails; 0: none. Takes no memory.
     pub fn fail_append(&mut self, n: u64)
-        ensures { self.new ≡ planned_anew (append_failing n) self.old }
+        ensures { self.new ≡ with_new_plan (append_failing n) self.old }
     {
         self.snapshot.fail_append(n);
     }
 
     /// The n-th flush of the sink from now on fails; 0: none. Takes no memory.
     pub fn fail_flush(&mut self, n: u64)
-        ensures { self.new ≡ planned_anew (flush_failing n) self.old }
+        ensures { self.new ≡ with_new_plan (flush_failing n) self.old }
     {
         self.snapshot.fail_flush(n);
     }
 
     /// The n-th replace of the sink from now on fails, and keeps the new text or the old one; 0: none. Takes no memory.
     pub fn fail_replace(&mut self, n: u64, keeps_new: bool)
-        ensures { self.new ≡ planned_anew (replace_failing n keeps_new) self.old }
+        ensures { self.new ≡ with_new_plan (replace_failing n keeps_new) self.old }
     {
         self.snapshot.fail_replace(n, keeps_new);
     }

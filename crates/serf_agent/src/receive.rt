@@ -27,11 +27,11 @@ impl<S: Sink> Agent<S> {
         now: u64,
         packet: &[u8],
     ) -> Result<Outcome, ReceiveFault>
-        ensures step { (i : IdealAgent) → IsSound i → self.old.stored ≡ view_of i → result ≢ Err ReceiveFault.OutOfMemory
-            → Steps i (receive i now packet.now) result self.new.stored }
+        ensures step { (i : IdealAgent) → IsSound i → self.old.concrete ≡ view_of i → result ≢ Err ReceiveFault.OutOfMemory
+            → Steps i (receive i now packet.now) result self.new.concrete }
 
         // Memory is wanted only where an event or a query is new, or an answer is counted; its want changes nothing.
-        ensures only_new { (i : IdealAgent) → IsSound i → self.old.stored ≡ view_of i → IsErrOf result ReceiveFault.OutOfMemory → TakesMemory (receive i now packet.now) }
+        ensures only_new { (i : IdealAgent) → IsSound i → self.old.concrete ≡ view_of i → IsErrOf result ReceiveFault.OutOfMemory → TakesMemory (receive i now packet.now) }
         ensures memory { IsErrOf result ReceiveFault.OutOfMemory → self.new ≡ self.old }
         ensures cause { IsErrOf result ReceiveFault.SinkFault → HasFailed self.old.device.failures self.new.device.failures }
     {
@@ -51,10 +51,10 @@ impl<S: Sink> Agent<S> {
         now: u64,
         message: &Message,
     ) -> Result<Outcome, ReceiveFault>
-        requires { self.old.stored.snapshot.stopped ≡ false }
-        ensures step { (i : IdealAgent) → IsSound i → self.old.stored ≡ view_of i → result ≢ Err ReceiveFault.OutOfMemory
-            → Steps i (receive_message i now (message_of message.now)) result self.new.stored }
-        ensures only_new { (i : IdealAgent) → IsSound i → self.old.stored ≡ view_of i → IsErrOf result ReceiveFault.OutOfMemory → TakesMemory (receive_message i now (message_of message.now)) }
+        requires { self.old.concrete.snapshot.stopped ≡ false }
+        ensures step { (i : IdealAgent) → IsSound i → self.old.concrete ≡ view_of i → result ≢ Err ReceiveFault.OutOfMemory
+            → Steps i (receive_message i now (message_of message.now)) result self.new.concrete }
+        ensures only_new { (i : IdealAgent) → IsSound i → self.old.concrete ≡ view_of i → IsErrOf result ReceiveFault.OutOfMemory → TakesMemory (receive_message i now (message_of message.now)) }
         ensures memory { IsErrOf result ReceiveFault.OutOfMemory → self.new ≡ self.old }
         ensures cause { IsErrOf result ReceiveFault.SinkFault → HasFailed self.old.device.failures self.new.device.failures }
     {
@@ -63,8 +63,8 @@ impl<S: Sink> Agent<S> {
                 time,
                 name,
                 payload,
-                cc,
-            } => self.receive_event(alloc, time, name, payload, cc),
+                coalesce,
+            } => self.receive_event(alloc, time, name, payload, coalesce),
             Message::Query {
                 time,
                 id,
@@ -109,7 +109,7 @@ impl<S: Sink> Agent<S> {
                 };
                 self.receive_response(alloc, now, &answer)
             }
-            Message::PushPull { .. } => Ok(Outcome::UsePushPull),
+            Message::PushPull { .. } => Ok(Outcome::PushPull),
             Message::Foreign(kind) => Ok(Outcome::Foreign(kind)),
         }
     }

@@ -1,11 +1,11 @@
 //! The whole states that agents exchange, the member clock's line, and compaction.
 
 ghost use Rattle.std.specs.Prelude.{◌≡◌, ◌≢◌, ◌<◌, ◌≤◌, ◌-◌, ◌^◌, ◌⊎◌, false, List, [], ◌∷◌, ◌++◌, None, Some, map, Ok, Err, OnOk, IfOk, IfSome, IsErrOf, IsOk, vec_len, vec_capacity};
-ghost use Rattle.serf_wire.specs.declared.texts.EventText.{EventText};
+ghost use Rattle.serf_wire.specs.declared.texts.EventBody.{EventBody};
 ghost use Rattle.serf_wire.specs.Decoded.{decoded};
 ghost use Rattle.serf_wire.specs.Lists.{event_of as text_of, events_left, slot_of, slots_left, status_of};
 ghost use Rattle.serf_wire.specs.Message.{PushPull as State, message_of, push_pull};
-ghost use Rattle.serf_window.specs.Window.{Timed, count_in, time_in};
+ghost use Rattle.serf_window.specs.Window.{TimedEntry, count_in, time_in};
 ghost use Rattle.serf_snap.specs.Device.{HasFailed, replace_called, unreplaced};
 ghost use Rattle.serf_agent.specs.Calls.{AsksSink};
 ghost use Rattle.serf_agent.specs.declared.outcome.MergeFault.{MergeFault as Fault};
@@ -36,19 +36,19 @@ fn push_pull_of<'a>(message: &Message<'a>) -> Option<PushPull<'a>>
 {
     match *message {
         Message::PushPull {
-            member,
+            member_clock,
             status,
             left,
-            event,
+            event_clock,
             slots,
-            query,
+            query_clock,
         } => Some(PushPull {
-            member,
+            member_clock,
             status,
             left,
-            event,
+            event_clock,
             slots,
-            query,
+            query_clock,
         }),
         Message::UserEvent { .. }
         | Message::Query { .. }
@@ -74,27 +74,27 @@ impl<S: Sink> Agent<S> {
     ///
     /// `Stopped`, `TooLong` where a text or a list is longer than 4,294,967,295, and `OutOfMemory`, only where there is a
     /// packet to send; the first that holds.
-    pub fn push_pull<'a>(
+    pub fn local_state<'a>(
         &'a self,
         alloc: Global,
         status: &'a [StatusTime<'a>],
         left: &'a [&'a [u8]],
     ) -> Result<Bytes, PushPullFault>
-        ensures state { result ≢ Err PushPullFault.OutOfMemory → result ≡ send_state self.now.stored (map status_of status.now) (map (λ t. t.now) left.now) }
+        ensures state { result ≢ Err PushPullFault.OutOfMemory → result ≡ send_state self.now.concrete (map status_of status.now) (map (λ t. t.now) left.now) }
 
         // Memory is wanted only where there is a packet to send.
-        ensures memory { IsErrOf result PushPullFault.OutOfMemory → IsOk (send_state self.now.stored (map status_of status.now) (map (λ t. t.now) left.now)) }
+        ensures memory { IsErrOf result PushPullFault.OutOfMemory → IsOk (send_state self.now.concrete (map status_of status.now) (map (λ t. t.now) left.now)) }
     {
         if self.snapshot.is_stopped() {
             return Err(PushPullFault::Stopped);
         }
         let parts = PushPullParts {
-            member: self.member.time(),
+            member_clock: self.member_clock.time(),
             status,
             left,
-            event: self.events.time(),
+            event_clock: self.events.time(),
             slots: self.events.slots(),
-            query: self.queries.time(),
+            query_clock: self.queries.time(),
         };
         match encode_push_pull(alloc, &parts) {
             Ok(packet) => Ok(Bytes::from_vec(packet)),
@@ -107,13 +107,13 @@ impl<S: Sink> Agent<S> {
     ///
     /// `Stopped`, `OutOfMemory` (the agent is unchanged) or `SinkFault`, which stops the agent. Where the last such line
     /// says the same or more there is no call of the sink, and it takes no memory.
-    pub fn update_member_clock(&mut self, alloc: Global) -> Result<(), NoteFault>
-        ensures step { (i : IdealAgent) → IsSound i → self.old.stored ≡ view_of i → result ≢ Err NoteFault.OutOfMemory → Steps i (save i) result self.new.stored }
-        ensures only_noted { (i : IdealAgent) → self.old.stored ≡ view_of i → IsErrOf result NoteFault.OutOfMemory → AsksSink (save i) }
+    pub fn save_member_clock(&mut self, alloc: Global) -> Result<(), NoteFault>
+        ensures step { (i : IdealAgent) → IsSound i → self.old.concrete ≡ view_of i → result ≢ Err NoteFault.OutOfMemory → Steps i (save i) result self.new.concrete }
+        ensures only_noted { (i : IdealAgent) → self.old.concrete ≡ view_of i → IsErrOf result NoteFault.OutOfMemory → AsksSink (save i) }
         ensures memory { IsErrOf result NoteFault.OutOfMemory → self.new ≡ self.old }
         ensures cause { IsErrOf result NoteFault.SinkFault → HasFailed self.old.device.failures self.new.device.failures }
     {
-        let Some(time) = Time::new(self.member.time().saturating_sub(1)) else {
+        let Some(time) = Time::new(self.member_clock.time().saturating_sub(1)) else {
             unreachable!()
         };
         self.snapshot.note_member(alloc, time)
@@ -122,18 +122,18 @@ impl<S: Sink> Agent<S> {
     /// Makes the clocks at least those of another agent; where this one joins and its settings say so, the least time of
     /// events too.
     fn join(&mut self, state: &PushPull, is_join: bool)
-        ensures joined { (i : IdealAgent) → IsSound i → self.old.stored ≡ view_of i
-            → (self.new.stored ≡ view_of (joined (push_pull_in state.now) is_join i)) × IsSound (joined (push_pull_in state.now) is_join i) }
-        ensures snapshot { (self.new.stored.snapshot ≡ self.old.stored.snapshot) × (self.new.device ≡ self.old.device) }
+        ensures joined { (i : IdealAgent) → IsSound i → self.old.concrete ≡ view_of i
+            → (self.new.concrete ≡ view_of (joined (push_pull_in state.now) is_join i)) × IsSound (joined (push_pull_in state.now) is_join i) }
+        ensures snapshot { (self.new.concrete.snapshot ≡ self.old.concrete.snapshot) × (self.new.device ≡ self.old.device) }
     {
         let minimum = if is_join && self.config.ignore_old {
-            state.event
+            state.event_clock
         } else {
             0
         };
-        self.member.observe_before(state.member);
-        self.events.raise(state.event, minimum);
-        self.queries.raise(state.query, 0);
+        self.member_clock.observe_before(state.member_clock);
+        self.events.raise(state.event_clock, minimum);
+        self.queries.raise(state.query_clock, 0);
     }
 
     /// Merges the whole state of another agent (Serf's `delegate.go`, `MergeRemoteState`): its clocks, the least time of
@@ -143,17 +143,17 @@ impl<S: Sink> Agent<S> {
     /// Of the refusals the first that holds is answered. `Stopped`, `Wire` and `NotPushPull` leave all as it was. After
     /// `OutOfMemory` and `SinkFault`, which stops the agent, the clocks were heard of, and `out` has just what was handed out
     /// before; after `OutOfMemory` the same merge may be called again.
-    pub fn merge<'a>(
+    pub fn merge_remote_state<'a>(
         &mut self,
         alloc: Global,
         packet: &'a [u8],
         is_join: bool,
         out: &mut Vec<EventOut>,
     ) -> Result<PushPull<'a>, MergeFault>
-        ensures refused { (fault : Fault) → merge_refusal self.old.stored (decoded packet.now) ≡ Some fault
+        ensures refused { (fault : Fault) → merge_refusal self.old.concrete (decoded packet.now) ≡ Some fault
             → (result ≡ Err fault) × (out.new.items ≡ out.old.items) × (self.new ≡ self.old) }
-        ensures merged { (i : IdealAgent) (m : State) → IsSound i → self.old.stored ≡ view_of i → i.snapshot.stopped ≡ false → decoded packet.now ≡ Ok (push_pull m)
-            → Merges i m is_join out.old.items out.new.items self.new.stored (fault_in result) }
+        ensures merged { (i : IdealAgent) (m : State) → IsSound i → self.old.concrete ≡ view_of i → i.snapshot.stopped ≡ false → decoded packet.now ≡ Ok (push_pull m)
+            → Merges i m is_join out.old.items out.new.items self.new.concrete (fault_in result) }
         ensures lent { IfOk result (λ p. decoded packet.now ≡ Ok (push_pull (push_pull_in p))) }
         ensures cause { IsErrOf result MergeFault.SinkFault → HasFailed self.old.device.failures self.new.device.failures }
     {
@@ -174,10 +174,10 @@ impl<S: Sink> Agent<S> {
         is_join: bool,
         out: &mut Vec<EventOut>,
     ) -> Result<PushPull<'a>, MergeFault>
-        requires { self.old.stored.snapshot.stopped ≡ false }
+        requires { self.old.concrete.snapshot.stopped ≡ false }
         ensures refused { ((m : State) → message_of message.now ≢ push_pull m) → (result ≡ Err MergeFault.NotPushPull) × (out.new.items ≡ out.old.items) × (self.new ≡ self.old) }
-        ensures merged { (i : IdealAgent) (m : State) → IsSound i → self.old.stored ≡ view_of i → message_of message.now ≡ push_pull m
-            → Merges i m is_join out.old.items out.new.items self.new.stored (fault_in result) }
+        ensures merged { (i : IdealAgent) (m : State) → IsSound i → self.old.concrete ≡ view_of i → message_of message.now ≡ push_pull m
+            → Merges i m is_join out.old.items out.new.items self.new.concrete (fault_in result) }
         ensures lent { IfOk result (λ p. message_of message.now ≡ push_pull (push_pull_in p)) }
         ensures cause { IsErrOf result MergeFault.SinkFault → HasFailed self.old.device.failures self.new.device.failures }
     {
@@ -198,8 +198,8 @@ impl<S: Sink> Agent<S> {
         slots: SlotViews,
         out: &mut Vec<EventOut>,
     ) -> Result<(), MergeFault>
-        requires { self.old.stored.snapshot.stopped ≡ false }
-        ensures received { (i : IdealAgent) → IsSound i → self.old.stored ≡ view_of i → Received i (events_of (slots_left slots.entry)) out.old.items out.new.items self.new.stored result }
+        requires { self.old.concrete.snapshot.stopped ≡ false }
+        ensures received { (i : IdealAgent) → IsSound i → self.old.concrete ≡ view_of i → Received i (events_of (slots_left slots.entry)) out.old.items out.new.items self.new.concrete result }
         ensures cause { IsErrOf result MergeFault.SinkFault → HasFailed self.old.device.failures self.new.device.failures }
     {
         for slot in slots {
@@ -218,9 +218,9 @@ impl<S: Sink> Agent<S> {
         slot: &SlotView,
         out: &mut Vec<EventOut>,
     ) -> Result<(), MergeFault>
-        requires { self.old.stored.snapshot.stopped ≡ false }
-        ensures received { (i : IdealAgent) → IsSound i → self.old.stored ≡ view_of i → Received i (events_of_slot (slot_of slot.now)) out.old.items out.new.items self.new.stored result }
-        ensures runs { OnOk result (self.new.stored.snapshot.stopped ≡ false) }
+        requires { self.old.concrete.snapshot.stopped ≡ false }
+        ensures received { (i : IdealAgent) → IsSound i → self.old.concrete ≡ view_of i → Received i (events_of_slot (slot_of slot.now)) out.old.items out.new.items self.new.concrete result }
+        ensures runs { OnOk result (self.new.concrete.snapshot.stopped ≡ false) }
         ensures calm { OnOk result (self.new.device.failures ≡ self.old.device.failures) }
         ensures cause { IsErrOf result MergeFault.SinkFault → HasFailed self.old.device.failures self.new.device.failures }
     {
@@ -238,9 +238,9 @@ impl<S: Sink> Agent<S> {
         events: EventViews,
         out: &mut Vec<EventOut>,
     ) -> Result<(), MergeFault>
-        requires { self.old.stored.snapshot.stopped ≡ false }
-        ensures received { (i : IdealAgent) → IsSound i → self.old.stored ≡ view_of i → Received i (at_time time (events_left events.entry)) out.old.items out.new.items self.new.stored result }
-        ensures runs { OnOk result (self.new.stored.snapshot.stopped ≡ false) }
+        requires { self.old.concrete.snapshot.stopped ≡ false }
+        ensures received { (i : IdealAgent) → IsSound i → self.old.concrete ≡ view_of i → Received i (at_time time (events_left events.entry)) out.old.items out.new.items self.new.concrete result }
+        ensures runs { OnOk result (self.new.concrete.snapshot.stopped ≡ false) }
         ensures calm { OnOk result (self.new.device.failures ≡ self.old.device.failures) }
         ensures cause { IsErrOf result MergeFault.SinkFault → HasFailed self.old.device.failures self.new.device.failures }
     {
@@ -261,10 +261,10 @@ impl<S: Sink> Agent<S> {
         event: &EventView,
         out: &mut Vec<EventOut>,
     ) -> Result<(), MergeFault>
-        requires { self.old.stored.snapshot.stopped ≡ false }
-        ensures received { (i : IdealAgent) → IsSound i → self.old.stored ≡ view_of i
-            → Received i (record { time = time; what = text_of event.now } ∷ []) out.old.items out.new.items self.new.stored result }
-        ensures runs { OnOk result (self.new.stored.snapshot.stopped ≡ false) }
+        requires { self.old.concrete.snapshot.stopped ≡ false }
+        ensures received { (i : IdealAgent) → IsSound i → self.old.concrete ≡ view_of i
+            → Received i (record { time = time; key = text_of event.now } ∷ []) out.old.items out.new.items self.new.concrete result }
+        ensures runs { OnOk result (self.new.concrete.snapshot.stopped ≡ false) }
         ensures calm { OnOk result (self.new.device.failures ≡ self.old.device.failures) }
         ensures cause { IsErrOf result MergeFault.SinkFault → HasFailed self.old.device.failures self.new.device.failures }
     {
@@ -285,13 +285,13 @@ impl<S: Sink> Agent<S> {
         event: &EventView,
         out: &mut Vec<EventOut>,
     ) -> Result<(), MergeFault>
-        requires runs { self.old.stored.snapshot.stopped ≡ false }
-        requires not_later { time_in self.old.stored.events.slots time ≤ time }
-        requires not_full { count_in self.old.stored.events.slots time < self.old.stored.config.per_time }
+        requires runs { self.old.concrete.snapshot.stopped ≡ false }
+        requires not_later { time_in self.old.concrete.events.slots time ≤ time }
+        requires not_full { count_in self.old.concrete.events.slots time < self.old.concrete.config.per_time }
         requires small { time < 2 ^ 64 - 1 }
-        ensures received { (i : IdealAgent) → IsSound i → self.old.stored ≡ view_of i → admission i time (text_of event.now) ≡ None
-            → Received i (record { time = time; what = text_of event.now } ∷ []) out.old.items out.new.items self.new.stored result }
-        ensures runs { OnOk result (self.new.stored.snapshot.stopped ≡ false) }
+        ensures received { (i : IdealAgent) → IsSound i → self.old.concrete ≡ view_of i → admission i time (text_of event.now) ≡ None
+            → Received i (record { time = time; key = text_of event.now } ∷ []) out.old.items out.new.items self.new.concrete result }
+        ensures runs { OnOk result (self.new.concrete.snapshot.stopped ≡ false) }
         ensures calm { OnOk result (self.new.device.failures ≡ self.old.device.failures) }
         ensures cause { IsErrOf result MergeFault.SinkFault → HasFailed self.old.device.failures self.new.device.failures }
     {
@@ -312,12 +312,12 @@ impl<S: Sink> Agent<S> {
 impl<S: ReplaceSink> Agent<S> {
     /// Replaces what the sink keeps by the last line of each clock. The rest of the agent is unchanged.
     ///
-    /// `Stopped`, `OutOfMemory` (the agent is unchanged) or `SinkFault`, which stops the agent; what is kept is then the old
-    /// text or the new one.
+    /// `Stopped`, `OutOfMemory` (the agent is unchanged) or `SinkFault`, which stops the agent; what is durable is then
+    /// the old text or the new one.
     pub fn compact(&mut self, alloc: Global) -> Result<(), NoteFault>
-        ensures step { (i : IdealAgent) → IsSound i → self.old.stored ≡ view_of i → result ≢ Err NoteFault.OutOfMemory → Steps i (compact i) result self.new.stored }
-        ensures only_replaced { (i : IdealAgent) → self.old.stored ≡ view_of i → IsErrOf result NoteFault.OutOfMemory → AsksSink (compact i) }
-        ensures memory { IsErrOf result NoteFault.OutOfMemory → self.new.stored ≡ self.old.stored }
+        ensures step { (i : IdealAgent) → IsSound i → self.old.concrete ≡ view_of i → result ≢ Err NoteFault.OutOfMemory → Steps i (compact i) result self.new.concrete }
+        ensures only_replaced { (i : IdealAgent) → self.old.concrete ≡ view_of i → IsErrOf result NoteFault.OutOfMemory → AsksSink (compact i) }
+        ensures memory { IsErrOf result NoteFault.OutOfMemory → self.new.concrete ≡ self.old.concrete }
         ensures memory_device { IsErrOf result NoteFault.OutOfMemory → (self.new.device ≡ self.old.device) ⊎ (self.new.device ≡ unreplaced self.old.device) }
         ensures cause { IsErrOf result NoteFault.SinkFault → HasFailed self.old.device.failures self.new.device.failures }
         ensures called { OnOk result (self.new.device.calls ≡ replace_called self.old.device.calls) }

@@ -154,8 +154,8 @@ fn merged(
     packet: &[u8],
     out: &mut Vec<EventOut>,
 ) -> Result<u64, MergeFault> {
-    match agent.merge(alloc, packet, true, out) {
-        Ok(state) => Ok(state.event),
+    match agent.merge_remote_state(alloc, packet, true, out) {
+        Ok(state) => Ok(state.event_clock),
         Err(fault) => Err(fault),
     }
 }

@@ -11,11 +11,11 @@ pub fn time(value: u64) -> Result<Time, Fail> {
 
 /// The member clock, the event clock and the query clock.
 pub fn clocks(of: (u64, u64, u64)) -> Clocks {
-    let (member, event, query) = of;
+    let (member_clock, event_clock, query_clock) = of;
     Clocks {
-        member,
-        event,
-        query,
+        member_clock,
+        event_clock,
+        query_clock,
     }
 }
 
@@ -105,7 +105,7 @@ fn noted(alloc: Global, text: &[u8]) -> Result<(Clocks, Clocks), Fail> {
     let mut snapshot = Snapshot::open(alloc, text, sink).map_err(|(_, fault)| fault)?;
     let opened = snapshot.clocks();
     snapshot.note_event(alloc, time(13)?)?;
-    Ok((opened, read_clocks(snapshot.sink().kept())))
+    Ok((opened, read_clocks(snapshot.sink().durable())))
 }
 
 fn behind_a_line(alloc: Global, tail: &[u8]) -> Result<Vec<u8>, Fail> {

@@ -225,9 +225,9 @@ fn take(
 fn is_end(snapshot: &Snapshot<MemSink>, story: &Story) -> bool {
     let sink = snapshot.sink();
     let clocks = clocks(story.clocks);
-    sink.kept() == story.kept
-        && sink.pending().is_empty()
-        && read_clocks(sink.kept()) == clocks
+    sink.durable() == story.kept
+        && sink.buffered().is_empty()
+        && read_clocks(sink.durable()) == clocks
         && snapshot.clocks() == clocks
         && snapshot.is_stopped() == story.is_stopped
 }
@@ -253,7 +253,7 @@ fn stories(rt: HostRuntime) -> Result<(), Fail> {
 
 /// How many bytes are kept of a snapshot that is opened on a text.
 fn kept_len(alloc: Global, text: &[u8]) -> Result<usize, Fail> {
-    Ok(opened(alloc, text)?.sink().kept().len())
+    Ok(opened(alloc, text)?.sink().durable().len())
 }
 
 #[test]
@@ -276,7 +276,7 @@ fn flush(sink: &mut MemSink) -> Result<(), SinkFault> {
 
 /// Replaces what a sink keeps, where it holds nothing else.
 fn replace(alloc: Global, sink: &mut MemSink, text: &[u8]) -> Result<(), Fail> {
-    if sink.pending().is_empty() {
+    if sink.buffered().is_empty() {
         Ok(sink.replace(alloc, text)?)
     } else {
         Err(Fail::from("bytes that were not flushed"))
@@ -284,8 +284,8 @@ fn replace(alloc: Global, sink: &mut MemSink, text: &[u8]) -> Result<(), Fail> {
 }
 
 /// Whether a sink keeps these bytes, and holds those that it hasn't flushed.
-fn holds(sink: &MemSink, kept: &[u8], pending: &[u8]) -> bool {
-    sink.kept() == kept && sink.pending() == pending
+fn holds(sink: &MemSink, durable: &[u8], buffered: &[u8]) -> bool {
+    sink.durable() == durable && sink.buffered() == buffered
 }
 
 #[test]

@@ -1,7 +1,9 @@
 //! The windows of events and of queries.
 
 use serf_lamport::Time;
-use serf_window::{EventWindow, Ids, MAX_SIZE, NewWindowFault, QueryWindow, Verdict};
+use serf_window::{
+    EventWindow, Ids, MAX_PER_TIME, MAX_SLOTS, NewWindowFault, QueryWindow, Verdict,
+};
 use serf_wire::Slot;
 use std::alloc::{AllocError, Global};
 use std::test::Fail;
@@ -273,8 +275,8 @@ fn sizes(rt: HostRuntime) -> Result<(), Fail> {
             "{slots} and {per_time}"
         );
     }
-    assert!(rt; window(rt.alloc(), MAX_SIZE, 1)?.slots().len() == 65536);
-    assert!(rt; query_window(rt.alloc(), 1, MAX_SIZE)?.held() == 0);
+    assert!(rt; window(rt.alloc(), MAX_SLOTS, 1)?.slots().len() == 65536);
+    assert!(rt; query_window(rt.alloc(), 1, MAX_PER_TIME)?.held() == 0);
     Ok(())
 }
 

@@ -62,12 +62,12 @@ fn merge(
     packet: &[u8],
     out: &mut Vec<EventOut>,
 ) -> bool {
-    agent.merge(alloc, packet, false, out).is_ok()
+    agent.merge_remote_state(alloc, packet, false, out).is_ok()
 }
 
 /// The packet of an agent's state, or no bytes where there is no memory for it.
 fn state_of(alloc: Global, agent: &Agent<MemSink>) -> Vec<u8> {
-    match agent.push_pull(alloc, &[], &[]) {
+    match agent.local_state(alloc, &[], &[]) {
         Ok(packet) => packet.into_vec(),
         Err(_) => Vec::new(alloc),
     }

@@ -32,7 +32,7 @@ fn weight(message: &Message) -> u64 {
             .wrapping_add((name.len() as u64).wrapping_add(payload.len() as u64)),
         Message::Query { time, name, .. } => time.get().wrapping_add(name.len() as u64),
         Message::QueryResponse { time, from, .. } => time.wrapping_add(from.len() as u64),
-        Message::PushPull { event, .. } => *event,
+        Message::PushPull { event_clock, .. } => *event_clock,
         Message::Foreign(kind) => u64::from(*kind),
     }
 }
@@ -143,12 +143,12 @@ fn query_of<'a>(number: u64, parts: &'a Parts) -> QueryParts<'a> {
 
 fn state_of<'a>(number: u64, parts: &'a Parts) -> PushPullParts<'a> {
     PushPullParts {
-        member: number,
+        member_clock: number,
         status: &[],
         left: &[],
-        event: SLOTS + 1,
+        event_clock: SLOTS + 1,
         slots: parts.window.slots(),
-        query: 1,
+        query_clock: 1,
     }
 }
 

@@ -13,18 +13,18 @@ use Rattle.serf_agent.specs.Queries.{is_ack}
 use Rattle.serf_model.specs.declared.action.Action.{Action}
 use Rattle.serf_model.specs.declared.action.Action.TheVariants as actions
 use Rattle.serf_model.specs.AnswerPromises.{AckedOnce, AnswersMade, IsMade, acked, injected, replied, acked_by, answer_brought, answers_in, query_answered}
-use Rattle.serf_model.specs.Cluster.{Member, Cluster, Run, acted, acts, after, handed_line, on_agent, start, step, step_by}
+use Rattle.serf_model.specs.Cluster.{IdealNode, Cluster, Run, applied, apply, after, handed_line, on_agent, start, step, step_by}
 use Rattle.serf_model.specs.Sizes.{HasSizes}
-use Rattle.serf_model.specs.Ready.{IsGood}
+use Rattle.serf_model.specs.Ready.{IsRepresentable}
 use Rattle.serf_model.specs.Trace.{Turn, actor_of, turns_by}
-use Rattle.serf_model.proofs.CallLaws.{keeps-acts}
-use Rattle.serf_model.proofs.EachLaws.{AreNobodys, Each, IsRefused, each-step, each-start, is-mine, nobodys-step, nobodys-start, turns-mine}
-use Rattle.serf_model.proofs.Lives.{own_life}
+use Rattle.serf_model.proofs.HistoryGrowth.{keeps-apply}
+use Rattle.serf_model.proofs.PerAgent.{AreNobodys, Each, IsRefused, each-step, each-start, is-mine, nobodys-step, nobodys-start, turns-mine}
+use Rattle.serf_model.proofs.PresentLife.{own_life}
 use Rattle.serf_model.proofs.OnceLaws.{query-once}
 use Rattle.serf_model.proofs.RunLaws.{IsAfter, after-agent, all-at}
-use Rattle.serf_model.proofs.SendLaws.{Makes, Sends, makes_ack, makes_none, makes_reply, sends-acts}
-use Rattle.serf_model.proofs.ServeLaws.{IsServing, acked_in, serving-more}
-use Rattle.serf_model.proofs.TallyLaws.{queries_in}
+use Rattle.serf_model.proofs.SendLaws.{Makes, Sends, makes_ack, makes_none, makes_reply, sends-apply}
+use Rattle.serf_model.proofs.HandedQueries.{IsServing, acked_in, serving-more}
+use Rattle.serf_model.proofs.OpenQueryContents.{queries_in}
 use Rattle.serf_model.proofs.TurnLaws.{at_each_nil, at_each_push}
 
 -- what each agent has to answer, and where what was sent comes from
@@ -38,35 +38,35 @@ pub record IsServed (configs : List Config) (c : Cluster) (turns : List Turn) : 
 abbrev MadeAt : List Config → List Turn → Turn → Type 0
 MadeAt configs before turn = All (IsMade configs before turn) (answers_in turn.packets)
 
-good-at : (c : Cluster) (turns : List Turn) (b : ℕ) (m : Member) → IsAfter c turns → slice_get c.members b ≡ Some m → IsGood m.agent
-good-at c turns b m h at = all-at (λ m. IsGood m.agent) c.members b m h.good at
+representable-at : (c : Cluster) (turns : List Turn) (b : ℕ) (m : IdealNode) → IsAfter c turns → slice_get c.nodes b ≡ Some m → IsRepresentable m.agent
+representable-at c turns b m h at = all-at (λ m. IsRepresentable m.agent) c.nodes b m h.representable at
 
-sends-at : (configs : List Config) (c : Cluster) (turns : List Turn) (action : Action) (b : ℕ) (m : Member) → IsAfter c turns → IsServed configs c turns → HasSizes action → slice_get c.members b ≡ Some m → Sends m action (acts m c.sent action).done
-sends-at configs c turns action b m h served ranged at = sends-acts m c.sent action (good-at c turns b m h at) (served.each b m at).handable ranged
+sends-at : (configs : List Config) (c : Cluster) (turns : List Turn) (action : Action) (b : ℕ) (m : IdealNode) → IsAfter c turns → IsServed configs c turns → HasSizes action → slice_get c.nodes b ≡ Some m → Sends m action (apply m c.sent action).done
+sends-at configs c turns action b m h served ranged at = sends-apply m c.sent action (representable-at c turns b m h at) (served.each b m at).handable ranged
 
-made-acted : (configs : List Config) (c : Cluster) (turns : List Turn) (action : Action) (b : ℕ) (m : Member) → IsServing configs b (turns_by b turns) m → actor_of action ≡ Some b → Makes m action (acts m c.sent action).done
-    → MadeAt configs turns (acted c action b (acts m c.sent action)).turn
-made-acted configs c turns action b m serving actor (makes_none packets) = subst (All (IsMade configs turns (acted c action b (acts m c.sent action)).turn)) (sym packets) (All-nil (IsMade configs turns (acted c action b (acts m c.sent action)).turn))
-made-acted configs c turns action b m serving actor (makes_ack h handed packets) =
-    subst (All (IsMade configs turns (acted c action b (acts m c.sent action)).turn)) (sym packets)
-    (All-cons (IsMade configs turns (acted c action b (acts m c.sent action)).turn) _ [] (acked record {
+made-applied : (configs : List Config) (c : Cluster) (turns : List Turn) (action : Action) (b : ℕ) (m : IdealNode) → IsServing configs b (turns_by b turns) m → actor_of action ≡ Some b → Makes m action (apply m c.sent action).done
+    → MadeAt configs turns (applied c action b (apply m c.sent action)).turn
+made-applied configs c turns action b m serving actor (makes_none packets) = subst (All (IsMade configs turns (applied c action b (apply m c.sent action)).turn)) (sym packets) (All-nil (IsMade configs turns (applied c action b (apply m c.sent action)).turn))
+made-applied configs c turns action b m serving actor (makes_ack h handed packets) =
+    subst (All (IsMade configs turns (applied c action b (apply m c.sent action)).turn)) (sym packets)
+    (All-cons (IsMade configs turns (applied c action b (apply m c.sent action)).turn) _ [] (acked record {
       agent = b;
       actor = actor;
       from = record { config = m.agent.config; settings = serving.settings; name = refl };
-      line = handed_line b (length (acts m c.sent action).member.handed) h;
-      hands = ap (λ (d : Option Handed). option_map (handed_line b (length (acts m c.sent action).member.handed)) d) handed;
+      line = handed_line b (length (apply m c.sent action).node.handed) h;
+      hands = ap (λ (d : Option Handed). option_map (handed_line b (length (apply m c.sent action).node.handed)) d) handed;
       to = refl;
       query = refl;
       ack = refl;
       empty = refl;
-    }) (All-nil (IsMade configs turns (acted c action b (acts m c.sent action)).turn)))
-made-acted configs c turns action b m serving actor (makes_reply agent number now payload h respond at replies packets) =
+    }) (All-nil (IsMade configs turns (applied c action b (apply m c.sent action)).turn)))
+made-applied configs c turns action b m serving actor (makes_reply agent number now payload h respond at replies packets) =
     let same : Some agent ≡ Some b = ap actor_of (sym respond) ∙ actor in
     let mine : agent ≡ b = cc same in
     let shown = serving.shown number h at in
     let handable = serving.handable number h at in
-    subst (All (IsMade configs turns (acted c action b (acts m c.sent action)).turn)) (sym packets)
-    (All-cons (IsMade configs turns (acted c action b (acts m c.sent action)).turn) _ [] (replied record {
+    subst (All (IsMade configs turns (applied c action b (apply m c.sent action)).turn)) (sym packets)
+    (All-cons (IsMade configs turns (applied c action b (apply m c.sent action)).turn) _ [] (replied record {
       agent = b;
       number = number;
       now = now;
@@ -78,12 +78,12 @@ made-acted configs c turns action b m serving actor (makes_reply agent number no
       index = shown.index;
       query = shown.query;
       ack = refl;
-    }) (All-nil (IsMade configs turns (acted c action b (acts m c.sent action)).turn)))
+    }) (All-nil (IsMade configs turns (applied c action b (apply m c.sent action)).turn)))
 
-made-agent : (configs : List Config) (c : Cluster) (turns : List Turn) (action : Action) (b : ℕ) (r : Option Member) → IsAfter c turns → IsServed configs c turns → HasSizes action → actor_of action ≡ Some b → slice_get c.members b ≡ r
+made-agent : (configs : List Config) (c : Cluster) (turns : List Turn) (action : Action) (b : ℕ) (r : Option IdealNode) → IsAfter c turns → IsServed configs c turns → HasSizes action → actor_of action ≡ Some b → slice_get c.nodes b ≡ r
     → MadeAt configs turns (on_agent c action b r).turn
 made-agent configs c turns action b None h served ranged actor at = All-nil (IsMade configs turns (on_agent c action b None).turn)
-made-agent configs c turns action b (Some m) h served ranged actor at = made-acted configs c turns action b m (served.each b m at) actor (sends-at configs c turns action b m h served ranged at).makes
+made-agent configs c turns action b (Some m) h served ranged actor at = made-applied configs c turns action b m (served.each b m at) actor (sends-at configs c turns action b m h served ranged at).makes
 
 -- what an injected packet brings
 made-injected : (configs : List Config) (turns : List Turn) (turn : Turn) (bytes : List ℕ) (r : Result Message WireFault) → turn.action ≡ actions.Inject bytes → decoded bytes ≡ r → All (IsMade configs turns turn) (answer_brought r ++ [])
@@ -110,19 +110,19 @@ made-none configs c turns (actions.Compact agent) = All-nil _
 
 made-by : (configs : List Config) (c : Cluster) (turns : List Turn) (action : Action) (o : Option ℕ) → IsAfter c turns → IsServed configs c turns → HasSizes action → actor_of action ≡ o → MadeAt configs turns (step_by c action o).turn
 made-by configs c turns action None h served ranged actor = made-none configs c turns action
-made-by configs c turns action (Some b) h served ranged actor = made-agent configs c turns action b (slice_get c.members b) h served ranged actor refl
+made-by configs c turns action (Some b) h served ranged actor = made-agent configs c turns action b (slice_get c.nodes b) h served ranged actor refl
 
 -- the queries of an agent's turns, with one more
-once-after : (c : Cluster) (turns : List Turn) (action : Action) (b : ℕ) (m : Member) → IsAfter c turns → actor_of action ≡ Some b → slice_get c.members b ≡ Some m
-    → AllPairs (λ x y. x ≢ y) (queries_in (turns_by b turns ++ (acted c action b (acts m c.sent action)).turn ∷ []))
+once-after : (c : Cluster) (turns : List Turn) (action : Action) (b : ℕ) (m : IdealNode) → IsAfter c turns → actor_of action ≡ Some b → slice_get c.nodes b ≡ Some m
+    → AllPairs (λ x y. x ≢ y) (queries_in (turns_by b turns ++ (applied c action b (apply m c.sent action)).turn ∷ []))
 once-after c turns action b m h actor at =
-    subst (λ ts. AllPairs (λ x y. x ≢ y) (queries_in ts)) (turns-mine b turns (acted c action b (acts m c.sent action)).turn (is-mine b action actor))
-    (query-once (acted c action b (acts m c.sent action)).cluster (turns ++ (acted c action b (acts m c.sent action)).turn ∷ []) (after-agent c turns action b (Some m) h actor at) b)
+    subst (λ ts. AllPairs (λ x y. x ≢ y) (queries_in ts)) (turns-mine b turns (applied c action b (apply m c.sent action)).turn (is-mine b action actor))
+    (query-once (applied c action b (apply m c.sent action)).cluster (turns ++ (applied c action b (apply m c.sent action)).turn ∷ []) (after-agent c turns action b (Some m) h actor at) b)
 
 pub served-step : (configs : List Config) (r : Run) (action : Action) → HasSizes action → IsAfter r.cluster r.turns → IsServed configs r.cluster r.turns → IsServed configs (after r action).cluster (after r action).turns
 served-step configs r action ranged h served = record {
   each = each-step (IsServing configs) r action served.each
-      (λ b m actor at p. serving-more r.cluster configs (turns_by b r.turns) action b m p (sends-at configs r.cluster r.turns action b m h served ranged at) (keeps-acts m r.cluster.sent action).config
+      (λ b m actor at p. serving-more r.cluster configs (turns_by b r.turns) action b m p (sends-at configs r.cluster r.turns action b m h served ranged at) (keeps-apply m r.cluster.sent action).config
       (once-after r.cluster r.turns action b m h actor at));
   nobody = nobodys-step r action served.nobody;
   made = at_each_push (MadeAt configs) r.turns (step r.cluster action).turn served.made (made-by configs r.cluster r.turns action (actor_of action) h served ranged refl);
@@ -149,8 +149,8 @@ refused-acks (t ∷ ts) all =
     ap (λ ps. map query_answered (filter is_ack (answers_in ps ++ flat_map (λ t. answers_in t.packets) ts))) first.packets ∙ refused-acks ts (All-tail IsRefused t ts all)
 
 pub acked-once : (configs : List Config) (c : Cluster) (turns : List Turn) → IsServed configs c turns → AckedOnce turns
-acked-once configs c turns h a = by (slice_get c.members a) refl
+acked-once configs c turns h a = by (slice_get c.nodes a) refl
   where
-    by : (r : Option Member) → slice_get c.members a ≡ r → AllPairs (λ x y. x ≢ y) (acked_by a turns)
+    by : (r : Option IdealNode) → slice_get c.nodes a ≡ r → AllPairs (λ x y. x ≢ y) (acked_by a turns)
     by None none = subst (AllPairs (λ x y. x ≢ y)) (sym (refused-acks (turns_by a turns) (h.nobody a none))) (λ i j d lt within. absurd (omega arith))
     by (Some m) at = (h.each a m at).acked.once

@@ -9,7 +9,7 @@ use Rattle.serf_model.specs.Cluster.{Run, after, run_of, start}
 use Rattle.serf_model.specs.Runs.{AreConfigs}
 use Rattle.serf_model.specs.Sizes.{HasSizes}
 use Rattle.serf_model.proofs.AnswerLaws.{IsServed, served-start, served-step}
-use Rattle.serf_model.proofs.CountedLaws.{IsCounting, counting-start, counting-step}
+use Rattle.serf_model.proofs.CountingPromises.{IsCounting, counting-start, counting-step}
 use Rattle.serf_model.proofs.RunLaws.{IsAfter, after-step}
 use Rattle.serf_model.proofs.StartLaws.{after-start}
 use Rattle.serf_model.proofs.TurnLaws.{fold_keeps}

@@ -7,8 +7,8 @@ use Rattle.std.proofs.lemmas.Bool.{cases_Bool, eq-eqb, eqb-true, eqb-false}
 use Rattle.std.proofs.lemmas.List.{append-nil}
 use Rattle.std.proofs.lemmas.List.Elements.{All-map}
 use Rattle.std.proofs.lemmas.List.Sums.{fold-append}
-use Rattle.serf_wire.specs.declared.texts.EventText.{EventText}
-use Rattle.serf_window.specs.Window.{EachAtMost, SlotOf, Timed, count_at, entries_of, greatest_time, held_at, held_count, slot_of, slots_of}
+use Rattle.serf_wire.specs.declared.texts.EventBody.{EventBody}
+use Rattle.serf_window.specs.Window.{EachAtMost, SlotOf, TimedEntry, count_at, entries_of, greatest_time, held_at, held_count, slot_of, slots_of}
 use Rattle.serf_window.proofs.WindowLaws.{slot_laws}
 use Rattle.serf_agent.specs.declared.config.Config.{Config}
 use Rattle.serf_agent.specs.Ideal.{IdealAgent}
@@ -17,20 +17,20 @@ use Rattle.serf_model.specs.declared.action.Action.{Action}
 use Rattle.serf_model.specs.declared.action.Action.TheVariants as actions
 use Rattle.serf_model.specs.declared.line.EventLine.{EventLine}
 use Rattle.serf_model.specs.Bounds.{AtMostOfOneTime, EventsBounded, IsBounded, QueriesBounded, events_of_life, is_restarted, lived_on, present_life, queries_of_life, reopens}
-use Rattle.serf_model.specs.Cluster.{Acted, Cluster, Member, Run, Stepped, acted, acts, after, joining, on_agent, run_of, start, step, step_by, with_handed}
-use Rattle.serf_model.specs.Ready.{IsGood}
+use Rattle.serf_model.specs.Cluster.{Applied, Cluster, IdealNode, Run, Stepped, applied, apply, after, first_node, on_agent, run_of, start, step, step_by, with_handed}
+use Rattle.serf_model.specs.Ready.{IsRepresentable}
 use Rattle.serf_model.specs.Runs.{AreConfigs}
 use Rattle.serf_model.specs.Trace.{Turn, actor_of, entered_by, event_in, events_to, is_agent, packet_given, queries_at}
-use Rattle.serf_model.proofs.CallLaws.{entries, keeps-acts}
-use Rattle.serf_model.proofs.LifeLaws.{GoesOn, enters-entries, goes-acts, none-of-next}
-use Rattle.serf_model.proofs.OpenLaws.{opening-restarts, opens-acts}
+use Rattle.serf_model.proofs.HistoryGrowth.{entries, keeps-apply}
+use Rattle.serf_model.proofs.PerTimeBound.{GoesOn, enters-entries, goes-apply, none-of-next}
+use Rattle.serf_model.proofs.OpenLaws.{opening-restarts, opens-apply}
 use Rattle.serf_model.proofs.RunLaws.{IsAfter, added, after-step, all-at, by-push, events_to-push, lines-other, lines-same, slice_get-set_other, slice_get-set_same}
 use Rattle.serf_model.proofs.StartLaws.{after-start}
 use Rattle.serf_model.proofs.TurnLaws.{at_each_nil, at_each_push, fold_keeps}
 
 -- ---- what a window holds
 
-filter-held : {K : Type 0} (t : ℕ) (test : Timed K → Bool) (es : List (Timed K)) → length (held_at t (filter test es)) ≤ length (held_at t es)
+filter-held : {K : Type 0} (t : ℕ) (test : TimedEntry K → Bool) (es : List (TimedEntry K)) → length (held_at t (filter test es)) ≤ length (held_at t es)
 filter-held t test [] = omega arith
 filter-held {K} t test (e ∷ es) =
     let rest = filter-held t test es in
@@ -45,17 +45,17 @@ filter-held {K} t test (e ∷ es) =
       ])
     ]
 
-each-slot : {K : Type 0} (n k : ℕ) (es : List (Timed K)) → AtMostOfOneTime k es → EachAtMost k (slots_of n es)
+each-slot : {K : Type 0} (n k : ℕ) (es : List (TimedEntry K)) → AtMostOfOneTime k es → EachAtMost k (slots_of n es)
 each-slot {K} n k es most = All-map (λ (s : SlotOf K). length s.held ≤ k) (slot_of n es) (range_with_len 0 n) (λ i d within. one (get_or (range_with_len 0 n) i d))
   where
     one : (i : ℕ) → length (held_at (greatest_time (entries_of n i es)) (entries_of n i es)) ≤ k
     one i =
         let t : ℕ = greatest_time (entries_of n i es) in
         let few : count_at es t ≤ k = most t in
-        let fewer = filter-held t (λ (e : Timed K). e.time % n == i) es in
+        let fewer = filter-held t (λ (e : TimedEntry K). e.time % n == i) es in
         omega arith
 
-is-bounded : {K : Type 0} (n k : ℕ) (es : List (Timed K)) → AtMostOfOneTime k es → IsBounded n k es
+is-bounded : {K : Type 0} (n k : ℕ) (es : List (TimedEntry K)) → AtMostOfOneTime k es → IsBounded n k es
 is-bounded {K} n k es most =
     let laws = slot_laws K in
     record { of_one_time = most; in_window = subst (λ (m : ℕ). held_count (slots_of n es) ≤ m * k) (laws.size n es) (laws.together k (slots_of n es) (each-slot n k es most)) }
@@ -71,11 +71,11 @@ life-on a turns turn goes = life-push a turns turn ∙ ap (λ b. cond b [] (pres
 life-new : (a : ℕ) (turns : List Turn) (turn : Turn) → reopens a turn ≡ true → present_life a (turns ++ turn ∷ []) ≡ []
 life-new a turns turn anew = life-push a turns turn ∙ ap (λ b. cond b [] (present_life a turns ++ turn ∷ [])) anew
 
-abbrev entered : Turn → List (Timed ℕ)
+abbrev entered : Turn → List (TimedEntry ℕ)
 entered t = entered_by t.action t.given t.line.answer
 
 -- what a turn hands to an agent
-abbrev handed : ℕ → Turn → List (Timed EventText)
+abbrev handed : ℕ → Turn → List (TimedEntry EventBody)
 handed a turn = map event_in (filter (λ e. e.agent == a) turn.line.events)
 
 events-on : (a : ℕ) (turns : List Turn) (turn : Turn) → reopens a turn ≡ false → events_of_life a (turns ++ turn ∷ []) ≡ events_of_life a turns ++ handed a turn
@@ -87,19 +87,19 @@ queries-on a turns turn goes = ap (queries_at a) (life-on a turns turn goes) ∙
 -- ---- what is true of the agent of a number
 
 -- what an agent entered in its present life
-abbrev life_events : Option Member → List (Timed EventText)
+abbrev life_events : Option IdealNode → List (TimedEntry EventBody)
 life_events None = []
 life_events (Some m) = of_life m.agent.life m.agent.events.history
 
-abbrev life_queries : Option Member → List (Timed ℕ)
+abbrev life_queries : Option IdealNode → List (TimedEntry ℕ)
 life_queries None = []
 life_queries (Some m) = of_life m.agent.life m.agent.queries.history
 
-abbrev per_time : Option Member → ℕ
+abbrev per_time : Option IdealNode → ℕ
 per_time None = 0
 per_time (Some m) = m.agent.config.per_time
 
-record IsLivedAt (configs : List Config) (turns : List Turn) (a : ℕ) (r : Option Member) : Type 0 where
+record IsLivedAt (configs : List Config) (turns : List Turn) (a : ℕ) (r : Option IdealNode) : Type 0 where
   config : option_map (λ m. m.agent.config) r ≡ slice_get configs a
   events : life_events r ≡ events_of_life a turns
   queries : life_queries r ≡ queries_of_life a turns
@@ -107,7 +107,7 @@ record IsLivedAt (configs : List Config) (turns : List Turn) (a : ℕ) (r : Opti
   few_queries : AtMostOfOneTime (per_time r) (life_queries r)
 
 -- a turn of another agent
-lived-other : (configs : List Config) (turns : List Turn) (turn : Turn) (a : ℕ) (r : Option Member) → IsLivedAt configs turns a r → reopens a turn ≡ false → handed a turn ≡ [] → added entered a turn ≡ [] → IsLivedAt configs (turns ++ turn ∷ []) a r
+lived-other : (configs : List Config) (turns : List Turn) (turn : Turn) (a : ℕ) (r : Option IdealNode) → IsLivedAt configs turns a r → reopens a turn ≡ false → handed a turn ≡ [] → added entered a turn ≡ [] → IsLivedAt configs (turns ++ turn ∷ []) a r
 lived-other configs turns turn a r h goes none no_query = record {
   config = h.config;
   events = h.events ∙ sym (events-on a turns turn goes ∙ ap (λ l. events_of_life a turns ++ l) none ∙ append-nil (events_of_life a turns));
@@ -117,7 +117,7 @@ lived-other configs turns turn a r h goes none no_query = record {
 }
 
 -- a turn of this agent, in the same life
-lived-same : (configs : List Config) (turns : List Turn) (turn : Turn) (a : ℕ) (m n : Member) → IsLivedAt configs turns a (Some m) → reopens a turn ≡ false → GoesOn m.agent n.agent
+lived-same : (configs : List Config) (turns : List Turn) (turn : Turn) (a : ℕ) (m n : IdealNode) → IsLivedAt configs turns a (Some m) → reopens a turn ≡ false → GoesOn m.agent n.agent
     → entries n.agent.events.history ≡ entries m.agent.events.history ++ handed a turn → entries n.agent.queries.history ≡ entries m.agent.queries.history ++ added entered a turn → IsLivedAt configs (turns ++ turn ∷ []) a (Some n)
 lived-same configs turns turn a m n h same goes events queries =
     let i : IdealAgent = m.agent in
@@ -134,11 +134,11 @@ lived-same configs turns turn a m n h same goes events queries =
           (subst (λ (l : ℕ). AtMostOfOneTime i.config.per_time (of_life l j.queries.history)) (sym goes.life) (goes.queries.bounded h.few_queries));
     }
 
-few-none : {K : Type 0} (k : ℕ) (es : List (Timed K)) → es ≡ [] → AtMostOfOneTime k es
-few-none {K} k es none t = subst (λ (l : List (Timed K)). count_at l t ≤ k) (sym none) (omega arith)
+few-none : {K : Type 0} (k : ℕ) (es : List (TimedEntry K)) → es ≡ [] → AtMostOfOneTime k es
+few-none {K} k es none t = subst (λ (l : List (TimedEntry K)). count_at l t ≤ k) (sym none) (omega arith)
 
 -- a turn that opens this agent again
-lived-anew : (configs : List Config) (turns : List Turn) (turn : Turn) (a : ℕ) (m n : Member) → IsLivedAt configs turns a (Some m) → reopens a turn ≡ true → n.agent.config ≡ m.agent.config
+lived-anew : (configs : List Config) (turns : List Turn) (turn : Turn) (a : ℕ) (m n : IdealNode) → IsLivedAt configs turns a (Some m) → reopens a turn ≡ true → n.agent.config ≡ m.agent.config
     → life_events (Some n) ≡ [] → life_queries (Some n) ≡ [] → IsLivedAt configs (turns ++ turn ∷ []) a (Some n)
 lived-anew configs turns turn a m n h anew config events queries = record {
   config = ap (λ (c : Config). Some c) config ∙ h.config;
@@ -151,7 +151,7 @@ lived-anew configs turns turn a m n h anew config events queries = record {
 -- ---- a step
 
 abbrev IsLived : List Config → Cluster → List Turn → Type 0
-IsLived configs c turns = (a : ℕ) → IsLivedAt configs turns a (slice_get c.members a)
+IsLived configs c turns = (a : ℕ) → IsLivedAt configs turns a (slice_get c.nodes a)
 
 and-false : (b : Bool) → (b && false) ≡ false
 and-false true = refl
@@ -162,103 +162,103 @@ none-either true = refl
 none-either false = refl
 
 -- a turn that leaves the agents, hands no event out and enters no query
-lived-still : (configs : List Config) (c : Cluster) (turns : List Turn) (s : Stepped) → IsLived configs c turns → s.cluster.members ≡ c.members → is_restarted s.turn.line.answer ≡ false → s.turn.line.events ≡ [] → entered s.turn ≡ []
+lived-still : (configs : List Config) (c : Cluster) (turns : List Turn) (s : Stepped) → IsLived configs c turns → s.cluster.nodes ≡ c.nodes → is_restarted s.turn.line.answer ≡ false → s.turn.line.events ≡ [] → entered s.turn ≡ []
     → IsLived configs s.cluster (turns ++ s.turn ∷ [])
-lived-still configs c turns s h members goes none no_query a =
-    subst (λ (ms : List Member). IsLivedAt configs (turns ++ s.turn ∷ []) a (slice_get ms a)) (sym members)
-    (lived-other configs turns s.turn a (slice_get c.members a) (h a)
+lived-still configs c turns s h nodes goes none no_query a =
+    subst (λ (ms : List IdealNode). IsLivedAt configs (turns ++ s.turn ∷ []) a (slice_get ms a)) (sym nodes)
+    (lived-other configs turns s.turn a (slice_get c.nodes a) (h a)
     (ap (λ b. is_agent a (actor_of s.turn.action) && b) goes ∙ and-false (is_agent a (actor_of s.turn.action)))
     (ap (λ es. map event_in (filter (λ (e : EventLine). e.agent == a) es)) none)
     (ap (λ l. cond (is_agent a (actor_of s.turn.action)) l []) no_query ∙ none-either (is_agent a (actor_of s.turn.action))))
 
 -- the turn of the agent that acts
-abbrev OwnAct : List Config → Cluster → List Turn → ℕ → Member → Action → Type 0
+abbrev OwnAct : List Config → Cluster → List Turn → ℕ → IdealNode → Action → Type 0
 OwnAct configs c turns b m action =
-    (let o = acts m c.sent action in IsLivedAt configs (turns ++ (acted c action b o).turn ∷ []) b (Some (with_handed o.done.handed o.member)))
+    (let o = apply m c.sent action in IsLivedAt configs (turns ++ (applied c action b o).turn ∷ []) b (Some (with_handed o.done.handed o.node)))
 
-own-restart : (configs : List Config) (c : Cluster) (turns : List Turn) (b : ℕ) (m : Member) (tail : List ℕ) → IsGood m.agent → IsLivedAt configs turns b (Some m) → OwnAct configs c turns b m (actions.Restart b tail)
-own-restart configs c turns b m tail good h =
-    let s = good.ready.sound in
+own-restart : (configs : List Config) (c : Cluster) (turns : List Turn) (b : ℕ) (m : IdealNode) (tail : List ℕ) → IsRepresentable m.agent → IsLivedAt configs turns b (Some m) → OwnAct configs c turns b m (actions.Restart b tail)
+own-restart configs c turns b m tail representable h =
+    let s = representable.consistent.sound in
     lived-anew configs turns _ b m _ h (ap (λ x. x && true) (eq-eqb b b refl)) refl (none-of-next m.agent.life m.agent.events.history s.events.lives) (none-of-next m.agent.life m.agent.queries.history s.queries.lives)
 
-own-act : (configs : List Config) (c : Cluster) (turns : List Turn) (b : ℕ) (m : Member) (action : Action) → IsGood m.agent → actor_of action ≡ Some b → IsLivedAt configs turns b (Some m) → OwnAct configs c turns b m action
-own-act configs c turns b m action good actor h = by (is_restarted (acts m c.sent action).done.answer) refl
+own-act : (configs : List Config) (c : Cluster) (turns : List Turn) (b : ℕ) (m : IdealNode) (action : Action) → IsRepresentable m.agent → actor_of action ≡ Some b → IsLivedAt configs turns b (Some m) → OwnAct configs c turns b m action
+own-act configs c turns b m action representable actor h = by (is_restarted (apply m c.sent action).done.answer) refl
   where
     anew : (agent : ℕ) (tail : List ℕ) → action ≡ actions.Restart agent tail → OwnAct configs c turns b m action
     anew agent tail is =
         let same : agent ≡ b = let e : Some agent ≡ Some b = sym (ap actor_of is) ∙ actor in cc in
-        subst (OwnAct configs c turns b m) (sym (is ∙ ap (λ n. actions.Restart n tail) same)) (own-restart configs c turns b m tail good h)
+        subst (OwnAct configs c turns b m) (sym (is ∙ ap (λ n. actions.Restart n tail) same)) (own-restart configs c turns b m tail representable h)
 
-    by : (x : Bool) → is_restarted (acts m c.sent action).done.answer ≡ x → OwnAct configs c turns b m action
-    by true opening = opening-restarts (OwnAct configs c turns b m action) m.agent (acts m c.sent action).member.agent action (packet_given c.sent action) (acts m c.sent action).done.answer (opens-acts m c.sent action) opening anew
+    by : (x : Bool) → is_restarted (apply m c.sent action).done.answer ≡ x → OwnAct configs c turns b m action
+    by true opening = opening-restarts (OwnAct configs c turns b m action) m.agent (apply m c.sent action).node.agent action (packet_given c.sent action) (apply m c.sent action).done.answer (opens-apply m c.sent action) opening anew
     by false goes =
-        let k = keeps-acts m c.sent action in
+        let k = keeps-apply m c.sent action in
         let mine : (b == b) ≡ true = eq-eqb b b refl in
-        lived-same configs turns (acted c action b (acts m c.sent action)).turn b m _ h (ap (λ x. is_agent b (actor_of action) && x) goes ∙ and-false (is_agent b (actor_of action))) (goes-acts m c.sent action good.ready.sound goes)
-        (k.events ∙ ap (λ l. entries m.agent.events.history ++ l) (sym (lines-same b b (acts m c.sent action).done.events mine)))
-        (k.queries ∙ ap (λ x. entries m.agent.queries.history ++ cond x (entered_by action (packet_given c.sent action) (acts m c.sent action).done.answer) []) (sym (ap (is_agent b) actor ∙ mine)))
+        lived-same configs turns (applied c action b (apply m c.sent action)).turn b m _ h (ap (λ x. is_agent b (actor_of action) && x) goes ∙ and-false (is_agent b (actor_of action))) (goes-apply m c.sent action representable.consistent.sound goes)
+        (k.events ∙ ap (λ l. entries m.agent.events.history ++ l) (sym (lines-same b b (apply m c.sent action).done.events mine)))
+        (k.queries ∙ ap (λ x. entries m.agent.queries.history ++ cond x (entered_by action (packet_given c.sent action) (apply m c.sent action).done.answer) []) (sym (ap (is_agent b) actor ∙ mine)))
 
-lived-acted : (configs : List Config) (c : Cluster) (turns : List Turn) (action : Action) (b : ℕ) (m : Member) → IsAfter c turns → IsLived configs c turns → actor_of action ≡ Some b → slice_get c.members b ≡ Some m
-    → (let s = acted c action b (acts m c.sent action) in IsLived configs s.cluster (turns ++ s.turn ∷ []))
-lived-acted configs c turns action b m is h actor at a = by (b == a) refl
+lived-applied : (configs : List Config) (c : Cluster) (turns : List Turn) (action : Action) (b : ℕ) (m : IdealNode) → IsAfter c turns → IsLived configs c turns → actor_of action ≡ Some b → slice_get c.nodes b ≡ Some m
+    → (let s = applied c action b (apply m c.sent action) in IsLived configs s.cluster (turns ++ s.turn ∷ []))
+lived-applied configs c turns action b m is h actor at a = by (b == a) refl
   where
-    o : Acted
-    o = acts m c.sent action
+    o : Applied
+    o = apply m c.sent action
 
     turn : Turn
-    turn = (acted c action b (acts m c.sent action)).turn
+    turn = (applied c action b (apply m c.sent action)).turn
 
-    new : Member
-    new = with_handed (acts m c.sent action).done.handed (acts m c.sent action).member
+    new : IdealNode
+    new = with_handed (apply m c.sent action).done.handed (apply m c.sent action).node
 
-    by : (t : Bool) → (b == a) ≡ t → IsLivedAt configs (turns ++ (acted c action b (acts m c.sent action)).turn ∷ []) a (slice_get (set c.members b (with_handed (acts m c.sent action).done.handed (acts m c.sent action).member)) a)
+    by : (t : Bool) → (b == a) ≡ t → IsLivedAt configs (turns ++ (applied c action b (apply m c.sent action)).turn ∷ []) a (slice_get (set c.nodes b (with_handed (apply m c.sent action).done.handed (apply m c.sent action).node)) a)
     by true t =
         let own : OwnAct configs c turns b m action =
-        own-act configs c turns b m action (all-at (λ m. IsGood m.agent) c.members b m is.good at) actor (subst (IsLivedAt configs turns b) at (h b)) in
-        subst (λ (n : ℕ). IsLivedAt configs (turns ++ turn ∷ []) n (slice_get (set c.members b new) n)) (eqb-true b a t)
-        (subst (IsLivedAt configs (turns ++ turn ∷ []) b) (sym (slice_get-set_same c.members b m new at)) own)
+        own-act configs c turns b m action (all-at (λ m. IsRepresentable m.agent) c.nodes b m is.representable at) actor (subst (IsLivedAt configs turns b) at (h b)) in
+        subst (λ (n : ℕ). IsLivedAt configs (turns ++ turn ∷ []) n (slice_get (set c.nodes b new) n)) (eqb-true b a t)
+        (subst (IsLivedAt configs (turns ++ turn ∷ []) b) (sym (slice_get-set_same c.nodes b m new at)) own)
     by false t =
-        subst (IsLivedAt configs (turns ++ turn ∷ []) a) (sym (slice_get-set_other c.members b a new (eqb-false b a t)))
-        (lived-other configs turns turn a (slice_get c.members a) (h a)
+        subst (IsLivedAt configs (turns ++ turn ∷ []) a) (sym (slice_get-set_other c.nodes b a new (eqb-false b a t)))
+        (lived-other configs turns turn a (slice_get c.nodes a) (h a)
         (ap (λ x. x && is_restarted turn.line.answer) (ap (is_agent a) actor ∙ t))
         (lines-other a b o.done.events t)
         (ap (λ x. cond x (entered turn) []) (ap (is_agent a) actor ∙ t)))
 
-lived-agent : (configs : List Config) (c : Cluster) (turns : List Turn) (action : Action) (b : ℕ) (r : Option Member) → IsAfter c turns → IsLived configs c turns → actor_of action ≡ Some b → slice_get c.members b ≡ r
+lived-agent : (configs : List Config) (c : Cluster) (turns : List Turn) (action : Action) (b : ℕ) (r : Option IdealNode) → IsAfter c turns → IsLived configs c turns → actor_of action ≡ Some b → slice_get c.nodes b ≡ r
     → IsLived configs (on_agent c action b r).cluster (turns ++ (on_agent c action b r).turn ∷ [])
 lived-agent configs c turns action b None is h actor at = lived-still configs c turns (on_agent c action b None) h refl refl refl refl
-lived-agent configs c turns action b (Some m) is h actor at = lived-acted configs c turns action b m is h actor at
+lived-agent configs c turns action b (Some m) is h actor at = lived-applied configs c turns action b m is h actor at
 
 lived-by : (configs : List Config) (c : Cluster) (turns : List Turn) (action : Action) (o : Option ℕ) → IsAfter c turns → IsLived configs c turns → actor_of action ≡ o → IsLived configs (step_by c action o).cluster (turns ++ (step_by c action o).turn ∷ [])
 lived-by configs c turns action None is h actor = lived-still configs c turns (step_by c action None) h refl refl refl refl
-lived-by configs c turns action (Some b) is h actor = lived-agent configs c turns action b (slice_get c.members b) is h actor refl
+lived-by configs c turns action (Some b) is h actor = lived-agent configs c turns action b (slice_get c.nodes b) is h actor refl
 
 lived-step : (configs : List Config) (r : Run) (action : Action) → IsAfter r.cluster r.turns → IsLived configs r.cluster r.turns → IsLived configs (after r action).cluster (after r action).turns
 lived-step configs r action is h = lived-by configs r.cluster r.turns action (actor_of action) is h refl
 
 -- ---- the start
 
-joining-at : (configs : List Config) (a : ℕ) → slice_get (map joining configs) a ≡ option_map joining (slice_get configs a)
-joining-at [] a = refl
-joining-at (c ∷ cs) zero = refl
-joining-at (c ∷ cs) (suc a) = joining-at cs a
+first_node-at : (configs : List Config) (a : ℕ) → slice_get (map first_node configs) a ≡ option_map first_node (slice_get configs a)
+first_node-at [] a = refl
+first_node-at (c ∷ cs) zero = refl
+first_node-at (c ∷ cs) (suc a) = first_node-at cs a
 
 lived-start : (configs : List Config) → IsLived configs (start configs).cluster []
-lived-start configs a = subst (IsLivedAt configs [] a) (sym (joining-at configs a)) (by (slice_get configs a) refl)
+lived-start configs a = subst (IsLivedAt configs [] a) (sym (first_node-at configs a)) (by (slice_get configs a) refl)
   where
-    by : (r : Option Config) → slice_get configs a ≡ r → IsLivedAt configs [] a (option_map joining r)
+    by : (r : Option Config) → slice_get configs a ≡ r → IsLivedAt configs [] a (option_map first_node r)
     by None at = record { config = sym at; events = refl; queries = refl; few_events = λ t. omega arith; few_queries = λ t. omega arith }
     by (Some c) at = record { config = sym at; events = refl; queries = refl; few_events = λ t. omega arith; few_queries = λ t. omega arith }
 
 -- ---- every run
 
-bounded-events : (configs : List Config) (turns : List Turn) (a : ℕ) (r : Option Member) (c : Config) → IsLivedAt configs turns a r → slice_get configs a ≡ Some c → IsBounded c.event_buffer c.per_time (events_of_life a turns)
+bounded-events : (configs : List Config) (turns : List Turn) (a : ℕ) (r : Option IdealNode) (c : Config) → IsLivedAt configs turns a r → slice_get configs a ≡ Some c → IsBounded c.event_buffer c.per_time (events_of_life a turns)
 bounded-events configs turns a None c h at = absurd (let no : None ≡ Some c = h.config ∙ at in cc)
 bounded-events configs turns a (Some m) c h at =
     let same : m.agent.config ≡ c = let e : Some m.agent.config ≡ Some c = h.config ∙ at in cc in
     is-bounded c.event_buffer c.per_time (events_of_life a turns) (subst (λ (x : Config). AtMostOfOneTime x.per_time (events_of_life a turns)) same (subst (AtMostOfOneTime m.agent.config.per_time) h.events h.few_events))
 
-bounded-queries : (configs : List Config) (turns : List Turn) (a : ℕ) (r : Option Member) (c : Config) → IsLivedAt configs turns a r → slice_get configs a ≡ Some c → IsBounded c.query_buffer c.per_time (queries_of_life a turns)
+bounded-queries : (configs : List Config) (turns : List Turn) (a : ℕ) (r : Option IdealNode) (c : Config) → IsLivedAt configs turns a r → slice_get configs a ≡ Some c → IsBounded c.query_buffer c.per_time (queries_of_life a turns)
 bounded-queries configs turns a None c h at = absurd (let no : None ≡ Some c = h.config ∙ at in cc)
 bounded-queries configs turns a (Some m) c h at =
     let same : m.agent.config ≡ c = let e : Some m.agent.config ≡ Some c = h.config ∙ at in cc in
@@ -284,8 +284,8 @@ kept-step configs r action h =
     record {
       after = after-step r action h.after;
       lived = lived;
-      events = at_each_push (EventsAt configs) r.turns turn h.events (λ a c at. bounded-events configs (r.turns ++ turn ∷ []) a (slice_get (after r action).cluster.members a) c (lived a) at);
-      queries = at_each_push (QueriesAt configs) r.turns turn h.queries (λ a c at. bounded-queries configs (r.turns ++ turn ∷ []) a (slice_get (after r action).cluster.members a) c (lived a) at);
+      events = at_each_push (EventsAt configs) r.turns turn h.events (λ a c at. bounded-events configs (r.turns ++ turn ∷ []) a (slice_get (after r action).cluster.nodes a) c (lived a) at);
+      queries = at_each_push (QueriesAt configs) r.turns turn h.queries (λ a c at. bounded-queries configs (r.turns ++ turn ∷ []) a (slice_get (after r action).cluster.nodes a) c (lived a) at);
     }
 
 kept-run : (configs : List Config) (actions : List Action) → AreConfigs configs → IsKept configs (run_of configs actions)

@@ -7,11 +7,11 @@ use Rattle.std.proofs.lemmas.List.{append-nil, map-append}
 use Rattle.std.proofs.lemmas.List.Elements.{All-nil, All-push, All-weaker, Contains-append_left, Contains-push, filter-append}
 use Rattle.std.proofs.lemmas.List.Quantifiers.{all_pairs_push}
 use Rattle.serf_wire.specs.declared.fault.WireFault.{WireFault}
-use Rattle.serf_wire.specs.declared.texts.EventText.{EventText}
+use Rattle.serf_wire.specs.declared.texts.EventBody.{EventBody}
 use Rattle.serf_wire.specs.Decoded.{decoded}
 use Rattle.serf_wire.specs.Message.{Message, Query, QueryResponse, user_event, query, query_response, push_pull, foreign}
 use Rattle.serf_window.specs.Texts.{event_of}
-use Rattle.serf_window.specs.Window.{Timed}
+use Rattle.serf_window.specs.Window.{TimedEntry}
 use Rattle.serf_snap.specs.Notes.{Writing, Kept, Failed}
 use Rattle.serf_snap.specs.declared.snapshot.NoteFault.{NoteFault}
 use Rattle.serf_agent.specs.declared.open_query.OpenQuery.{OpenQuery}
@@ -28,7 +28,7 @@ use Rattle.serf_agent.specs.Calls.{Ends, planned, ended, will, answers}
 use Rattle.serf_agent.specs.Events.{fired_as, fire_fault, admission, received_as}
 use Rattle.serf_agent.specs.Handed.{Handed}
 use Rattle.serf_agent.specs.Ideal.{IdealAgent, with_asked}
-use Rattle.serf_agent.specs.Queries.{query_fired_as, query_fault, query_at, query_admission, query_received_as, handed_query, handed_if_passed, all_pass, asked_at, answer_refusal, response_received_at, response_received_as, counted, with_asked_at, is_full, is_ack, respond_fault}
+use Rattle.serf_agent.specs.Queries.{query_fired_as, query_fault, query_at, query_admission, query_received_as, handed_query, handed_if_passed, all_pass, asked_at, answer_ignore_reason, response_received_at, response_received_as, counted, with_asked_at, is_full, is_ack, respond_fault}
 use Rattle.serf_agent.specs.Receive.{receive_read}
 use Rattle.serf_agent.specs.States.{send_state, merge_refusal, save, compact}
 use Rattle.serf_agent.specs.View.{view_of}
@@ -37,27 +37,27 @@ use Rattle.serf_model.specs.declared.action.Action.TheVariants as actions
 use Rattle.serf_model.specs.declared.line.Answer.{Answer}
 use Rattle.serf_model.specs.declared.line.Answer.TheVariants as lines
 use Rattle.serf_model.specs.declared.line.HandedLine.{HandedLine}
-use Rattle.serf_model.specs.Cluster.{Member, Cluster, Done, Run, acts, acted, after, delivers, fire_gives, handed_line, merges_as, merges_given, note_gives, on_agent, query_gives, receive_gives, responds, responds_as, state_gives, step, step_by}
+use Rattle.serf_model.specs.Cluster.{IdealNode, Cluster, Done, Run, apply, applied, after, delivers, fire_gives, handed_line, merges_as, merges_given, note_gives, on_agent, query_gives, receive_gives, responds, responds_as, state_gives, step, step_by}
 use Rattle.serf_model.specs.Promises.{QueryHandedOnce, QueryOnce}
 use Rattle.serf_model.specs.Trace.{Turn, actor_of, entered_by, handed_in, is_agent, packet_given, queries_at, queries_to, query_brought}
 use Rattle.serf_model.proofs.TurnLaws.{flat_map-push}
 use Rattle.serf_model.proofs.OnceLaws.{query-once}
 use Rattle.serf_model.proofs.RunLaws.{IsAfter, added, after-step, by-push}
 
-abbrev pub only_query : ℕ → ℕ → List (Timed ℕ)
-only_query t id = record { time = t; what = id } ∷ []
+abbrev pub only_query : ℕ → ℕ → List (TimedEntry ℕ)
+only_query t id = record { time = t; key = id } ∷ []
 
 -- what an action hands out is just what it entered
 abbrev pub Hands : Action → Option (List ℕ) → Done → Type 0
 Hands action given done = (q : Handed) → done.handed ≡ Some q → entered_by action given done.answer ≡ only_query q.time q.id
 
-hands-fire : (i : IdealAgent) (action : Action) (what : EventText) (coalesce : Bool) (r : Option FireFault) → Hands action None (fire_gives (planned i (fired_as r i what coalesce)).answer)
+hands-fire : (i : IdealAgent) (action : Action) (what : EventBody) (coalesce : Bool) (r : Option FireFault) → Hands action None (fire_gives (planned i (fired_as r i what coalesce)).answer)
 hands-fire i action what coalesce (Some fault) = λ q e. absurd (cc e)
 hands-fire i action what coalesce None = by (will i (fired_as None i what coalesce))
   where
     by : (w : Writing) → Hands action None (fire_gives (ended i (fired_as None i what coalesce) w).answer)
     by Kept = λ q e. absurd (cc e)
-    by (Failed kept) = λ q e. absurd (cc e)
+    by (Failed durable) = λ q e. absurd (cc e)
 
 passed : (node : List ℕ) (now : ℕ) (q : Query) (h : Handed) → handed_if_passed node now q ≡ Some h → only_query q.time q.id ≡ only_query h.time h.id
 passed node now q h e = by (all_pass q.filters node) e
@@ -66,13 +66,13 @@ passed node now q h e = by (all_pass q.filters node) e
     by true e = let same : handed_query node now q ≡ h = cc e in ap (λ (x : Handed). only_query x.time x.id) same
     by false e = absurd (cc e)
 
-hands-event : (i : IdealAgent) (action : Action) (packet : List ℕ) (t : ℕ) (what : EventText) (coalesce : Bool) (r : Option Reason) → Hands action (Some packet) (receive_gives packet (planned i (received_as r i t what coalesce)).answer)
+hands-event : (i : IdealAgent) (action : Action) (packet : List ℕ) (t : ℕ) (what : EventBody) (coalesce : Bool) (r : Option Reason) → Hands action (Some packet) (receive_gives packet (planned i (received_as r i t what coalesce)).answer)
 hands-event i action packet t what coalesce (Some reason) = λ q e. absurd (cc e)
 hands-event i action packet t what coalesce None = by (will i (received_as None i t what coalesce))
   where
     by : (w : Writing) → Hands action (Some packet) (receive_gives packet (ended i (received_as None i t what coalesce) w).answer)
     by Kept = λ q e. absurd (cc e)
-    by (Failed kept) = λ q e. absurd (cc e)
+    by (Failed durable) = λ q e. absurd (cc e)
 
 hands-query : (i : IdealAgent) (action : Action) (packet : List ℕ) (now : ℕ) (q : Query) (r : Option Reason) → decoded packet ≡ Ok (query q) → Hands action (Some packet) (receive_gives packet (planned i (query_received_as r i now q)).answer)
 hands-query i action packet now q (Some reason) is = λ h e. absurd (cc e)
@@ -80,11 +80,11 @@ hands-query i action packet now q None is = by (will i (query_received_as None i
   where
     by : (w : Writing) → Hands action (Some packet) (receive_gives packet (ended i (query_received_as None i now q) w).answer)
     by Kept = λ h e. ap query_brought is ∙ passed i.config.name now q h e
-    by (Failed kept) = λ h e. absurd (cc e)
+    by (Failed durable) = λ h e. absurd (cc e)
 
 hands-response : (i : IdealAgent) (action : Action) (packet : List ℕ) (now : ℕ) (r : QueryResponse) (o : Option OpenQuery) → Hands action (Some packet) (receive_gives packet (planned i (response_received_at o i now r)).answer)
 hands-response i action packet now r None = λ q e. absurd (cc e)
-hands-response i action packet now r (Some q) = by (answer_refusal now r q)
+hands-response i action packet now r (Some q) = by (answer_ignore_reason now r q)
   where
     by-room : (full ack : Bool) → Hands action (Some packet) (receive_gives packet (planned i (cond full (answers i (Err receives.RespondersFull))
         (Ends (record { agent = with_asked (with_asked_at r.time (counted r q) i.asked) i; answer = Ok (cond ack outcomes.Ack outcomes.Response) })))).answer)
@@ -98,13 +98,13 @@ hands-response i action packet now r (Some q) = by (answer_refusal now r q)
 
 hands-read : (i : IdealAgent) (action : Action) (packet : List ℕ) (now : ℕ) (r : Result Message WireFault) → decoded packet ≡ r → Hands action (Some packet) (receive_gives packet (planned i (receive_read i now r)).answer)
 hands-read i action packet now (Err fault) is = λ q e. absurd (cc e)
-hands-read i action packet now (Ok (user_event x)) is = hands-event i action packet x.time (event_of x.name x.payload) x.cc (admission i x.time (event_of x.name x.payload))
+hands-read i action packet now (Ok (user_event x)) is = hands-event i action packet x.time (event_of x.name x.payload) x.coalesce (admission i x.time (event_of x.name x.payload))
 hands-read i action packet now (Ok (query q)) is = hands-query i action packet now q (query_admission i q.time q.id) is
 hands-read i action packet now (Ok (query_response r)) is = hands-response i action packet now r (asked_at r.time i.asked)
 hands-read i action packet now (Ok (push_pull m)) is = λ q e. absurd (cc e)
 hands-read i action packet now (Ok (foreign kind)) is = λ q e. absurd (cc e)
 
-hands-delivers : (m : Member) (action : Action) (now : ℕ) (given : Option (List ℕ)) → Hands action given (delivers m now given).done
+hands-delivers : (m : IdealNode) (action : Action) (now : ℕ) (given : Option (List ℕ)) → Hands action given (delivers m now given).done
 hands-delivers m action now None = λ q e. absurd (cc e)
 hands-delivers m action now (Some packet) = by m.agent.snapshot.stopped
   where
@@ -112,16 +112,16 @@ hands-delivers m action now (Some packet) = by m.agent.snapshot.stopped
     by true = λ q e. absurd (cc e)
     by false = hands-read m.agent action packet now (decoded packet) refl
 
-hands-asks : (m : Member) (agent now id : ℕ) (name payload : List ℕ) (params : QueryParams) (r : Option QueryFault)
+hands-asks : (m : IdealNode) (agent now id : ℕ) (name payload : List ℕ) (params : QueryParams) (r : Option QueryFault)
     → Hands (actions.Query agent now id name payload params) None (query_gives (planned m.agent (query_fired_as r m.agent now (query_at m.agent.queries.clock m.agent.config.name id name payload params))).answer)
 hands-asks m agent now id name payload params (Some fault) = λ q e. absurd (cc e)
 hands-asks m agent now id name payload params None = by (will m.agent (query_fired_as None m.agent now (query_at m.agent.queries.clock m.agent.config.name id name payload params)))
   where
     by : (w : Writing) → Hands (actions.Query agent now id name payload params) None (query_gives (ended m.agent (query_fired_as None m.agent now (query_at m.agent.queries.clock m.agent.config.name id name payload params)) w).answer)
     by Kept = λ h e. passed m.agent.config.name now (query_at m.agent.queries.clock m.agent.config.name id name payload params) h e
-    by (Failed kept) = λ h e. absurd (cc e)
+    by (Failed durable) = λ h e. absurd (cc e)
 
-pub merge-hands : (m : Member) (join : Bool) (f : Option MergeFault) (r : Result Message WireFault) → (merges_as f m join r).done.handed ≡ None
+pub merge-hands : (m : IdealNode) (join : Bool) (f : Option MergeFault) (r : Result Message WireFault) → (merges_as f m join r).done.handed ≡ None
 merge-hands m join (Some fault) r = refl
 merge-hands m join None (Err fault) = refl
 merge-hands m join None (Ok (user_event x)) = refl
@@ -133,7 +133,7 @@ merge-hands m join None (Ok (push_pull s)) = refl
 hands-none : (action : Action) (given : Option (List ℕ)) (done : Done) → done.handed ≡ None → Hands action given done
 hands-none action given done none q e = absurd (let no : None ≡ Some q = sym none ∙ e in cc)
 
-hands-given : (m : Member) (action : Action) (join : Bool) (given : Option (List ℕ)) → Hands action given (merges_given m join given).done
+hands-given : (m : IdealNode) (action : Action) (join : Bool) (given : Option (List ℕ)) → Hands action given (merges_given m join given).done
 hands-given m action join None = λ q e. absurd (cc e)
 hands-given m action join (Some packet) = hands-none action (Some packet) (merges_given m join (Some packet)).done (merge-hands m join (merge_refusal (view_of m.agent) (decoded packet)) (decoded packet))
 
@@ -145,7 +145,7 @@ note-hands : (answer : Answer) (r : Result (Unit {0}) NoteFault) → (note_gives
 note-hands answer (Ok done) = refl
 note-hands answer (Err fault) = refl
 
-respond-hands : (m : Member) (h : ℕ) (q : Option (Option Handed)) (now : ℕ) (payload : List ℕ) → (responds m h q now payload).done.handed ≡ None
+respond-hands : (m : IdealNode) (h : ℕ) (q : Option (Option Handed)) (now : ℕ) (payload : List ℕ) → (responds m h q now payload).done.handed ≡ None
 respond-hands m h None now payload = refl
 respond-hands m h (Some None) now payload = refl
 respond-hands m h (Some (Some q)) now payload = by (respond_fault q now payload)
@@ -154,19 +154,19 @@ respond-hands m h (Some (Some q)) now payload = by (respond_fault q now payload)
     by (Some fault) = refl
     by None = refl
 
-pub hands-acts : (m : Member) (sent : List (List ℕ)) (action : Action) → Hands action (packet_given sent action) (acts m sent action).done
-hands-acts m sent (actions.Fire agent name payload coalesce) = hands-fire m.agent (actions.Fire agent name payload coalesce) (event_of name payload) coalesce (fire_fault m.agent (event_of name payload) coalesce)
-hands-acts m sent (actions.Deliver to packet now) = hands-delivers m (actions.Deliver to packet now) now (slice_get sent packet)
-hands-acts m sent (actions.State agent) = hands-none (actions.State agent) None (state_gives (send_state (view_of m.agent) [] [])) (state-hands (send_state (view_of m.agent) [] []))
-hands-acts m sent (actions.Merge to packet join) = hands-given m (actions.Merge to packet join) join (slice_get sent packet)
-hands-acts m sent (actions.Query agent now id name payload params) = hands-asks m agent now id name payload params (query_fault m.agent id name payload params)
-hands-acts m sent (actions.Respond agent h now payload) = hands-none (actions.Respond agent h now payload) None (responds m h (slice_get m.handed h) now payload).done (respond-hands m h (slice_get m.handed h) now payload)
-hands-acts m sent (actions.Restart agent tail) = λ q e. absurd (cc e)
-hands-acts m sent (actions.Break agent call n) = λ q e. absurd (cc e)
-hands-acts m sent (actions.Inject bytes) = λ q e. absurd (cc e)
-hands-acts m sent (actions.Close agent now) = λ q e. absurd (cc e)
-hands-acts m sent (actions.Save agent) = hands-none (actions.Save agent) None (note_gives lines.Saved (planned m.agent (save m.agent)).answer) (note-hands lines.Saved (planned m.agent (save m.agent)).answer)
-hands-acts m sent (actions.Compact agent) = hands-none (actions.Compact agent) None (note_gives lines.Compacted (planned m.agent (compact m.agent)).answer) (note-hands lines.Compacted (planned m.agent (compact m.agent)).answer)
+pub hands-apply : (m : IdealNode) (sent : List (List ℕ)) (action : Action) → Hands action (packet_given sent action) (apply m sent action).done
+hands-apply m sent (actions.Fire agent name payload coalesce) = hands-fire m.agent (actions.Fire agent name payload coalesce) (event_of name payload) coalesce (fire_fault m.agent (event_of name payload) coalesce)
+hands-apply m sent (actions.Deliver to packet now) = hands-delivers m (actions.Deliver to packet now) now (slice_get sent packet)
+hands-apply m sent (actions.State agent) = hands-none (actions.State agent) None (state_gives (send_state (view_of m.agent) [] [])) (state-hands (send_state (view_of m.agent) [] []))
+hands-apply m sent (actions.Merge to packet join) = hands-given m (actions.Merge to packet join) join (slice_get sent packet)
+hands-apply m sent (actions.Query agent now id name payload params) = hands-asks m agent now id name payload params (query_fault m.agent id name payload params)
+hands-apply m sent (actions.Respond agent h now payload) = hands-none (actions.Respond agent h now payload) None (responds m h (slice_get m.handed h) now payload).done (respond-hands m h (slice_get m.handed h) now payload)
+hands-apply m sent (actions.Restart agent tail) = λ q e. absurd (cc e)
+hands-apply m sent (actions.Break agent call n) = λ q e. absurd (cc e)
+hands-apply m sent (actions.Inject bytes) = λ q e. absurd (cc e)
+hands-apply m sent (actions.Close agent now) = λ q e. absurd (cc e)
+hands-apply m sent (actions.Save agent) = hands-none (actions.Save agent) None (note_gives lines.Saved (planned m.agent (save m.agent)).answer) (note-hands lines.Saved (planned m.agent (save m.agent)).answer)
+hands-apply m sent (actions.Compact agent) = hands-none (actions.Compact agent) None (note_gives lines.Compacted (planned m.agent (compact m.agent)).answer) (note-hands lines.Compacted (planned m.agent (compact m.agent)).answer)
 
 -- ---- a step
 
@@ -185,7 +185,7 @@ queries_to-push a turns turn =
     ∙ ap (λ es. map handed_in es) (filter-append (mine a) lines (option_to_list turn.line.handed))
     ∙ map-append handed_in (filter (mine a) lines) (filter (mine a) (option_to_list turn.line.handed))
 
-abbrev entered : Turn → List (Timed ℕ)
+abbrev entered : Turn → List (TimedEntry ℕ)
 entered t = entered_by t.action t.given t.line.answer
 
 -- the last of a list without equal pairs differs from the others
@@ -207,8 +207,8 @@ fresh-last ys x y all h same =
     all h.0 (length ys) y h.1 (let l = length-push ys x in omega arith) (front-at ys x y h.0 h.1 ∙ h.2 ∙ same ∙ sym (last-at ys x y))
 
 -- what one agent's turn adds
-handed-more : (turns : List Turn) (turn : Turn) (a : ℕ) → IsHanded turns → QueryOnce (turns ++ turn ∷ []) → (new : List (Timed ℕ)) → map handed_in (filter (mine a) (option_to_list turn.line.handed)) ≡ new
-    → (new ≡ []) ⊎ ((x : Timed ℕ) × (new ≡ x ∷ []) × (added entered a turn ≡ x ∷ [])) → All (Contains (queries_at a (turns ++ turn ∷ []))) (queries_to a (turns ++ turn ∷ [])) × AllPairs (λ x y. x ≢ y) (queries_to a (turns ++ turn ∷ []))
+handed-more : (turns : List Turn) (turn : Turn) (a : ℕ) → IsHanded turns → QueryOnce (turns ++ turn ∷ []) → (new : List (TimedEntry ℕ)) → map handed_in (filter (mine a) (option_to_list turn.line.handed)) ≡ new
+    → (new ≡ []) ⊎ ((x : TimedEntry ℕ) × (new ≡ x ∷ []) × (added entered a turn ≡ x ∷ [])) → All (Contains (queries_at a (turns ++ turn ∷ []))) (queries_to a (turns ++ turn ∷ [])) × AllPairs (λ x y. x ≢ y) (queries_to a (turns ++ turn ∷ []))
 handed-more turns turn a h once new is (inl none) =
     let same : queries_to a (turns ++ turn ∷ []) ≡ queries_to a turns = queries_to-push a turns turn ∙ ap (λ l. queries_to a turns ++ l) (is ∙ none) ∙ append-nil (queries_to a turns) in (
       subst (All (Contains (queries_at a (turns ++ turn ∷ [])))) (sym same)
@@ -217,7 +217,7 @@ handed-more turns turn a h once new is (inl none) =
       subst (AllPairs (λ x y. x ≢ y)) (sym same) (h.once a),
     )
 handed-more turns turn a h once new is (inr one) =
-    let x : Timed ℕ = one.0 in
+    let x : TimedEntry ℕ = one.0 in
     let to : queries_to a (turns ++ turn ∷ []) ≡ queries_to a turns ++ one.0 ∷ [] = queries_to-push a turns turn ∙ ap (λ l. queries_to a turns ++ l) (is ∙ one.1) in
     let at : queries_at a (turns ++ turn ∷ []) ≡ queries_at a turns ++ one.0 ∷ [] = by-push entered a turns turn ∙ ap (λ l. queries_at a turns ++ l) one.2 in
     let pairs : AllPairs (λ x y. x ≢ y) (queries_at a turns ++ one.0 ∷ []) = subst (AllPairs (λ x y. x ≢ y)) at (once a) in
@@ -230,30 +230,30 @@ handed-more turns turn a h once new is (inr one) =
     )
 
 abbrev Adds : ℕ → Turn → Type 0
-Adds a turn = (map handed_in (filter (mine a) (option_to_list turn.line.handed)) ≡ []) ⊎ ((x : Timed ℕ) × (map handed_in (filter (mine a) (option_to_list turn.line.handed)) ≡ x ∷ []) × (added entered a turn ≡ x ∷ []))
+Adds a turn = (map handed_in (filter (mine a) (option_to_list turn.line.handed)) ≡ []) ⊎ ((x : TimedEntry ℕ) × (map handed_in (filter (mine a) (option_to_list turn.line.handed)) ≡ x ∷ []) × (added entered a turn ≡ x ∷ []))
 
-adds-acted : (c : Cluster) (action : Action) (b : ℕ) (m : Member) (a : ℕ) → actor_of action ≡ Some b → Adds a (acted c action b (acts m c.sent action)).turn
-adds-acted c action b m a actor = by (acts m c.sent action).done.handed refl (b == a) refl
+adds-applied : (c : Cluster) (action : Action) (b : ℕ) (m : IdealNode) (a : ℕ) → actor_of action ≡ Some b → Adds a (applied c action b (apply m c.sent action)).turn
+adds-applied c action b m a actor = by (apply m c.sent action).done.handed refl (b == a) refl
   where
-    by : (h : Option Handed) → (acts m c.sent action).done.handed ≡ h → (t : Bool) → (b == a) ≡ t → Adds a (acted c action b (acts m c.sent action)).turn
-    by None none t is = inl (ap (λ (h : Option Handed). map handed_in (filter (mine a) (option_to_list (option_map (handed_line b (length (acts m c.sent action).member.handed)) h)))) none)
+    by : (h : Option Handed) → (apply m c.sent action).done.handed ≡ h → (t : Bool) → (b == a) ≡ t → Adds a (applied c action b (apply m c.sent action)).turn
+    by None none t is = inl (ap (λ (h : Option Handed). map handed_in (filter (mine a) (option_to_list (option_map (handed_line b (length (apply m c.sent action).node.handed)) h)))) none)
     by (Some q) some true is = inr (
-      record { time = q.time; what = q.id },
-      ap (λ (h : Option Handed). map handed_in (filter (mine a) (option_to_list (option_map (handed_line b (length (acts m c.sent action).member.handed)) h)))) some
-          ∙ ap (λ (t : Bool). map handed_in (cond t (handed_line b (length (acts m c.sent action).member.handed) q ∷ []) [])) is,
-      ap (λ (t : Bool). cond t (entered_by action (packet_given c.sent action) (acts m c.sent action).done.answer) []) (ap (is_agent a) actor ∙ is) ∙ hands-acts m c.sent action q some,
+      record { time = q.time; key = q.id },
+      ap (λ (h : Option Handed). map handed_in (filter (mine a) (option_to_list (option_map (handed_line b (length (apply m c.sent action).node.handed)) h)))) some
+          ∙ ap (λ (t : Bool). map handed_in (cond t (handed_line b (length (apply m c.sent action).node.handed) q ∷ []) [])) is,
+      ap (λ (t : Bool). cond t (entered_by action (packet_given c.sent action) (apply m c.sent action).done.answer) []) (ap (is_agent a) actor ∙ is) ∙ hands-apply m c.sent action q some,
     )
     by (Some q) some false is =
-        inl (ap (λ (h : Option Handed). map handed_in (filter (mine a) (option_to_list (option_map (handed_line b (length (acts m c.sent action).member.handed)) h)))) some
-        ∙ ap (λ (t : Bool). map handed_in (cond t (handed_line b (length (acts m c.sent action).member.handed) q ∷ []) [])) is)
+        inl (ap (λ (h : Option Handed). map handed_in (filter (mine a) (option_to_list (option_map (handed_line b (length (apply m c.sent action).node.handed)) h)))) some
+        ∙ ap (λ (t : Bool). map handed_in (cond t (handed_line b (length (apply m c.sent action).node.handed) q ∷ []) [])) is)
 
-adds-agent : (c : Cluster) (action : Action) (b : ℕ) (r : Option Member) (a : ℕ) → actor_of action ≡ Some b → Adds a (on_agent c action b r).turn
+adds-agent : (c : Cluster) (action : Action) (b : ℕ) (r : Option IdealNode) (a : ℕ) → actor_of action ≡ Some b → Adds a (on_agent c action b r).turn
 adds-agent c action b None a actor = inl refl
-adds-agent c action b (Some m) a actor = adds-acted c action b m a actor
+adds-agent c action b (Some m) a actor = adds-applied c action b m a actor
 
 adds-by : (c : Cluster) (action : Action) (o : Option ℕ) (a : ℕ) → actor_of action ≡ o → Adds a (step_by c action o).turn
 adds-by c action None a actor = inl refl
-adds-by c action (Some b) a actor = adds-agent c action b (slice_get c.members b) a actor
+adds-by c action (Some b) a actor = adds-agent c action b (slice_get c.nodes b) a actor
 
 pub handed-step : (r : Run) (action : Action) → IsAfter r.cluster r.turns → IsHanded r.turns → IsHanded (after r action).turns
 handed-step r action h all =

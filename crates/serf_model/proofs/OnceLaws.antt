@@ -3,16 +3,16 @@ use Rattle.std.proofs.Common.{◌≡◌, ◌≢◌, ℕ, ◌<◌, List, [], Opti
 use Rattle.std.specs.Prelude.{All, AllPairs, slice_get}
 use Rattle.std.proofs.lemmas.List.{length-map, get_or-map}
 use Rattle.std.proofs.lemmas.List.Elements.{All-map}
-use Rattle.serf_window.specs.Window.{Timed}
+use Rattle.serf_window.specs.Window.{TimedEntry}
 use Rattle.serf_agent.specs.Ideal.{Past}
 use Rattle.serf_model.specs.declared.action.Action.{Action}
 use Rattle.serf_model.specs.declared.line.Answer.TheVariants as answers
-use Rattle.serf_model.specs.Cluster.{Member, Cluster, Run, on_agent, step_by, step, after}
+use Rattle.serf_model.specs.Cluster.{IdealNode, Cluster, Run, on_agent, step_by, step, after}
 use Rattle.serf_model.specs.Promises.{Once, Later, QueryOnce, QueryLater}
 use Rattle.serf_model.specs.Trace.{Turn, actor_of, events_to, queries_at}
 use Rattle.serf_model.proofs.TurnLaws.{at_each_nil, at_each_push}
-use Rattle.serf_model.proofs.CallLaws.{entries, keeps-acts}
-use Rattle.serf_model.specs.Ready.{IsGood}
+use Rattle.serf_model.proofs.HistoryGrowth.{entries, keeps-apply}
+use Rattle.serf_model.specs.Ready.{IsRepresentable}
 use Rattle.serf_model.proofs.RunLaws.{IsAfter, events_at, queries_of, all-at, turn-action}
 
 -- ---- what a sound track says of its entries
@@ -24,25 +24,25 @@ distinct-entries {K} h distinct i j d lt within same =
     distinct i j p lt long (sym (get_or-map (λ (p : Past K). p.entry) h i p d (omega arith)) ∙ same ∙ get_or-map (λ (p : Past K). p.entry) h j p d long)
 
 below-entries : {K : Type 0} (h : List (Past K)) (t : ℕ) → All (λ p. p.entry.time < t) h → All (λ e. e.time < t) (entries h)
-below-entries {K} h t below = All-map (λ (e : Timed K). e.time < t) (λ (p : Past K). p.entry) h below
+below-entries {K} h t below = All-map (λ (e : TimedEntry K). e.time < t) (λ (p : Past K). p.entry) h below
 
 -- ---- once
 
-distinct-events : (r : Option Member) → ((m : Member) → r ≡ Some m → IsGood m.agent) → AllPairs (λ x y. x ≢ y) (events_at r)
-distinct-events None good = λ i j d lt within. absurd (omega arith)
-distinct-events (Some m) good = distinct-entries m.agent.events.history (good m refl).ready.sound.events.distinct
+distinct-events : (r : Option IdealNode) → ((m : IdealNode) → r ≡ Some m → IsRepresentable m.agent) → AllPairs (λ x y. x ≢ y) (events_at r)
+distinct-events None representable = λ i j d lt within. absurd (omega arith)
+distinct-events (Some m) representable = distinct-entries m.agent.events.history (representable m refl).consistent.sound.events.distinct
 
 pub once : (c : Cluster) (turns : List Turn) → IsAfter c turns → Once turns
 once c turns h a =
-    subst (AllPairs (λ x y. x ≢ y)) (h.events a) (distinct-events (slice_get c.members a) (λ m at. all-at (λ m. IsGood m.agent) c.members a m h.good at))
+    subst (AllPairs (λ x y. x ≢ y)) (h.events a) (distinct-events (slice_get c.nodes a) (λ m at. all-at (λ m. IsRepresentable m.agent) c.nodes a m h.representable at))
 
-distinct-queries : (r : Option Member) → ((m : Member) → r ≡ Some m → IsGood m.agent) → AllPairs (λ x y. x ≢ y) (queries_of r)
-distinct-queries None good = λ i j d lt within. absurd (omega arith)
-distinct-queries (Some m) good = distinct-entries m.agent.queries.history (good m refl).ready.sound.queries.distinct
+distinct-queries : (r : Option IdealNode) → ((m : IdealNode) → r ≡ Some m → IsRepresentable m.agent) → AllPairs (λ x y. x ≢ y) (queries_of r)
+distinct-queries None representable = λ i j d lt within. absurd (omega arith)
+distinct-queries (Some m) representable = distinct-entries m.agent.queries.history (representable m refl).consistent.sound.queries.distinct
 
 pub query-once : (c : Cluster) (turns : List Turn) → IsAfter c turns → QueryOnce turns
 query-once c turns h a =
-    subst (AllPairs (λ x y. x ≢ y)) (h.queries a) (distinct-queries (slice_get c.members a) (λ m at. all-at (λ m. IsGood m.agent) c.members a m h.good at))
+    subst (AllPairs (λ x y. x ≢ y)) (h.queries a) (distinct-queries (slice_get c.nodes a) (λ m at. all-at (λ m. IsRepresentable m.agent) c.nodes a m h.representable at))
 
 -- ---- later
 
@@ -52,37 +52,37 @@ LaterAt before turn = (a t : ℕ) → actor_of turn.action ≡ Some a → turn.l
 abbrev QueryLaterAt : List Turn → Turn → Type 0
 QueryLaterAt before turn = (a t : ℕ) → actor_of turn.action ≡ Some a → turn.line.answer ≡ answers.Queried t → All (λ q. q.time < t) (queries_at a before)
 
-later-agent : (c : Cluster) (turns : List Turn) (action : Action) (a : ℕ) (r : Option Member) (t : ℕ) → IsAfter c turns → slice_get c.members a ≡ r → (on_agent c action a r).turn.line.answer ≡ answers.Fired t → All (λ e. e.time < t) (events_to a turns)
+later-agent : (c : Cluster) (turns : List Turn) (action : Action) (a : ℕ) (r : Option IdealNode) (t : ℕ) → IsAfter c turns → slice_get c.nodes a ≡ r → (on_agent c action a r).turn.line.answer ≡ answers.Fired t → All (λ e. e.time < t) (events_to a turns)
 later-agent c turns action a None t h at fired = absurd (cc fired)
 later-agent c turns action a (Some m) t h at fired =
-    let good = all-at (λ m. IsGood m.agent) c.members a m h.good at in
-    let clock : t ≡ m.agent.events.clock = (keeps-acts m c.sent action).fires t fired in
+    let representable = all-at (λ m. IsRepresentable m.agent) c.nodes a m h.representable at in
+    let clock : t ≡ m.agent.events.clock = (keeps-apply m c.sent action).fires t fired in
     subst (All (λ e. e.time < t)) (ap events_at (sym at) ∙ h.events a)
-    (below-entries m.agent.events.history t (subst (λ (n : ℕ). All (λ p. p.entry.time < n) m.agent.events.history) (sym clock) good.ready.sound.events.below_clock))
+    (below-entries m.agent.events.history t (subst (λ (n : ℕ). All (λ p. p.entry.time < n) m.agent.events.history) (sym clock) representable.consistent.sound.events.below_clock))
 
 later-by : (c : Cluster) (turns : List Turn) (action : Action) (o : Option ℕ) (a t : ℕ) → IsAfter c turns → o ≡ Some a → (step_by c action o).turn.line.answer ≡ answers.Fired t → All (λ e. e.time < t) (events_to a turns)
 later-by c turns action None a t h is fired = absurd (cc is)
 later-by c turns action (Some b) a t h is fired =
     let same : b ≡ a = cc is in
-    later-agent c turns action a (slice_get c.members a) t h refl (subst (λ (n : ℕ). (on_agent c action n (slice_get c.members n)).turn.line.answer ≡ answers.Fired t) same fired)
+    later-agent c turns action a (slice_get c.nodes a) t h refl (subst (λ (n : ℕ). (on_agent c action n (slice_get c.nodes n)).turn.line.answer ≡ answers.Fired t) same fired)
 
 pub later-step : (r : Run) (action : Action) → IsAfter r.cluster r.turns → Later r.turns → Later (after r action).turns
 later-step r action h all =
     at_each_push LaterAt r.turns (step r.cluster action).turn all (λ a t is fired. later-by r.cluster r.turns action (actor_of action) a t h (sym (ap actor_of (turn-action r.cluster action)) ∙ is) fired)
 
-query-later-agent : (c : Cluster) (turns : List Turn) (action : Action) (a : ℕ) (r : Option Member) (t : ℕ) → IsAfter c turns → slice_get c.members a ≡ r → (on_agent c action a r).turn.line.answer ≡ answers.Queried t → All (λ q. q.time < t) (queries_at a turns)
+query-later-agent : (c : Cluster) (turns : List Turn) (action : Action) (a : ℕ) (r : Option IdealNode) (t : ℕ) → IsAfter c turns → slice_get c.nodes a ≡ r → (on_agent c action a r).turn.line.answer ≡ answers.Queried t → All (λ q. q.time < t) (queries_at a turns)
 query-later-agent c turns action a None t h at fired = absurd (cc fired)
 query-later-agent c turns action a (Some m) t h at fired =
-    let good = all-at (λ m. IsGood m.agent) c.members a m h.good at in
-    let clock : t ≡ m.agent.queries.clock = (keeps-acts m c.sent action).asks t fired in
+    let representable = all-at (λ m. IsRepresentable m.agent) c.nodes a m h.representable at in
+    let clock : t ≡ m.agent.queries.clock = (keeps-apply m c.sent action).asks t fired in
     subst (All (λ e. e.time < t)) (ap queries_of (sym at) ∙ h.queries a)
-    (below-entries m.agent.queries.history t (subst (λ (n : ℕ). All (λ p. p.entry.time < n) m.agent.queries.history) (sym clock) good.ready.sound.queries.below_clock))
+    (below-entries m.agent.queries.history t (subst (λ (n : ℕ). All (λ p. p.entry.time < n) m.agent.queries.history) (sym clock) representable.consistent.sound.queries.below_clock))
 
 query-later-by : (c : Cluster) (turns : List Turn) (action : Action) (o : Option ℕ) (a t : ℕ) → IsAfter c turns → o ≡ Some a → (step_by c action o).turn.line.answer ≡ answers.Queried t → All (λ q. q.time < t) (queries_at a turns)
 query-later-by c turns action None a t h is fired = absurd (cc is)
 query-later-by c turns action (Some b) a t h is fired =
     let same : b ≡ a = cc is in
-    query-later-agent c turns action a (slice_get c.members a) t h refl (subst (λ (n : ℕ). (on_agent c action n (slice_get c.members n)).turn.line.answer ≡ answers.Queried t) same fired)
+    query-later-agent c turns action a (slice_get c.nodes a) t h refl (subst (λ (n : ℕ). (on_agent c action n (slice_get c.nodes n)).turn.line.answer ≡ answers.Queried t) same fired)
 
 pub query-later-step : (r : Run) (action : Action) → IsAfter r.cluster r.turns → QueryLater r.turns → QueryLater (after r action).turns
 query-later-step r action h all =

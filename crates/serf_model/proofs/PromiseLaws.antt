@@ -13,7 +13,7 @@ use Rattle.serf_model.proofs.OnceLaws.{once, query-once, later-step, query-later
 use Rattle.serf_model.proofs.FiredLaws.{IsFired, fired-step, fired-start}
 use Rattle.serf_model.proofs.SeenLaws.{seen-step, seen-start}
 use Rattle.serf_model.proofs.HandedLaws.{IsHanded, handed-step, handed-start}
-use Rattle.serf_model.proofs.AskedLaws.{IsAsked, asked-step, asked-start}
+use Rattle.serf_model.proofs.QueryOrigins.{IsAsked, asked-step, asked-start}
 use Rattle.serf_model.proofs.TraceLaws.{IsRead, read-step, read-start, reads, actions-of}
 
 -- what each action keeps

@@ -5,17 +5,17 @@ use Rattle.std.specs.List.{AllByRecursion, filter, flat_map}
 use Rattle.std.proofs.lemmas.Bool.{eqb-true, eqb-false}
 use Rattle.std.proofs.lemmas.List.{append-nil, map-append}
 use Rattle.std.proofs.lemmas.List.Elements.{filter-append}
-use Rattle.serf_wire.specs.declared.texts.EventText.{EventText}
-use Rattle.serf_window.specs.Window.{Timed}
+use Rattle.serf_wire.specs.declared.texts.EventBody.{EventBody}
+use Rattle.serf_window.specs.Window.{TimedEntry}
 use Rattle.serf_agent.specs.declared.outcome.EventOut.{EventOut}
 use Rattle.serf_model.specs.declared.action.Action.{Action}
 use Rattle.serf_model.specs.declared.line.EventLine.{EventLine}
-use Rattle.serf_model.specs.Cluster.{Member, Cluster, Acted, Stepped, Run, acts, acted, on_agent, step_by, step, after, event_line, with_handed}
+use Rattle.serf_model.specs.Cluster.{IdealNode, Cluster, Applied, Stepped, Run, apply, applied, on_agent, step_by, step, after, event_line, with_handed}
 use Rattle.serf_model.specs.Trace.{Turn, actor_of, is_agent, turns_by, event_in, events_to, queries_at, entered_by, sent_in, packet_given}
 use Rattle.serf_model.proofs.TurnLaws.{flat_map-push}
-use Rattle.serf_model.proofs.CallLaws.{Keeps, entries, out_in, keeps-acts}
-use Rattle.serf_model.specs.Ready.{IsGood}
-use Rattle.serf_model.proofs.ReadyLaws.{good-acts}
+use Rattle.serf_model.proofs.HistoryGrowth.{Keeps, entries, out_in, keeps-apply}
+use Rattle.serf_model.specs.Ready.{IsRepresentable}
+use Rattle.serf_model.proofs.InvariantKept.{representable-apply}
 
 -- ---- places of lists
 
@@ -76,21 +76,21 @@ lines-other a b (out ∷ outs) t = rw t (lines-other a b outs t)
 -- ---- after a run
 
 -- what an agent entered in all its lives
-abbrev pub events_at : Option Member → List (Timed EventText)
+abbrev pub events_at : Option IdealNode → List (TimedEntry EventBody)
 events_at None = []
 events_at (Some m) = entries m.agent.events.history
 
-abbrev pub queries_of : Option Member → List (Timed ℕ)
+abbrev pub queries_of : Option IdealNode → List (TimedEntry ℕ)
 queries_of None = []
 queries_of (Some m) = entries m.agent.queries.history
 
 pub record IsAfter (c : Cluster) (turns : List Turn) : Type 0 where
-  pub good : AllByRecursion (λ m. IsGood m.agent) c.members
-  pub events : (a : ℕ) → events_at (slice_get c.members a) ≡ events_to a turns
-  pub queries : (a : ℕ) → queries_of (slice_get c.members a) ≡ queries_at a turns
+  pub representable : AllByRecursion (λ m. IsRepresentable m.agent) c.nodes
+  pub events : (a : ℕ) → events_at (slice_get c.nodes a) ≡ events_to a turns
+  pub queries : (a : ℕ) → queries_of (slice_get c.nodes a) ≡ queries_at a turns
   pub sent : c.sent ≡ sent_in turns
 
-abbrev entered : Turn → List (Timed ℕ)
+abbrev entered : Turn → List (TimedEntry ℕ)
 entered t = entered_by t.action t.given t.line.answer
 
 cond-same : {X : Type 0} (b : Bool) (x : X) → cond b x x ≡ x
@@ -98,77 +98,77 @@ cond-same true x = refl
 cond-same false x = refl
 
 -- a turn that leaves the agents, hands no event out and enters no query
-after-still : (c : Cluster) (turns : List Turn) (s : Stepped) → IsAfter c turns → s.cluster.members ≡ c.members → s.cluster.sent ≡ c.sent ++ s.turn.packets → s.turn.line.events ≡ [] → entered s.turn ≡ [] → IsAfter s.cluster (turns ++ s.turn ∷ [])
-after-still c turns s h members sent none no_query = record {
-  good = subst (AllByRecursion (λ m. IsGood m.agent)) (sym members) h.good;
-  events = λ a. ap (λ ms. events_at (slice_get ms a)) members ∙ h.events a
+after-still : (c : Cluster) (turns : List Turn) (s : Stepped) → IsAfter c turns → s.cluster.nodes ≡ c.nodes → s.cluster.sent ≡ c.sent ++ s.turn.packets → s.turn.line.events ≡ [] → entered s.turn ≡ [] → IsAfter s.cluster (turns ++ s.turn ∷ [])
+after-still c turns s h nodes sent none no_query = record {
+  representable = subst (AllByRecursion (λ m. IsRepresentable m.agent)) (sym nodes) h.representable;
+  events = λ a. ap (λ ms. events_at (slice_get ms a)) nodes ∙ h.events a
       ∙ sym (events_to-push a turns s.turn ∙ ap (λ es. events_to a turns ++ map event_in (filter (λ (e : EventLine). e.agent == a) es)) none ∙ append-nil (events_to a turns));
-  queries = λ a. ap (λ ms. queries_of (slice_get ms a)) members ∙ h.queries a
+  queries = λ a. ap (λ ms. queries_of (slice_get ms a)) nodes ∙ h.queries a
       ∙ sym (by-push entered a turns s.turn ∙ ap (λ l. queries_at a turns ++ l) (ap (λ l. cond (is_agent a (actor_of s.turn.action)) l []) no_query ∙ cond-same (is_agent a (actor_of s.turn.action)) []) ∙ append-nil (queries_at a turns));
   sent = sent ∙ ap (λ l. l ++ s.turn.packets) h.sent ∙ sym (flat_map-push (λ t. t.packets) turns s.turn);
 }
 
-after-acted : (c : Cluster) (turns : List Turn) (action : Action) (b : ℕ) (m : Member) (o : Acted) → IsAfter c turns → actor_of action ≡ Some b → slice_get c.members b ≡ Some m
-    → IsGood o.member.agent → Keeps m.agent o.member.agent o.done (entered_by action (packet_given c.sent action) o.done.answer) → IsAfter (acted c action b o).cluster (turns ++ (acted c action b o).turn ∷ [])
-after-acted c turns action b m o h actor at good keeps = record {
-  good = all-put (λ m. IsGood m.agent) c.members b (with_handed o.done.handed o.member) h.good good;
+after-applied : (c : Cluster) (turns : List Turn) (action : Action) (b : ℕ) (m : IdealNode) (o : Applied) → IsAfter c turns → actor_of action ≡ Some b → slice_get c.nodes b ≡ Some m
+    → IsRepresentable o.node.agent → Keeps m.agent o.node.agent o.done (entered_by action (packet_given c.sent action) o.done.answer) → IsAfter (applied c action b o).cluster (turns ++ (applied c action b o).turn ∷ [])
+after-applied c turns action b m o h actor at representable keeps = record {
+  representable = all-put (λ m. IsRepresentable m.agent) c.nodes b (with_handed o.done.handed o.node) h.representable representable;
   events = λ a. events a (b == a) refl;
   queries = λ a. queries a (b == a) refl;
-  sent = ap (λ l. l ++ o.done.packets) h.sent ∙ sym (flat_map-push (λ t. t.packets) turns (acted c action b o).turn);
+  sent = ap (λ l. l ++ o.done.packets) h.sent ∙ sym (flat_map-push (λ t. t.packets) turns (applied c action b o).turn);
 }
   where
-    new : Member
-    new = with_handed o.done.handed o.member
+    new : IdealNode
+    new = with_handed o.done.handed o.node
 
-    events : (a : ℕ) (t : Bool) → (b == a) ≡ t → events_at (slice_get (set c.members b (with_handed o.done.handed o.member)) a) ≡ events_to a (turns ++ (acted c action b o).turn ∷ [])
+    events : (a : ℕ) (t : Bool) → (b == a) ≡ t → events_at (slice_get (set c.nodes b (with_handed o.done.handed o.node)) a) ≡ events_to a (turns ++ (applied c action b o).turn ∷ [])
     events a true t =
         let same : b ≡ a = eqb-true b a t in
-        ap (λ j. events_at (slice_get (set c.members b (with_handed o.done.handed o.member)) j)) (sym same)
-        ∙ ap events_at (slice_get-set_same c.members b m (with_handed o.done.handed o.member) at)
+        ap (λ j. events_at (slice_get (set c.nodes b (with_handed o.done.handed o.node)) j)) (sym same)
+        ∙ ap events_at (slice_get-set_same c.nodes b m (with_handed o.done.handed o.node) at)
         ∙ keeps.events
-        ∙ ap (λ l. l ++ map out_in o.done.events) (ap events_at (sym at) ∙ ap (λ j. events_at (slice_get c.members j)) same ∙ h.events a)
+        ∙ ap (λ l. l ++ map out_in o.done.events) (ap events_at (sym at) ∙ ap (λ j. events_at (slice_get c.nodes j)) same ∙ h.events a)
         ∙ ap (λ l. events_to a turns ++ l) (sym (lines-same a b o.done.events t))
-        ∙ sym (events_to-push a turns (acted c action b o).turn)
+        ∙ sym (events_to-push a turns (applied c action b o).turn)
     events a false t =
-        ap events_at (slice_get-set_other c.members b a (with_handed o.done.handed o.member) (eqb-false b a t)) ∙ h.events a
-        ∙ sym (events_to-push a turns (acted c action b o).turn ∙ ap (λ l. events_to a turns ++ l) (lines-other a b o.done.events t) ∙ append-nil (events_to a turns))
+        ap events_at (slice_get-set_other c.nodes b a (with_handed o.done.handed o.node) (eqb-false b a t)) ∙ h.events a
+        ∙ sym (events_to-push a turns (applied c action b o).turn ∙ ap (λ l. events_to a turns ++ l) (lines-other a b o.done.events t) ∙ append-nil (events_to a turns))
 
-    queries : (a : ℕ) (t : Bool) → (b == a) ≡ t → queries_of (slice_get (set c.members b (with_handed o.done.handed o.member)) a) ≡ queries_at a (turns ++ (acted c action b o).turn ∷ [])
+    queries : (a : ℕ) (t : Bool) → (b == a) ≡ t → queries_of (slice_get (set c.nodes b (with_handed o.done.handed o.node)) a) ≡ queries_at a (turns ++ (applied c action b o).turn ∷ [])
     queries a true t =
         let same : b ≡ a = eqb-true b a t in
-        ap (λ j. queries_of (slice_get (set c.members b (with_handed o.done.handed o.member)) j)) (sym same)
-        ∙ ap queries_of (slice_get-set_same c.members b m (with_handed o.done.handed o.member) at)
+        ap (λ j. queries_of (slice_get (set c.nodes b (with_handed o.done.handed o.node)) j)) (sym same)
+        ∙ ap queries_of (slice_get-set_same c.nodes b m (with_handed o.done.handed o.node) at)
         ∙ keeps.queries
-        ∙ ap (λ l. l ++ entered_by action (packet_given c.sent action) o.done.answer) (ap queries_of (sym at) ∙ ap (λ j. queries_of (slice_get c.members j)) same ∙ h.queries a)
+        ∙ ap (λ l. l ++ entered_by action (packet_given c.sent action) o.done.answer) (ap queries_of (sym at) ∙ ap (λ j. queries_of (slice_get c.nodes j)) same ∙ h.queries a)
         ∙ ap (λ b. queries_at a turns ++ cond b (entered_by action (packet_given c.sent action) o.done.answer) []) (sym (ap (is_agent a) actor ∙ t))
-        ∙ sym (by-push entered a turns (acted c action b o).turn)
+        ∙ sym (by-push entered a turns (applied c action b o).turn)
     queries a false t =
-        ap queries_of (slice_get-set_other c.members b a (with_handed o.done.handed o.member) (eqb-false b a t)) ∙ h.queries a
-        ∙ sym (by-push entered a turns (acted c action b o).turn
+        ap queries_of (slice_get-set_other c.nodes b a (with_handed o.done.handed o.node) (eqb-false b a t)) ∙ h.queries a
+        ∙ sym (by-push entered a turns (applied c action b o).turn
         ∙ ap (λ b. queries_at a turns ++ cond b (entered_by action (packet_given c.sent action) o.done.answer) []) (ap (is_agent a) actor ∙ t)
         ∙ append-nil (queries_at a turns))
 
-pub after-agent : (c : Cluster) (turns : List Turn) (action : Action) (b : ℕ) (r : Option Member) → IsAfter c turns → actor_of action ≡ Some b → slice_get c.members b ≡ r → IsAfter (on_agent c action b r).cluster (turns ++ (on_agent c action b r).turn ∷ [])
+pub after-agent : (c : Cluster) (turns : List Turn) (action : Action) (b : ℕ) (r : Option IdealNode) → IsAfter c turns → actor_of action ≡ Some b → slice_get c.nodes b ≡ r → IsAfter (on_agent c action b r).cluster (turns ++ (on_agent c action b r).turn ∷ [])
 after-agent c turns action b None h actor at = after-still c turns (on_agent c action b None) h refl (sym (append-nil c.sent)) refl refl
 after-agent c turns action b (Some m) h actor at =
-    after-acted c turns action b m (acts m c.sent action) h actor at (good-acts m c.sent action (all-at (λ m. IsGood m.agent) c.members b m h.good at)) (keeps-acts m c.sent action)
+    after-applied c turns action b m (apply m c.sent action) h actor at (representable-apply m c.sent action (all-at (λ m. IsRepresentable m.agent) c.nodes b m h.representable at)) (keeps-apply m c.sent action)
 
 after-by : (c : Cluster) (turns : List Turn) (action : Action) (o : Option ℕ) → IsAfter c turns → actor_of action ≡ o → IsAfter (step_by c action o).cluster (turns ++ (step_by c action o).turn ∷ [])
 after-by c turns action None h actor = after-still c turns (step_by c action None) h refl refl refl refl
-after-by c turns action (Some b) h actor = after-agent c turns action b (slice_get c.members b) h actor refl
+after-by c turns action (Some b) h actor = after-agent c turns action b (slice_get c.nodes b) h actor refl
 
 pub after-step : (r : Run) (action : Action) → IsAfter r.cluster r.turns → IsAfter (after r action).cluster (after r action).turns
 after-step r action h = after-by r.cluster r.turns action (actor_of action) h refl
 
 -- ---- what a turn says of its action
 
-action-agent : (c : Cluster) (action : Action) (b : ℕ) (r : Option Member) → ((on_agent c action b r).turn.action ≡ action) × ((on_agent c action b r).turn.given ≡ packet_given c.sent action)
+action-agent : (c : Cluster) (action : Action) (b : ℕ) (r : Option IdealNode) → ((on_agent c action b r).turn.action ≡ action) × ((on_agent c action b r).turn.given ≡ packet_given c.sent action)
 action-agent c action b None = (refl, refl)
 action-agent c action b (Some m) = (refl, refl)
 
 action-by : (c : Cluster) (action : Action) (o : Option ℕ) → ((step_by c action o).turn.action ≡ action) × ((step_by c action o).turn.given ≡ packet_given c.sent action)
 action-by c action None = (refl, refl)
-action-by c action (Some b) = action-agent c action b (slice_get c.members b)
+action-by c action (Some b) = action-agent c action b (slice_get c.nodes b)
 
 pub turn-action : (c : Cluster) (action : Action) → (step c action).turn.action ≡ action
 turn-action c action = (action-by c action (actor_of action)).0

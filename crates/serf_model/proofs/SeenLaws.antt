@@ -5,7 +5,7 @@ use Rattle.std.specs.List.{list_any}
 use Rattle.std.proofs.lemmas.Bool.{and_parts, eqb-true}
 use Rattle.std.proofs.lemmas.Slice.Eq.{bytes_eq-Decides}
 use Rattle.serf_wire.specs.declared.fault.WireFault.{WireFault}
-use Rattle.serf_wire.specs.declared.texts.EventText.{EventText}
+use Rattle.serf_wire.specs.declared.texts.EventBody.{EventBody}
 use Rattle.serf_wire.specs.Decoded.{decoded}
 use Rattle.serf_wire.specs.Message.{Message, UserEvent, user_event, query, query_response, push_pull, foreign}
 use Rattle.serf_window.specs.Texts.{event_of, same_texts}
@@ -27,16 +27,16 @@ use Rattle.serf_model.specs.declared.action.Action.{Action}
 use Rattle.serf_model.specs.declared.action.Action.TheVariants as actions
 use Rattle.serf_model.specs.declared.line.Answer.TheVariants as lines
 use Rattle.serf_model.specs.declared.line.Refusal.TheVariants.{SinkFault}
-use Rattle.serf_model.specs.Cluster.{Member, Cluster, Run, acts, after, delivers, merges_as, merges_events, merges_given, on_agent, receive_gives, step, step_by}
+use Rattle.serf_model.specs.Cluster.{IdealNode, Cluster, Run, apply, after, delivers, merges_as, merges_events, merges_given, on_agent, receive_gives, step, step_by}
 use Rattle.serf_model.specs.Promises.{SeenWasHanded}
 use Rattle.serf_model.specs.Trace.{Turn, actor_of, events_to, packet_given}
 use Rattle.serf_model.proofs.TurnLaws.{at_each_nil, at_each_push}
-use Rattle.serf_model.proofs.CallLaws.{entries}
+use Rattle.serf_model.proofs.HistoryGrowth.{entries}
 use Rattle.serf_model.proofs.RunLaws.{IsAfter, events_at, turn-action, turn-given}
 
 -- ---- what was entered
 
-same-texts : (a b : EventText) → same_texts a b ≡ true → a ≡ b
+same-texts : (a b : EventBody) → same_texts a b ≡ true → a ≡ b
 same-texts a b same =
     let parts = and_parts _ _ same in
     let name = (bytes_eq-Decides a.name b.name).0 parts.0 in
@@ -49,26 +49,26 @@ contains-head x xs = (0, omega arith, refl)
 contains-tail : {X : Type 0} (x y : X) (xs : List X) → Contains xs y → Contains (x ∷ xs) y
 contains-tail x y xs h = (suc h.0, omega (arith, h.1), h.2)
 
-entered-contains : (h : List (Past EventText)) (t : ℕ) (what : EventText) → was_ever_entered same_texts h t what ≡ true → Contains (entries h) (record { time = t; what = what })
+entered-contains : (h : List (Past EventBody)) (t : ℕ) (what : EventBody) → was_ever_entered same_texts h t what ≡ true → Contains (entries h) (record { time = t; key = what })
 entered-contains [] t what e = absurd (cc e)
-entered-contains (p ∷ ps) t what e = by ((p.entry.time == t) && same_texts p.entry.what what) refl e (entered-contains ps t what)
+entered-contains (p ∷ ps) t what e = by ((p.entry.time == t) && same_texts p.entry.key what) refl e (entered-contains ps t what)
   where
-    by : (b : Bool) → ((p.entry.time == t) && same_texts p.entry.what what) ≡ b → (b || list_any (λ (p : Past EventText). (p.entry.time == t) && same_texts p.entry.what what) ps) ≡ true
-        → (was_ever_entered same_texts ps t what ≡ true → Contains (entries ps) (record { time = t; what = what })) → Contains (entries (p ∷ ps)) (record { time = t; what = what })
+    by : (b : Bool) → ((p.entry.time == t) && same_texts p.entry.key what) ≡ b → (b || list_any (λ (p : Past EventBody). (p.entry.time == t) && same_texts p.entry.key what) ps) ≡ true
+        → (was_ever_entered same_texts ps t what ≡ true → Contains (entries ps) (record { time = t; key = what })) → Contains (entries (p ∷ ps)) (record { time = t; key = what })
     by true is e rest =
         let parts = and_parts _ _ is in
         let time : p.entry.time ≡ t = eqb-true _ _ parts.0 in
-        let texts : p.entry.what ≡ what = same-texts p.entry.what what parts.1 in
-        let same : p.entry ≡ record { time = t; what = what } = λ k. record { time = time k; what = texts k } in
+        let texts : p.entry.key ≡ what = same-texts p.entry.key what parts.1 in
+        let same : p.entry ≡ record { time = t; key = what } = λ k. record { time = time k; key = texts k } in
         subst (Contains (entries (p ∷ ps))) same (contains-head p.entry (entries ps))
-    by false is e rest = contains-tail p.entry (record { time = t; what = what }) (entries ps) (rest e)
+    by false is e rest = contains-tail p.entry (record { time = t; key = what }) (entries ps) (rest e)
 
 -- a reason is that of the first test that holds
 reason-skips : (b : Bool) (other : Reason) (r : Option Reason) → (Some other ≡ Some Seen → ⊥) → cond b (Some other) r ≡ Some Seen → r ≡ Some Seen
 reason-skips true other r differs e = absurd (differs e)
 reason-skips false other r differs e = e
 
-seen-entered : (i : IdealAgent) (t : ℕ) (what : EventText) → admission i t what ≡ Some Seen → was_ever_entered same_texts i.events.history t what ≡ true
+seen-entered : (i : IdealAgent) (t : ℕ) (what : EventBody) → admission i t what ≡ Some Seen → was_ever_entered same_texts i.events.history t what ≡ true
 seen-entered i t what e =
     let track = reason-skips (nat_lt 9216 (texts_len what)) Oversize _ (λ d. cc) e in
     let minimum = reason-skips (nat_lt t i.events.minimum) BelowMinimum _ (λ d. cc) track in
@@ -82,16 +82,16 @@ seen-entered i t what e =
 
 -- ---- which actions ignore something as seen
 
-seen-received : (i : IdealAgent) (packet : List ℕ) (t : ℕ) (what : EventText) (coalesce : Bool) (r : Option Reason) → (receive_gives packet (planned i (received_as r i t what coalesce)).answer).answer ≡ lines.Ignored Seen → r ≡ Some Seen
+seen-received : (i : IdealAgent) (packet : List ℕ) (t : ℕ) (what : EventBody) (coalesce : Bool) (r : Option Reason) → (receive_gives packet (planned i (received_as r i t what coalesce)).answer).answer ≡ lines.Ignored Seen → r ≡ Some Seen
 seen-received i packet t what coalesce (Some reason) e = let same : reason ≡ Seen = cc e in ap Some same
 seen-received i packet t what coalesce None e = by (will i (received_as None i t what coalesce)) e
   where
     by : (w : Writing) → (receive_gives packet (ended i (received_as None i t what coalesce) w).answer).answer ≡ lines.Ignored Seen → None ≡ Some Seen
     by Kept e = absurd (cc e)
-    by (Failed kept) e = absurd (cc e)
+    by (Failed durable) e = absurd (cc e)
 
-seen-delivers : (m : Member) (now : ℕ) (given : Option (List ℕ)) (packet : List ℕ) (e : UserEvent) → (delivers m now given).done.answer ≡ lines.Ignored Seen → given ≡ Some packet → decoded packet ≡ Ok (user_event e)
-    → Contains (entries m.agent.events.history) (record { time = e.time; what = event_of e.name e.payload })
+seen-delivers : (m : IdealNode) (now : ℕ) (given : Option (List ℕ)) (packet : List ℕ) (e : UserEvent) → (delivers m now given).done.answer ≡ lines.Ignored Seen → given ≡ Some packet → decoded packet ≡ Ok (user_event e)
+    → Contains (entries m.agent.events.history) (record { time = e.time; key = event_of e.name e.payload })
 seen-delivers m now None packet e says given reads = absurd (cc given)
 seen-delivers m now (Some p) packet e says given reads =
     let same : p ≡ packet = cc given in
@@ -102,10 +102,10 @@ seen-delivers m now (Some p) packet e says given reads =
         → admission m.agent e.time (event_of e.name e.payload) ≡ Some Seen
     by true r is says = absurd (cc says)
     by false r is says =
-        seen-received m.agent p e.time (event_of e.name e.payload) e.cc (admission m.agent e.time (event_of e.name e.payload))
+        seen-received m.agent p e.time (event_of e.name e.payload) e.coalesce (admission m.agent e.time (event_of e.name e.payload))
         (subst (λ (r : Result Message WireFault). (receive_gives p (planned m.agent (receive_read m.agent now r)).answer).answer ≡ lines.Ignored Seen) is says)
 
-not-seen-merge : (m : Member) (join : Bool) (f : Option MergeFault) (r : Result Message WireFault) → (merges_as f m join r).done.answer ≡ lines.Ignored Seen → ⊥
+not-seen-merge : (m : IdealNode) (join : Bool) (f : Option MergeFault) (r : Result Message WireFault) → (merges_as f m join r).done.answer ≡ lines.Ignored Seen → ⊥
 not-seen-merge m join (Some fault) r e = cc
 not-seen-merge m join None (Err fault) e = cc
 not-seen-merge m join None (Ok (user_event x)) e = cc
@@ -118,43 +118,43 @@ not-seen-merge m join None (Ok (push_pull s)) e = by (merges_events (events_of s
     by true e = cc
     by false e = cc
 
-not-seen-given : (m : Member) (join : Bool) (given : Option (List ℕ)) → (merges_given m join given).done.answer ≡ lines.Ignored Seen → ⊥
+not-seen-given : (m : IdealNode) (join : Bool) (given : Option (List ℕ)) → (merges_given m join given).done.answer ≡ lines.Ignored Seen → ⊥
 not-seen-given m join None e = cc
 not-seen-given m join (Some packet) e = not-seen-merge m join (merge_refusal (view_of m.agent) (decoded packet)) (decoded packet) e
 
-seen-acts : (m : Member) (sent : List (List ℕ)) (action : Action) (packet : List ℕ) (e : UserEvent) → (acts m sent action).done.answer ≡ lines.Ignored Seen → packet_given sent action ≡ Some packet → decoded packet ≡ Ok (user_event e)
-    → Contains (entries m.agent.events.history) (record { time = e.time; what = event_of e.name e.payload })
-seen-acts m sent (actions.Deliver to k now) packet e says given reads = seen-delivers m now (slice_get sent k) packet e says given reads
-seen-acts m sent (actions.Merge to k join) packet e says given reads = absurd (not-seen-given m join (slice_get sent k) says)
-seen-acts m sent (actions.Fire agent name payload coalesce) packet e says given reads = absurd (cc given)
-seen-acts m sent (actions.State agent) packet e says given reads = absurd (cc given)
-seen-acts m sent (actions.Query agent now id name payload params) packet e says given reads = absurd (cc given)
-seen-acts m sent (actions.Respond agent h now payload) packet e says given reads = absurd (cc given)
-seen-acts m sent (actions.Restart agent tail) packet e says given reads = absurd (cc given)
-seen-acts m sent (actions.Break agent call n) packet e says given reads = absurd (cc given)
-seen-acts m sent (actions.Inject bytes) packet e says given reads = absurd (cc given)
-seen-acts m sent (actions.Close agent now) packet e says given reads = absurd (cc given)
-seen-acts m sent (actions.Save agent) packet e says given reads = absurd (cc given)
-seen-acts m sent (actions.Compact agent) packet e says given reads = absurd (cc given)
+seen-apply : (m : IdealNode) (sent : List (List ℕ)) (action : Action) (packet : List ℕ) (e : UserEvent) → (apply m sent action).done.answer ≡ lines.Ignored Seen → packet_given sent action ≡ Some packet → decoded packet ≡ Ok (user_event e)
+    → Contains (entries m.agent.events.history) (record { time = e.time; key = event_of e.name e.payload })
+seen-apply m sent (actions.Deliver to k now) packet e says given reads = seen-delivers m now (slice_get sent k) packet e says given reads
+seen-apply m sent (actions.Merge to k join) packet e says given reads = absurd (not-seen-given m join (slice_get sent k) says)
+seen-apply m sent (actions.Fire agent name payload coalesce) packet e says given reads = absurd (cc given)
+seen-apply m sent (actions.State agent) packet e says given reads = absurd (cc given)
+seen-apply m sent (actions.Query agent now id name payload params) packet e says given reads = absurd (cc given)
+seen-apply m sent (actions.Respond agent h now payload) packet e says given reads = absurd (cc given)
+seen-apply m sent (actions.Restart agent tail) packet e says given reads = absurd (cc given)
+seen-apply m sent (actions.Break agent call n) packet e says given reads = absurd (cc given)
+seen-apply m sent (actions.Inject bytes) packet e says given reads = absurd (cc given)
+seen-apply m sent (actions.Close agent now) packet e says given reads = absurd (cc given)
+seen-apply m sent (actions.Save agent) packet e says given reads = absurd (cc given)
+seen-apply m sent (actions.Compact agent) packet e says given reads = absurd (cc given)
 
 -- ---- a step
 
 abbrev SeenAt : List Turn → Turn → Type 0
 SeenAt before turn = (a : ℕ) (packet : List ℕ) (e : UserEvent) → actor_of turn.action ≡ Some a → turn.line.answer ≡ lines.Ignored Seen → turn.given ≡ Some packet → decoded packet ≡ Ok (user_event e)
-    → Contains (events_to a before) (record { time = e.time; what = event_of e.name e.payload })
+    → Contains (events_to a before) (record { time = e.time; key = event_of e.name e.payload })
 
-seen-agent : (c : Cluster) (turns : List Turn) (action : Action) (a : ℕ) (r : Option Member) (packet : List ℕ) (e : UserEvent) → IsAfter c turns → slice_get c.members a ≡ r → (on_agent c action a r).turn.line.answer ≡ lines.Ignored Seen
-    → packet_given c.sent action ≡ Some packet → decoded packet ≡ Ok (user_event e) → Contains (events_to a turns) (record { time = e.time; what = event_of e.name e.payload })
+seen-agent : (c : Cluster) (turns : List Turn) (action : Action) (a : ℕ) (r : Option IdealNode) (packet : List ℕ) (e : UserEvent) → IsAfter c turns → slice_get c.nodes a ≡ r → (on_agent c action a r).turn.line.answer ≡ lines.Ignored Seen
+    → packet_given c.sent action ≡ Some packet → decoded packet ≡ Ok (user_event e) → Contains (events_to a turns) (record { time = e.time; key = event_of e.name e.payload })
 seen-agent c turns action a None packet e h at says given reads = absurd (cc says)
 seen-agent c turns action a (Some m) packet e h at says given reads =
-    subst (λ l. Contains l (record { time = e.time; what = event_of e.name e.payload })) (ap events_at (sym at) ∙ h.events a) (seen-acts m c.sent action packet e says given reads)
+    subst (λ l. Contains l (record { time = e.time; key = event_of e.name e.payload })) (ap events_at (sym at) ∙ h.events a) (seen-apply m c.sent action packet e says given reads)
 
 seen-by : (c : Cluster) (turns : List Turn) (action : Action) (o : Option ℕ) (a : ℕ) (packet : List ℕ) (e : UserEvent) → IsAfter c turns → o ≡ Some a → (step_by c action o).turn.line.answer ≡ lines.Ignored Seen
-    → packet_given c.sent action ≡ Some packet → decoded packet ≡ Ok (user_event e) → Contains (events_to a turns) (record { time = e.time; what = event_of e.name e.payload })
+    → packet_given c.sent action ≡ Some packet → decoded packet ≡ Ok (user_event e) → Contains (events_to a turns) (record { time = e.time; key = event_of e.name e.payload })
 seen-by c turns action None a packet e h is says given reads = absurd (cc is)
 seen-by c turns action (Some b) a packet e h is says given reads =
     let same : b ≡ a = cc is in
-    seen-agent c turns action a (slice_get c.members a) packet e h refl (subst (λ (n : ℕ). (on_agent c action n (slice_get c.members n)).turn.line.answer ≡ lines.Ignored Seen) same says) given reads
+    seen-agent c turns action a (slice_get c.nodes a) packet e h refl (subst (λ (n : ℕ). (on_agent c action n (slice_get c.nodes n)).turn.line.answer ≡ lines.Ignored Seen) same says) given reads
 
 pub seen-step : (r : Run) (action : Action) → IsAfter r.cluster r.turns → SeenWasHanded r.turns → SeenWasHanded (after r action).turns
 seen-step r action h all =

@@ -5,10 +5,10 @@ use Rattle.std.specs.List.{AllByRecursion, position_or_len}
 use Rattle.std.proofs.lemmas.Bool.{ltb-false}
 use Rattle.serf_agent.specs.declared.config.Config.{Config}
 use Rattle.serf_agent.specs.Config.{is_sound}
-use Rattle.serf_model.specs.Cluster.{joining, start}
-use Rattle.serf_model.specs.Ready.{AreGood, IsGood}
+use Rattle.serf_model.specs.Cluster.{first_node, start}
+use Rattle.serf_model.specs.Ready.{AreRepresentable, IsRepresentable}
 use Rattle.serf_model.specs.Runs.{AreConfigs, first_bad}
-use Rattle.serf_model.proofs.ReadyLaws.{good-newborn}
+use Rattle.serf_model.proofs.InvariantKept.{representable-opened_first}
 use Rattle.serf_model.proofs.RunLaws.{IsAfter, events_at, queries_of}
 
 -- settings of which none is bad are sound
@@ -28,26 +28,26 @@ all-sound configs none = none-bad configs (by (nat_lt (position_or_len (λ c. no
     by true is e = absurd (cc e)
     by false is e = ltb-false _ _ is
 
-good-joining : (configs : List Config) → AllByRecursion (λ c. is_sound c ≡ true) configs → AllByRecursion (λ m. IsGood m.agent) (map joining configs)
-good-joining [] ok = tt
-good-joining (c ∷ cs) ok = (good-newborn c ok.0, good-joining cs ok.1)
+representable-first_node : (configs : List Config) → AllByRecursion (λ c. is_sound c ≡ true) configs → AllByRecursion (λ m. IsRepresentable m.agent) (map first_node configs)
+representable-first_node [] ok = tt
+representable-first_node (c ∷ cs) ok = (representable-opened_first c ok.0, representable-first_node cs ok.1)
 
-no-events : (configs : List Config) (a : ℕ) → events_at (slice_get (map joining configs) a) ≡ []
+no-events : (configs : List Config) (a : ℕ) → events_at (slice_get (map first_node configs) a) ≡ []
 no-events [] a = refl
 no-events (c ∷ cs) zero = refl
 no-events (c ∷ cs) (suc a) = no-events cs a
 
-no-queries : (configs : List Config) (a : ℕ) → queries_of (slice_get (map joining configs) a) ≡ []
+no-queries : (configs : List Config) (a : ℕ) → queries_of (slice_get (map first_node configs) a) ≡ []
 no-queries [] a = refl
 no-queries (c ∷ cs) zero = refl
 no-queries (c ∷ cs) (suc a) = no-queries cs a
 
 after-sound : (configs : List Config) → AllByRecursion (λ c. is_sound c ≡ true) configs → IsAfter (start configs).cluster []
-after-sound configs ok = record { good = good-joining configs ok; events = no-events configs; queries = no-queries configs; sent = refl }
+after-sound configs ok = record { representable = representable-first_node configs ok; events = no-events configs; queries = no-queries configs; sent = refl }
 
 pub after-start : (configs : List Config) → AreConfigs configs → IsAfter (start configs).cluster []
 after-start configs ok = after-sound configs (all-sound configs ok.sound)
 
 -- the agents of a cluster that has done nothing
-pub good-start : (configs : List Config) → AreConfigs configs → AreGood (start configs).cluster
-good-start configs ok = (after-start configs ok).good
+pub representable-start : (configs : List Config) → AreConfigs configs → AreRepresentable (start configs).cluster
+representable-start configs ok = (after-start configs ok).representable

@@ -4,7 +4,7 @@ use Rattle.std.specs.Prelude.{slice_get}
 use Rattle.std.specs.List.{fold}
 use Rattle.std.proofs.lemmas.List.{append-nil, map-append}
 use Rattle.serf_model.specs.declared.action.Action.{Action}
-use Rattle.serf_model.specs.Cluster.{Member, Cluster, Run, acts, on_agent, step_by, step, after, trace_of, numbers_from}
+use Rattle.serf_model.specs.Cluster.{IdealNode, Cluster, Run, apply, on_agent, step_by, step, after, trace_of, numbers_from}
 use Rattle.serf_model.specs.Trace.{Turn, AtEach, actor_of, sent_in, turns_from, turns_of, packet_given}
 use Rattle.serf_model.proofs.TurnLaws.{at_each_nil, at_each_push, flat_map-push}
 use Rattle.serf_model.proofs.RunLaws.{IsAfter, turn-action, turn-given}
@@ -53,13 +53,13 @@ reads-from before (t ∷ ts) more all =
 
 -- ---- a run's turns
 
-count-agent : (c : Cluster) (action : Action) (b : ℕ) (r : Option Member) → length (on_agent c action b r).turn.line.sent ≡ length (on_agent c action b r).turn.packets
+count-agent : (c : Cluster) (action : Action) (b : ℕ) (r : Option IdealNode) → length (on_agent c action b r).turn.line.sent ≡ length (on_agent c action b r).turn.packets
 count-agent c action b None = refl
-count-agent c action b (Some m) = length-numbers (length c.sent) (acts m c.sent action).done.packets
+count-agent c action b (Some m) = length-numbers (length c.sent) (apply m c.sent action).done.packets
 
 count-by : (c : Cluster) (action : Action) (o : Option ℕ) → length (step_by c action o).turn.line.sent ≡ length (step_by c action o).turn.packets
 count-by c action None = length-numbers (length c.sent) _
-count-by c action (Some b) = count-agent c action b (slice_get c.members b)
+count-by c action (Some b) = count-agent c action b (slice_get c.nodes b)
 
 pub read-step : (r : Run) (action : Action) → IsAfter r.cluster r.turns → AtEach IsRead r.turns → AtEach IsRead (after r action).turns
 read-step r action h all =

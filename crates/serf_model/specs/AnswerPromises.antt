@@ -6,7 +6,7 @@ use Rattle.std.specs.Option.{option_to_list}
 use Rattle.serf_wire.specs.declared.fault.WireFault.{WireFault}
 use Rattle.serf_wire.specs.Decoded.{decoded}
 use Rattle.serf_wire.specs.Message.{Message, QueryResponse, query_response}
-use Rattle.serf_window.specs.Window.{Timed}
+use Rattle.serf_window.specs.Window.{TimedEntry}
 use Rattle.serf_agent.specs.declared.config.Config.{Config}
 use Rattle.serf_agent.specs.declared.lists.Response.{Response}
 use Rattle.serf_agent.specs.declared.open_query.OpenQuery.{OpenQuery}
@@ -16,7 +16,7 @@ use Rattle.serf_model.specs.declared.action.Action.TheVariants as actions
 use Rattle.serf_model.specs.declared.line.Answer.{Answer}
 use Rattle.serf_model.specs.declared.line.Answer.TheVariants as answers
 use Rattle.serf_model.specs.declared.line.HandedLine.{HandedLine}
-use Rattle.serf_model.specs.Cluster.{Member, Run}
+use Rattle.serf_model.specs.Cluster.{IdealNode, Run}
 use Rattle.serf_model.specs.Bounds.{present_life}
 use Rattle.serf_model.specs.Trace.{Turn, AtEach, actor_of, handed_in, sent_in, turns_by}
 
@@ -131,7 +131,7 @@ pub record HoldsCounted (a : ℕ) (turns : List Turn) (q : ℕ × OpenQuery) : T
 
 -- After a run each open query of each agent holds just what its turns counted.
 abbrev pub OpenQueriesHold : Run → Type 0
-OpenQueriesHold r = (a : ℕ) (m : Member) → slice_get r.cluster.members a ≡ Some m → All (HoldsCounted a r.turns) m.agent.asked
+OpenQueriesHold r = (a : ℕ) (m : IdealNode) → slice_get r.cluster.nodes a ≡ Some m → All (HoldsCounted a r.turns) m.agent.asked
 
 -- Where an answer comes from
 
@@ -142,8 +142,8 @@ pub record IsFrom (configs : List Config) (a : ℕ) (r : QueryResponse) : Type 0
   pub name : r.from ≡ config.name
 
 -- the query that an answer is to: its time and its ID
-abbrev pub query_answered : QueryResponse → Timed ℕ
-query_answered r = record { time = r.time; what = r.id }
+abbrev pub query_answered : QueryResponse → TimedEntry ℕ
+query_answered r = record { time = r.time; key = r.id }
 
 -- The turn injected a packet that brings this.
 pub record IsInjected (turn : Turn) (r : QueryResponse) : Type 0 where
@@ -189,7 +189,7 @@ abbrev pub AnswersMade : List Config → List Turn → Type 0
 AnswersMade configs turns = AtEach (λ before turn. All (IsMade configs before turn) (answers_in turn.packets)) turns
 
 -- the queries that an agent acked in all its lives
-abbrev pub acked_by : ℕ → List Turn → List (Timed ℕ)
+abbrev pub acked_by : ℕ → List Turn → List (TimedEntry ℕ)
 acked_by a turns = map query_answered (filter is_ack (flat_map (λ t. answers_in t.packets) (turns_by a turns)))
 
 -- An agent acks a query at most once in all its lives.

@@ -1,8 +1,8 @@
 -- How much each agent holds of what enters, whatever it is sent: said of a run's turns, as every promise is.
 use Rattle.std.specs.Prelude.{◌≡◌, ◌≤◌, ◌*◌, ℕ, ◌&&◌, Bool, true, false, if◌then◌else◌, List, [], ◌∷◌, ◌++◌, Some, slice_get}
 use Rattle.std.specs.List.{fold}
-use Rattle.serf_wire.specs.declared.texts.EventText.{EventText}
-use Rattle.serf_window.specs.Window.{Timed, count_at, held_count, slots_of}
+use Rattle.serf_wire.specs.declared.texts.EventBody.{EventBody}
+use Rattle.serf_window.specs.Window.{TimedEntry, count_at, held_count, slots_of}
 use Rattle.serf_agent.specs.declared.config.Config.{Config}
 use Rattle.serf_model.specs.declared.line.Answer.{Answer}
 use Rattle.serf_model.specs.declared.line.Answer.TheVariants as answers
@@ -12,7 +12,7 @@ use Rattle.serf_model.specs.Trace.{Turn, AtEach, actor_of, is_agent, events_to, 
 
 -- whether this is the answer of an agent that was opened again
 abbrev pub is_restarted : Answer → Bool
-is_restarted (answers.Restarted member event query) = true
+is_restarted (answers.Restarted member_clock event_clock query_clock) = true
 is_restarted _ = false
 
 -- whether a turn opens an agent again: the agent acts, and the answer says that it was opened
@@ -28,20 +28,20 @@ abbrev pub present_life : ℕ → List Turn → List Turn
 present_life a turns = fold (lived_on a) [] turns
 
 -- the events that were handed to an agent in its present life, and the queries that entered at it
-abbrev pub events_of_life : ℕ → List Turn → List (Timed EventText)
+abbrev pub events_of_life : ℕ → List Turn → List (TimedEntry EventBody)
 events_of_life a turns = events_to a (present_life a turns)
 
-abbrev pub queries_of_life : ℕ → List Turn → List (Timed ℕ)
+abbrev pub queries_of_life : ℕ → List Turn → List (TimedEntry ℕ)
 queries_of_life a turns = queries_at a (present_life a turns)
 
 -- Bounds
 
 -- at most k of these have one time
-abbrev pub AtMostOfOneTime : {K : Type 0} → ℕ → List (Timed K) → Type 0
+abbrev pub AtMostOfOneTime : {K : Type 0} → ℕ → List (TimedEntry K) → Type 0
 AtMostOfOneTime k entered = (t : ℕ) → count_at entered t ≤ k
 
 -- Of what entered at most k have one time, and a window of n slots holds at most n * k of it.
-pub record IsBounded {K : Type 0} (n k : ℕ) (entered : List (Timed K)) : Type 0 where
+pub record IsBounded {K : Type 0} (n k : ℕ) (entered : List (TimedEntry K)) : Type 0 where
   pub of_one_time : AtMostOfOneTime k entered
   pub in_window : held_count (slots_of n entered) ≤ n * k
 

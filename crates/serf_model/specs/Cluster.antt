@@ -3,12 +3,12 @@ use Rattle.std.specs.Prelude.{ℕ, ◌+◌, Bool, true, false, if◌then◌else�
 use Rattle.std.specs.List.{fold}
 use Rattle.std.specs.Option.{option_map, option_to_list}
 use Rattle.serf_wire.specs.declared.fault.WireFault.{WireFault}
-use Rattle.serf_wire.specs.declared.texts.EventText.{EventText}
+use Rattle.serf_wire.specs.declared.texts.EventBody.{EventBody}
 use Rattle.serf_wire.specs.Decoded.{decoded}
 use Rattle.serf_wire.specs.Message.{Message, push_pull}
 use Rattle.serf_window.specs.Texts.{event_of}
-use Rattle.serf_window.specs.Window.{Timed}
-use Rattle.serf_snap.specs.Device.{Plan, append_failing, flush_failing, replace_failing, fresh_device}
+use Rattle.serf_window.specs.Window.{TimedEntry}
+use Rattle.serf_snap.specs.Device.{FailurePlan, append_failing, flush_failing, replace_failing, fresh_device}
 use Rattle.serf_snap.specs.Notes.{with_sink, opened}
 use Rattle.serf_snap.specs.declared.snapshot.NoteFault.{NoteFault}
 use Rattle.serf_snap.specs.declared.snapshot.NoteFault.TheVariants as notes
@@ -37,7 +37,7 @@ use Rattle.serf_agent.specs.Calls.{Step, planned}
 use Rattle.serf_agent.specs.Events.{fire}
 use Rattle.serf_agent.specs.Queries.{fire_query, close_due, respond_fault, response_packet}
 use Rattle.serf_agent.specs.Receive.{receive}
-use Rattle.serf_agent.specs.Restart.{restarted, unborn}
+use Rattle.serf_agent.specs.Restart.{restarted, unopened}
 use Rattle.serf_agent.specs.States.{send_state, joined, events_of, receive_one, handed_by, merge_refusal, save, compact}
 use Rattle.serf_agent.specs.View.{view_of}
 use Rattle.serf_model.specs.declared.action.Action.{Action}
@@ -55,13 +55,13 @@ use Rattle.serf_model.specs.Trace.{Turn, Outcome as Shown, actor_of, injects_of,
 
 -- An agent of a cluster: it forgets nothing, and has the queries that were handed to it in this life, in order; one
 -- that was answered is gone.
-pub record Member : Type 0 where
+pub record IdealNode : Type 0 where
   pub agent : IdealAgent
   pub handed : List (Option Handed)
 
 -- the agents, and all packets that were sent, both numbered from 0
 pub record Cluster : Type 0 where
-  pub members : List Member
+  pub nodes : List IdealNode
   pub sent : List (List ℕ)
 
 -- What an action of an agent gives: its answer, the packets that are sent, and what is handed out.
@@ -72,8 +72,8 @@ pub record Done : Type 0 where
   pub handed : Option Handed
 
 -- what an agent becomes, and what that gives; a query that is handed out isn't among its queries yet
-pub record Acted : Type 0 where
-  pub member : Member
+pub record Applied : Type 0 where
+  pub node : IdealNode
   pub done : Done
 
 abbrev pub only : Answer → Done
@@ -82,12 +82,12 @@ only answer = record { answer = answer; packets = []; events = []; handed = None
 abbrev pub refused : Refusal → Done
 refused refusal = only (answers.Refused refusal)
 
-abbrev pub does_nothing : Member → Done → Acted
-does_nothing m done = record { member = m; done = done }
+abbrev pub does_nothing : IdealNode → Done → Applied
+does_nothing m done = record { node = m; done = done }
 
 -- an agent made a call
-abbrev pub called : {R : Type 0} → Member → Step R → (R → Done) → Acted
-called m step gives = record { member = record { agent = step.agent; handed = m.handed }; done = gives step.answer }
+abbrev pub called : {R : Type 0} → IdealNode → Step R → (R → Done) → Applied
+called m step gives = record { node = record { agent = step.agent; handed = m.handed }; done = gives step.answer }
 
 -- Events
 
@@ -102,8 +102,8 @@ abbrev pub fire_gives : Result Fired FireFault → Done
 fire_gives (Ok f) = record { answer = answers.Fired f.handed.time; packets = f.packet ∷ []; events = f.handed ∷ []; handed = None }
 fire_gives (Err fault) = refused (fire_refusal fault)
 
-abbrev pub fires_event : Member → EventText → Bool → Acted
-fires_event m what cc = called m (planned m.agent (fire m.agent what cc)) fire_gives
+abbrev pub fires_event : IdealNode → EventBody → Bool → Applied
+fires_event m what coalesce = called m (planned m.agent (fire m.agent what coalesce)) fire_gives
 
 -- Deliveries
 
@@ -123,13 +123,13 @@ receive_gives packet (Ok outcomes.Ack) = only answers.Ack
 receive_gives packet (Ok outcomes.Response) = only answers.Response
 receive_gives packet (Ok (outcomes.Ignored reason)) = only (answers.Ignored reason)
 receive_gives packet (Ok (outcomes.Foreign kind)) = only (answers.Foreign kind)
-receive_gives packet (Ok outcomes.UsePushPull) = only answers.PushPull
+receive_gives packet (Ok outcomes.PushPull) = only answers.PushPull
 receive_gives packet (Err fault) = refused (receive_refusal fault)
 
-abbrev pub receives_packet : Member → ℕ → List ℕ → Acted
+abbrev pub receives_packet : IdealNode → ℕ → List ℕ → Applied
 receives_packet m now packet = called m (planned m.agent (receive m.agent now packet)) (receive_gives packet)
 
-abbrev pub delivers : Member → ℕ → Option (List ℕ) → Acted
+abbrev pub delivers : IdealNode → ℕ → Option (List ℕ) → Applied
 delivers m now None = does_nothing m (refused NoMessage)
 delivers m now (Some packet) = receives_packet m now packet
 
@@ -145,7 +145,7 @@ state_gives (Ok packet) = record { answer = answers.State; packets = packet ∷ 
 state_gives (Err fault) = refused (state_refusal fault)
 
 -- an agent's state says nothing of the members' status: that is not part of this
-abbrev pub sends_state : Member → Acted
+abbrev pub sends_state : IdealNode → Applied
 sends_state m = does_nothing m (state_gives (send_state (view_of m.agent) [] []))
 
 -- an agent that received events one after another, what that handed out, and whether its sink failed at one
@@ -162,7 +162,7 @@ merges_on step rest = by step.answer
     by (Ok outcome) = let m = rest step.agent in record { agent = m.agent; events = handed_by (Ok outcome) ++ m.events; failed = m.failed }
     by (Err fault) = record { agent = step.agent; events = []; failed = true }
 
-abbrev pub merges_events : List (Timed EventText) → IdealAgent → Merged
+abbrev pub merges_events : List (TimedEntry EventBody) → IdealAgent → Merged
 merges_events [] i = record { agent = i; events = []; failed = false }
 merges_events (e ∷ es) i = merges_on (planned i (receive_one i e)) (merges_events es)
 
@@ -174,21 +174,21 @@ merge_refusal_of merges.SinkFault = SinkFault
 merge_refusal_of merges.OutOfMemory = SinkFault
 
 -- where the sink failed, what came before it was handed out
-abbrev pub merge_gives : Member → Merged → Acted
+abbrev pub merge_gives : IdealNode → Merged → Applied
 merge_gives m o = record {
-  member = record { agent = o.agent; handed = m.handed };
+  node = record { agent = o.agent; handed = m.handed };
   done = record { answer = if o.failed then answers.Refused SinkFault else answers.Merged; packets = []; events = o.events; handed = None };
 }
 
-abbrev pub merges_as : Option MergeFault → Member → Bool → Result Message WireFault → Acted
+abbrev pub merges_as : Option MergeFault → IdealNode → Bool → Result Message WireFault → Applied
 merges_as (Some fault) m join r = does_nothing m (refused (merge_refusal_of fault))
 merges_as None m join (Ok (push_pull p)) = merge_gives m (merges_events (events_of p.slots) (joined p join m.agent))
 merges_as None m join _ = does_nothing m (refused NotPushPull)
 
-abbrev pub merges_packet : Member → Bool → Result Message WireFault → Acted
+abbrev pub merges_packet : IdealNode → Bool → Result Message WireFault → Applied
 merges_packet m join r = merges_as (merge_refusal (view_of m.agent) r) m join r
 
-abbrev pub merges_given : Member → Bool → Option (List ℕ) → Acted
+abbrev pub merges_given : IdealNode → Bool → Option (List ℕ) → Applied
 merges_given m join None = does_nothing m (refused NoMessage)
 merges_given m join (Some packet) = merges_packet m join (decoded packet)
 
@@ -207,7 +207,7 @@ abbrev pub query_gives : Result FiredQuery QueryFault → Done
 query_gives (Ok f) = record { answer = answers.Queried f.time; packets = f.packet ∷ option_to_list f.ack; events = []; handed = f.handed }
 query_gives (Err fault) = refused (query_refusal fault)
 
-abbrev pub fires_query : Member → ℕ → ℕ → List ℕ → List ℕ → QueryParams → Acted
+abbrev pub fires_query : IdealNode → ℕ → ℕ → List ℕ → List ℕ → QueryParams → Applied
 fires_query m now id name payload params = called m (planned m.agent (fire_query m.agent now id name payload params)) query_gives
 
 abbrev pub respond_refusal : RespondFault → Refusal
@@ -215,19 +215,19 @@ respond_refusal answering.PastDeadline = PastDeadline
 respond_refusal answering.TooLarge = TooLarge
 respond_refusal answering.OutOfMemory = TooLarge
 
-abbrev pub responds_as : Option RespondFault → Member → ℕ → Handed → List ℕ → Acted
+abbrev pub responds_as : Option RespondFault → IdealNode → ℕ → Handed → List ℕ → Applied
 responds_as (Some fault) m h q payload = does_nothing m (refused (respond_refusal fault))
 responds_as None m h q payload = record {
-  member = record { agent = m.agent; handed = slice_set m.handed h None };
+  node = record { agent = m.agent; handed = slice_set m.handed h None };
   done = record { answer = answers.Replied; packets = response_packet q payload ∷ []; events = []; handed = None };
 }
 
 -- a query is answered once
-abbrev pub responds : Member → ℕ → Option (Option Handed) → ℕ → List ℕ → Acted
+abbrev pub responds : IdealNode → ℕ → Option (Option Handed) → ℕ → List ℕ → Applied
 responds m h (Some (Some q)) now payload = responds_as (respond_fault q now payload) m h q payload
 responds m h _ now payload = does_nothing m (refused NoQuery)
 
-abbrev pub closes : Member → ℕ → Acted
+abbrev pub closes : IdealNode → ℕ → Applied
 closes m now = called m (close_due m.agent now) (λ n. only (answers.Closed n))
 
 -- Snapshots
@@ -241,55 +241,55 @@ abbrev pub note_gives : Answer → Result (Unit {0}) NoteFault → Done
 note_gives answer (Ok done) = only answer
 note_gives answer (Err fault) = refused (note_refusal fault)
 
-abbrev pub saves : Member → Acted
+abbrev pub saves : IdealNode → Applied
 saves m = called m (planned m.agent (save m.agent)) (note_gives answers.Saved)
 
-abbrev pub compacts : Member → Acted
+abbrev pub compacts : IdealNode → Applied
 compacts m = called m (planned m.agent (compact m.agent)) (note_gives answers.Compacted)
 
 -- the text that a restart finds: what the sink keeps, and a tail
 abbrev pub text_after : IdealAgent → List ℕ → List ℕ
-text_after i tail = unwrap_or i.snapshot.kept [] ++ tail
+text_after i tail = unwrap_or i.snapshot.durable [] ++ tail
 
 -- the agent in a new life, over a new sink that keeps this text
 abbrev pub reopened : IdealAgent → List ℕ → IdealAgent
 reopened i text = restarted (opened text (fresh_device text)) i
 
 abbrev pub restart_gives : IdealAgent → Done
-restart_gives i = only (answers.Restarted i.member i.events.clock i.queries.clock)
+restart_gives i = only (answers.Restarted i.member_clock i.events.clock i.queries.clock)
 
 -- the queries of an earlier life can't be answered
-abbrev pub restarts : Member → List ℕ → Acted
-restarts m tail = let i = reopened m.agent (text_after m.agent tail) in record { member = record { agent = i; handed = [] }; done = restart_gives i }
+abbrev pub restarts : IdealNode → List ℕ → Applied
+restarts m tail = let i = reopened m.agent (text_after m.agent tail) in record { node = record { agent = i; handed = [] }; done = restart_gives i }
 
-abbrev pub plan_with : SinkCall → ℕ → Plan → Plan
+abbrev pub plan_with : SinkCall → ℕ → FailurePlan → FailurePlan
 plan_with Append n = append_failing n
 plan_with Flush n = flush_failing n
 plan_with ReplaceOld n = replace_failing n false
 plan_with ReplaceNew n = replace_failing n true
 
-abbrev pub with_plan : (Plan → Plan) → IdealAgent → IdealAgent
-with_plan change i = with_snapshot (with_sink i.snapshot.kept change i.snapshot) i
+abbrev pub with_plan : (FailurePlan → FailurePlan) → IdealAgent → IdealAgent
+with_plan change i = with_snapshot (with_sink i.snapshot.durable change i.snapshot) i
 
-abbrev pub breaks : Member → SinkCall → ℕ → Acted
-breaks m call n = record { member = record { agent = with_plan (plan_with call n) m.agent; handed = m.handed }; done = only answers.Broken }
+abbrev pub breaks : IdealNode → SinkCall → ℕ → Applied
+breaks m call n = record { node = record { agent = with_plan (plan_with call n) m.agent; handed = m.handed }; done = only answers.Broken }
 
 -- One action
 
 -- what an action does to its agent, where these packets were sent
-abbrev pub acts : Member → List (List ℕ) → Action → Acted
-acts m sent (actions.Fire agent name payload coalesce) = fires_event m (event_of name payload) coalesce
-acts m sent (actions.Deliver to packet now) = delivers m now (slice_get sent packet)
-acts m sent (actions.State agent) = sends_state m
-acts m sent (actions.Merge to packet join) = merges_given m join (slice_get sent packet)
-acts m sent (actions.Query agent now id name payload params) = fires_query m now id name payload params
-acts m sent (actions.Respond agent h now payload) = responds m h (slice_get m.handed h) now payload
-acts m sent (actions.Restart agent tail) = restarts m tail
-acts m sent (actions.Break agent call n) = breaks m call n
-acts m sent (actions.Inject bytes) = does_nothing m (only answers.Injected)
-acts m sent (actions.Close agent now) = closes m now
-acts m sent (actions.Save agent) = saves m
-acts m sent (actions.Compact agent) = compacts m
+abbrev pub apply : IdealNode → List (List ℕ) → Action → Applied
+apply m sent (actions.Fire agent name payload coalesce) = fires_event m (event_of name payload) coalesce
+apply m sent (actions.Deliver to packet now) = delivers m now (slice_get sent packet)
+apply m sent (actions.State agent) = sends_state m
+apply m sent (actions.Merge to packet join) = merges_given m join (slice_get sent packet)
+apply m sent (actions.Query agent now id name payload params) = fires_query m now id name payload params
+apply m sent (actions.Respond agent h now payload) = responds m h (slice_get m.handed h) now payload
+apply m sent (actions.Restart agent tail) = restarts m tail
+apply m sent (actions.Break agent call n) = breaks m call n
+apply m sent (actions.Inject bytes) = does_nothing m (only answers.Injected)
+apply m sent (actions.Close agent now) = closes m now
+apply m sent (actions.Save agent) = saves m
+apply m sent (actions.Compact agent) = compacts m
 
 -- What came of an action, and the packets that were sent.
 pub record Stepped : Type 0 where
@@ -298,13 +298,13 @@ pub record Stepped : Type 0 where
 
 -- the lines that are shown of what an agent hands out
 abbrev pub event_line : ℕ → EventOut → EventLine
-event_line a out = record { agent = a; time = out.time; name = out.name; payload = out.payload; cc = out.cc }
+event_line a out = record { agent = a; time = out.time; name = out.name; payload = out.payload; coalesce = out.coalesce }
 
 abbrev pub handed_line : ℕ → ℕ → Handed → HandedLine
 handed_line a index q = record { agent = a; index = index; time = q.time; id = q.id; name = q.name; payload = q.payload }
 
 -- the agent with another query that can be answered
-abbrev pub with_handed : Option Handed → Member → Member
+abbrev pub with_handed : Option Handed → IdealNode → IdealNode
 with_handed handed m = record { agent = m.agent; handed = m.handed ++ map (λ q. Some q) (option_to_list handed) }
 
 -- the numbers of these packets, where so many were sent before
@@ -312,18 +312,18 @@ abbrev pub numbers_from : ℕ → List (List ℕ) → List ℕ
 numbers_from n [] = []
 numbers_from n (packet ∷ packets) = n ∷ numbers_from (n + 1) packets
 
-abbrev pub line_of : Cluster → ℕ → Acted → Line
+abbrev pub line_of : Cluster → ℕ → Applied → Line
 line_of c a o = record {
   answer = o.done.answer;
   sent = numbers_from (length c.sent) o.done.packets;
   events = map (event_line a) o.done.events;
-  handed = option_map (handed_line a (length o.member.handed)) o.done.handed;
+  handed = option_map (handed_line a (length o.node.handed)) o.done.handed;
 }
 
--- an agent has acted
-abbrev pub acted : Cluster → Action → ℕ → Acted → Stepped
-acted c action a o = record {
-  cluster = record { members = slice_set c.members a (with_handed o.done.handed o.member); sent = c.sent ++ o.done.packets };
+-- an action was applied to an agent
+abbrev pub applied : Cluster → Action → ℕ → Applied → Stepped
+applied c action a o = record {
+  cluster = record { nodes = slice_set c.nodes a (with_handed o.done.handed o.node); sent = c.sent ++ o.done.packets };
   turn = record { action = action; line = line_of c a o; given = packet_given c.sent action; packets = o.done.packets };
 }
 
@@ -331,14 +331,14 @@ acted c action a o = record {
 abbrev pub line_only : Answer → Line
 line_only answer = record { answer = answer; sent = []; events = []; handed = None }
 
-abbrev pub on_agent : Cluster → Action → ℕ → Option Member → Stepped
+abbrev pub on_agent : Cluster → Action → ℕ → Option IdealNode → Stepped
 on_agent c action a None = record { cluster = c; turn = record { action = action; line = line_only (answers.Refused NoAgent); given = packet_given c.sent action; packets = [] } }
-on_agent c action a (Some m) = acted c action a (acts m c.sent action)
+on_agent c action a (Some m) = applied c action a (apply m c.sent action)
 
 -- bytes that no agent made are sent
 abbrev pub injects : Cluster → Action → List (List ℕ) → Stepped
 injects c action packets = record {
-  cluster = record { members = c.members; sent = c.sent ++ packets };
+  cluster = record { nodes = c.nodes; sent = c.sent ++ packets };
   turn = record {
     action = action;
     line = record { answer = answers.Injected; sent = numbers_from (length c.sent) packets; events = []; handed = None };
@@ -349,7 +349,7 @@ injects c action packets = record {
 
 abbrev pub step_by : Cluster → Action → Option ℕ → Stepped
 step_by c action None = injects c action (injects_of action)
-step_by c action (Some a) = on_agent c action a (slice_get c.members a)
+step_by c action (Some a) = on_agent c action a (slice_get c.nodes a)
 
 abbrev pub step : Cluster → Action → Stepped
 step c action = step_by c action (actor_of action)
@@ -362,14 +362,14 @@ pub record Run : Type 0 where
   pub turns : List Turn
 
 -- an agent that was opened for the first time, on the empty text
-abbrev pub newborn : Config → IdealAgent
-newborn config = reopened (unborn config (opened [] (fresh_device []))) []
+abbrev pub opened_first : Config → IdealAgent
+opened_first config = reopened (unopened config (opened [] (fresh_device []))) []
 
-abbrev pub joining : Config → Member
-joining config = record { agent = newborn config; handed = [] }
+abbrev pub first_node : Config → IdealNode
+first_node config = record { agent = opened_first config; handed = [] }
 
 abbrev pub start : List Config → Run
-start configs = record { cluster = record { members = map joining configs; sent = [] }; turns = [] }
+start configs = record { cluster = record { nodes = map first_node configs; sent = [] }; turns = [] }
 
 abbrev pub after : Run → Action → Run
 after r action = record { cluster = (step r.cluster action).cluster; turns = r.turns ++ (step r.cluster action).turn ∷ [] }

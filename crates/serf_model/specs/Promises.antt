@@ -1,14 +1,14 @@
 -- What is promised of every run, whatever was done in it: said of its turns, which are read off its actions and its
 -- trace. "Before" is all that came before a turn.
 use Rattle.std.specs.Prelude.{◌≡◌, ◌≢◌, ◌⊎◌, ℕ, ◌<◌, List, [], ◌∷◌, ◌++◌, Some, Ok, All, AllPairs, Contains}
-use Rattle.serf_wire.specs.declared.texts.EventText.{EventText}
+use Rattle.serf_wire.specs.declared.texts.EventBody.{EventBody}
 use Rattle.serf_wire.specs.Decoded.{decoded}
 use Rattle.serf_wire.specs.Message.{UserEvent, user_event}
 use Rattle.serf_window.specs.Texts.{event_of}
-use Rattle.serf_window.specs.Window.{Timed}
+use Rattle.serf_window.specs.Window.{TimedEntry}
 use Rattle.serf_agent.specs.declared.outcome.Reason.TheVariants as reasons
 use Rattle.serf_model.specs.declared.line.Answer.TheVariants as answers
-use Rattle.serf_model.specs.Trace.{Turn, AtEach, actor_of, event_in, events_to, fired_in, forged_in, carried, injected_in, queried_in, queries_at, queries_to}
+use Rattle.serf_model.specs.Trace.{Turn, AtEach, actor_of, event_in, events_to, fired_in, injected_events, events_in_packet, injected_in, queried_in, queries_at, queries_to}
 
 -- Events
 
@@ -17,8 +17,8 @@ abbrev pub Once : List Turn → Type 0
 Once turns = (a : ℕ) → AllPairs (λ x y. x ≢ y) (events_to a turns)
 
 -- some agent fired this event at its time, or an injected packet carries it
-abbrev pub WasFired : List Turn → Timed EventText → Type 0
-WasFired turns e = Contains (fired_in turns) e ⊎ Contains (forged_in turns) e
+abbrev pub WasFired : List Turn → TimedEntry EventBody → Type 0
+WasFired turns e = Contains (fired_in turns) e ⊎ Contains (injected_events turns) e
 
 -- Each event that is handed out was fired at its time, at this turn or before it, or is forged.
 abbrev pub OnlyFired : List Turn → Type 0
@@ -31,13 +31,13 @@ Later turns =
 
 -- Each event that a packet carries, one of an agent's whole state too, was fired at its time, or is forged.
 abbrev pub CarriesOnlyFired : List Turn → Type 0
-CarriesOnlyFired turns = AtEach (λ before turn. All (λ packet. All (WasFired (before ++ turn ∷ [])) (carried packet)) turn.packets) turns
+CarriesOnlyFired turns = AtEach (λ before turn. All (λ packet. All (WasFired (before ++ turn ∷ [])) (events_in_packet packet)) turn.packets) turns
 
 -- An event is ignored as seen only where it was handed to this agent before, in some life.
 abbrev pub SeenWasHanded : List Turn → Type 0
 SeenWasHanded turns =
     AtEach (λ before turn. (a : ℕ) (packet : List ℕ) (e : UserEvent) → actor_of turn.action ≡ Some a → turn.line.answer ≡ answers.Ignored reasons.Seen
-    → turn.given ≡ Some packet → decoded packet ≡ Ok (user_event e) → Contains (events_to a before) (record { time = e.time; what = event_of e.name e.payload })) turns
+    → turn.given ≡ Some packet → decoded packet ≡ Ok (user_event e) → Contains (events_to a before) (record { time = e.time; key = event_of e.name e.payload })) turns
 
 -- What a push/pull holds, and what is ignored as seen.
 abbrev pub Held : List Turn → Type 0

@@ -1,21 +1,21 @@
 -- What is true of each agent of a cluster, whatever was done in it.
 use Rattle.std.specs.Prelude.{◌-◌, ◌^◌, ◌≤◌}
 use Rattle.std.specs.List.{AllByRecursion}
-use Rattle.serf_snap.specs.Notes.{IsTold}
+use Rattle.serf_snap.specs.Notes.{IsObservable}
 use Rattle.serf_agent.specs.Ideal.{IdealAgent}
 use Rattle.serf_agent.specs.Sound.{IsSound}
 use Rattle.serf_model.specs.Cluster.{Cluster}
 
--- the agent is sound, and its sink tells what it keeps and has a plan, as one in memory does
-pub record IsReady (i : IdealAgent) : Type 0 where
+-- the agent is sound, and its sink exposes what it keeps and has a plan, as one in memory does
+pub record IsConsistent (i : IdealAgent) : Type 0 where
   pub sound : IsSound i
-  pub told : IsTold i.snapshot
+  pub observable : IsObservable i.snapshot
 
 -- and its clocks are numbers of 64 bits
-pub record IsGood (i : IdealAgent) : Type 0 where
-  pub ready : IsReady i
+pub record IsRepresentable (i : IdealAgent) : Type 0 where
+  pub consistent : IsConsistent i
   pub events : i.events.clock ≤ 2 ^ 64 - 1
   pub queries : i.queries.clock ≤ 2 ^ 64 - 1
 
-abbrev pub AreGood : Cluster → Type 0
-AreGood c = AllByRecursion (λ m. IsGood m.agent) c.members
+abbrev pub AreRepresentable : Cluster → Type 0
+AreRepresentable c = AllByRecursion (λ m. IsRepresentable m.agent) c.nodes

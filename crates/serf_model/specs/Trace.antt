@@ -3,11 +3,11 @@ use Rattle.std.specs.Prelude.{◌≡◌, ℕ, ◌+◌, ◌==◌, Bool, false, Li
 use Rattle.std.specs.List.{flat_map}
 use Rattle.std.specs.Option.{option_to_list}
 use Rattle.serf_wire.specs.declared.fault.WireFault.{WireFault}
-use Rattle.serf_wire.specs.declared.texts.EventText.{EventText}
+use Rattle.serf_wire.specs.declared.texts.EventBody.{EventBody}
 use Rattle.serf_wire.specs.Decoded.{decoded}
 use Rattle.serf_wire.specs.Message.{Message, user_event, query, push_pull}
 use Rattle.serf_window.specs.Texts.{event_of}
-use Rattle.serf_window.specs.Window.{Timed}
+use Rattle.serf_window.specs.Window.{TimedEntry}
 use Rattle.serf_agent.specs.States.{events_of}
 use Rattle.serf_model.specs.declared.action.Action.{Action}
 use Rattle.serf_model.specs.declared.action.Action.TheVariants as actions
@@ -96,70 +96,70 @@ injected_in turns = flat_map (λ t. injects_of t.action) turns
 -- Events
 
 -- what an event line says was handed out: a time, a name and a payload
-abbrev pub event_in : EventLine → Timed EventText
-event_in e = record { time = e.time; what = event_of e.name e.payload }
+abbrev pub event_in : EventLine → TimedEntry EventBody
+event_in e = record { time = e.time; key = event_of e.name e.payload }
 
 -- the events that were handed to an agent, in all its lives
-abbrev pub events_to : ℕ → List Turn → List (Timed EventText)
+abbrev pub events_to : ℕ → List Turn → List (TimedEntry EventBody)
 events_to a turns = map event_in (filter (λ e. e.agent == a) (flat_map (λ t. t.line.events) turns))
 
 -- the event that an action fired, where this is its answer
-abbrev pub fired_at : ℕ → Action → List (Timed EventText)
-fired_at t (actions.Fire agent name payload coalesce) = record { time = t; what = event_of name payload } ∷ []
+abbrev pub fired_at : ℕ → Action → List (TimedEntry EventBody)
+fired_at t (actions.Fire agent name payload coalesce) = record { time = t; key = event_of name payload } ∷ []
 fired_at t _ = []
 
-abbrev pub fired_by : Action → Answer → List (Timed EventText)
+abbrev pub fired_by : Action → Answer → List (TimedEntry EventBody)
 fired_by action (answers.Fired t) = fired_at t action
 fired_by action _ = []
 
 -- the events that were fired, by any agent
-abbrev pub fired_in : List Turn → List (Timed EventText)
+abbrev pub fired_in : List Turn → List (TimedEntry EventBody)
 fired_in turns = flat_map (λ t. fired_by t.action t.line.answer) turns
 
 -- the events that a message brings: its own, or those of its slots
-abbrev pub events_brought : Result Message WireFault → List (Timed EventText)
-events_brought (Ok (user_event e)) = record { time = e.time; what = event_of e.name e.payload } ∷ []
+abbrev pub events_brought : Result Message WireFault → List (TimedEntry EventBody)
+events_brought (Ok (user_event e)) = record { time = e.time; key = event_of e.name e.payload } ∷ []
 events_brought (Ok (push_pull m)) = events_of m.slots
 events_brought _ = []
 
 -- the events that a packet carries
-abbrev pub carried : List ℕ → List (Timed EventText)
-carried packet = events_brought (decoded packet)
+abbrev pub events_in_packet : List ℕ → List (TimedEntry EventBody)
+events_in_packet packet = events_brought (decoded packet)
 
 -- the events that injected packets carry: these need no agent that fired them
-abbrev pub forged_in : List Turn → List (Timed EventText)
-forged_in turns = flat_map carried (injected_in turns)
+abbrev pub injected_events : List Turn → List (TimedEntry EventBody)
+injected_events turns = flat_map events_in_packet (injected_in turns)
 
 -- Queries
 
 -- the query that a message brings: its time and its ID
-abbrev pub query_brought : Result Message WireFault → List (Timed ℕ)
-query_brought (Ok (query q)) = record { time = q.time; what = q.id } ∷ []
+abbrev pub query_brought : Result Message WireFault → List (TimedEntry ℕ)
+query_brought (Ok (query q)) = record { time = q.time; key = q.id } ∷ []
 query_brought _ = []
 
-abbrev pub query_given : Option (List ℕ) → List (Timed ℕ)
+abbrev pub query_given : Option (List ℕ) → List (TimedEntry ℕ)
 query_given None = []
 query_given (Some packet) = query_brought (decoded packet)
 
-abbrev pub queried_at : ℕ → Action → List (Timed ℕ)
-queried_at t (actions.Query agent now id name payload params) = record { time = t; what = id } ∷ []
+abbrev pub queried_at : ℕ → Action → List (TimedEntry ℕ)
+queried_at t (actions.Query agent now id name payload params) = record { time = t; key = id } ∷ []
 queried_at t _ = []
 
 -- the query that entered, where this is the answer: the one that was fired, or the one that was given
-abbrev pub entered_by : Action → Option (List ℕ) → Answer → List (Timed ℕ)
+abbrev pub entered_by : Action → Option (List ℕ) → Answer → List (TimedEntry ℕ)
 entered_by action given (answers.Queried t) = queried_at t action
 entered_by action given answers.Query = query_given given
 entered_by action given _ = []
 
 -- the queries that entered at an agent, in all its lives
-abbrev pub queries_at : ℕ → List Turn → List (Timed ℕ)
+abbrev pub queries_at : ℕ → List Turn → List (TimedEntry ℕ)
 queries_at a turns = flat_map (λ t. entered_by t.action t.given t.line.answer) (turns_by a turns)
 
 -- the queries that were handed to an agent, in all its lives
-abbrev pub handed_in : HandedLine → Timed ℕ
-handed_in h = record { time = h.time; what = h.id }
+abbrev pub handed_in : HandedLine → TimedEntry ℕ
+handed_in h = record { time = h.time; key = h.id }
 
-abbrev pub queries_to : ℕ → List Turn → List (Timed ℕ)
+abbrev pub queries_to : ℕ → List Turn → List (TimedEntry ℕ)
 queries_to a turns = map handed_in (filter (λ h. h.agent == a) (flat_map (λ t. option_to_list t.line.handed) turns))
 
 -- the packets of the queries that were fired: a query is sent before its ack

@@ -10,9 +10,9 @@ pub enum SinkCall {
     Append,
     /// What was appended is flushed.
     Flush,
-    /// The text is replaced, and where that fails the old text is kept.
+    /// The text is replaced, and where that fails the old text is durable.
     ReplaceOld,
-    /// The text is replaced, and where that fails the new text is kept.
+    /// The text is replaced, and where that fails the new text is durable.
     ReplaceNew,
 }
 
@@ -26,7 +26,7 @@ pub enum Action {
         name: Bytes,
         payload: Bytes,
         /// Whether the event may be coalesced with others of its name.
-        cc: bool,
+        coalesce: bool,
     },
     /// An agent is given a packet. Any packet can be given to any agent, any number of times; one that is never given
     /// is lost.

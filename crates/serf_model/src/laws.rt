@@ -6,10 +6,10 @@ ghost use Rattle.serf_agent.specs.Restart.{IsInText};
 ghost use Rattle.serf_model.specs.declared.action.Action.{Action};
 ghost use Rattle.serf_model.specs.AnswerPromises.{AckedOnce, AnswersMade, CountedInTime, CountedOnce, CountedSent, OpenQueriesHold};
 ghost use Rattle.serf_model.specs.Bounds.{EventsBounded, QueriesBounded};
-ghost use Rattle.serf_model.specs.Cluster.{Member, acts, run_of, start, text_after, trace_of};
+ghost use Rattle.serf_model.specs.Cluster.{IdealNode, apply, run_of, start, text_after, trace_of};
 ghost use Rattle.serf_model.specs.Promises.{Held, Later, Once, OnlyFired, QueryFired, QueryHandedOnce, QueryLater, QueryOnce};
 ghost use Rattle.serf_model.specs.Queried.{QueryOnlyFired};
-ghost use Rattle.serf_model.specs.Ready.{AreGood, IsGood};
+ghost use Rattle.serf_model.specs.Ready.{AreRepresentable, IsRepresentable};
 ghost use Rattle.serf_model.specs.Runs.{AreConfigs};
 ghost use Rattle.serf_model.specs.Sizes.{HasSizes};
 ghost use Rattle.serf_model.specs.Trace.{turns_of};
@@ -49,10 +49,10 @@ pub fn turns_shown()
     ensures { (configs : List Config) (done left : List Action) → AreConfigs configs → turns_of (done ++ left) (trace_of (run_of configs done)) ≡ (run_of configs done).turns }
 {}
 
-/// The agents of a cluster that has done nothing are good, and an action leaves its agent good. What a good agent's sink
-/// keeps has the times of all that entered, whatever tail comes behind. Does nothing.
-pub fn good_agents()
-    ensures start { (configs : List Config) → AreConfigs configs → AreGood (start configs).cluster }
-    ensures acts { (m : Member) (sent : List (List ℕ)) (action : Action) → IsGood m.agent → IsGood (acts m sent action).member.agent }
-    ensures text { (m : Member) (tail : List ℕ) → IsGood m.agent → IsInText m.agent (text_after m.agent tail) }
+/// The agents of a cluster that has done nothing are representable, and an action leaves its agent representable. What
+/// a representable agent's sink keeps has the times of all that entered, whatever tail comes behind. Does nothing.
+pub fn representable_agents()
+    ensures start { (configs : List Config) → AreConfigs configs → AreRepresentable (start configs).cluster }
+    ensures apply { (m : IdealNode) (sent : List (List ℕ)) (action : Action) → IsRepresentable m.agent → IsRepresentable (apply m sent action).node.agent }
+    ensures text { (m : IdealNode) (tail : List ℕ) → IsRepresentable m.agent → IsInText m.agent (text_after m.agent tail) }
 {}

@@ -3,7 +3,7 @@
 //!
 //! Here are the types that the model's definitions speak of: what is done ([`Action`]), what comes of it ([`Line`]),
 //! and what a whole run gives ([`Trace`]). The model itself stands in `specs/`, its laws are the contracts of functions
-//! that do nothing ([`run_promises`], [`turns_shown`], [`good_agents`]).
+//! that do nothing ([`run_promises`], [`turns_shown`], [`representable_agents`]).
 #![tactic(auto)]
 
 mod action;
@@ -17,7 +17,7 @@ mod trace;
 pub use action::{Action, SinkCall};
 pub use boxed::{BoxedBytes, BoxedParams};
 pub use fault::{NewFault, RunFault};
-pub use laws::{good_agents, run_promises, turns_shown};
+pub use laws::{representable_agents, run_promises, turns_shown};
 pub use line::{Answer, EventLine, HandedLine, Line, Refusal};
 pub use lists::{EventLines, Lines, Numbers};
 pub use trace::Trace;

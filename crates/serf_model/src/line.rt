@@ -72,7 +72,11 @@ pub enum Answer {
     /// The snapshot's text has its last lines alone.
     Compacted,
     /// The agent was opened again, and these are its clocks.
-    Restarted { member: u64, event: u64, query: u64 },
+    Restarted {
+        member_clock: u64,
+        event_clock: u64,
+        query_clock: u64,
+    },
     /// So many open queries were let go.
     Closed(u64),
     /// Nothing was done, or not all of it.
@@ -86,7 +90,7 @@ pub struct EventLine {
     pub time: Time,
     pub name: Bytes,
     pub payload: Bytes,
-    pub cc: bool,
+    pub coalesce: bool,
 }
 
 /// A query that was handed out to the agent of this number.

@@ -26,8 +26,8 @@ raw_packs d p s lt = (refl, raw_head (length s), raw_head_is (length s) lt, refl
 
 pub array_packs : (d p : ℕ) (vs : Items) (parts : List ℕ) → d < 8 → item_count vs < 2 ^ 32 → PackItems vs (d + 1) (p + length (array_head (item_count vs))) parts
     → Packs (array p vs) d p (array_head (item_count vs) ++ parts)
-array_packs d p vs parts room few packs = (refl, room, array_head (item_count vs), parts, array_head_is (item_count vs) few, refl, packs)
+array_packs d p vs parts depth_left few packs = (refl, depth_left, array_head (item_count vs), parts, array_head_is (item_count vs) few, refl, packs)
 
 pub map_packs : (d p : ℕ) (ps : Pairs) (parts : List ℕ) → d < 8 → pair_count ps < 2 ^ 32 → PackPairs ps (d + 1) (p + length (map_head (pair_count ps))) parts
     → Packs (pairs p ps) d p (map_head (pair_count ps) ++ parts)
-map_packs d p ps parts room few packs = (refl, room, map_head (pair_count ps), parts, map_head_is (pair_count ps) few, refl, packs)
+map_packs d p ps parts depth_left few packs = (refl, depth_left, map_head (pair_count ps), parts, map_head_is (pair_count ps) few, refl, packs)

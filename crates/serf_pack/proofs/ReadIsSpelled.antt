@@ -115,26 +115,26 @@ pairs_back total d value tells (suc n) bytes x le e =
 module _ (total d : ℕ) (bytes : List ℕ) (le : length bytes ≤ total) where
   array_back : (value : Reader Tree) → d < 8 → IsTrueReader total (d + 1) value → (n : ℕ) (rest : List ℕ) (x : Tree × List ℕ) → IsHeadOf bytes rest (heads.Array n)
       → (items_at value n rest >>= λ vs. Ok (array (place total bytes) vs.0, vs.1)) ≡ Ok x → Spelled total d bytes x.0 x.1
-  array_back value room tells n rest x h e =
+  array_back value depth_left tells n rest x h e =
       let a = bind_ok (items_at value n rest) (λ vs. Ok (array (place total bytes) vs.0, vs.1)) x e in
       let m = moved total bytes h.head rest h.bytes_are le in
       let parts = items_back total (d + 1) value tells n rest a.0 m.1 a.1 in
       subst (λ (y : Tree × List ℕ). Spelled total d bytes y.0 y.1) (ok_is (array (place total bytes) a.0.0, a.0.1) x a.2) (record {
         text = h.head ++ parts.text;
         bytes_are = h.bytes_are ∙ ap (λ (t : List ℕ). h.head ++ t) parts.bytes_are ∙ sym (append_assoc h.head parts.text a.0.1);
-        packs = (refl, room, h.head, parts.text, subst (λ k. IsHead h.head (heads.Array k)) (sym parts.count) h.is, refl, subst (λ k. PackItems a.0.0 (d + 1) k parts.text) m.0 parts.packs);
+        packs = (refl, depth_left, h.head, parts.text, subst (λ k. IsHead h.head (heads.Array k)) (sym parts.count) h.is, refl, subst (λ k. PackItems a.0.0 (d + 1) k parts.text) m.0 parts.packs);
       })
 
   map_back : (value : Reader Tree) → d < 8 → IsTrueReader total (d + 1) value → (n : ℕ) (rest : List ℕ) (x : Tree × List ℕ) → IsHeadOf bytes rest (heads.Map n)
       → (pairs_at value n rest >>= λ ps. Ok (pairs (place total bytes) ps.0, ps.1)) ≡ Ok x → Spelled total d bytes x.0 x.1
-  map_back value room tells n rest x h e =
+  map_back value depth_left tells n rest x h e =
       let a = bind_ok (pairs_at value n rest) (λ ps. Ok (pairs (place total bytes) ps.0, ps.1)) x e in
       let m = moved total bytes h.head rest h.bytes_are le in
       let parts = pairs_back total (d + 1) value tells n rest a.0 m.1 a.1 in
       subst (λ (y : Tree × List ℕ). Spelled total d bytes y.0 y.1) (ok_is (pairs (place total bytes) a.0.0, a.0.1) x a.2) (record {
         text = h.head ++ parts.text;
         bytes_are = h.bytes_are ∙ ap (λ (t : List ℕ). h.head ++ t) parts.bytes_are ∙ sym (append_assoc h.head parts.text a.0.1);
-        packs = (refl, room, h.head, parts.text, subst (λ k. IsHead h.head (heads.Map k)) (sym parts.count) h.is, refl, subst (λ k. PackPairs a.0.0 (d + 1) k parts.text) m.0 parts.packs);
+        packs = (refl, depth_left, h.head, parts.text, subst (λ k. IsHead h.head (heads.Map k)) (sym parts.count) h.is, refl, subst (λ k. PackPairs a.0.0 (d + 1) k parts.text) m.0 parts.packs);
       })
 
   raw_back : (n : ℕ) (rest : List ℕ) (x : Tree × List ℕ) → IsHeadOf bytes rest (heads.Raw n)
@@ -164,19 +164,19 @@ module _ (total d : ℕ) (bytes : List ℕ) (le : length bytes ≤ total) where
 
   inner_back : (value : Reader Tree) → d < 8 → IsTrueReader total (d + 1) value → (g : Head) (rest : List ℕ) (x : Tree × List ℕ) → IsHeadOf bytes rest g
       → parts_by (items_at value) (pairs_at value) (place total bytes) g rest ≡ Ok x → Spelled total d bytes x.0 x.1
-  inner_back value room tells heads.Nil rest x h e = plain_back heads.Nil (nil (place total bytes)) rest x h (λ t is. (refl, is)) e
-  inner_back value room tells (heads.Flag b) rest x h e = plain_back (heads.Flag b) (flag (place total bytes) b) rest x h (λ t is. (refl, is)) e
-  inner_back value room tells (heads.Int z) rest x h e = plain_back (heads.Int z) (int (place total bytes) z) rest x h (λ t is. (refl, is)) e
-  inner_back value room tells (heads.Raw n) rest x h e = raw_back n rest x h e
-  inner_back value room tells (heads.Array n) rest x h e = array_back value room tells n rest x h e
-  inner_back value room tells (heads.Map n) rest x h e = map_back value room tells n rest x h e
+  inner_back value depth_left tells heads.Nil rest x h e = plain_back heads.Nil (nil (place total bytes)) rest x h (λ t is. (refl, is)) e
+  inner_back value depth_left tells (heads.Flag b) rest x h e = plain_back (heads.Flag b) (flag (place total bytes) b) rest x h (λ t is. (refl, is)) e
+  inner_back value depth_left tells (heads.Int z) rest x h e = plain_back (heads.Int z) (int (place total bytes) z) rest x h (λ t is. (refl, is)) e
+  inner_back value depth_left tells (heads.Raw n) rest x h e = raw_back n rest x h e
+  inner_back value depth_left tells (heads.Array n) rest x h e = array_back value depth_left tells n rest x h e
+  inner_back value depth_left tells (heads.Map n) rest x h e = map_back value depth_left tells n rest x h e
 
 -- what is read is spelled
-pub value_back : (room total d : ℕ) → d + room ≡ 8 → IsTrueReader total d (value_at room total)
+pub value_back : (depth_left total d : ℕ) → d + depth_left ≡ 8 → IsTrueReader total d (value_at depth_left total)
 unfolding value_at
 value_back zero total d sum bytes x le e =
     let a = bind_ok (head_at total bytes) (λ h. parts_by (too_deep (place total bytes)) (too_deep (place total bytes)) (place total bytes) h.0 h.1) x e in
     last_back total d bytes le a.0.0 a.0.1 x (head_back total bytes a.0 a.1) a.2
-value_back (suc room) total d sum bytes x le e =
-    let a = bind_ok (head_at total bytes) (λ h. parts_by (items_at (value_at room total)) (pairs_at (value_at room total)) (place total bytes) h.0 h.1) x e in
-    inner_back total d bytes le (value_at room total) (omega arith) (value_back room total (d + 1) (omega arith)) a.0.0 a.0.1 x (head_back total bytes a.0 a.1) a.2
+value_back (suc depth_left) total d sum bytes x le e =
+    let a = bind_ok (head_at total bytes) (λ h. parts_by (items_at (value_at depth_left total)) (pairs_at (value_at depth_left total)) (place total bytes) h.0 h.1) x e in
+    inner_back total d bytes le (value_at depth_left total) (omega arith) (value_back depth_left total (d + 1) (omega arith)) a.0.0 a.0.1 x (head_back total bytes a.0 a.1) a.2

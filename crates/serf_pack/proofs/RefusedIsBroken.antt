@@ -166,22 +166,22 @@ module _ (total d : ℕ) (bytes : List ℕ) (le : length bytes ≤ total) where
 
   array_refused : (value : Reader Tree) → d < 8 → IsTrueReader total (d + 1) value → IsFairReader total (d + 1) value → (n : ℕ) (rest : List ℕ) (f : PackFault) → IsHeadOf bytes rest (heads.Array n)
       → items_at value n rest ≡ Err f → Breaks d (place total bytes) bytes f
-  array_refused value room tells fair n rest f h e =
+  array_refused value depth_left tells fair n rest f h e =
       let m = moved total bytes h.head rest h.bytes_are le in
       let r = items_refused total (d + 1) value tells fair n rest f m.1 e in
-      in_array d (place total bytes) bytes f h.head r.front r.rest n r.vs (h.bytes_are ∙ ap (λ (t : List ℕ). h.head ++ t) r.bytes_are) h.is room
+      in_array d (place total bytes) bytes f h.head r.front r.rest n r.vs (h.bytes_are ∙ ap (λ (t : List ℕ). h.head ++ t) r.bytes_are) h.is depth_left
       (subst (λ k. PackItems r.vs (d + 1) k r.front) m.0 r.packs) r.count (subst (λ k. Breaks (d + 1) (k + length r.front) r.rest f) m.0 r.here)
 
   map_refused : (value : Reader Tree) → d < 8 → IsTrueReader total (d + 1) value → IsFairReader total (d + 1) value → (n : ℕ) (rest : List ℕ) (f : PackFault) → IsHeadOf bytes rest (heads.Map n)
       → pairs_at value n rest ≡ Err f → Breaks d (place total bytes) bytes f
-  map_refused value room tells fair n rest f h e =
+  map_refused value depth_left tells fair n rest f h e =
       let m = moved total bytes h.head rest h.bytes_are le in
       elim (pairs_refused total (d + 1) value tells fair n rest f m.1 e) [
         | inl r ↦
-            in_key d (place total bytes) bytes f h.head r.front r.rest n r.ps (h.bytes_are ∙ ap (λ (t : List ℕ). h.head ++ t) r.bytes_are) h.is room
+            in_key d (place total bytes) bytes f h.head r.front r.rest n r.ps (h.bytes_are ∙ ap (λ (t : List ℕ). h.head ++ t) r.bytes_are) h.is depth_left
             (subst (λ k. PackPairs r.ps (d + 1) k r.front) m.0 r.packs) r.count (subst (λ k. Breaks (d + 1) (k + length r.front) r.rest f) m.0 r.here)
         | inr r ↦
-            in_value d (place total bytes) bytes f h.head r.front r.key r.rest n r.ps r.k (h.bytes_are ∙ ap (λ (t : List ℕ). h.head ++ t) r.bytes_are) h.is room
+            in_value d (place total bytes) bytes f h.head r.front r.key r.rest n r.ps r.k (h.bytes_are ∙ ap (λ (t : List ℕ). h.head ++ t) r.bytes_are) h.is depth_left
             (subst (λ k. PackPairs r.ps (d + 1) k r.front) m.0 r.packs) r.count (subst (λ k. Packs r.k (d + 1) (k + length r.front) r.key) m.0 r.packed)
             (subst (λ k. Breaks (d + 1) (k + length r.front + length r.key) r.rest f) m.0 r.here)
       ]
@@ -205,23 +205,23 @@ module _ (total d : ℕ) (bytes : List ℕ) (le : length bytes ≤ total) where
 
   inner_refused : (value : Reader Tree) → d < 8 → IsTrueReader total (d + 1) value → IsFairReader total (d + 1) value → (g : Head) (rest : List ℕ) (f : PackFault) → IsHeadOf bytes rest g
       → parts_by (items_at value) (pairs_at value) (place total bytes) g rest ≡ Err f → Breaks d (place total bytes) bytes f
-  inner_refused value room tells fair heads.Nil rest f h e = absurd cc
-  inner_refused value room tells fair (heads.Flag b) rest f h e = absurd cc
-  inner_refused value room tells fair (heads.Int z) rest f h e = absurd cc
-  inner_refused value room tells fair (heads.Raw n) rest f h e = raw_refused n rest f h e
-  inner_refused value room tells fair (heads.Array n) rest f h e = array_refused value room tells fair n rest f h (items_only (items_at value n rest) f e)
-  inner_refused value room tells fair (heads.Map n) rest f h e = map_refused value room tells fair n rest f h (pairs_only (pairs_at value n rest) f e)
+  inner_refused value depth_left tells fair heads.Nil rest f h e = absurd cc
+  inner_refused value depth_left tells fair (heads.Flag b) rest f h e = absurd cc
+  inner_refused value depth_left tells fair (heads.Int z) rest f h e = absurd cc
+  inner_refused value depth_left tells fair (heads.Raw n) rest f h e = raw_refused n rest f h e
+  inner_refused value depth_left tells fair (heads.Array n) rest f h e = array_refused value depth_left tells fair n rest f h (items_only (items_at value n rest) f e)
+  inner_refused value depth_left tells fair (heads.Map n) rest f h e = map_refused value depth_left tells fair n rest f h (pairs_only (pairs_at value n rest) f e)
 
 -- what is refused breaks
-pub value_refused : (room total d : ℕ) → d + room ≡ 8 → (bytes : List ℕ) (f : PackFault) → length bytes ≤ total → value_at room total bytes ≡ Err f → Breaks d (place total bytes) bytes f
+pub value_refused : (depth_left total d : ℕ) → d + depth_left ≡ 8 → (bytes : List ℕ) (f : PackFault) → length bytes ≤ total → value_at depth_left total bytes ≡ Err f → Breaks d (place total bytes) bytes f
 unfolding value_at
 value_refused zero total d sum bytes f le e =
     elim (bind_err (head_at total bytes) (λ h. parts_by (too_deep (place total bytes)) (too_deep (place total bytes)) (place total bytes) h.0 h.1) f e) [
       | inl bad ↦ head_refused d total bytes f bad
       | inr a ↦ last_refused total d bytes le a.0.0 a.0.1 f (omega arith) (head_back total bytes a.0 a.1) a.2
     ]
-value_refused (suc room) total d sum bytes f le e =
-    elim (bind_err (head_at total bytes) (λ h. parts_by (items_at (value_at room total)) (pairs_at (value_at room total)) (place total bytes) h.0 h.1) f e) [
+value_refused (suc depth_left) total d sum bytes f le e =
+    elim (bind_err (head_at total bytes) (λ h. parts_by (items_at (value_at depth_left total)) (pairs_at (value_at depth_left total)) (place total bytes) h.0 h.1) f e) [
       | inl bad ↦ head_refused d total bytes f bad
-      | inr a ↦ inner_refused total d bytes le (value_at room total) (omega arith) (value_back room total (d + 1) (omega arith)) (value_refused room total (d + 1) (omega arith)) a.0.0 a.0.1 f (head_back total bytes a.0 a.1) a.2
+      | inr a ↦ inner_refused total d bytes le (value_at depth_left total) (omega arith) (value_back depth_left total (d + 1) (omega arith)) (value_refused depth_left total (d + 1) (omega arith)) a.0.0 a.0.1 f (head_back total bytes a.0 a.1) a.2
     ]

@@ -45,17 +45,17 @@ parts_also items items' members members' is ms p (heads.Map n) rest = step_also 
 refused_also : {A : Type 0} (p : ℕ) (more : ℕ → Reader A) (n : ℕ) → ReadsAlso (too_deep p n) (more n)
 refused_also p more n bytes x e = absurd cc
 
-pub value_also : (room more total : ℕ) → room ≤ more → ReadsAlso (value_at room total) (value_at more total)
+pub value_also : (depth_left more total : ℕ) → depth_left ≤ more → ReadsAlso (value_at depth_left total) (value_at more total)
 unfolding value_at
 value_also zero zero total le bytes = λ x e. e
 value_also zero (suc more) total le bytes =
     let p = place total bytes in
     step_also (head_at total bytes) (head_at total bytes) _ _ (λ h e. e)
     (λ h. parts_also (too_deep p) (items_at (value_at more total)) (too_deep p) (pairs_at (value_at more total)) (refused_also p (items_at (value_at more total))) (refused_also p (pairs_at (value_at more total))) p h.0 h.1)
-value_also (suc room) zero total le bytes = absurd (omega arith)
-value_also (suc room) (suc more) total le bytes =
-    let less = value_at room total in
+value_also (suc depth_left) zero total le bytes = absurd (omega arith)
+value_also (suc depth_left) (suc more) total le bytes =
+    let less = value_at depth_left total in
     let roomier = value_at more total in
-    let also = value_also room more total (omega arith) in
+    let also = value_also depth_left more total (omega arith) in
     step_also (head_at total bytes) (head_at total bytes) _ _ (λ h e. e)
     (λ h. parts_also (items_at less) (items_at roomier) (pairs_at less) (pairs_at roomier) (items_also less roomier also) (pairs_also less roomier also) (place total bytes) h.0 h.1)

@@ -41,83 +41,83 @@ one_pair value n bytes =
 
 -- ---- what follows a value, by its head
 
-module _ (room total : ℕ) (bytes : List ℕ) where
-  pub by_fault : (e : PackFault) → head_at total bytes ≡ Err e → rest_of (value_at room total bytes) ≡ Err e
-  by_fault e h = ap rest_of (refuse_head room total bytes e h)
+module _ (depth_left total : ℕ) (bytes : List ℕ) where
+  pub by_fault : (e : PackFault) → head_at total bytes ≡ Err e → rest_of (value_at depth_left total bytes) ≡ Err e
+  by_fault e h = ap rest_of (refuse_head depth_left total bytes e h)
 
-  pub by_nil : (rest : List ℕ) → head_at total bytes ≡ Ok (Nil, rest) → rest_of (value_at room total bytes) ≡ Ok rest
-  by_nil rest h = ap rest_of (read_nil room total bytes rest h)
+  pub by_nil : (rest : List ℕ) → head_at total bytes ≡ Ok (Nil, rest) → rest_of (value_at depth_left total bytes) ≡ Ok rest
+  by_nil rest h = ap rest_of (read_nil depth_left total bytes rest h)
 
-  pub by_flag : (b : Bool) (rest : List ℕ) → head_at total bytes ≡ Ok (Flag b, rest) → rest_of (value_at room total bytes) ≡ Ok rest
-  by_flag b rest h = ap rest_of (read_flag room total bytes rest b h)
+  pub by_flag : (b : Bool) (rest : List ℕ) → head_at total bytes ≡ Ok (Flag b, rest) → rest_of (value_at depth_left total bytes) ≡ Ok rest
+  by_flag b rest h = ap rest_of (read_flag depth_left total bytes rest b h)
 
-  pub by_int : (z : ℤ) (rest : List ℕ) → head_at total bytes ≡ Ok (Int z, rest) → rest_of (value_at room total bytes) ≡ Ok rest
-  by_int z rest h = ap rest_of (read_int room total bytes rest z h)
+  pub by_int : (z : ℤ) (rest : List ℕ) → head_at total bytes ≡ Ok (Int z, rest) → rest_of (value_at depth_left total bytes) ≡ Ok rest
+  by_int z rest h = ap rest_of (read_int depth_left total bytes rest z h)
 
-  pub by_raw : (n : ℕ) (rest : List ℕ) → head_at total bytes ≡ Ok (Raw n, rest) → n ≤ length rest → rest_of (value_at room total bytes) ≡ Ok (drop n rest)
-  by_raw n rest h le = ap rest_of (read_raw room total bytes rest n h le)
+  pub by_raw : (n : ℕ) (rest : List ℕ) → head_at total bytes ≡ Ok (Raw n, rest) → n ≤ length rest → rest_of (value_at depth_left total bytes) ≡ Ok (drop n rest)
+  by_raw n rest h le = ap rest_of (read_raw depth_left total bytes rest n h le)
 
-  pub by_raw_short : (n : ℕ) (rest : List ℕ) → head_at total bytes ≡ Ok (Raw n, rest) → length rest < n → rest_of (value_at room total bytes) ≡ Err (Truncated (place total bytes))
-  by_raw_short n rest h lt = ap rest_of (refuse_raw room total bytes rest n h lt)
+  pub by_raw_short : (n : ℕ) (rest : List ℕ) → head_at total bytes ≡ Ok (Raw n, rest) → length rest < n → rest_of (value_at depth_left total bytes) ≡ Err (Truncated (place total bytes))
+  by_raw_short n rest h lt = ap rest_of (refuse_raw depth_left total bytes rest n h lt)
 
-  pub by_array : (n : ℕ) (rest : List ℕ) → 0 < room → head_at total bytes ≡ Ok (Array n, rest) → rest_of (value_at room total bytes) ≡ rest_of (items_at (value_at (room - 1) total) n rest)
+  pub by_array : (n : ℕ) (rest : List ℕ) → 0 < depth_left → head_at total bytes ≡ Ok (Array n, rest) → rest_of (value_at depth_left total bytes) ≡ rest_of (items_at (value_at (depth_left - 1) total) n rest)
   unfolding value_at
   by_array n rest pos h =
-      (elim room as (λ r. 0 < r → rest_of (value_at r total bytes) ≡ rest_of (items_at (value_at (r - 1) total) n rest)) [
+      (elim depth_left as (λ r. 0 < r → rest_of (value_at r total bytes) ≡ rest_of (items_at (value_at (r - 1) total) n rest)) [
         | zero ↦ λ lt. absurd (omega arith)
         | suc r ↦ λ lt. let k : suc r - 1 ≡ r = omega arith in rw (k, h) (rest-map (λ vs. array (place total bytes) vs) (items_at (value_at r total) n rest))
       ]) pos
 
-  pub by_map : (n : ℕ) (rest : List ℕ) → 0 < room → head_at total bytes ≡ Ok (Map n, rest) → rest_of (value_at room total bytes) ≡ rest_of (pairs_at (value_at (room - 1) total) n rest)
+  pub by_map : (n : ℕ) (rest : List ℕ) → 0 < depth_left → head_at total bytes ≡ Ok (Map n, rest) → rest_of (value_at depth_left total bytes) ≡ rest_of (pairs_at (value_at (depth_left - 1) total) n rest)
   unfolding value_at
   by_map n rest pos h =
-      (elim room as (λ r. 0 < r → rest_of (value_at r total bytes) ≡ rest_of (pairs_at (value_at (r - 1) total) n rest)) [
+      (elim depth_left as (λ r. 0 < r → rest_of (value_at r total bytes) ≡ rest_of (pairs_at (value_at (r - 1) total) n rest)) [
         | zero ↦ λ lt. absurd (omega arith)
         | suc r ↦ λ lt. let k : suc r - 1 ≡ r = omega arith in rw (k, h) (rest-map (λ ps. pairs (place total bytes) ps) (pairs_at (value_at r total) n rest))
       ]) pos
 
-  pub array_too_deep : (n : ℕ) (rest : List ℕ) → room ≡ 0 → head_at total bytes ≡ Ok (Array n, rest) → rest_of (value_at room total bytes) ≡ Err (TooDeep (place total bytes))
-  array_too_deep n rest none h = ap rest_of (refuse_deep_array room total bytes rest n h none)
+  pub array_too_deep : (n : ℕ) (rest : List ℕ) → depth_left ≡ 0 → head_at total bytes ≡ Ok (Array n, rest) → rest_of (value_at depth_left total bytes) ≡ Err (TooDeep (place total bytes))
+  array_too_deep n rest none h = ap rest_of (refuse_deep_array depth_left total bytes rest n h none)
 
-  pub map_too_deep : (n : ℕ) (rest : List ℕ) → room ≡ 0 → head_at total bytes ≡ Ok (Map n, rest) → rest_of (value_at room total bytes) ≡ Err (TooDeep (place total bytes))
-  map_too_deep n rest none h = ap rest_of (refuse_deep_map room total bytes rest n h none)
+  pub map_too_deep : (n : ℕ) (rest : List ℕ) → depth_left ≡ 0 → head_at total bytes ≡ Ok (Map n, rest) → rest_of (value_at depth_left total bytes) ≡ Err (TooDeep (place total bytes))
+  map_too_deep n rest none h = ap rest_of (refuse_deep_map depth_left total bytes rest n h none)
 
 -- ---- one part after another
 
-module _ (room total count i : ℕ) (bytes : List ℕ) where
-  pub item_left : (after : List ℕ) → i < count → rest_of (value_at room total bytes) ≡ Ok after
-      → rest_of (items_at (value_at room total) (count - i) bytes) ≡ rest_of (items_at (value_at room total) (count - (i + 1)) after)
+module _ (depth_left total count i : ℕ) (bytes : List ℕ) where
+  pub item_left : (after : List ℕ) → i < count → rest_of (value_at depth_left total bytes) ≡ Ok after
+      → rest_of (items_at (value_at depth_left total) (count - i) bytes) ≡ rest_of (items_at (value_at depth_left total) (count - (i + 1)) after)
   item_left after lt h =
       let k : count - i ≡ suc (count - (i + 1)) = omega arith in
-      rw (k, one_item (value_at room total) (count - (i + 1)) bytes, h) refl
+      rw (k, one_item (value_at depth_left total) (count - (i + 1)) bytes, h) refl
 
-  pub item_fault : (e : PackFault) → i < count → rest_of (value_at room total bytes) ≡ Err e → rest_of (items_at (value_at room total) (count - i) bytes) ≡ Err e
+  pub item_fault : (e : PackFault) → i < count → rest_of (value_at depth_left total bytes) ≡ Err e → rest_of (items_at (value_at depth_left total) (count - i) bytes) ≡ Err e
   item_fault e lt h =
       let k : count - i ≡ suc (count - (i + 1)) = omega arith in
-      rw (k, one_item (value_at room total) (count - (i + 1)) bytes, h) refl
+      rw (k, one_item (value_at depth_left total) (count - (i + 1)) bytes, h) refl
 
-  pub items_end : count ≤ i → rest_of (items_at (value_at room total) (count - i) bytes) ≡ Ok bytes
+  pub items_end : count ≤ i → rest_of (items_at (value_at depth_left total) (count - i) bytes) ≡ Ok bytes
   unfolding items_at
   items_end le = let k : count - i ≡ 0 = omega arith in rw k refl
 
-  pub pair_left : (behind after : List ℕ) → i < count → rest_of (value_at room total bytes) ≡ Ok behind → rest_of (value_at room total behind) ≡ Ok after
-      → rest_of (pairs_at (value_at room total) (count - i) bytes) ≡ rest_of (pairs_at (value_at room total) (count - (i + 1)) after)
+  pub pair_left : (behind after : List ℕ) → i < count → rest_of (value_at depth_left total bytes) ≡ Ok behind → rest_of (value_at depth_left total behind) ≡ Ok after
+      → rest_of (pairs_at (value_at depth_left total) (count - i) bytes) ≡ rest_of (pairs_at (value_at depth_left total) (count - (i + 1)) after)
   pair_left behind after lt h g =
       let k : count - i ≡ suc (count - (i + 1)) = omega arith in
-      rw (k, one_pair (value_at room total) (count - (i + 1)) bytes, h, g) refl
+      rw (k, one_pair (value_at depth_left total) (count - (i + 1)) bytes, h, g) refl
 
-  pub key_fault : (e : PackFault) → i < count → rest_of (value_at room total bytes) ≡ Err e → rest_of (pairs_at (value_at room total) (count - i) bytes) ≡ Err e
+  pub key_fault : (e : PackFault) → i < count → rest_of (value_at depth_left total bytes) ≡ Err e → rest_of (pairs_at (value_at depth_left total) (count - i) bytes) ≡ Err e
   key_fault e lt h =
       let k : count - i ≡ suc (count - (i + 1)) = omega arith in
-      rw (k, one_pair (value_at room total) (count - (i + 1)) bytes, h) refl
+      rw (k, one_pair (value_at depth_left total) (count - (i + 1)) bytes, h) refl
 
-  pub pair_fault : (behind : List ℕ) (e : PackFault) → i < count → rest_of (value_at room total bytes) ≡ Ok behind → rest_of (value_at room total behind) ≡ Err e
-      → rest_of (pairs_at (value_at room total) (count - i) bytes) ≡ Err e
+  pub pair_fault : (behind : List ℕ) (e : PackFault) → i < count → rest_of (value_at depth_left total bytes) ≡ Ok behind → rest_of (value_at depth_left total behind) ≡ Err e
+      → rest_of (pairs_at (value_at depth_left total) (count - i) bytes) ≡ Err e
   pair_fault behind e lt h g =
       let k : count - i ≡ suc (count - (i + 1)) = omega arith in
-      rw (k, one_pair (value_at room total) (count - (i + 1)) bytes, h, g) refl
+      rw (k, one_pair (value_at depth_left total) (count - (i + 1)) bytes, h, g) refl
 
-  pub pairs_end : count ≤ i → rest_of (pairs_at (value_at room total) (count - i) bytes) ≡ Ok bytes
+  pub pairs_end : count ≤ i → rest_of (pairs_at (value_at depth_left total) (count - i) bytes) ≡ Ok bytes
   unfolding pairs_at
   pairs_end le = let k : count - i ≡ 0 = omega arith in rw k refl
 

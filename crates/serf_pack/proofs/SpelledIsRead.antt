@@ -60,40 +60,40 @@ part total text rest head parts e le =
     record { bytes = same; within = omega arith; place_is = omega arith }
 
 mutual
-  pub value_read : (v : Tree) (d room total : ℕ) (text rest : List ℕ) → d + room ≡ 8 → length (text ++ rest) ≤ total → Packs v d (place total (text ++ rest)) text → value_at room total (text ++ rest) ≡ Ok (v, rest)
-  value_read (nil q) d room total text rest e le h = rw h.0 (read_nil room total (text ++ rest) rest (head_read total text rest _ h.1))
-  value_read (flag q b) d room total text rest e le h = rw h.0 (read_flag room total (text ++ rest) rest b (head_read total text rest _ h.1))
-  value_read (int q z) d room total text rest e le h = rw h.0 (read_int room total (text ++ rest) rest z (head_read total text rest _ h.1))
-  value_read (raw q s) d room total text rest e le h =
+  pub value_read : (v : Tree) (d depth_left total : ℕ) (text rest : List ℕ) → d + depth_left ≡ 8 → length (text ++ rest) ≤ total → Packs v d (place total (text ++ rest)) text → value_at depth_left total (text ++ rest) ≡ Ok (v, rest)
+  value_read (nil q) d depth_left total text rest e le h = rw h.0 (read_nil depth_left total (text ++ rest) rest (head_read total text rest _ h.1))
+  value_read (flag q b) d depth_left total text rest e le h = rw h.0 (read_flag depth_left total (text ++ rest) rest b (head_read total text rest _ h.1))
+  value_read (int q z) d depth_left total text rest e le h = rw h.0 (read_int depth_left total (text ++ rest) rest z (head_read total text rest _ h.1))
+  value_read (raw q s) d depth_left total text rest e le h =
       let p = part total text rest h.1 s h.3 le in
       let head : head_at total (text ++ rest) ≡ Ok (heads.Raw (length s), s ++ rest) = rw p.bytes (head_read total h.1 (s ++ rest) _ h.2) in
-      let all = read_raw room total (text ++ rest) (s ++ rest) (length s) head (omega (arith, length-append s rest)) in
+      let all = read_raw depth_left total (text ++ rest) (s ++ rest) (length s) head (omega (arith, length-append s rest)) in
       rw h.0 (all ∙ rw (take_at s rest (length s) refl, drop_at s rest (length s) refl) refl)
-  value_read (array q vs) d room total text rest e le h =
+  value_read (array q vs) d depth_left total text rest e le h =
       let p = part total text rest h.2 h.3 h.5 le in
       let head : head_at total (text ++ rest) ≡ Ok (heads.Array (item_count vs), h.3 ++ rest) = rw p.bytes (head_read total h.2 (h.3 ++ rest) _ h.4) in
-      let parts = items_read vs (d + 1) (room - 1) total h.3 rest (omega (arith, h.1)) p.within (subst (λ k. PackItems vs (d + 1) k h.3) p.place_is h.6) in
-      rw h.0 (read_array room total (text ++ rest) (h.3 ++ rest) (item_count vs) vs rest (omega (arith, h.1)) head parts)
-  value_read (pairs q ps) d room total text rest e le h =
+      let parts = items_read vs (d + 1) (depth_left - 1) total h.3 rest (omega (arith, h.1)) p.within (subst (λ k. PackItems vs (d + 1) k h.3) p.place_is h.6) in
+      rw h.0 (read_array depth_left total (text ++ rest) (h.3 ++ rest) (item_count vs) vs rest (omega (arith, h.1)) head parts)
+  value_read (pairs q ps) d depth_left total text rest e le h =
       let p = part total text rest h.2 h.3 h.5 le in
       let head : head_at total (text ++ rest) ≡ Ok (heads.Map (pair_count ps), h.3 ++ rest) = rw p.bytes (head_read total h.2 (h.3 ++ rest) _ h.4) in
-      let parts = pairs_read ps (d + 1) (room - 1) total h.3 rest (omega (arith, h.1)) p.within (subst (λ k. PackPairs ps (d + 1) k h.3) p.place_is h.6) in
-      rw h.0 (read_map room total (text ++ rest) (h.3 ++ rest) (pair_count ps) ps rest (omega (arith, h.1)) head parts)
+      let parts = pairs_read ps (d + 1) (depth_left - 1) total h.3 rest (omega (arith, h.1)) p.within (subst (λ k. PackPairs ps (d + 1) k h.3) p.place_is h.6) in
+      rw h.0 (read_map depth_left total (text ++ rest) (h.3 ++ rest) (pair_count ps) ps rest (omega (arith, h.1)) head parts)
 
-  items_read : (vs : Items) (d room total : ℕ) (text rest : List ℕ) → d + room ≡ 8 → length (text ++ rest) ≤ total → PackItems vs d (place total (text ++ rest)) text → items_at (value_at room total) (item_count vs) (text ++ rest) ≡ Ok (vs, rest)
-  items_read no_items d room total text rest e le h = rw h (items_nil (value_at room total) rest)
-  items_read (item v vs) d room total text rest e le h =
+  items_read : (vs : Items) (d depth_left total : ℕ) (text rest : List ℕ) → d + depth_left ≡ 8 → length (text ++ rest) ≤ total → PackItems vs d (place total (text ++ rest)) text → items_at (value_at depth_left total) (item_count vs) (text ++ rest) ≡ Ok (vs, rest)
+  items_read no_items d depth_left total text rest e le h = rw h (items_nil (value_at depth_left total) rest)
+  items_read (item v vs) d depth_left total text rest e le h =
       let p = part total text rest h.0 h.1 h.2 le in
-      let first = value_read v d room total h.0 (h.1 ++ rest) e (rw p.bytes at le) (subst (λ (t : List ℕ). Packs v d (place total t) h.0) p.bytes h.3) in
-      let others = items_read vs d room total h.1 rest e p.within (subst (λ k. PackItems vs d k h.1) p.place_is h.4) in
-      rw p.bytes (items_cons (value_at room total) (item_count vs) (h.0 ++ (h.1 ++ rest)) (h.1 ++ rest) rest v vs first others)
+      let first = value_read v d depth_left total h.0 (h.1 ++ rest) e (rw p.bytes at le) (subst (λ (t : List ℕ). Packs v d (place total t) h.0) p.bytes h.3) in
+      let others = items_read vs d depth_left total h.1 rest e p.within (subst (λ k. PackItems vs d k h.1) p.place_is h.4) in
+      rw p.bytes (items_cons (value_at depth_left total) (item_count vs) (h.0 ++ (h.1 ++ rest)) (h.1 ++ rest) rest v vs first others)
 
-  pairs_read : (ps : Pairs) (d room total : ℕ) (text rest : List ℕ) → d + room ≡ 8 → length (text ++ rest) ≤ total → PackPairs ps d (place total (text ++ rest)) text → pairs_at (value_at room total) (pair_count ps) (text ++ rest) ≡ Ok (ps, rest)
-  pairs_read no_pairs d room total text rest e le h = rw h (pairs_nil (value_at room total) rest)
-  pairs_read (pair k v ps) d room total text rest e le h =
+  pairs_read : (ps : Pairs) (d depth_left total : ℕ) (text rest : List ℕ) → d + depth_left ≡ 8 → length (text ++ rest) ≤ total → PackPairs ps d (place total (text ++ rest)) text → pairs_at (value_at depth_left total) (pair_count ps) (text ++ rest) ≡ Ok (ps, rest)
+  pairs_read no_pairs d depth_left total text rest e le h = rw h (pairs_nil (value_at depth_left total) rest)
+  pairs_read (pair k v ps) d depth_left total text rest e le h =
       let p = part total text rest h.0 (h.1 ++ h.2) (h.3 ∙ append_assoc h.0 h.1 h.2) le in
       let q = part total (h.1 ++ h.2) rest h.1 h.2 refl p.within in
-      let key = value_read k d room total h.0 ((h.1 ++ h.2) ++ rest) e (rw p.bytes at le) (subst (λ (t : List ℕ). Packs k d (place total t) h.0) p.bytes h.4) in
-      let value = value_read v d room total h.1 (h.2 ++ rest) e (rw q.bytes at p.within) (subst (λ (t : List ℕ). Packs v d (place total t) h.1) q.bytes (subst (λ n. Packs v d n h.1) p.place_is h.5)) in
-      let others = pairs_read ps d room total h.2 rest e q.within (subst (λ n. PackPairs ps d n h.2) (ap (λ n. n + length h.1) p.place_is ∙ q.place_is) h.6) in
-      rw p.bytes (pairs_cons (value_at room total) (pair_count ps) (h.0 ++ ((h.1 ++ h.2) ++ rest)) ((h.1 ++ h.2) ++ rest) (h.2 ++ rest) rest k v ps key (rw q.bytes value) others)
+      let key = value_read k d depth_left total h.0 ((h.1 ++ h.2) ++ rest) e (rw p.bytes at le) (subst (λ (t : List ℕ). Packs k d (place total t) h.0) p.bytes h.4) in
+      let value = value_read v d depth_left total h.1 (h.2 ++ rest) e (rw q.bytes at p.within) (subst (λ (t : List ℕ). Packs v d (place total t) h.1) q.bytes (subst (λ n. Packs v d n h.1) p.place_is h.5)) in
+      let others = pairs_read ps d depth_left total h.2 rest e q.within (subst (λ n. PackPairs ps d n h.2) (ap (λ n. n + length h.1) p.place_is ∙ q.place_is) h.6) in
+      rw p.bytes (pairs_cons (value_at depth_left total) (pair_count ps) (h.0 ++ ((h.1 ++ h.2) ++ rest)) ((h.1 ++ h.2) ++ rest) (h.2 ++ rest) rest k v ps key (rw q.bytes value) others)

@@ -144,9 +144,9 @@ whole_by bytes (Ok x) rest e none =
     rw ended refl
 whole_by bytes (Err f) rest e none = absurd cc
 
-pub whole_is : (room : ℕ) (bytes rest : List ℕ) → rest_of (value_at room (length bytes) bytes) ≡ Ok rest → length rest ≡ 0 → whole_at room bytes ≡ Ok (value_or_nil (value_at room (length bytes) bytes))
+pub whole_is : (depth_left : ℕ) (bytes rest : List ℕ) → rest_of (value_at depth_left (length bytes) bytes) ≡ Ok rest → length rest ≡ 0 → whole_at depth_left bytes ≡ Ok (value_or_nil (value_at depth_left (length bytes) bytes))
 unfolding whole_at
-whole_is room bytes rest e none = whole_by bytes (value_at room (length bytes) bytes) rest e none
+whole_is depth_left bytes rest e none = whole_by bytes (value_at depth_left (length bytes) bytes) rest e none
 
 trailing_by : (bytes : List ℕ) (r : Result (Tree × List ℕ) PackFault) (rest : List ℕ) → rest_of r ≡ Ok rest → 0 < length rest
     → (r >>= λ v. cond (eqb (length v.1) 0) (Ok v.0) (Err (Trailing (place (length bytes) v.1)))) ≡ Err (Trailing (place (length bytes) rest))
@@ -156,15 +156,15 @@ trailing_by bytes (Ok x) rest e some =
     rw (test, same) refl
 trailing_by bytes (Err f) rest e some = absurd cc
 
-pub trailing_is : (room : ℕ) (bytes rest : List ℕ) → rest_of (value_at room (length bytes) bytes) ≡ Ok rest → 0 < length rest → whole_at room bytes ≡ Err (Trailing (place (length bytes) rest))
+pub trailing_is : (depth_left : ℕ) (bytes rest : List ℕ) → rest_of (value_at depth_left (length bytes) bytes) ≡ Ok rest → 0 < length rest → whole_at depth_left bytes ≡ Err (Trailing (place (length bytes) rest))
 unfolding whole_at
-trailing_is room bytes rest e some = trailing_by bytes (value_at room (length bytes) bytes) rest e some
+trailing_is depth_left bytes rest e some = trailing_by bytes (value_at depth_left (length bytes) bytes) rest e some
 
 whole_fault_by : (bytes : List ℕ) (r : Result (Tree × List ℕ) PackFault) (f : PackFault) → rest_of r ≡ Err f
     → (r >>= λ v. cond (eqb (length v.1) 0) (Ok v.0) (Err (Trailing (place (length bytes) v.1)))) ≡ Err f
 whole_fault_by bytes (Ok x) f e = absurd cc
 whole_fault_by bytes (Err g) f e = let same : g ≡ f = cc in rw same refl
 
-pub whole_fault : (room : ℕ) (bytes : List ℕ) (f : PackFault) → rest_of (value_at room (length bytes) bytes) ≡ Err f → whole_at room bytes ≡ Err f
+pub whole_fault : (depth_left : ℕ) (bytes : List ℕ) (f : PackFault) → rest_of (value_at depth_left (length bytes) bytes) ≡ Err f → whole_at depth_left bytes ≡ Err f
 unfolding whole_at
-whole_fault room bytes f e = whole_fault_by bytes (value_at room (length bytes) bytes) f e
+whole_fault depth_left bytes f e = whole_fault_by bytes (value_at depth_left (length bytes) bytes) f e

@@ -56,7 +56,7 @@ too_deep p n rest = Err (TooDeep p)
 -- one value, of the input of length total, with room for so many containers inside one another
 unfoldable pub value_at : ℕ → ℕ → Reader Tree
 value_at zero total bytes = head_at total bytes >>= λ h. parts_by (too_deep (place total bytes)) (too_deep (place total bytes)) (place total bytes) h.0 h.1
-value_at (suc room) total bytes = head_at total bytes >>= λ h. parts_by (items_at (value_at room total)) (pairs_at (value_at room total)) (place total bytes) h.0 h.1
+value_at (suc depth_left) total bytes = head_at total bytes >>= λ h. parts_by (items_at (value_at depth_left total)) (pairs_at (value_at depth_left total)) (place total bytes) h.0 h.1
 
 -- the same, without the value
 abbrev pub rest_of : {A : Type 0} → Result (A × List ℕ) PackFault → Result (List ℕ) PackFault
@@ -64,8 +64,8 @@ rest_of read = read >>= λ x. Ok x.1
 
 -- the value that the whole input is
 unfoldable pub whole_at : ℕ → List ℕ → Result Tree PackFault
-whole_at room bytes = do
-  v ← value_at room (length bytes) bytes
+whole_at depth_left bytes = do
+  v ← value_at depth_left (length bytes) bytes
   if length v.1 == 0 then Ok v.0 else Err (Trailing (place (length bytes) v.1))
 
 -- what was read, and a stand-in where nothing was

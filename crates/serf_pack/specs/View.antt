@@ -10,7 +10,7 @@ use Rattle.serf_pack.specs.declared.head.Head.TheVariants as heads
 
 -- the value that is viewed
 unfoldable pub tree_of : View → Tree
-tree_of v = value_or_nil (value_at v.room v.total v.bytes.now)
+tree_of v = value_or_nil (value_at v.depth_left v.total v.bytes.now)
 
 -- which of the six kinds it is
 abbrev pub kind_of : Tree → Kind
@@ -87,18 +87,18 @@ pairs_of (pairs p ps) = pair_list ps
 
 -- the value with this head, and what its parts have to be
 abbrev pub tree_by : ℕ → ℕ → ℕ → Head → List ℕ → Tree
-tree_by room total p heads.Nil rest = nil p
-tree_by room total p (heads.Flag b) rest = flag p b
-tree_by room total p (heads.Int z) rest = int p z
-tree_by room total p (heads.Raw n) rest = raw p (take n rest)
-tree_by room total p (heads.Array n) rest = array p (items_or_none (items_at (value_at (room - 1) total) n rest))
-tree_by room total p (heads.Map n) rest = pairs p (pairs_or_none (pairs_at (value_at (room - 1) total) n rest))
+tree_by depth_left total p heads.Nil rest = nil p
+tree_by depth_left total p (heads.Flag b) rest = flag p b
+tree_by depth_left total p (heads.Int z) rest = int p z
+tree_by depth_left total p (heads.Raw n) rest = raw p (take n rest)
+tree_by depth_left total p (heads.Array n) rest = array p (items_or_none (items_at (value_at (depth_left - 1) total) n rest))
+tree_by depth_left total p (heads.Map n) rest = pairs p (pairs_or_none (pairs_at (value_at (depth_left - 1) total) n rest))
 
 -- what holds of a head and of what follows it, where the value can be read
 abbrev pub HasParts : ℕ → ℕ → Head → List ℕ → Type 0
-HasParts room total heads.Nil rest = Unit {0}
-HasParts room total (heads.Flag b) rest = Unit {0}
-HasParts room total (heads.Int z) rest = Unit {0}
-HasParts room total (heads.Raw n) rest = n ≤ length rest
-HasParts room total (heads.Array n) rest = (0 < room) × (is_ok (items_at (value_at (room - 1) total) n rest) ≡ true)
-HasParts room total (heads.Map n) rest = (0 < room) × (is_ok (pairs_at (value_at (room - 1) total) n rest) ≡ true)
+HasParts depth_left total heads.Nil rest = Unit {0}
+HasParts depth_left total (heads.Flag b) rest = Unit {0}
+HasParts depth_left total (heads.Int z) rest = Unit {0}
+HasParts depth_left total (heads.Raw n) rest = n ≤ length rest
+HasParts depth_left total (heads.Array n) rest = (0 < depth_left) × (is_ok (items_at (value_at (depth_left - 1) total) n rest) ≡ true)
+HasParts depth_left total (heads.Map n) rest = (0 < depth_left) × (is_ok (pairs_at (value_at (depth_left - 1) total) n rest) ≡ true)

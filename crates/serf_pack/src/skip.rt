@@ -11,7 +11,7 @@ use crate::head::{Field, Head, Row, read_head, row_for};
 /// its bytes pass the end. So the walk over a packet is one loop with no call.
 #[inline(always)]
 fn skip_short(bytes: &[u8]) -> Option<&[u8]>
-    ensures rest { IfSome result (λ x. (room : ℕ) → (total : ℕ) → rest_of (value_at room total bytes.now) ≡ Ok x.now) }
+    ensures rest { IfSome result (λ x. (depth_left : ℕ) → (total : ℕ) → rest_of (value_at depth_left total bytes.now) ≡ Ok x.now) }
     ensures within { IfSome result (λ x. length x.now ≤ length bytes.now) }
 {
     let [byte, rest @ ..] = bytes else {
@@ -38,25 +38,25 @@ fn skip_short(bytes: &[u8]) -> Option<&[u8]>
 }
 
 /// What follows the value at the front of the bytes, which are the last of `total`, or the value's
-/// first fault. Up to `room` arrays and maps may stand inside one another.
+/// first fault. Up to `depth_left` arrays and maps may stand inside one another.
 #[cycle(skip)]
 #[inline(always)]
-pub fn skip(room: u8, total: usize, bytes: &[u8]) -> Result<&[u8], PackFault>
+pub fn skip(depth_left: u8, total: usize, bytes: &[u8]) -> Result<&[u8], PackFault>
     requires { length bytes.now ≤ total }
-    ensures rest { Gives (λ x. x.now) result (rest_of (value_at room total bytes.now)) }
+    ensures rest { Gives (λ x. x.now) result (rest_of (value_at depth_left total bytes.now)) }
     ensures within { IfOk result (λ x. length x.now ≤ length bytes.now) }
 {
     match skip_short(bytes) {
         Some(rest) => Ok(rest),
-        None => skip_any(room, total, bytes),
+        None => skip_any(depth_left, total, bytes),
     }
 }
 
 /// `skip`, for a value of any format.
 #[cycle(skip)]
-fn skip_any(room: u8, total: usize, bytes: &[u8]) -> Result<&[u8], PackFault>
+fn skip_any(depth_left: u8, total: usize, bytes: &[u8]) -> Result<&[u8], PackFault>
     requires { length bytes.now ≤ total }
-    ensures rest { Gives (λ x. x.now) result (rest_of (value_at room total bytes.now)) }
+    ensures rest { Gives (λ x. x.now) result (rest_of (value_at depth_left total bytes.now)) }
     ensures within { IfOk result (λ x. length x.now ≤ length bytes.now) }
 {
     let place = total - bytes.len();
@@ -72,45 +72,45 @@ fn skip_any(room: u8, total: usize, bytes: &[u8]) -> Result<&[u8], PackFault>
             Ok(&rest[n as usize..])
         }
         Head::Array(n) => {
-            if room == 0 {
+            if depth_left == 0 {
                 return Err(PackFault::TooDeep(place));
             }
-            skip_items(room - 1, total, n, rest)
+            skip_items(depth_left - 1, total, n, rest)
         }
         Head::Map(n) => {
-            if room == 0 {
+            if depth_left == 0 {
                 return Err(PackFault::TooDeep(place));
             }
-            skip_pairs(room - 1, total, n, rest)
+            skip_pairs(depth_left - 1, total, n, rest)
         }
     }
 }
 
 /// What follows so many values, or the first fault.
 #[cycle(skip)]
-fn skip_items(room: u8, total: usize, count: u64, bytes: &[u8]) -> Result<&[u8], PackFault>
+fn skip_items(depth_left: u8, total: usize, count: u64, bytes: &[u8]) -> Result<&[u8], PackFault>
     requires { length bytes.now ≤ total }
-    ensures rest { Gives (λ x. x.now) result (rest_of (items_at (value_at room total) count bytes.now)) }
+    ensures rest { Gives (λ x. x.now) result (rest_of (items_at (value_at depth_left total) count bytes.now)) }
     ensures within { IfOk result (λ x. length x.now ≤ length bytes.now) }
 {
     let mut rest = bytes;
     'items: for _ in 0..count {
-        rest = skip(room, total, rest)?;
+        rest = skip(depth_left, total, rest)?;
     }
     Ok(rest)
 }
 
 /// What follows so many pairs, or the first fault.
 #[cycle(skip)]
-fn skip_pairs(room: u8, total: usize, count: u64, bytes: &[u8]) -> Result<&[u8], PackFault>
+fn skip_pairs(depth_left: u8, total: usize, count: u64, bytes: &[u8]) -> Result<&[u8], PackFault>
     requires { length bytes.now ≤ total }
-    ensures rest { Gives (λ x. x.now) result (rest_of (pairs_at (value_at room total) count bytes.now)) }
+    ensures rest { Gives (λ x. x.now) result (rest_of (pairs_at (value_at depth_left total) count bytes.now)) }
     ensures within { IfOk result (λ x. length x.now ≤ length bytes.now) }
 {
     let mut rest = bytes;
     'pairs: for _ in 0..count {
-        let behind_key = skip(room, total, rest)?;
-        rest = skip(room, total, behind_key)?;
+        let behind_key = skip(depth_left, total, rest)?;
+        rest = skip(depth_left, total, behind_key)?;
     }
     Ok(rest)
 }

@@ -31,10 +31,10 @@ pub struct View<'a> {
     // The length of the whole input, of which `bytes` are the last.
     pub(crate) total: usize,
     // How many containers may stand inside one another here.
-    pub(crate) room: u8,
+    pub(crate) depth_left: u8,
     pub ghost within: { length bytes.now ≤ total },
     pub ghost small: { total < 2 ^ 63 },
-    pub ghost checked: { is_ok (value_at room total bytes.now) ≡ true },
+    pub ghost checked: { is_ok (value_at depth_left total bytes.now) ≡ true },
 }
 
 impl<'a> View<'a> {
@@ -46,8 +46,8 @@ impl<'a> View<'a> {
     /// The value's head, and what follows it.
     #[inline(always)]
     fn head(&self) -> (Head, &'a [u8])
-        ensures tree { tree_of self.now ≡ tree_by self.now.room self.now.total (place self.now.total self.now.bytes.now) result.0 result.1.now }
-        ensures parts { HasParts self.now.room self.now.total result.0 result.1.now }
+        ensures tree { tree_of self.now ≡ tree_by self.now.depth_left self.now.total (place self.now.total self.now.bytes.now) result.0 result.1.now }
+        ensures parts { HasParts self.now.depth_left self.now.total result.0 result.1.now }
         ensures within { length result.1.now ≤ self.now.total }
     {
         match read_head(self.total, self.bytes) {
@@ -131,9 +131,9 @@ impl<'a> View<'a> {
     {
         let (head, rest) = self.head();
         match head {
-            Head::Array(n) => Items::new(rest, self.total, self.room - 1, n),
+            Head::Array(n) => Items::new(rest, self.total, self.depth_left - 1, n),
             Head::Nil | Head::Flag(_) | Head::Int(_) | Head::Raw(_) | Head::Map(_) => {
-                Items::new(rest, self.total, self.room, 0)
+                Items::new(rest, self.total, self.depth_left, 0)
             }
         }
     }
@@ -149,9 +149,9 @@ impl<'a> View<'a> {
     {
         let (head, rest) = self.head();
         match head {
-            Head::Map(n) => Pairs::new(rest, self.total, self.room - 1, n),
+            Head::Map(n) => Pairs::new(rest, self.total, self.depth_left - 1, n),
             Head::Nil | Head::Flag(_) | Head::Int(_) | Head::Raw(_) | Head::Array(_) => {
-                Pairs::new(rest, self.total, self.room, 0)
+                Pairs::new(rest, self.total, self.depth_left, 0)
             }
         }
     }

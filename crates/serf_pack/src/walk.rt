@@ -15,12 +15,12 @@ pub struct Items<'a> {
     // The length of the whole input, of which `rest` are the last.
     pub(crate) total: usize,
     // How many arrays and maps may stand inside one another in an item.
-    pub(crate) room: u8,
+    pub(crate) depth_left: u8,
     // How many items are still to come.
     pub(crate) left: u64,
     pub ghost within: { length rest.now ≤ total },
     pub ghost small: { total < 2 ^ 63 },
-    pub ghost checked: { is_ok (items_at (value_at room total) left rest.now) ≡ true },
+    pub ghost checked: { is_ok (items_at (value_at depth_left total) left rest.now) ≡ true },
 }
 
 /// The pairs of a map that are still to come, in order, each a key and its value. Made by
@@ -33,12 +33,12 @@ pub struct Pairs<'a> {
     // The length of the whole input, of which `rest` are the last.
     pub(crate) total: usize,
     // How many arrays and maps may stand inside one another in a key or a value.
-    pub(crate) room: u8,
+    pub(crate) depth_left: u8,
     // How many pairs are still to come.
     pub(crate) left: u64,
     pub ghost within: { length rest.now ≤ total },
     pub ghost small: { total < 2 ^ 63 },
-    pub ghost checked: { is_ok (pairs_at (value_at room total) left rest.now) ≡ true },
+    pub ghost checked: { is_ok (pairs_at (value_at depth_left total) left rest.now) ≡ true },
 }
 
 /// What follows so many bytes.
@@ -60,17 +60,17 @@ impl<'a> Items<'a> {
     /// So many items from the front of the bytes on, which were checked.
     #[tactic(auto, unfolding(crate::specs::Walk::items_left))]
     #[inline]
-    pub(crate) fn new(rest: &'a [u8], total: usize, room: u8, left: u64) -> Items<'a>
+    pub(crate) fn new(rest: &'a [u8], total: usize, depth_left: u8, left: u64) -> Items<'a>
         requires within { length rest.now ≤ total }
         requires small { total < 2 ^ 63 }
-        requires checked { is_ok (items_at (value_at room total) left rest.now) ≡ true }
-        ensures left { items_left result ≡ item_list (items_or_none (items_at (value_at room total) left rest.now)) }
+        requires checked { is_ok (items_at (value_at depth_left total) left rest.now) ≡ true }
+        ensures left { items_left result ≡ item_list (items_or_none (items_at (value_at depth_left total) left rest.now)) }
         ensures count { length (items_left result) ≡ left }
     {
         Items {
             rest,
             total,
-            room,
+            depth_left,
             left,
         }
     }
@@ -111,7 +111,7 @@ impl<'a> Items<'a> {
         Some(Items {
             rest,
             total: self.total,
-            room: self.room,
+            depth_left: self.depth_left,
             left: self.left - 1,
         })
     }
@@ -125,17 +125,17 @@ impl<'a> Pairs<'a> {
     /// So many pairs from the front of the bytes on, which were checked.
     #[tactic(auto, unfolding(crate::specs::Walk::pairs_left))]
     #[inline]
-    pub(crate) fn new(rest: &'a [u8], total: usize, room: u8, left: u64) -> Pairs<'a>
+    pub(crate) fn new(rest: &'a [u8], total: usize, depth_left: u8, left: u64) -> Pairs<'a>
         requires within { length rest.now ≤ total }
         requires small { total < 2 ^ 63 }
-        requires checked { is_ok (pairs_at (value_at room total) left rest.now) ≡ true }
-        ensures left { pairs_left result ≡ pair_list (pairs_or_none (pairs_at (value_at room total) left rest.now)) }
+        requires checked { is_ok (pairs_at (value_at depth_left total) left rest.now) ≡ true }
+        ensures left { pairs_left result ≡ pair_list (pairs_or_none (pairs_at (value_at depth_left total) left rest.now)) }
         ensures count { length (pairs_left result) ≡ left }
     {
         Pairs {
             rest,
             total,
-            room,
+            depth_left,
             left,
         }
     }
@@ -157,18 +157,18 @@ impl<'a> Iterator for Items<'a> {
         if self.left == 0 {
             return None;
         }
-        let Ok(rest) = skip(self.room, self.total, self.rest) else {
+        let Ok(rest) = skip(self.depth_left, self.total, self.rest) else {
             unreachable!()
         };
         let item = View {
             bytes: self.rest,
             total: self.total,
-            room: self.room,
+            depth_left: self.depth_left,
         };
         *self = Items {
             rest,
             total: self.total,
-            room: self.room,
+            depth_left: self.depth_left,
             left: self.left - 1,
         };
         Some(item)
@@ -190,26 +190,26 @@ impl<'a> Iterator for Pairs<'a> {
         if self.left == 0 {
             return None;
         }
-        let Ok(behind_key) = skip(self.room, self.total, self.rest) else {
+        let Ok(behind_key) = skip(self.depth_left, self.total, self.rest) else {
             unreachable!()
         };
-        let Ok(rest) = skip(self.room, self.total, behind_key) else {
+        let Ok(rest) = skip(self.depth_left, self.total, behind_key) else {
             unreachable!()
         };
         let key = View {
             bytes: self.rest,
             total: self.total,
-            room: self.room,
+            depth_left: self.depth_left,
         };
         let value = View {
             bytes: behind_key,
             total: self.total,
-            room: self.room,
+            depth_left: self.depth_left,
         };
         *self = Pairs {
             rest,
             total: self.total,
-            room: self.room,
+            depth_left: self.depth_left,
             left: self.left - 1,
         };
         Some((key, value))

@@ -28,7 +28,7 @@ fn read_whole(bytes: &[u8]) -> Result<View<'_>, PackFault>
     Ok(View {
         bytes,
         total: bytes.len(),
-        room: MAX_NESTING,
+        depth_left: MAX_NESTING,
     })
 }
 
@@ -67,10 +67,10 @@ pub fn view_packed(bytes: &[u8]) -> View<'_>
     requires packed { (v : Tree) × Packs v 0 0 bytes.now }
     ensures { (v : Tree) → Packs v 0 0 bytes.now → tree_of result ≡ v }
 {
-    let room = MAX_NESTING;
+    let depth_left = MAX_NESTING;
     View {
         bytes,
         total: bytes.len(),
-        room,
+        depth_left,
     }
 }

@@ -7,7 +7,7 @@ use Rattle.std.proofs.lemmas.List.{append-nil, get_or_append_left, length-map, m
 use Rattle.std.proofs.lemmas.Option.{unwrap_or-slice_get}
 use Rattle.serf_model.specs.declared.action.Action.{Action}
 use Rattle.serf_model.specs.declared.line.Line.{Line}
-use Rattle.serf_world.specs.Cluster.{Member, Cluster, Run, after, numbers_from, on_agent, step, step_by}
+use Rattle.serf_world.specs.Cluster.{IdealNode, Cluster, Run, after, numbers_from, on_agent, step, step_by}
 use Rattle.serf_world.specs.Trace.{Turn, actor_of}
 use Rattle.serf_world.specs.View.{TakesStep, WorldState}
 use Rattle.serf_replay.specs.TextParts.{hex_text}
@@ -59,7 +59,7 @@ record Sends (c : Cluster) (action : Action) : Type 0 where
 sends : (c : Cluster) (action : Action) → Sends c action
 sends c action = record { sent = (by (actor_of action)).0; numbers = (by (actor_of action)).1 }
   where
-    at : (a : ℕ) (m : Option Member) → ((on_agent c action a m).cluster.sent ≡ c.sent ++ (on_agent c action a m).turn.packets)
+    at : (a : ℕ) (m : Option IdealNode) → ((on_agent c action a m).cluster.sent ≡ c.sent ++ (on_agent c action a m).turn.packets)
         × ((on_agent c action a m).turn.line.sent ≡ numbers_from (length c.sent) (on_agent c action a m).turn.packets)
     at a None = (sym (append-nil c.sent), refl)
     at a (Some m) = (refl, refl)
@@ -67,7 +67,7 @@ sends c action = record { sent = (by (actor_of action)).0; numbers = (by (actor_
     by : (o : Option ℕ) → ((step_by c action o).cluster.sent ≡ c.sent ++ (step_by c action o).turn.packets)
         × ((step_by c action o).turn.line.sent ≡ numbers_from (length c.sent) (step_by c action o).turn.packets)
     by None = (refl, refl)
-    by (Some a) = at a (slice_get c.members a)
+    by (Some a) = at a (slice_get c.nodes a)
 
 -- ---- one more action
 
@@ -75,7 +75,7 @@ pub shown-after : (r : Run) (action : Action) (w new : WorldState) (line : Line)
     → IsShown r w text → n ≡ length r.turns + 1 → TakesStep (step r.cluster action) new line → added ≡ text ++ action_text new.sent n line → IsShown (after r action) new added
 shown-after r action w new line text added n h count takes is = record {
   view = takes.view;
-  good = takes.good;
+  representable = takes.representable;
   shown = λ more.
       let turn : Turn = (step r.cluster action).turn in
       let did : Sends r.cluster action = sends r.cluster action in

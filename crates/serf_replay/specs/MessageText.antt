@@ -2,7 +2,7 @@
 -- Serf's structs (messages.go: messageUserEvent, messageQuery, messageQueryResponse, messagePushPull, userEvents).
 use Rattle.std.specs.Prelude.{ℕ, ℤ, ◌+◌, ◌++◌, List, [], ◌∷◌, codes, Result, Ok, Err}
 use Rattle.std.specs.List.{flat_map}
-use Rattle.serf_wire.specs.declared.texts.EventText.{EventText}
+use Rattle.serf_wire.specs.declared.texts.EventBody.{EventBody}
 use Rattle.serf_wire.specs.declared.fault.WireFault.{WireFault}
 use Rattle.serf_wire.specs.Slots.{SlotContent, empty, held}
 use Rattle.serf_wire.specs.Message.{Message, user_event, query, query_response, push_pull, foreign}
@@ -46,7 +46,7 @@ member_lines time status left =
     number_line (codes "LTime") time ++ flat_map status_line status ++ flat_map (hex_line (codes "left")) left
 
 -- an event in a slot
-unfoldable pub event_line : EventText → List ℕ
+unfoldable pub event_line : EventBody → List ℕ
 event_line event = with_hex (with_hex (codes "event") event.name) event.payload ++ codes "\n"
 
 -- a slot's number and `nil`, or its number, its time and its events
@@ -73,15 +73,15 @@ query_head time id addr port source = codes "query\n" ++ identity_lines time id 
 
 -- the lines of a push/pull that come before its last clock
 unfoldable pub push_pull_head : ℕ → List (List ℕ × ℕ) → List (List ℕ) → ℕ → List SlotContent → List ℕ
-push_pull_head member status left event slots = codes "pushPull\n" ++ member_lines member status left ++ buffer_lines event slots
+push_pull_head member_clock status left event_clock slots = codes "pushPull\n" ++ member_lines member_clock status left ++ buffer_lines event_clock slots
 
 -- in place of a list of filters there is a line for each; of a type that is not read there is the type alone
 abbrev pub message_text : Message → List ℕ
-message_text (user_event e) = codes "userEvent\n" ++ number_line (codes "LTime") e.time ++ content_lines e.name e.payload ++ flag_line (codes "CC") e.cc
+message_text (user_event e) = codes "userEvent\n" ++ number_line (codes "LTime") e.time ++ content_lines e.name e.payload ++ flag_line (codes "CC") e.coalesce
 message_text (query q) = query_head q.time q.id q.addr q.port q.source
     ++ flat_map (hex_line (codes "filter")) q.filters ++ handling_lines q.flags q.relay_factor q.timeout ++ content_lines q.name q.payload
 message_text (query_response r) = response_name ++ identity_lines r.time r.id ++ answer_lines r.from r.flags r.payload
-message_text (push_pull m) = push_pull_head m.member m.status m.left m.event m.slots ++ number_line (codes "QueryLTime") m.query
+message_text (push_pull m) = push_pull_head m.member_clock m.status m.left m.event_clock m.slots ++ number_line (codes "QueryLTime") m.query_clock
 message_text (foreign kind) = number_line (codes "foreign") kind
 
 -- the text of a packet's message, or the packet's first fault

@@ -60,7 +60,7 @@ answer_text answers.Broken = codes "broken"
 answer_text answers.Injected = codes "injected"
 answer_text answers.Saved = codes "saved"
 answer_text answers.Compacted = codes "compacted"
-answer_text (answers.Restarted member event query) = with_number (with_number (with_number (codes "restarted") member) event) query
+answer_text (answers.Restarted member_clock event_clock query_clock) = with_number (with_number (with_number (codes "restarted") member_clock) event_clock) query_clock
 answer_text (answers.Closed count) = with_number (codes "closed") count
 answer_text (answers.Refused refusal) = codes "refused " ++ refusal_text refusal
 
@@ -88,7 +88,7 @@ texts_text name payload = hex_text name ++ codes " " ++ hex_text payload
 
 -- an event's texts, and whether it may be coalesced
 unfoldable pub event_tail : EventLine → List ℕ
-event_tail e = texts_text e.name e.payload ++ codes " " ++ flag_text e.cc
+event_tail e = texts_text e.name e.payload ++ codes " " ++ flag_text e.coalesce
 
 unfoldable pub event_line : ℕ → EventLine → List ℕ
 event_line n e = numbered n (codes "event " ++ spaced e.agent ++ spaced e.time ++ event_tail e)

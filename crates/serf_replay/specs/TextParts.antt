@@ -8,7 +8,7 @@ unfoldable pub hex_text : List ℕ → List ℕ
 hex_text bytes = if length bytes == 0 then codes "-" else encode_lower bytes
 
 abbrev pub flag_text : Bool → List ℕ
-flag_text cc = if cc then codes "1" else codes "0"
+flag_text coalesce = if coalesce then codes "1" else codes "0"
 
 -- a text, a space and a number
 unfoldable pub with_number : List ℕ → ℕ → List ℕ

@@ -32,8 +32,8 @@ pub fn clocks_text(alloc: Global, text: &[u8]) -> Result<Vec<u8>, AllocError>
 {
     let clocks = read_clocks(text);
     let mut out = Vec::new(alloc);
-    put_clock(&mut out, ClockKind::Member, clocks.member)?;
-    put_clock(&mut out, ClockKind::Event, clocks.event)?;
-    put_clock(&mut out, ClockKind::Query, clocks.query)?;
+    put_clock(&mut out, ClockKind::Member, clocks.member_clock)?;
+    put_clock(&mut out, ClockKind::Event, clocks.event_clock)?;
+    put_clock(&mut out, ClockKind::Query, clocks.query_clock)?;
     Ok(out)
 }

@@ -70,12 +70,12 @@ fn firing(alloc: Global, words: &[&[u8]]) -> Result<Action, LineFault>
     let agent = number_at(words, 2)?;
     let name = bytes_at(alloc, words, 3)?;
     let payload = bytes_at(alloc, words, 4)?;
-    let cc = choice_at(words, 5, b"0", b"1")?;
+    let coalesce = choice_at(words, 5, b"0", b"1")?;
     Ok(Action::Fire {
         agent,
         name,
         payload,
-        cc,
+        coalesce,
     })
 }
 

@@ -202,14 +202,14 @@ fn put_user_event(
     time: u64,
     name: &[u8],
     payload: &[u8],
-    cc: bool,
+    coalesce: bool,
 ) -> Result<(), AllocError>
-    ensures { OnOk result (out.new.items ≡ out.old.items ++ message_text (user_event_of time name.now payload.now cc)) }
+    ensures { OnOk result (out.new.items ≡ out.old.items ++ message_text (user_event_of time name.now payload.now coalesce)) }
 {
     out.extend_from_slice(b"userEvent\n")?;
     put_number_line(out, b"LTime", time)?;
     put_content(out, name, payload)?;
-    put_flag_line(out, b"CC", cc)
+    put_flag_line(out, b"CC", coalesce)
 }
 
 /// Appends the lines of a query that come before its filters.
@@ -248,17 +248,17 @@ fn put_response(
 #[tactic(auto, unfolding(crate::specs::MessageText::push_pull_head))]
 fn put_push_pull_head(
     out: &mut Vec<u8>,
-    member: u64,
+    member_clock: u64,
     status: StatusTimes,
     left: Texts,
-    event: u64,
+    event_clock: u64,
     slots: SlotViews,
 ) -> Result<(), AllocError>
-    ensures { OnOk result (out.new.items ≡ out.old.items ++ push_pull_head member (status_left status.entry) (texts_left left.entry) event (slots_left slots.entry)) }
+    ensures { OnOk result (out.new.items ≡ out.old.items ++ push_pull_head member_clock (status_left status.entry) (texts_left left.entry) event_clock (slots_left slots.entry)) }
 {
     out.extend_from_slice(b"pushPull\n")?;
-    put_members(out, member, status, left)?;
-    put_buffer(out, event, slots)
+    put_members(out, member_clock, status, left)?;
+    put_buffer(out, event_clock, slots)
 }
 
 fn put_message(out: &mut Vec<u8>, message: &Message) -> Result<(), AllocError>
@@ -269,8 +269,8 @@ fn put_message(out: &mut Vec<u8>, message: &Message) -> Result<(), AllocError>
             time,
             name,
             payload,
-            cc,
-        } => put_user_event(out, time.get(), name, payload, *cc),
+            coalesce,
+        } => put_user_event(out, time.get(), name, payload, *coalesce),
         Message::Query {
             time,
             id,
@@ -297,15 +297,15 @@ fn put_message(out: &mut Vec<u8>, message: &Message) -> Result<(), AllocError>
             payload,
         } => put_response(out, *time, *id, from, *flags, payload),
         Message::PushPull {
-            member,
+            member_clock,
             status,
             left,
-            event,
+            event_clock,
             slots,
-            query,
+            query_clock,
         } => {
-            put_push_pull_head(out, *member, *status, *left, *event, *slots)?;
-            put_number_line(out, b"QueryLTime", *query)
+            put_push_pull_head(out, *member_clock, *status, *left, *event_clock, *slots)?;
+            put_number_line(out, b"QueryLTime", *query_clock)
         }
         Message::Foreign(kind) => put_number_line(out, b"foreign", u64::from(*kind)),
     }

@@ -56,12 +56,17 @@ fn put_refusal(out: &mut Vec<u8>, refusal: Refusal) -> Result<(), AllocError>
 
 /// Appends `restarted` and the three clocks.
 #[tactic(auto, unfolding(crate::specs::TextParts::with_number))]
-fn put_restarted(out: &mut Vec<u8>, member: u64, event: u64, query: u64) -> Result<(), AllocError>
-    ensures { OnOk result (out.new.items ≡ out.old.items ++ answer_text (Answer.Restarted member event query)) }
+fn put_restarted(
+    out: &mut Vec<u8>,
+    member_clock: u64,
+    event_clock: u64,
+    query_clock: u64,
+) -> Result<(), AllocError>
+    ensures { OnOk result (out.new.items ≡ out.old.items ++ answer_text (Answer.Restarted member_clock event_clock query_clock)) }
 {
-    put_with_numbers(out, b"restarted", member, event)?;
+    put_with_numbers(out, b"restarted", member_clock, event_clock)?;
     out.extend_from_slice(b" ")?;
-    put_number(out, query)
+    put_number(out, query_clock)
 }
 
 fn put_answer(out: &mut Vec<u8>, answer: Answer) -> Result<(), AllocError>
@@ -88,10 +93,10 @@ fn put_answer(out: &mut Vec<u8>, answer: Answer) -> Result<(), AllocError>
         Answer::Saved => out.extend_from_slice(b"saved"),
         Answer::Compacted => out.extend_from_slice(b"compacted"),
         Answer::Restarted {
-            member,
-            event,
-            query,
-        } => put_restarted(out, member, event, query),
+            member_clock,
+            event_clock,
+            query_clock,
+        } => put_restarted(out, member_clock, event_clock, query_clock),
         Answer::Closed(count) => put_with_number(out, b"closed", count),
         Answer::Refused(refusal) => {
             out.extend_from_slice(b"refused ")?;
@@ -155,7 +160,7 @@ fn put_event_tail(out: &mut Vec<u8>, event: &EventLine) -> Result<(), AllocError
 {
     put_texts(out, event.name.as_slice(), event.payload.as_slice())?;
     out.extend_from_slice(b" ")?;
-    out.extend_from_slice(flag(event.cc))
+    out.extend_from_slice(flag(event.coalesce))
 }
 
 #[tactic(auto, unfolding(crate::specs::Show::event_line))]

@@ -5,7 +5,7 @@ use serf_lamport::Time;
 use serf_pack::PackFault;
 use serf_replay::decode_text;
 use serf_wire::{
-    Bytes, EventText, EventTexts, EventViews, Message, PushPullParts, QueryParts, Slot, SlotView,
+    Bytes, EventBodies, EventBody, EventViews, Message, PushPullParts, QueryParts, Slot, SlotView,
     SlotViews, StatusTime, StatusTimes, Texts, WireFault, decode, encode_push_pull, encode_query,
     encode_response, encode_user_event,
 };
@@ -39,21 +39,21 @@ fn lent_status<'a>(
     Ok(list)
 }
 
-fn event_copies(alloc: Global, events: EventViews) -> Result<EventTexts, AllocError> {
+fn event_copies(alloc: Global, events: EventViews) -> Result<EventBodies, AllocError> {
     let mut list = Vec::new(alloc);
     for event in events {
         let name = Bytes::copy_of(alloc, event.name)?;
         let payload = Bytes::copy_of(alloc, event.payload)?;
-        list.push(EventText { name, payload })?;
+        list.push(EventBody { name, payload })?;
     }
-    Ok(EventTexts::from_vec(list))
+    Ok(EventBodies::from_vec(list))
 }
 
 fn slot_copy(alloc: Global, slot: &SlotView) -> Result<Slot, Fail> {
     match *slot {
         SlotView::Empty => Ok(Slot {
             time: Time::new(0).ok_or("a time")?,
-            events: EventTexts::new(alloc),
+            events: EventBodies::new(alloc),
         }),
         SlotView::Held(time, events) => Ok(Slot {
             time,
@@ -77,8 +77,8 @@ fn canonical(alloc: Global, message: &Message) -> Result<Option<Vec<u8>>, Fail> 
             time,
             name,
             payload,
-            cc,
-        } => Ok(Some(encode_user_event(alloc, time, name, payload, cc)?)),
+            coalesce,
+        } => Ok(Some(encode_user_event(alloc, time, name, payload, coalesce)?)),
         Message::Query {
             time,
             id,
@@ -116,23 +116,23 @@ fn canonical(alloc: Global, message: &Message) -> Result<Option<Vec<u8>>, Fail> 
             payload,
         } => Ok(Some(encode_response(alloc, time, id, from, flags, payload)?)),
         Message::PushPull {
-            member,
+            member_clock,
             status,
             left,
-            event,
+            event_clock,
             slots,
-            query,
+            query_clock,
         } => {
             let status = lent_status(alloc, status)?;
             let left = lent_texts(alloc, left)?;
             let slots = slot_copies(alloc, slots)?;
             let parts = PushPullParts {
-                member,
+                member_clock,
                 status: status.as_slice(),
                 left: left.as_slice(),
-                event,
+                event_clock,
                 slots: slots.as_slice(),
-                query,
+                query_clock,
             };
             Ok(Some(encode_push_pull(alloc, &parts)?))
         }

@@ -34,7 +34,7 @@ fn refused(alloc: Global, append: u64, flush: u64) -> Result<NotOpened<MemSink>,
 /// Opens an agent with the settings that were handed back, on what the sink kept.
 fn open_again(alloc: Global, refused: NotOpened<MemSink>) -> Result<Agent<MemSink>, Fail> {
     let NotOpened { config, sink, .. } = refused;
-    let text = sink.kept();
+    let text = sink.durable();
     let kept = MemSink::with(alloc, text)?;
     Ok(Agent::open(alloc, config, text, kept).map_err(|refused| refused.fault)?)
 }
@@ -57,7 +57,7 @@ fn is_handed_back(alloc: Global, append: u64, flush: u64) -> Result<bool, Fail> 
     let refused = refused(alloc, append, flush)?;
     let well = refused.fault == OpenFault::SinkFault
         && refused.config.name.as_slice() == b"a".as_slice()
-        && refused.sink.kept() == TORN;
+        && refused.sink.durable() == TORN;
     Ok(well && open_again(alloc, refused)?.event_time() == 6)
 }
 

@@ -63,7 +63,7 @@ fn is_end(agent: &Agent<MemSink>, story: &Story) -> bool {
     (agent.member_time(), agent.event_time(), agent.query_time()) == story.clocks
         && (agent.event_minimum(), agent.query_minimum()) == story.minimums
         && agent.is_stopped() == story.is_stopped
-        && agent.sink().kept() == story.kept.as_bytes()
+        && agent.sink().durable() == story.kept.as_bytes()
 }
 
 fn step_all(alloc: Global, world: &mut World, actions: &[Action]) -> Result<(), Fail> {

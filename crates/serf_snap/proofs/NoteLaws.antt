@@ -1,11 +1,11 @@
--- What a note, a failure, an opening and a compaction do to what is kept.
+-- What a note, a failure, an opening and a compaction do to what is durable.
 use Rattle.std.proofs.Common.{◌≡◌, ◌≢◌, ◌⊎◌, ℕ, ◌-◌, ◌^◌, ◌<◌, ◌≤◌, max, true, false, cond, nat_le, List, ◌++◌, take, Option, Some, None, inl, inr, refl, sym, ap, subst, ◌∙◌, arith}
 use Rattle.std.specs.Option.{option_map}
 use Rattle.std.proofs.lemmas.Bool.{cases_Bool, true≢false, leb-false}
 use Rattle.serf_snap.specs.declared.kind.ClockKind.{ClockKind}
 use Rattle.serf_snap.specs.declared.kind.ClockKind.TheVariants.{Member, Event, Query}
 use Rattle.serf_snap.specs.Clocks.{last_clock, sealed, is_whole, clock_line}
-use Rattle.serf_snap.specs.Device.{Device, Told, Plan}
+use Rattle.serf_snap.specs.Device.{Device, Observable, FailurePlan}
 use Rattle.serf_snap.specs.Notes.{SnapshotView, Kept, Failed, noted, written, last_line, KeepsPart, KeepsEither, opened, compacted, compaction_of, IsKept, IsSnapshotSound, with_sink}
 use Rattle.serf_snap.proofs.ClockLaws.{last_clock_grows, last_clock-line, last_clock-other_line, is_whole-line, is_whole-sealed, last_clock-sealed, last_clock-below, last_clock-compacted, is_whole-compacted}
 
@@ -41,7 +41,7 @@ same_kind Query Member = inr (λ q. cc)
 same_kind Query Event = inr (λ q. cc)
 same_kind Query Query = inl refl
 
--- a line behind what was kept
+-- a line behind what was durable
 clock-after : (kind at : ClockKind) (s : SnapshotView) (t : ℕ) (k : List ℕ) → s.stopped ≡ false → last_line kind s < t → t < 2 ^ 64 - 1 → IsKept s k
     → last_clock at (k ++ clock_line kind t) ≡ last_line at (written kind t s Kept)
 clock-after kind at s t k runs above small h = elim (same_kind at kind) [
@@ -64,16 +64,16 @@ kept-line kind s t k runs above small h =
 pub sound-noted : (kind : ClockKind) (s : SnapshotView) (t : ℕ) → IsSnapshotSound s → s.stopped ≡ false → t < 2 ^ 64 - 1 → IsSnapshotSound (noted kind t s Kept)
 sound-noted kind s t sound runs small = elim (cases_Bool (nat_le t (last_line kind s))) [
   | inl low ↦ subst IsSnapshotSound (sym (ap (λ b. cond b s (written kind t s Kept)) low)) sound
-  | inr high ↦ subst IsSnapshotSound (sym (ap (λ b. cond b s (written kind t s Kept)) high)) (by s.kept refl (leb-false _ _ high))
+  | inr high ↦ subst IsSnapshotSound (sym (ap (λ b. cond b s (written kind t s Kept)) high)) (by s.durable refl (leb-false _ _ high))
 ]
   where
-    by : (r : Option (List ℕ)) → s.kept ≡ r → last_line kind s < t → IsSnapshotSound (written kind t s Kept)
+    by : (r : Option (List ℕ)) → s.durable ≡ r → last_line kind s < t → IsSnapshotSound (written kind t s Kept)
     by None is above k at = absurd (let no : None ≡ Some k = sym (ap (λ (o : Option (List ℕ)). option_map (λ (l : List ℕ). l ++ clock_line kind t) o) is) ∙ at in cc)
     by (Some old) is above k at =
         let same : old ++ clock_line kind t ≡ k = some-same _ _ (sym (ap (λ (o : Option (List ℕ)). option_map (λ (l : List ℕ). l ++ clock_line kind t) o) is) ∙ at) in
         subst (IsKept (written kind t s Kept)) same (kept-line kind s t old runs above small (sound old is))
 
--- a stopped snapshot is sound where what is kept has no lower clock than before
+-- a stopped snapshot is sound where what is durable has no lower clock than before
 stopped-kept : (s n : SnapshotView) (old new : List ℕ) → IsKept s old → ((kind : ClockKind) → last_line kind n ≡ last_line kind s) → ((kind : ClockKind) → last_clock kind old ≤ last_clock kind new) → n.stopped ≡ true → IsKept n new
 stopped-kept s n old new h lines grown stopped =
     record {
@@ -83,10 +83,10 @@ stopped-kept s n old new h lines grown stopped =
     }
 
 -- a failure may leave a part of the line
-pub sound-failed : (kind : ClockKind) (s : SnapshotView) (t : ℕ) (line : List ℕ) (kept : Option (List ℕ)) → IsSnapshotSound s → KeepsPart s.kept line kept → IsSnapshotSound (written kind t s (Failed kept))
-sound-failed kind s t line kept sound part = by s.kept kept refl part
+pub sound-failed : (kind : ClockKind) (s : SnapshotView) (t : ℕ) (line : List ℕ) (durable : Option (List ℕ)) → IsSnapshotSound s → KeepsPart s.durable line durable → IsSnapshotSound (written kind t s (Failed durable))
+sound-failed kind s t line durable sound part = by s.durable durable refl part
   where
-    by : (r n : Option (List ℕ)) → s.kept ≡ r → KeepsPart r line n → IsSnapshotSound (written kind t s (Failed n))
+    by : (r n : Option (List ℕ)) → s.durable ≡ r → KeepsPart r line n → IsSnapshotSound (written kind t s (Failed n))
     by None n is p k at = absurd (let no : None ≡ Some k = sym p ∙ at in cc)
     by (Some old) None is p k at = absurd (cc at)
     by (Some old) (Some new) is p k at =
@@ -94,17 +94,17 @@ sound-failed kind s t line kept sound part = by s.kept kept refl part
         stopped-kept s (written kind t s (Failed (Some new))) old k (sound old is) (λ at. refl) (λ at. subst (λ (l : List ℕ). last_clock at old ≤ last_clock at l) (sym same) (last_clock_grows at old (take p.0 line))) refl
 
 pub sound-opened : (text : List ℕ) (d : Device) → IsSnapshotSound (opened text d)
-sound-opened text d k at = by d.told refl
+sound-opened text d k at = by d.observed_bytes refl
   where
     lines : (kind : ClockKind) → last_line kind (opened text d) ≡ last_clock kind text
     lines Member = refl
     lines Event = refl
     lines Query = refl
 
-    by : (r : Option Told) → d.told ≡ r → IsKept (opened text d) k
-    by None is = absurd (let no : None ≡ Some k = sym (ap (λ (o : Option Told). option_map (λ (b : Told). sealed text) o) is) ∙ at in cc)
+    by : (r : Option Observable) → d.observed_bytes ≡ r → IsKept (opened text d) k
+    by None is = absurd (let no : None ≡ Some k = sym (ap (λ (o : Option Observable). option_map (λ (b : Observable). sealed text) o) is) ∙ at in cc)
     by (Some b) is =
-        let same : sealed text ≡ k = some-same _ _ (sym (ap (λ (o : Option Told). option_map (λ (x : Told). sealed text) o) is) ∙ at) in
+        let same : sealed text ≡ k = some-same _ _ (sym (ap (λ (o : Option Observable). option_map (λ (x : Observable). sealed text) o) is) ∙ at) in
         let clocks : (kind : ClockKind) → last_clock kind k ≡ last_line kind (opened text d) = λ kind. ap (last_clock kind) (sym same) ∙ last_clock-sealed kind text ∙ sym (lines kind) in
         record {
           at_least = λ kind. let e = clocks kind in omega (arith, e);
@@ -112,18 +112,18 @@ sound-opened text d k at = by d.told refl
           whole = λ _. ap is_whole (sym same) ∙ is_whole-sealed text;
         }
 
--- the clocks of a compacted text are the last lines, which are times where the text kept has them
+-- the clocks of a compacted text are the last lines, which are times where the durable text has them
 clock-compacted : (s : SnapshotView) (old : List ℕ) → IsKept s old → (kind : ClockKind) → last_clock kind (compaction_of s) ≡ last_line kind s
 clock-compacted s old h kind =
-    last_clock-compacted kind s.member s.event s.query (low Member) (low Event) (low Query)
+    last_clock-compacted kind s.member_clock s.event_clock s.query_clock (low Member) (low Event) (low Query)
   where
     low : (at : ClockKind) → last_line at s < 2 ^ 64 - 1
     low at = let a : last_line at s ≤ last_clock at old = h.at_least at in let b : last_clock at old < 2 ^ 64 - 1 = last_clock-below at old in omega arith
 
 pub sound-compacted : (s : SnapshotView) → IsSnapshotSound s → IsSnapshotSound (compacted s Kept)
-sound-compacted s sound = by s.kept refl
+sound-compacted s sound = by s.durable refl
   where
-    by : (r : Option (List ℕ)) → s.kept ≡ r → IsSnapshotSound (compacted s Kept)
+    by : (r : Option (List ℕ)) → s.durable ≡ r → IsSnapshotSound (compacted s Kept)
     by None is k at = absurd (let no : None ≡ Some k = sym (ap (λ (o : Option (List ℕ)). option_map (λ (l : List ℕ). compaction_of s) o) is) ∙ at in cc)
     by (Some old) is k at =
         let same : compaction_of s ≡ k = some-same _ _ (sym (ap (λ (o : Option (List ℕ)). option_map (λ (l : List ℕ). compaction_of s) o) is) ∙ at) in
@@ -131,17 +131,17 @@ sound-compacted s sound = by s.kept refl
         record {
           at_least = λ kind. let e = clocks kind in omega (arith, e);
           equal = λ _. clocks;
-          whole = λ _. ap is_whole (sym same) ∙ is_whole-compacted s.member s.event s.query;
+          whole = λ _. ap is_whole (sym same) ∙ is_whole-compacted s.member_clock s.event_clock s.query_clock;
         }
 
-pub sound-compaction_failed : (s : SnapshotView) (kept : Option (List ℕ)) → IsSnapshotSound s → KeepsEither s.kept (compaction_of s) kept → IsSnapshotSound (compacted s (Failed kept))
-sound-compaction_failed s kept sound either = by s.kept refl either
+pub sound-compaction_failed : (s : SnapshotView) (durable : Option (List ℕ)) → IsSnapshotSound s → KeepsEither s.durable (compaction_of s) durable → IsSnapshotSound (compacted s (Failed durable))
+sound-compaction_failed s durable sound either = by s.durable refl either
   where
-    by : (r : Option (List ℕ)) → s.kept ≡ r → KeepsEither r (compaction_of s) kept → IsSnapshotSound (compacted s (Failed kept))
+    by : (r : Option (List ℕ)) → s.durable ≡ r → KeepsEither r (compaction_of s) durable → IsSnapshotSound (compacted s (Failed durable))
     by None is none k at = absurd (let no : None ≡ Some k = sym none ∙ at in cc)
     by (Some old) is (inl same) k at =
         let e : old ≡ k = some-same _ _ (sym same ∙ at) in
-        stopped-kept s (compacted s (Failed kept)) old k (sound old is) (λ kind. refl) (λ kind. let f : last_clock kind old ≡ last_clock kind k = ap (last_clock kind) e in omega (arith, f)) refl
+        stopped-kept s (compacted s (Failed durable)) old k (sound old is) (λ kind. refl) (λ kind. let f : last_clock kind old ≡ last_clock kind k = ap (last_clock kind) e in omega (arith, f)) refl
     by (Some old) is (inr same) k at =
         let e : compaction_of s ≡ k = some-same _ _ (sym same ∙ at) in
         record {
@@ -151,7 +151,7 @@ sound-compaction_failed s kept sound either = by s.kept refl either
         }
 
 -- another plan changes no line
-pub sound-planned : (s : SnapshotView) (change : Plan → Plan) → IsSnapshotSound s → IsSnapshotSound (with_sink s.kept change s)
-sound-planned s change sound kept at =
-    let h = sound kept at in
+pub sound-planned : (s : SnapshotView) (change : FailurePlan → FailurePlan) → IsSnapshotSound s → IsSnapshotSound (with_sink s.durable change s)
+sound-planned s change sound durable at =
+    let h = sound durable at in
     record { at_least = h.at_least; equal = h.equal; whole = h.whole }

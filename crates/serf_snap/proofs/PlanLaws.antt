@@ -5,53 +5,53 @@ use Rattle.std.proofs.lemmas.Bool.{cases_Bool, true≢false}
 use Rattle.std.proofs.lemmas.Grind.{common_steps}
 use Rattle.serf_snap.specs.declared.kind.ClockKind.{ClockKind}
 use Rattle.serf_snap.specs.Clocks.{is_whole, sealed}
-use Rattle.serf_snap.specs.Device.{Device, Told, Plan, replace_spent}
-use Rattle.serf_snap.specs.Notes.{SnapshotView, Writing, Kept, Failed, noted, written, last_line, KeepsPart, KeepsEither, MayWrite, MayReplace, opened, compacted, compaction_of, IsTold, note_fails, note_spent, will_write, will_replace, left_by, with_sink}
+use Rattle.serf_snap.specs.Device.{Device, Observable, FailurePlan, replace_decremented}
+use Rattle.serf_snap.specs.Notes.{SnapshotView, Writing, Kept, Failed, noted, written, last_line, KeepsPart, KeepsEither, MayWrite, MayReplace, opened, compacted, compaction_of, IsObservable, note_fails, note_decremented, will_write, will_replace, left_by, with_sink}
 
 pub will_write-only : (s : SnapshotView) (line : List ℕ) (w : Writing) → IsSome s.plan → MayWrite s line w → w ≡ will_write s
 will_write-only s line Kept some may = by s.plan refl
   where
-    by : (r : Option Plan) → s.plan ≡ r → Kept ≡ will_write s
+    by : (r : Option FailurePlan) → s.plan ≡ r → Kept ≡ will_write s
     by None is = absurd (true≢false (sym (subst IsSome is some)))
-    by (Some p) is = let no : note_fails p ≡ false = subst (λ (o : Option Plan). IfSome o (λ q. note_fails q ≡ false)) is may in rw (is, no) refl
-will_write-only s line (Failed kept) some may = by s.plan refl
+    by (Some p) is = let no : note_fails p ≡ false = subst (λ (o : Option FailurePlan). IfSome o (λ q. note_fails q ≡ false)) is may in rw (is, no) refl
+will_write-only s line (Failed durable) some may = by s.plan refl
   where
-    by : (r : Option Plan) → s.plan ≡ r → Failed kept ≡ will_write s
+    by : (r : Option FailurePlan) → s.plan ≡ r → Failed durable ≡ will_write s
     by None is = absurd (true≢false (sym (subst IsSome is some)))
     by (Some p) is =
-        let both : (note_fails p ≡ true) × (kept ≡ s.kept) = subst (λ (o : Option Plan). IfSome o (λ q. (note_fails q ≡ true) × (kept ≡ s.kept))) is may.1 in
+        let both : (note_fails p ≡ true) × (durable ≡ s.durable) = subst (λ (o : Option FailurePlan). IfSome o (λ q. (note_fails q ≡ true) × (durable ≡ s.durable))) is may.1 in
         rw (is, both.0) (ap Failed both.1)
 
-keeps_nothing : (kept : Option (List ℕ)) (line : List ℕ) → KeepsPart kept line kept
+keeps_nothing : (durable : Option (List ℕ)) (line : List ℕ) → KeepsPart durable line durable
 keeps_nothing None line = refl
 keeps_nothing (Some k) line = (0, grind (arith, common_steps))
 
 pub will_write-may : (s : SnapshotView) (line : List ℕ) → IsSome s.plan → MayWrite s line (will_write s)
 will_write-may s line some = by s.plan refl
   where
-    by : (r : Option Plan) → s.plan ≡ r → MayWrite s line (will_write s)
+    by : (r : Option FailurePlan) → s.plan ≡ r → MayWrite s line (will_write s)
     by None is = absurd (true≢false (sym (subst IsSome is some)))
     by (Some p) is = elim (cases_Bool (note_fails p)) [
-      | inl fails ↦ rw (is, fails) (keeps_nothing s.kept line, (fails, refl))
+      | inl fails ↦ rw (is, fails) (keeps_nothing s.durable line, (fails, refl))
       | inr runs ↦ rw (is, runs) runs
     ]
 
 pub will_replace-only : (s : SnapshotView) (w : Writing) → IsSome s.plan → MayReplace s w → w ≡ will_replace s
 will_replace-only s Kept some may = by s.plan refl
   where
-    by : (r : Option Plan) → s.plan ≡ r → Kept ≡ will_replace s
+    by : (r : Option FailurePlan) → s.plan ≡ r → Kept ≡ will_replace s
     by None is = absurd (true≢false (sym (subst IsSome is some)))
-    by (Some p) is = let no : (p.replaces == 1) ≡ false = subst (λ (o : Option Plan). IfSome o (λ q. (q.replaces == 1) ≡ false)) is may in rw (is, no) refl
-will_replace-only s (Failed kept) some may = by s.plan refl
+    by (Some p) is = let no : (p.replaces == 1) ≡ false = subst (λ (o : Option FailurePlan). IfSome o (λ q. (q.replaces == 1) ≡ false)) is may in rw (is, no) refl
+will_replace-only s (Failed durable) some may = by s.plan refl
   where
-    by : (r : Option Plan) → s.plan ≡ r → Failed kept ≡ will_replace s
+    by : (r : Option FailurePlan) → s.plan ≡ r → Failed durable ≡ will_replace s
     by None is = absurd (true≢false (sym (subst IsSome is some)))
     by (Some p) is =
-        let both : ((p.replaces == 1) ≡ true) × (kept ≡ left_by p (compaction_of s) s.kept) = subst (λ (o : Option Plan). IfSome o (λ q. ((q.replaces == 1) ≡ true) × (kept ≡ left_by q (compaction_of s) s.kept))) is may.1 in
+        let both : ((p.replaces == 1) ≡ true) × (durable ≡ left_by p (compaction_of s) s.durable) = subst (λ (o : Option FailurePlan). IfSome o (λ q. ((q.replaces == 1) ≡ true) × (durable ≡ left_by q (compaction_of s) s.durable))) is may.1 in
         rw (is, both.0) (ap Failed both.1)
 
-keeps_left : (p : Plan) (text : List ℕ) (kept : Option (List ℕ)) → KeepsEither kept text (left_by p text kept)
-keeps_left p text kept = by p.keeps_new kept
+keeps_left : (p : FailurePlan) (text : List ℕ) (durable : Option (List ℕ)) → KeepsEither durable text (left_by p text durable)
+keeps_left p text durable = by p.keeps_new durable
   where
     by : (b : Bool) (k : Option (List ℕ)) → KeepsEither k text (cond b (option_map (λ (l : List ℕ). text) k) k)
     by true None = refl
@@ -62,10 +62,10 @@ keeps_left p text kept = by p.keeps_new kept
 pub will_replace-may : (s : SnapshotView) → IsSome s.plan → MayReplace s (will_replace s)
 will_replace-may s some = by s.plan refl
   where
-    by : (r : Option Plan) → s.plan ≡ r → MayReplace s (will_replace s)
+    by : (r : Option FailurePlan) → s.plan ≡ r → MayReplace s (will_replace s)
     by None is = absurd (true≢false (sym (subst IsSome is some)))
     by (Some p) is = elim (cases_Bool (p.replaces == 1)) [
-      | inl fails ↦ rw (is, fails) (keeps_left p (compaction_of s) s.kept, (fails, refl))
+      | inl fails ↦ rw (is, fails) (keeps_left p (compaction_of s) s.durable, (fails, refl))
       | inr runs ↦ rw (is, runs) runs
     ]
 
@@ -73,36 +73,36 @@ still_some : {A B : Type 0} (f : A → B) (o : Option A) → IsSome o → IsSome
 still_some f None h = h
 still_some f (Some a) h = h
 
-pub told-opened : (text : List ℕ) (d : Device) → IsSome d.told → IsSome d.plan → IsTold (opened text d)
-told-opened text d told plan = record { kept = still_some (λ (t : Told). sealed text) d.told told; plan = by (is_whole text) }
+pub observable-opened : (text : List ℕ) (d : Device) → IsSome d.observed_bytes → IsSome d.plan → IsObservable (opened text d)
+observable-opened text d observable plan = record { durable = still_some (λ (t : Observable). sealed text) d.observed_bytes observable; plan = by (is_whole text) }
   where
-    by : (b : Bool) → IsSome (cond b d.plan (option_map note_spent d.plan))
+    by : (b : Bool) → IsSome (cond b d.plan (option_map note_decremented d.plan))
     by true = plan
-    by false = still_some note_spent d.plan plan
+    by false = still_some note_decremented d.plan plan
 
-pub told-planned : (s : SnapshotView) (change : Plan → Plan) → IsTold s → IsTold (with_sink s.kept change s)
-told-planned s change told = record { kept = told.kept; plan = still_some change s.plan told.plan }
+pub observable-planned : (s : SnapshotView) (change : FailurePlan → FailurePlan) → IsObservable s → IsObservable (with_sink s.durable change s)
+observable-planned s change observable = record { durable = observable.durable; plan = still_some change s.plan observable.plan }
 
--- what a sink that tells may do leaves it telling
-told-written : (kind : ClockKind) (s : SnapshotView) (t : ℕ) (line : List ℕ) (w : Writing) → IsTold s → MayWrite s line w → IsTold (written kind t s w)
-told-written kind s t line Kept told may = record { kept = still_some _ s.kept told.kept; plan = still_some note_spent s.plan told.plan }
-told-written kind s t line (Failed kept) told may = record { kept = by s.kept kept told.kept may.0; plan = still_some note_spent s.plan told.plan }
+-- what a sink that exposes its bytes may do leaves it so
+observable-written : (kind : ClockKind) (s : SnapshotView) (t : ℕ) (line : List ℕ) (w : Writing) → IsObservable s → MayWrite s line w → IsObservable (written kind t s w)
+observable-written kind s t line Kept observable may = record { durable = still_some _ s.durable observable.durable; plan = still_some note_decremented s.plan observable.plan }
+observable-written kind s t line (Failed durable) observable may = record { durable = by s.durable durable observable.durable may.0; plan = still_some note_decremented s.plan observable.plan }
   where
     by : (old new : Option (List ℕ)) → IsSome old → KeepsPart old line new → IsSome new
     by None new h part = absurd (true≢false (sym h))
     by (Some k) None h part = absurd part
     by (Some k) (Some n) h part = h
 
-pub told-noted : (kind : ClockKind) (s : SnapshotView) (t : ℕ) (line : List ℕ) (w : Writing) → IsTold s → MayWrite s line w → IsTold (noted kind t s w)
-told-noted kind s t line w told may = by (nat_le t (last_line kind s))
+pub observable-noted : (kind : ClockKind) (s : SnapshotView) (t : ℕ) (line : List ℕ) (w : Writing) → IsObservable s → MayWrite s line w → IsObservable (noted kind t s w)
+observable-noted kind s t line w observable may = by (nat_le t (last_line kind s))
   where
-    by : (b : Bool) → IsTold (cond b s (written kind t s w))
-    by true = told
-    by false = told-written kind s t line w told may
+    by : (b : Bool) → IsObservable (cond b s (written kind t s w))
+    by true = observable
+    by false = observable-written kind s t line w observable may
 
-pub told-compacted : (s : SnapshotView) (w : Writing) → IsTold s → MayReplace s w → IsTold (compacted s w)
-told-compacted s Kept told may = record { kept = still_some _ s.kept told.kept; plan = still_some replace_spent s.plan told.plan }
-told-compacted s (Failed kept) told may = record { kept = by s.kept kept told.kept may.0; plan = still_some replace_spent s.plan told.plan }
+pub observable-compacted : (s : SnapshotView) (w : Writing) → IsObservable s → MayReplace s w → IsObservable (compacted s w)
+observable-compacted s Kept observable may = record { durable = still_some _ s.durable observable.durable; plan = still_some replace_decremented s.plan observable.plan }
+observable-compacted s (Failed durable) observable may = record { durable = by s.durable durable observable.durable may.0; plan = still_some replace_decremented s.plan observable.plan }
   where
     by : (old new : Option (List ℕ)) → IsSome old → KeepsEither old (compaction_of s) new → IsSome new
     by None new h either = absurd (true≢false (sym h))

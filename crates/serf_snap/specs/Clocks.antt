@@ -14,9 +14,9 @@ prefix_of Query = codes "query-clock: "
 
 -- the value of a kind, among those of the three
 abbrev pub of_kind : ClockKind → ℕ → ℕ → ℕ → ℕ
-of_kind Member member event query = member
-of_kind Event member event query = event
-of_kind Query member event query = query
+of_kind Member member_clock event_clock query_clock = member_clock
+of_kind Event member_clock event_clock query_clock = event_clock
+of_kind Query member_clock event_clock query_clock = query_clock
 
 -- the value of the kind `at`, once that of `kind` is this time
 abbrev pub once_set : ClockKind → ClockKind → ℕ → ℕ → ℕ
@@ -96,4 +96,4 @@ line_above_zero kind time = if time == 0 then [] else clock_line kind time
 -- the text that a compaction leaves: the last line of each kind, where there is one (`snapshot.go`,
 -- `compact`, which writes the alive members before them)
 abbrev pub compacted_text : ℕ → ℕ → ℕ → List ℕ
-compacted_text member event query = line_above_zero Member member ++ line_above_zero Event event ++ line_above_zero Query query
+compacted_text member_clock event_clock query_clock = line_above_zero Member member_clock ++ line_above_zero Event event_clock ++ line_above_zero Query query_clock

@@ -6,17 +6,17 @@ use Rattle.std.specs.Option.{option_map}
 use Rattle.serf_snap.specs.declared.kind.ClockKind.{ClockKind}
 use Rattle.serf_snap.specs.declared.kind.ClockKind.TheVariants.{Member, Event, Query}
 use Rattle.serf_snap.specs.Clocks.{of_kind, once_set, last_clock, clock_line, sealed, seal_line, is_whole, compacted_text}
-use Rattle.serf_snap.specs.Device.{Told, Plan, Calls, Device, append_spent, flush_spent, replace_spent, append_called, flush_called, appended, flushed, planning}
+use Rattle.serf_snap.specs.Device.{Observable, FailurePlan, Calls, Device, append_decremented, flush_decremented, replace_decremented, append_called, flush_called, appended, flushed, with_plan}
 
 -- a snapshot: the last line of each kind (0: none), whether it is stopped, and, where its sink has them, what
--- is kept and the plan
+-- is durable and the plan
 pub record SnapshotView : Type 0 where
-  pub member : ℕ
-  pub event : ℕ
-  pub query : ℕ
+  pub member_clock : ℕ
+  pub event_clock : ℕ
+  pub query_clock : ℕ
   pub stopped : Bool
-  pub kept : Option (List ℕ)
-  pub plan : Option Plan
+  pub durable : Option (List ℕ)
+  pub plan : Option FailurePlan
 
 -- a snapshot, and its whole sink
 pub record SnapshotState : Type 0 where
@@ -25,50 +25,50 @@ pub record SnapshotState : Type 0 where
 
 -- the last line of a kind
 abbrev pub last_line : ClockKind → SnapshotView → ℕ
-last_line kind s = of_kind kind s.member s.event s.query
+last_line kind s = of_kind kind s.member_clock s.event_clock s.query_clock
 
 -- the snapshot with another last line of a kind
 abbrev pub with_line : ClockKind → ℕ → SnapshotView → SnapshotView
 with_line kind t s =
     record {
-      member = once_set Member kind t s.member;
-      event = once_set Event kind t s.event;
-      query = once_set Query kind t s.query;
+      member_clock = once_set Member kind t s.member_clock;
+      event_clock = once_set Event kind t s.event_clock;
+      query_clock = once_set Query kind t s.query_clock;
       stopped = s.stopped;
-      kept = s.kept;
+      durable = s.durable;
       plan = s.plan;
     }
 
--- the snapshot with other kept bytes, and its plan changed
-abbrev pub with_sink : Option (List ℕ) → (Plan → Plan) → SnapshotView → SnapshotView
-with_sink kept change s = record { member = s.member; event = s.event; query = s.query; stopped = s.stopped; kept = kept; plan = option_map change s.plan }
+-- the snapshot with other durable bytes, and its plan changed
+abbrev pub with_sink : Option (List ℕ) → (FailurePlan → FailurePlan) → SnapshotView → SnapshotView
+with_sink durable change s = record { member_clock = s.member_clock; event_clock = s.event_clock; query_clock = s.query_clock; stopped = s.stopped; durable = durable; plan = option_map change s.plan }
 
 -- the snapshot stopped by a sink that failed
-abbrev pub halted : Option (List ℕ) → (Plan → Plan) → SnapshotView → SnapshotView
-halted kept change s = record { member = s.member; event = s.event; query = s.query; stopped = true; kept = kept; plan = option_map change s.plan }
+abbrev pub stopped : Option (List ℕ) → (FailurePlan → FailurePlan) → SnapshotView → SnapshotView
+stopped durable change s = record { member_clock = s.member_clock; event_clock = s.event_clock; query_clock = s.query_clock; stopped = true; durable = durable; plan = option_map change s.plan }
 
 -- whether a plan fails one append and then one flush, and what is left of it
-abbrev pub note_fails : Plan → Bool
+abbrev pub note_fails : FailurePlan → Bool
 note_fails p = p.appends == 1 || p.flushes == 1
 
-abbrev pub note_spent : Plan → Plan
-note_spent p = if p.appends == 1 then append_spent p else flush_spent (append_spent p)
+abbrev pub note_decremented : FailurePlan → FailurePlan
+note_decremented p = if p.appends == 1 then append_decremented p else flush_decremented (append_decremented p)
 
--- what the sink does with a line or a new text: it is kept, or the sink fails and keeps this
+-- what the sink does with a line or a new text: it is durable, or the sink fails and keeps this
 pub data Writing : Type 0 where
   Kept : Writing
   Failed : Option (List ℕ) → Writing
 
 -- the snapshot after a line of a kind (`snapshot.go`, `appendLine`, whose fault Serf only logs)
 abbrev pub written : ClockKind → ℕ → SnapshotView → Writing → SnapshotView
-written kind t s Kept = with_sink (option_map (λ (k : List ℕ). k ++ clock_line kind t) s.kept) note_spent (with_line kind t s)
-written kind t s (Failed kept) = halted kept note_spent s
+written kind t s Kept = with_sink (option_map (λ (k : List ℕ). k ++ clock_line kind t) s.durable) note_decremented (with_line kind t s)
+written kind t s (Failed durable) = stopped durable note_decremented s
 
 -- the snapshot after a note: a time is written where it is above the last line of its kind
 abbrev pub noted : ClockKind → ℕ → SnapshotView → Writing → SnapshotView
 noted kind t s w = if nat_le t (last_line kind s) then s else written kind t s w
 
--- a part of the line may be kept
+-- a part of the line may be durable
 abbrev pub KeepsPart : Option (List ℕ) → List ℕ → Option (List ℕ) → Type 0
 KeepsPart None line new = new ≡ None
 KeepsPart (Some k) line new = IsSomeAnd new (λ (c : List ℕ). (n : ℕ) × (c ≡ k ++ take n line))
@@ -76,52 +76,52 @@ KeepsPart (Some k) line new = IsSomeAnd new (λ (c : List ℕ). (n : ℕ) × (c 
 -- what a sink may do with a line: with a plan exactly what the plan says
 abbrev pub MayWrite : SnapshotView → List ℕ → Writing → Type 0
 MayWrite s line Kept = IfSome s.plan (λ p. note_fails p ≡ false)
-MayWrite s line (Failed kept) = KeepsPart s.kept line kept × IfSome s.plan (λ p. (note_fails p ≡ true) × (kept ≡ s.kept))
+MayWrite s line (Failed durable) = KeepsPart s.durable line durable × IfSome s.plan (λ p. (note_fails p ≡ true) × (durable ≡ s.durable))
 
--- what a plan makes of a line, where this is kept
-abbrev pub planned_by : Plan → Option (List ℕ) → Writing
-planned_by p kept = if note_fails p then Failed kept else Kept
+-- what a plan makes of a line, where this is durable
+abbrev pub planned_by : FailurePlan → Option (List ℕ) → Writing
+planned_by p durable = if note_fails p then Failed durable else Kept
 
 -- what the sink will do with a line, where it has a plan
 abbrev pub will_write : SnapshotView → Writing
 will_write s = by s.plan
   where
-    by : Option Plan → Writing
+    by : Option FailurePlan → Writing
     by None = Kept
-    by (Some p) = planned_by p s.kept
+    by (Some p) = planned_by p s.durable
 
 -- the text that a compaction is to leave
 abbrev pub compaction_of : SnapshotView → List ℕ
-compaction_of s = compacted_text s.member s.event s.query
+compaction_of s = compacted_text s.member_clock s.event_clock s.query_clock
 
 -- the snapshot after a compaction (`snapshot.go`, `compact`)
 abbrev pub compacted : SnapshotView → Writing → SnapshotView
-compacted s Kept = with_sink (option_map (λ (k : List ℕ). compaction_of s) s.kept) replace_spent s
-compacted s (Failed kept) = halted kept replace_spent s
+compacted s Kept = with_sink (option_map (λ (k : List ℕ). compaction_of s) s.durable) replace_decremented s
+compacted s (Failed durable) = stopped durable replace_decremented s
 
--- the old text is kept, or the new one
+-- the old text is durable, or the new one
 abbrev pub KeepsEither : Option (List ℕ) → List ℕ → Option (List ℕ) → Type 0
 KeepsEither None text new = new ≡ None
 KeepsEither (Some k) text new = (new ≡ Some k) ⊎ (new ≡ Some text)
 
 -- what a failing replace keeps by plan
-abbrev pub left_by : Plan → List ℕ → Option (List ℕ) → Option (List ℕ)
-left_by p text kept = if p.keeps_new then option_map (λ (k : List ℕ). text) kept else kept
+abbrev pub left_by : FailurePlan → List ℕ → Option (List ℕ) → Option (List ℕ)
+left_by p text durable = if p.keeps_new then option_map (λ (k : List ℕ). text) durable else durable
 
 -- what a sink may do in a compaction: with a plan exactly what the plan says
 abbrev pub MayReplace : SnapshotView → Writing → Type 0
 MayReplace s Kept = IfSome s.plan (λ p. (p.replaces == 1) ≡ false)
-MayReplace s (Failed kept) =
-    KeepsEither s.kept (compaction_of s) kept
-    × IfSome s.plan (λ p. ((p.replaces == 1) ≡ true) × (kept ≡ left_by p (compaction_of s) s.kept))
+MayReplace s (Failed durable) =
+    KeepsEither s.durable (compaction_of s) durable
+    × IfSome s.plan (λ p. ((p.replaces == 1) ≡ true) × (durable ≡ left_by p (compaction_of s) s.durable))
 
 -- what the sink will do in a compaction, where it has a plan
 abbrev pub will_replace : SnapshotView → Writing
 will_replace s = by s.plan
   where
-    by : Option Plan → Writing
+    by : Option FailurePlan → Writing
     by None = Kept
-    by (Some p) = if p.replaces == 1 then Failed (left_by p (compaction_of s) s.kept) else Kept
+    by (Some p) = if p.replaces == 1 then Failed (left_by p (compaction_of s) s.durable) else Kept
 
 -- the numbers of calls after a note that failed: one append, and one flush unless the append failed
 abbrev pub HasTriedNote : Calls → Calls → Type 0
@@ -131,12 +131,12 @@ HasTriedNote old new = (new ≡ append_called old) ⊎ (new ≡ flush_called (ap
 abbrev pub opened : List ℕ → Device → SnapshotView
 opened text d =
     record {
-      member = last_clock Member text;
-      event = last_clock Event text;
-      query = last_clock Query text;
+      member_clock = last_clock Member text;
+      event_clock = last_clock Event text;
+      query_clock = last_clock Query text;
       stopped = false;
-      kept = option_map (λ (t : Told). sealed text) d.told;
-      plan = if is_whole text then d.plan else option_map note_spent d.plan;
+      durable = option_map (λ (t : Observable). sealed text) d.observed_bytes;
+      plan = if is_whole text then d.plan else option_map note_decremented d.plan;
     }
 
 -- the device after an opening: a torn last line was ended by one append and one flush
@@ -144,27 +144,27 @@ abbrev pub opened_device : List ℕ → Device → Device
 opened_device text d = if is_whole text then d else flushed (appended seal_line d)
 
 -- the plan of a snapshot and of its sink changed, and nothing else
-abbrev pub planned_anew : (Plan → Plan) → SnapshotState → SnapshotState
-planned_anew change s = record { snapshot = with_sink s.snapshot.kept change s.snapshot; device = planning change s.device }
+abbrev pub with_new_plan : (FailurePlan → FailurePlan) → SnapshotState → SnapshotState
+with_new_plan change s = record { snapshot = with_sink s.snapshot.durable change s.snapshot; device = with_plan change s.device }
 
 -- the last lines are times
 pub record AreTimes (s : SnapshotView) : Type 0 where
-  pub member : s.member < 2 ^ 64 - 1
-  pub event : s.event < 2 ^ 64 - 1
-  pub query : s.query < 2 ^ 64 - 1
+  pub member_clock : s.member_clock < 2 ^ 64 - 1
+  pub event_clock : s.event_clock < 2 ^ 64 - 1
+  pub query_clock : s.query_clock < 2 ^ 64 - 1
 
--- what is kept has each last line or a greater one; while the snapshot isn't stopped it has no greater one,
+-- what is durable has each last line or a greater one; while the snapshot isn't stopped it has no greater one,
 -- and its last line is whole
-pub record IsKept (s : SnapshotView) (kept : List ℕ) : Type 0 where
-  pub at_least : (kind : ClockKind) → last_line kind s ≤ last_clock kind kept
-  pub equal : s.stopped ≡ false → (kind : ClockKind) → last_clock kind kept ≡ last_line kind s
-  pub whole : s.stopped ≡ false → is_whole kept ≡ true
+pub record IsKept (s : SnapshotView) (durable : List ℕ) : Type 0 where
+  pub at_least : (kind : ClockKind) → last_line kind s ≤ last_clock kind durable
+  pub equal : s.stopped ≡ false → (kind : ClockKind) → last_clock kind durable ≡ last_line kind s
+  pub whole : s.stopped ≡ false → is_whole durable ≡ true
 
--- what a snapshot says of its last lines is what its sink keeps, where the sink tells
+-- what a snapshot says of its last lines is what its sink keeps, where the sink exposes it
 abbrev pub IsSnapshotSound : SnapshotView → Type 0
-IsSnapshotSound s = (kept : List ℕ) → s.kept ≡ Some kept → IsKept s kept
+IsSnapshotSound s = (durable : List ℕ) → s.durable ≡ Some durable → IsKept s durable
 
--- the sink tells what it keeps, and has a plan
-pub record IsTold (s : SnapshotView) : Type 0 where
-  pub kept : IsSome s.kept
+-- the sink exposes what it keeps, and has a plan
+pub record IsObservable (s : SnapshotView) : Type 0 where
+  pub durable : IsSome s.durable
   pub plan : IsSome s.plan

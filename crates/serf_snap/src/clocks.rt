@@ -11,11 +11,11 @@ use crate::kind::ClockKind;
 #[derive(Clone, Copy, Debug, PartialEq, Eq)]
 pub struct Clocks {
     /// The value of the member clock.
-    pub member: u64,
+    pub member_clock: u64,
     /// The value of the event clock.
-    pub event: u64,
+    pub event_clock: u64,
     /// The value of the query clock.
-    pub query: u64,
+    pub query_clock: u64,
 }
 
 fn is_all_digits(text: &[u8]) -> bool
@@ -66,16 +66,20 @@ fn time_behind(prefix: &[u8], line: &[u8]) -> u64
 impl Clocks {
     /// These clocks after one more line.
     fn after_line(self, line: &[u8]) -> Clocks
-        ensures member { result.member ≡ max self.member (line_value Member line.now) }
-        ensures event { result.event ≡ max self.event (line_value Event line.now) }
-        ensures query { result.query ≡ max self.query (line_value Query line.now) }
+        ensures member { result.member_clock ≡ max self.member_clock (line_value Member line.now) }
+        ensures event { result.event_clock ≡ max self.event_clock (line_value Event line.now) }
+        ensures query { result.query_clock ≡ max self.query_clock (line_value Query line.now) }
     {
         Clocks {
-            member: self
-                .member
+            member_clock: self
+                .member_clock
                 .max(time_behind(ClockKind::Member.prefix(), line)),
-            event: self.event.max(time_behind(ClockKind::Event.prefix(), line)),
-            query: self.query.max(time_behind(ClockKind::Query.prefix(), line)),
+            event_clock: self
+                .event_clock
+                .max(time_behind(ClockKind::Event.prefix(), line)),
+            query_clock: self
+                .query_clock
+                .max(time_behind(ClockKind::Query.prefix(), line)),
         }
     }
 }
@@ -86,15 +90,15 @@ impl Clocks {
 /// `clock: N`, `event-clock: N` or `query-clock: N`, where N is one or more digits and below 2^64 - 1; each
 /// other line is skipped.
 pub fn read_clocks(text: &[u8]) -> Clocks
-    ensures member { result.member ≡ last_clock Member text.now }
-    ensures event { result.event ≡ last_clock Event text.now }
-    ensures query { result.query ≡ last_clock Query text.now }
-    ensures times { (result.member < 2 ^ 64 - 1) × (result.event < 2 ^ 64 - 1) × (result.query < 2 ^ 64 - 1) }
+    ensures member { result.member_clock ≡ last_clock Member text.now }
+    ensures event { result.event_clock ≡ last_clock Event text.now }
+    ensures query { result.query_clock ≡ last_clock Query text.now }
+    ensures times { (result.member_clock < 2 ^ 64 - 1) × (result.event_clock < 2 ^ 64 - 1) × (result.query_clock < 2 ^ 64 - 1) }
 {
     let mut clocks = Clocks {
-        member: 0,
-        event: 0,
-        query: 0,
+        member_clock: 0,
+        event_clock: 0,
+        query_clock: 0,
     };
     let mut from = 0;
     for (i, byte) in text.iter().enumerate() {
@@ -119,36 +123,36 @@ pub(crate) fn ends_whole(text: &[u8]) -> bool
 impl Clocks {
     /// The value of a kind.
     pub(crate) fn of(self, kind: ClockKind) -> u64
-        ensures { result ≡ of_kind kind self.member self.event self.query }
+        ensures { result ≡ of_kind kind self.member_clock self.event_clock self.query_clock }
     {
         match kind {
-            ClockKind::Member => self.member,
-            ClockKind::Event => self.event,
-            ClockKind::Query => self.query,
+            ClockKind::Member => self.member_clock,
+            ClockKind::Event => self.event_clock,
+            ClockKind::Query => self.query_clock,
         }
     }
 
     /// These clocks with another value of a kind.
     pub(crate) fn with(self, kind: ClockKind, time: u64) -> Clocks
-        ensures member { result.member ≡ once_set Member kind time self.member }
-        ensures event { result.event ≡ once_set Event kind time self.event }
-        ensures query { result.query ≡ once_set Query kind time self.query }
+        ensures member { result.member_clock ≡ once_set Member kind time self.member_clock }
+        ensures event { result.event_clock ≡ once_set Event kind time self.event_clock }
+        ensures query { result.query_clock ≡ once_set Query kind time self.query_clock }
     {
         match kind {
             ClockKind::Member => Clocks {
-                member: time,
-                event: self.event,
-                query: self.query,
+                member_clock: time,
+                event_clock: self.event_clock,
+                query_clock: self.query_clock,
             },
             ClockKind::Event => Clocks {
-                member: self.member,
-                event: time,
-                query: self.query,
+                member_clock: self.member_clock,
+                event_clock: time,
+                query_clock: self.query_clock,
             },
             ClockKind::Query => Clocks {
-                member: self.member,
-                event: self.event,
-                query: time,
+                member_clock: self.member_clock,
+                event_clock: self.event_clock,
+                query_clock: time,
             },
         }
     }

@@ -11,7 +11,7 @@ use std::marker::Model;
 
 /// A sink over a file that is opened for appending.
 ///
-/// It tells nothing of its bytes, since no contract says what a file holds, and it has no plan. A flush asks
+/// It exposes nothing of its bytes, since no contract says what a file holds, and it has no plan. A flush asks
 /// the system to bring the data to the device (`sync_data`). It can't replace the file's text: that takes a
 /// new file and a rename, in a sink of the caller's own.
 #[derive(Drop)]

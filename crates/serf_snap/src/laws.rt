@@ -3,8 +3,8 @@
 ghost use Rattle.std.specs.Prelude.{◌≡◌, ◌≢◌, ◌↔◌, ◌<◌, ◌≤◌, ◌-◌, ◌^◌, ◌++◌, ℕ, List, Option, IsSome, false, true, max};
 ghost use Rattle.serf_snap.specs.declared.kind.ClockKind.{ClockKind};
 ghost use Rattle.serf_snap.specs.Clocks.{clock_line, compacted_text, is_whole, last_clock, of_kind, sealed};
-ghost use Rattle.serf_snap.specs.Device.{Device, Plan};
-ghost use Rattle.serf_snap.specs.Notes.{Failed, IsSnapshotSound, IsTold, Kept, KeepsEither, KeepsPart, MayReplace, MayWrite, SnapshotView, Writing, compacted, compaction_of, noted, opened, will_replace, will_write, with_sink, written};
+ghost use Rattle.serf_snap.specs.Device.{Device, FailurePlan};
+ghost use Rattle.serf_snap.specs.Notes.{Failed, IsSnapshotSound, IsObservable, Kept, KeepsEither, KeepsPart, MayReplace, MayWrite, SnapshotView, Writing, compacted, compaction_of, noted, opened, will_replace, will_write, with_sink, written};
 
 /// What becomes of the clocks of a text: no bytes behind it lower them, a line raises its own kind to its time
 /// and no other, and neither a seal nor a compaction changes one.
@@ -25,18 +25,19 @@ pub fn text_laws()
 pub fn snapshot_laws()
     ensures opened { (text : List ℕ) (d : Device) → IsSnapshotSound (opened text d) }
     ensures noted { (k : ClockKind) (s : SnapshotView) (t : ℕ) → IsSnapshotSound s → s.stopped ≡ false → t < 2 ^ 64 - 1 → IsSnapshotSound (noted k t s Kept) }
-    ensures note_failed { (k : ClockKind) (s : SnapshotView) (t : ℕ) (line : List ℕ) (kept : Option (List ℕ)) → IsSnapshotSound s → KeepsPart s.kept line kept → IsSnapshotSound (written k t s (Failed kept)) }
+    ensures note_failed { (k : ClockKind) (s : SnapshotView) (t : ℕ) (line : List ℕ) (durable : Option (List ℕ)) → IsSnapshotSound s → KeepsPart s.durable line durable → IsSnapshotSound (written k t s (Failed durable)) }
     ensures compacted { (s : SnapshotView) → IsSnapshotSound s → IsSnapshotSound (compacted s Kept) }
-    ensures planned { (s : SnapshotView) (change : Plan → Plan) → IsSnapshotSound s → IsSnapshotSound (with_sink s.kept change s) }
-    ensures compaction_failed { (s : SnapshotView) (kept : Option (List ℕ)) → IsSnapshotSound s → KeepsEither s.kept (compaction_of s) kept → IsSnapshotSound (compacted s (Failed kept)) }
+    ensures planned { (s : SnapshotView) (change : FailurePlan → FailurePlan) → IsSnapshotSound s → IsSnapshotSound (with_sink s.durable change s) }
+    ensures compaction_failed { (s : SnapshotView) (durable : Option (List ℕ)) → IsSnapshotSound s → KeepsEither s.durable (compaction_of s) durable → IsSnapshotSound (compacted s (Failed durable)) }
 {}
 
-/// Where a sink has a plan, there is one thing that it may do, and it still tells and has a plan afterwards.
+/// Where a sink has a plan, there is one thing that it may do, and it still exposes its bytes and has a plan
+/// afterwards.
 pub fn plan_laws()
     ensures write { (s : SnapshotView) (line : List ℕ) (w : Writing) → IsSome s.plan → MayWrite s line w ↔ (w ≡ will_write s) }
     ensures replace { (s : SnapshotView) (w : Writing) → IsSome s.plan → MayReplace s w ↔ (w ≡ will_replace s) }
-    ensures opened_told { (text : List ℕ) (d : Device) → IsSome d.told → IsSome d.plan → IsTold (opened text d) }
-    ensures noted_told { (k : ClockKind) (s : SnapshotView) (t : ℕ) (line : List ℕ) (w : Writing) → IsTold s → MayWrite s line w → IsTold (noted k t s w) }
-    ensures planned_told { (s : SnapshotView) (change : Plan → Plan) → IsTold s → IsTold (with_sink s.kept change s) }
-    ensures compacted_told { (s : SnapshotView) (w : Writing) → IsTold s → MayReplace s w → IsTold (compacted s w) }
+    ensures opened_observable { (text : List ℕ) (d : Device) → IsSome d.observed_bytes → IsSome d.plan → IsObservable (opened text d) }
+    ensures noted_observable { (k : ClockKind) (s : SnapshotView) (t : ℕ) (line : List ℕ) (w : Writing) → IsObservable s → MayWrite s line w → IsObservable (noted k t s w) }
+    ensures planned_observable { (s : SnapshotView) (change : FailurePlan → FailurePlan) → IsObservable s → IsObservable (with_sink s.durable change s) }
+    ensures compacted_observable { (s : SnapshotView) (w : Writing) → IsObservable s → MayReplace s w → IsObservable (compacted s w) }
 {}

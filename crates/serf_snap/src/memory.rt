@@ -2,19 +2,19 @@
 
 ghost use Rattle.std.specs.Prelude.{◌≡◌, [], IfOk, IsSome, Some, false};
 ghost use Rattle.std.specs.Option.{option_map};
-ghost use Rattle.serf_snap.specs.Device.{Told, append_failing, flush_failing, fresh_device, kept_of, planning, replace_failing};
+ghost use Rattle.serf_snap.specs.Device.{Observable, append_failing, flush_failing, fresh_device, durable_of, with_plan, replace_failing};
 
 use crate::sink::{ReplaceFault, ReplaceSink, Sink, SinkFault};
 use std::alloc::{AllocError, Global};
 use std::marker::Model;
 
-/// A sink in memory: it tells its bytes, and fails just where it is told to.
+/// A sink in memory: it exposes its bytes, and fails just where it is told to.
 ///
-/// A failed append or flush keeps what was kept, and drops what was pending.
+/// A failed append or flush keeps what was durable, and drops what was buffered.
 #[derive(Drop)]
 pub struct MemSink {
     bytes: Vec<u8>,
-    kept: usize,
+    durable: usize,
     failing_append: u64,
     failing_flush: u64,
     failing_replace: u64,
@@ -28,19 +28,19 @@ pub struct MemSink {
 impl Model for MemSink {
     ghost use Rattle.std.specs.Prelude.{◌-◌, ◌≤◌};
     ghost use Rattle.std.specs.Vec.{vec_len, vec_capacity};
-    ghost use Rattle.serf_snap.specs.Device.{SinkState, Plan, Calls, memory_device};
+    ghost use Rattle.serf_snap.specs.Device.{SinkState, FailurePlan, Calls, memory_device};
 
     ghost Value = { SinkState };
 
     ghost view = { λ a. record {
-      device = memory_device a.bytes.items a.kept
+      device = memory_device a.bytes.items a.durable
           record { appends = a.failing_append; flushes = a.failing_flush; replaces = a.failing_replace; keeps_new = a.keeps_new }
           a.failures
           record { appends = a.append_calls; flushes = a.flush_calls; replaces = a.replace_calls };
       room = vec_capacity a.bytes - vec_len a.bytes;
     } };
 
-    ghost invariant = { λ a. a.kept ≤ vec_len a.bytes };
+    ghost invariant = { λ a. a.durable ≤ vec_len a.bytes };
 }
 
 impl MemSink {
@@ -62,10 +62,10 @@ impl MemSink {
     fn keeping(bytes: Vec<u8>) -> Self
         ensures { result.device ≡ fresh_device bytes.items }
     {
-        let kept = bytes.len();
+        let durable = bytes.len();
         MemSink {
             bytes,
-            kept,
+            durable,
             failing_append: 0,
             failing_flush: 0,
             failing_replace: 0,
@@ -80,7 +80,7 @@ impl MemSink {
     /// From now on the n-th append fails, and no other; none where n is 0. An earlier number is forgotten.
     /// Takes no memory.
     pub fn fail_append(&mut self, n: u64)
-        ensures device { self.new.device ≡ planning (append_failing n) self.old.device }
+        ensures device { self.new.device ≡ with_plan (append_failing n) self.old.device }
         ensures room { self.new.room ≡ self.old.room }
     {
         self.failing_append = n;
@@ -89,7 +89,7 @@ impl MemSink {
     /// From now on the n-th flush fails, and no other; none where n is 0. An earlier number is forgotten.
     /// Takes no memory.
     pub fn fail_flush(&mut self, n: u64)
-        ensures device { self.new.device ≡ planning (flush_failing n) self.old.device }
+        ensures device { self.new.device ≡ with_plan (flush_failing n) self.old.device }
         ensures room { self.new.room ≡ self.old.room }
     {
         self.failing_flush = n;
@@ -98,26 +98,26 @@ impl MemSink {
     /// From now on the n-th replace fails, and no other; none where n is 0. It keeps the new text where
     /// `keeps_new` says so, and else the old one. An earlier number is forgotten. Takes no memory.
     pub fn fail_replace(&mut self, n: u64, keeps_new: bool)
-        ensures device { self.new.device ≡ planning (replace_failing n keeps_new) self.old.device }
+        ensures device { self.new.device ≡ with_plan (replace_failing n keeps_new) self.old.device }
         ensures room { self.new.room ≡ self.old.room }
     {
         self.failing_replace = n;
         self.keeps_new = keeps_new;
     }
 
-    /// The bytes that are kept: those that were flushed. Takes no memory.
-    pub fn kept(&self) -> &[u8]
-        ensures kept { kept_of self.now.device ≡ Some result.now }
+    /// The bytes that are durable: those that were flushed. Takes no memory.
+    pub fn durable(&self) -> &[u8]
+        ensures durable { durable_of self.now.device ≡ Some result.now }
         ensures plan { IsSome self.now.device.plan }
     {
-        &self.bytes[..self.kept]
+        &self.bytes[..self.durable]
     }
 
     /// The bytes that were appended since the last flush. Takes no memory.
-    pub fn pending(&self) -> &[u8]
-        ensures { option_map (λ (t : Told). t.pending) self.now.device.told ≡ Some result.now }
+    pub fn buffered(&self) -> &[u8]
+        ensures { option_map (λ (t : Observable). t.buffered) self.now.device.observed_bytes ≡ Some result.now }
     {
-        &self.bytes[self.kept..]
+        &self.bytes[self.durable..]
     }
 }
 
@@ -135,7 +135,7 @@ impl Sink for MemSink {
         let fails = self.failing_append == 1;
         self.failing_append = self.failing_append.saturating_sub(1);
         if fails {
-            self.bytes.truncate(self.kept);
+            self.bytes.truncate(self.durable);
             self.failures = self.failures.saturating_add(1);
             return Err(SinkFault);
         }
@@ -150,11 +150,11 @@ impl Sink for MemSink {
         let fails = self.failing_flush == 1;
         self.failing_flush = self.failing_flush.saturating_sub(1);
         if fails {
-            self.bytes.truncate(self.kept);
+            self.bytes.truncate(self.durable);
             self.failures = self.failures.saturating_add(1);
             return Err(SinkFault);
         }
-        self.kept = self.bytes.len();
+        self.durable = self.bytes.len();
         Ok(())
     }
 }
@@ -178,7 +178,7 @@ impl ReplaceSink for MemSink {
                 Ok(()) => {}
                 Err(_) => unreachable!(),
             }
-            self.kept = self.bytes.len();
+            self.durable = self.bytes.len();
         }
         if fails {
             Err(ReplaceFault::SinkFault)

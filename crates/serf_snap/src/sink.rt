@@ -2,7 +2,7 @@
 
 ghost use Rattle.std.specs.Prelude.{◌≡◌, ◌==◌, ◌+◌, ◌≤◌, ℕ, [], false, true, length, not, is_ok, OnOk, OnErr, IfSome, IsErrOf};
 ghost use Rattle.std.specs.Option.{option_map};
-ghost use Rattle.serf_snap.specs.Device.{Device, Fails, FailsReplace, IsClean, append_called, append_spent, appended, flush_called, flush_spent, flushed, replace_called, replace_spent, replaced, unreplaced};
+ghost use Rattle.serf_snap.specs.Device.{Device, Fails, FailsReplace, IsClean, append_called, append_decremented, appended, flush_called, flush_decremented, flushed, replace_called, replace_decremented, replaced, unreplaced};
 
 use std::alloc::{AllocError, Global};
 use thiserror::Error;
@@ -17,20 +17,20 @@ pub struct SinkFault;
 /// Why a replace was refused.
 #[derive(Clone, Copy, Debug, PartialEq, Eq, Error)]
 pub enum ReplaceFault {
-    /// There was no memory for it. What is kept is as before.
+    /// There was no memory for it. What is durable is as before.
     #[error("out of memory")]
     OutOfMemory,
-    /// The sink failed. The old text is kept or the new one, whole, and nothing is pending.
+    /// The sink failed. The old text is durable or the new one, whole, and nothing is buffered.
     #[error("the sink failed")]
     SinkFault,
 }
 
 /// A device that keeps lines, and may fail.
 ///
-/// Bytes that were appended are pending until a flush keeps them. What a clause says of bytes, it says of a
-/// sink that tells them; and what it says of a plan, of a sink that has one.
+/// Bytes that were appended are buffered until a flush makes them durable. What a clause says of bytes, it says of a
+/// sink that exposes them; and what it says of a plan, of a sink that has one.
 pub trait Sink {
-    /// The bytes that are pending and kept where the sink tells them, the plan where it has one, how often
+    /// The bytes that are buffered and durable where the sink exposes them, the plan where it has one, how often
     /// it has failed and how often it was called (counts that stay at 2^64 - 1).
     ghost device: { Self → Device };
 
@@ -42,32 +42,32 @@ pub trait Sink {
         ensures room { OnOk result (n ≤ room self.new) }
         ensures device { device self.new ≡ device self.old };
 
-    /// Appends these bytes, for which there is room: they are pending then. Takes no memory.
+    /// Appends these bytes, for which there is room: they are buffered then. Takes no memory.
     ///
     /// After [`SinkFault`] the sink has failed once more, where its count can tell; it keeps what it kept and
-    /// perhaps a part of what was pending and of these bytes. A sink with a plan fails just where the plan
-    /// says, keeps just what it kept, and nothing is pending then.
+    /// perhaps a part of what was buffered and of these bytes. A sink with a plan fails just where the plan
+    /// says, keeps just what it kept, and nothing is buffered then.
     fn append(&mut self, bytes: &[u8]) -> Result<(), SinkFault>
         requires { length bytes.now ≤ room self.old }
         ensures room { room self.old ≤ room self.new + length bytes.now }
         ensures ok { OnOk result (device self.new ≡ appended bytes.now (device self.old)) }
         ensures fault { OnErr result (Fails (device self.old) (device self.new) bytes.now) }
-        ensures spent { (device self.new).plan ≡ option_map append_spent (device self.old).plan }
+        ensures decremented { (device self.new).plan ≡ option_map append_decremented (device self.old).plan }
         ensures planned { IfSome (device self.old).plan (λ p. is_ok result ≡ not (p.appends == 1)) }
         ensures called { (device self.new).calls ≡ append_called (device self.old).calls };
 
-    /// Keeps what is pending. Takes no memory. Its fault is that of an append of no bytes.
+    /// Keeps what is buffered. Takes no memory. Its fault is that of an append of no bytes.
     fn flush(&mut self) -> Result<(), SinkFault>
         ensures ok { OnOk result (device self.new ≡ flushed (device self.old)) }
         ensures fault { OnErr result (Fails (device self.old) (device self.new) []) }
-        ensures spent { (device self.new).plan ≡ option_map flush_spent (device self.old).plan }
+        ensures decremented { (device self.new).plan ≡ option_map flush_decremented (device self.old).plan }
         ensures planned { IfSome (device self.old).plan (λ p. is_ok result ≡ not (p.flushes == 1)) }
         ensures called { (device self.new).calls ≡ flush_called (device self.old).calls };
 }
 
 /// A sink that can be given another text in one step, so that a stop inside it finds the old text or the new.
 pub trait ReplaceSink: Sink {
-    /// Keeps just this text, while nothing is pending.
+    /// Keeps just this text, while nothing is buffered.
     ///
     /// A sink with a plan fails just where the plan says, and keeps the text that the plan names.
     fn replace(&mut self, alloc: Global, text: &[u8]) -> Result<(), ReplaceFault>
@@ -76,7 +76,7 @@ pub trait ReplaceSink: Sink {
         ensures ok_planned { OnOk result (IfSome (Self.device self.old).plan (λ p. (p.replaces == 1) ≡ false)) }
         ensures fault { IsErrOf result ReplaceFault.SinkFault → FailsReplace (Self.device self.old) (Self.device self.new) text.now }
         ensures fault_planned { IsErrOf result ReplaceFault.SinkFault → IfSome (Self.device self.old).plan (λ p. (p.replaces == 1) ≡ true) }
-        ensures fault_spent { IsErrOf result ReplaceFault.SinkFault → (Self.device self.new).plan ≡ option_map replace_spent (Self.device self.old).plan }
+        ensures fault_decremented { IsErrOf result ReplaceFault.SinkFault → (Self.device self.new).plan ≡ option_map replace_decremented (Self.device self.old).plan }
         ensures fault_called { IsErrOf result ReplaceFault.SinkFault → (Self.device self.new).calls ≡ replace_called (Self.device self.old).calls }
         ensures memory { IsErrOf result ReplaceFault.OutOfMemory → Self.device self.new ≡ unreplaced (Self.device self.old) };
 }

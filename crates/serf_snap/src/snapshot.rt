@@ -5,8 +5,8 @@ ghost use Rattle.std.specs.Option.{option_map};
 ghost use Rattle.std.specs.Vec.{vec_len};
 ghost use Rattle.serf_snap.specs.declared.kind.ClockKind.TheVariants.{Member, Event, Query};
 ghost use Rattle.serf_snap.specs.Clocks.{clock_line, compacted_text, is_whole, line_above_zero, seal_line, sealed};
-ghost use Rattle.serf_snap.specs.Device.{Told, Fails, FailsReplace, HasFailed, HasText, IsClean, append_failing, appended, flush_failing, flushed, kept_of, replace_called, replace_failing, replaced, unreplaced};
-ghost use Rattle.serf_snap.specs.Notes.{AreTimes, Failed, HasTriedNote, Kept, MayReplace, MayWrite, compacted, compaction_of, last_line, note_fails, note_spent, noted, opened, opened_device, planned_anew, written};
+ghost use Rattle.serf_snap.specs.Device.{Observable, Fails, FailsReplace, HasFailed, HasText, IsClean, append_failing, appended, flush_failing, flushed, durable_of, replace_called, replace_failing, replaced, unreplaced};
+ghost use Rattle.serf_snap.specs.Notes.{AreTimes, Failed, HasTriedNote, Kept, MayReplace, MayWrite, compacted, compaction_of, last_line, note_fails, note_decremented, noted, opened, opened_device, with_new_plan, written};
 
 use crate::clocks::{Clocks, ends_whole, read_clocks};
 use crate::kind::ClockKind;
@@ -24,7 +24,7 @@ pub enum NoteFault {
     /// The sink failed in an earlier call. All is as before.
     #[error("the snapshot is stopped")]
     Stopped,
-    /// There was no memory. What is kept and the last lines are as before.
+    /// There was no memory. What is durable and the last lines are as before.
     #[error("out of memory")]
     OutOfMemory,
     /// The sink failed. The snapshot is stopped, and its last lines are as before.
@@ -45,7 +45,7 @@ pub enum OpenFault {
 
 /// The clock lines of an agent on a sink: the last line of each kind, and whether the sink has failed.
 ///
-/// While it isn't stopped, nothing is pending in the sink between two calls.
+/// While it isn't stopped, nothing is buffered in the sink between two calls.
 #[derive(Drop)]
 pub struct Snapshot<S: Sink> {
     last: Clocks,
@@ -56,17 +56,17 @@ pub struct Snapshot<S: Sink> {
 impl<S: Sink> Model for Snapshot<S> {
     ghost use Rattle.std.specs.Prelude.{◌≡◌, ◌<◌, ◌-◌, ◌^◌, false};
     ghost use Rattle.serf_snap.specs.Notes.{SnapshotState};
-    ghost use Rattle.serf_snap.specs.Device.{IsClean, kept_of};
+    ghost use Rattle.serf_snap.specs.Device.{IsClean, durable_of};
 
     ghost Value = { SnapshotState };
 
     ghost view = { λ a. record {
       snapshot = record {
-        member = a.last.member;
-        event = a.last.event;
-        query = a.last.query;
+        member_clock = a.last.member_clock;
+        event_clock = a.last.event_clock;
+        query_clock = a.last.query_clock;
         stopped = a.stopped;
-        kept = kept_of (S.device a.sink);
+        durable = durable_of (S.device a.sink);
         plan = (S.device a.sink).plan;
       };
       device = S.device a.sink;
@@ -74,7 +74,7 @@ impl<S: Sink> Model for Snapshot<S> {
 
     ghost invariant = { λ a.
         (a.stopped ≡ false → IsClean (S.device a.sink))
-        × (a.last.member < 2 ^ 64 - 1) × (a.last.event < 2 ^ 64 - 1) × (a.last.query < 2 ^ 64 - 1) };
+        × (a.last.member_clock < 2 ^ 64 - 1) × (a.last.event_clock < 2 ^ 64 - 1) × (a.last.query_clock < 2 ^ 64 - 1) };
 }
 
 /// The bytes that the longest clock line has: a prefix of 13, 20 digits and a newline.
@@ -113,12 +113,12 @@ fn put_line_above_zero(text: &mut Vec<u8>, kind: ClockKind, time: u64) -> Result
 
 /// The text of these last lines.
 fn text_of(alloc: Global, last: Clocks) -> Result<Vec<u8>, AllocError>
-    ensures { IfOk result (λ text. text.items ≡ compacted_text last.member last.event last.query) }
+    ensures { IfOk result (λ text. text.items ≡ compacted_text last.member_clock last.event_clock last.query_clock) }
 {
     let mut text = Vec::new(alloc);
-    put_line_above_zero(&mut text, ClockKind::Member, last.member)?;
-    put_line_above_zero(&mut text, ClockKind::Event, last.event)?;
-    put_line_above_zero(&mut text, ClockKind::Query, last.query)?;
+    put_line_above_zero(&mut text, ClockKind::Member, last.member_clock)?;
+    put_line_above_zero(&mut text, ClockKind::Event, last.event_clock)?;
+    put_line_above_zero(&mut text, ClockKind::Query, last.query_clock)?;
     Ok(text)
 }
 
@@ -128,7 +128,7 @@ fn keep<S: Sink>(sink: &mut S, line: &[u8]) -> Result<(), SinkFault>
     ensures ok { OnOk result (S.device sink.new ≡ flushed (appended line.now (S.device sink.old))) }
     ensures clean { OnOk result (IsClean (S.device sink.new)) }
     ensures fault { OnErr result (Fails (S.device sink.old) (S.device sink.new) line.now) }
-    ensures spent { OnErr result ((S.device sink.new).plan ≡ option_map note_spent (S.device sink.old).plan) }
+    ensures decremented { OnErr result ((S.device sink.new).plan ≡ option_map note_decremented (S.device sink.old).plan) }
     ensures planned { IfSome (S.device sink.old).plan (λ p. is_ok result ≡ not (note_fails p)) }
     ensures called { OnErr result (HasTriedNote (S.device sink.old).calls (S.device sink.new).calls) }
 {
@@ -140,8 +140,8 @@ fn keep<S: Sink>(sink: &mut S, line: &[u8]) -> Result<(), SinkFault>
 fn seal<S: Sink>(alloc: Global, text: &[u8], sink: &mut S) -> Result<(), OpenFault>
     requires { HasText text.now (S.device sink.old) }
     ensures ok { OnOk result (S.device sink.new ≡ opened_device text.now (S.device sink.old)) }
-    ensures kept { OnOk result (kept_of (S.device sink.new) ≡ option_map (λ (t : Told). sealed text.now) (S.device sink.old).told) }
-    ensures plan { OnOk result ((S.device sink.new).plan ≡ (if is_whole text.now then (S.device sink.old).plan else option_map note_spent (S.device sink.old).plan)) }
+    ensures durable { OnOk result (durable_of (S.device sink.new) ≡ option_map (λ (t : Observable). sealed text.now) (S.device sink.old).observed_bytes) }
+    ensures plan { OnOk result ((S.device sink.new).plan ≡ (if is_whole text.now then (S.device sink.old).plan else option_map note_decremented (S.device sink.old).plan)) }
     ensures clean { OnOk result (IsClean (S.device sink.new)) }
     ensures whole { is_whole text.now ≡ true → IsOk result }
     ensures fault { IsErrOf result OpenFault.SinkFault → Fails (S.device sink.old) (S.device sink.new) seal_line }
@@ -162,8 +162,8 @@ fn seal<S: Sink>(alloc: Global, text: &[u8], sink: &mut S) -> Result<(), OpenFau
 }
 
 impl<S: Sink> Snapshot<S> {
-    /// Opens a snapshot on the text that a sink keeps; a sink that tells has just this text, and nothing
-    /// pending.
+    /// Opens a snapshot on the text that a sink keeps; a sink that exposes its bytes has just this text, and nothing
+    /// buffered.
     ///
     /// The last lines are the clocks that the text has. A torn last line, one without its newline, is ended by
     /// `#` and a newline, appended and flushed, so it never becomes a clock line. The sink comes back with a
@@ -195,12 +195,12 @@ impl<S: Sink> Snapshot<S> {
         ensures stopped { (result ≡ Err NoteFault.Stopped) ↔ IsTrue self.old.snapshot.stopped }
         ensures none { self.old.snapshot.stopped ≡ false → time ≤ last_line kind self.old.snapshot → (result ≡ Ok tt) × (self.new ≡ self.old) }
 
-        // The line is kept, or the sink fails; with a plan exactly where it says.
+        // The line is durable, or the sink fails; with a plan exactly where it says.
         ensures ok { OnOk result (self.new.snapshot ≡ noted kind time self.old.snapshot Kept) }
         ensures ok_allowed { OnOk result (last_line kind self.old.snapshot < time → MayWrite self.old.snapshot (clock_line kind time) Kept) }
         ensures ok_device { OnOk result (last_line kind self.old.snapshot < time → self.new.device ≡ flushed (appended (clock_line kind time) self.old.device)) }
-        ensures fault { IsErrOf result NoteFault.SinkFault → self.new.snapshot ≡ written kind time self.old.snapshot (Failed self.new.snapshot.kept) }
-        ensures fault_allowed { IsErrOf result NoteFault.SinkFault → MayWrite self.old.snapshot (clock_line kind time) (Failed self.new.snapshot.kept) }
+        ensures fault { IsErrOf result NoteFault.SinkFault → self.new.snapshot ≡ written kind time self.old.snapshot (Failed self.new.snapshot.durable) }
+        ensures fault_allowed { IsErrOf result NoteFault.SinkFault → MayWrite self.old.snapshot (clock_line kind time) (Failed self.new.snapshot.durable) }
         ensures fault_above { IsErrOf result NoteFault.SinkFault → last_line kind self.old.snapshot < time }
         ensures fault_device { IsErrOf result NoteFault.SinkFault → Fails self.old.device self.new.device (clock_line kind time) }
         ensures fault_cause { IsErrOf result NoteFault.SinkFault → HasFailed self.old.device.failures self.new.device.failures }
@@ -235,22 +235,22 @@ impl<S: Sink> Snapshot<S> {
     }
 
     /// Writes the line of an event's time, where it is above the last one: one append, one flush, and the line
-    /// is kept (`snapshot.go`, `processUserEvent`, which leaves the flush for later).
+    /// is durable (`snapshot.go`, `processUserEvent`, which leaves the flush for later).
     ///
     /// Where the time isn't above the last one, this is Ok, takes no memory and makes no call of the sink.
     /// Else memory is taken before the sink is touched. After [`NoteFault::SinkFault`] a part of the line may
-    /// be kept, and each later note is [`NoteFault::Stopped`].
+    /// be durable, and each later note is [`NoteFault::Stopped`].
     pub fn note_event(&mut self, alloc: Global, time: Time) -> Result<(), NoteFault>
         ensures stopped { (result ≡ Err NoteFault.Stopped) ↔ IsTrue self.old.snapshot.stopped }
-        ensures none { self.old.snapshot.stopped ≡ false → time ≤ self.old.snapshot.event → (result ≡ Ok tt) × (self.new ≡ self.old) }
+        ensures none { self.old.snapshot.stopped ≡ false → time ≤ self.old.snapshot.event_clock → (result ≡ Ok tt) × (self.new ≡ self.old) }
 
-        // The line is kept, or the sink fails; with a plan exactly where it says.
+        // The line is durable, or the sink fails; with a plan exactly where it says.
         ensures ok { OnOk result (self.new.snapshot ≡ noted Event time self.old.snapshot Kept) }
-        ensures ok_allowed { OnOk result (self.old.snapshot.event < time → MayWrite self.old.snapshot (clock_line Event time) Kept) }
-        ensures ok_device { OnOk result (self.old.snapshot.event < time → self.new.device ≡ flushed (appended (clock_line Event time) self.old.device)) }
-        ensures fault { IsErrOf result NoteFault.SinkFault → self.new.snapshot ≡ written Event time self.old.snapshot (Failed self.new.snapshot.kept) }
-        ensures fault_allowed { IsErrOf result NoteFault.SinkFault → MayWrite self.old.snapshot (clock_line Event time) (Failed self.new.snapshot.kept) }
-        ensures fault_above { IsErrOf result NoteFault.SinkFault → self.old.snapshot.event < time }
+        ensures ok_allowed { OnOk result (self.old.snapshot.event_clock < time → MayWrite self.old.snapshot (clock_line Event time) Kept) }
+        ensures ok_device { OnOk result (self.old.snapshot.event_clock < time → self.new.device ≡ flushed (appended (clock_line Event time) self.old.device)) }
+        ensures fault { IsErrOf result NoteFault.SinkFault → self.new.snapshot ≡ written Event time self.old.snapshot (Failed self.new.snapshot.durable) }
+        ensures fault_allowed { IsErrOf result NoteFault.SinkFault → MayWrite self.old.snapshot (clock_line Event time) (Failed self.new.snapshot.durable) }
+        ensures fault_above { IsErrOf result NoteFault.SinkFault → self.old.snapshot.event_clock < time }
         ensures fault_device { IsErrOf result NoteFault.SinkFault → Fails self.old.device self.new.device (clock_line Event time) }
         ensures fault_cause { IsErrOf result NoteFault.SinkFault → HasFailed self.old.device.failures self.new.device.failures }
         ensures fault_called { IsErrOf result NoteFault.SinkFault → HasTriedNote self.old.device.calls self.new.device.calls }
@@ -266,15 +266,15 @@ impl<S: Sink> Snapshot<S> {
     /// Writes the line of a query's time, by the rule of [`Snapshot::note_event`] (`snapshot.go`, `processQuery`).
     pub fn note_query(&mut self, alloc: Global, time: Time) -> Result<(), NoteFault>
         ensures stopped { (result ≡ Err NoteFault.Stopped) ↔ IsTrue self.old.snapshot.stopped }
-        ensures none { self.old.snapshot.stopped ≡ false → time ≤ self.old.snapshot.query → (result ≡ Ok tt) × (self.new ≡ self.old) }
+        ensures none { self.old.snapshot.stopped ≡ false → time ≤ self.old.snapshot.query_clock → (result ≡ Ok tt) × (self.new ≡ self.old) }
 
-        // The line is kept, or the sink fails; with a plan exactly where it says.
+        // The line is durable, or the sink fails; with a plan exactly where it says.
         ensures ok { OnOk result (self.new.snapshot ≡ noted Query time self.old.snapshot Kept) }
-        ensures ok_allowed { OnOk result (self.old.snapshot.query < time → MayWrite self.old.snapshot (clock_line Query time) Kept) }
-        ensures ok_device { OnOk result (self.old.snapshot.query < time → self.new.device ≡ flushed (appended (clock_line Query time) self.old.device)) }
-        ensures fault { IsErrOf result NoteFault.SinkFault → self.new.snapshot ≡ written Query time self.old.snapshot (Failed self.new.snapshot.kept) }
-        ensures fault_allowed { IsErrOf result NoteFault.SinkFault → MayWrite self.old.snapshot (clock_line Query time) (Failed self.new.snapshot.kept) }
-        ensures fault_above { IsErrOf result NoteFault.SinkFault → self.old.snapshot.query < time }
+        ensures ok_allowed { OnOk result (self.old.snapshot.query_clock < time → MayWrite self.old.snapshot (clock_line Query time) Kept) }
+        ensures ok_device { OnOk result (self.old.snapshot.query_clock < time → self.new.device ≡ flushed (appended (clock_line Query time) self.old.device)) }
+        ensures fault { IsErrOf result NoteFault.SinkFault → self.new.snapshot ≡ written Query time self.old.snapshot (Failed self.new.snapshot.durable) }
+        ensures fault_allowed { IsErrOf result NoteFault.SinkFault → MayWrite self.old.snapshot (clock_line Query time) (Failed self.new.snapshot.durable) }
+        ensures fault_above { IsErrOf result NoteFault.SinkFault → self.old.snapshot.query_clock < time }
         ensures fault_device { IsErrOf result NoteFault.SinkFault → Fails self.old.device self.new.device (clock_line Query time) }
         ensures fault_cause { IsErrOf result NoteFault.SinkFault → HasFailed self.old.device.failures self.new.device.failures }
         ensures fault_called { IsErrOf result NoteFault.SinkFault → HasTriedNote self.old.device.calls self.new.device.calls }
@@ -291,15 +291,15 @@ impl<S: Sink> Snapshot<S> {
     /// `updateClock`).
     pub fn note_member(&mut self, alloc: Global, time: Time) -> Result<(), NoteFault>
         ensures stopped { (result ≡ Err NoteFault.Stopped) ↔ IsTrue self.old.snapshot.stopped }
-        ensures none { self.old.snapshot.stopped ≡ false → time ≤ self.old.snapshot.member → (result ≡ Ok tt) × (self.new ≡ self.old) }
+        ensures none { self.old.snapshot.stopped ≡ false → time ≤ self.old.snapshot.member_clock → (result ≡ Ok tt) × (self.new ≡ self.old) }
 
-        // The line is kept, or the sink fails; with a plan exactly where it says.
+        // The line is durable, or the sink fails; with a plan exactly where it says.
         ensures ok { OnOk result (self.new.snapshot ≡ noted Member time self.old.snapshot Kept) }
-        ensures ok_allowed { OnOk result (self.old.snapshot.member < time → MayWrite self.old.snapshot (clock_line Member time) Kept) }
-        ensures ok_device { OnOk result (self.old.snapshot.member < time → self.new.device ≡ flushed (appended (clock_line Member time) self.old.device)) }
-        ensures fault { IsErrOf result NoteFault.SinkFault → self.new.snapshot ≡ written Member time self.old.snapshot (Failed self.new.snapshot.kept) }
-        ensures fault_allowed { IsErrOf result NoteFault.SinkFault → MayWrite self.old.snapshot (clock_line Member time) (Failed self.new.snapshot.kept) }
-        ensures fault_above { IsErrOf result NoteFault.SinkFault → self.old.snapshot.member < time }
+        ensures ok_allowed { OnOk result (self.old.snapshot.member_clock < time → MayWrite self.old.snapshot (clock_line Member time) Kept) }
+        ensures ok_device { OnOk result (self.old.snapshot.member_clock < time → self.new.device ≡ flushed (appended (clock_line Member time) self.old.device)) }
+        ensures fault { IsErrOf result NoteFault.SinkFault → self.new.snapshot ≡ written Member time self.old.snapshot (Failed self.new.snapshot.durable) }
+        ensures fault_allowed { IsErrOf result NoteFault.SinkFault → MayWrite self.old.snapshot (clock_line Member time) (Failed self.new.snapshot.durable) }
+        ensures fault_above { IsErrOf result NoteFault.SinkFault → self.old.snapshot.member_clock < time }
         ensures fault_device { IsErrOf result NoteFault.SinkFault → Fails self.old.device self.new.device (clock_line Member time) }
         ensures fault_cause { IsErrOf result NoteFault.SinkFault → HasFailed self.old.device.failures self.new.device.failures }
         ensures fault_called { IsErrOf result NoteFault.SinkFault → HasTriedNote self.old.device.calls self.new.device.calls }
@@ -314,9 +314,9 @@ impl<S: Sink> Snapshot<S> {
 
     /// The last line written or read of each kind, 0 where there is none. Takes no memory.
     pub fn clocks(&self) -> Clocks
-        ensures member { result.member ≡ self.now.snapshot.member }
-        ensures event { result.event ≡ self.now.snapshot.event }
-        ensures query { result.query ≡ self.now.snapshot.query }
+        ensures member { result.member_clock ≡ self.now.snapshot.member_clock }
+        ensures event { result.event_clock ≡ self.now.snapshot.event_clock }
+        ensures query { result.query_clock ≡ self.now.snapshot.query_clock }
         ensures times { AreTimes self.now.snapshot }
     {
         self.last
@@ -332,7 +332,7 @@ impl<S: Sink> Snapshot<S> {
     /// The sink, for reading. Takes no memory.
     pub fn sink(&self) -> &S
         ensures device { S.device result.now ≡ self.now.device }
-        ensures kept { kept_of self.now.device ≡ self.now.snapshot.kept }
+        ensures durable { durable_of self.now.device ≡ self.now.snapshot.durable }
         ensures plan { self.now.device.plan ≡ self.now.snapshot.plan }
         ensures clean { self.now.snapshot.stopped ≡ false → IsClean self.now.device }
     {
@@ -344,7 +344,7 @@ impl<S: ReplaceSink> Snapshot<S> {
     /// Replaces what the sink keeps by the last line of the member, event and query clock, in this order; a
     /// kind without a line is left out. It is one replace, and never an append or a flush.
     ///
-    /// On a stopped snapshot no call is made. After [`NoteFault::SinkFault`] the old text is kept or the new
+    /// On a stopped snapshot no call is made. After [`NoteFault::SinkFault`] the old text is durable or the new
     /// one, and the snapshot is stopped. (`snapshot.go`, `compact`, which writes the alive members too.)
     pub fn compact(&mut self, alloc: Global) -> Result<(), NoteFault>
         ensures stopped { (result ≡ Err NoteFault.Stopped) ↔ IsTrue self.old.snapshot.stopped }
@@ -353,8 +353,8 @@ impl<S: ReplaceSink> Snapshot<S> {
         ensures ok { OnOk result (self.new.snapshot ≡ compacted self.old.snapshot Kept) }
         ensures ok_allowed { OnOk result (MayReplace self.old.snapshot Kept) }
         ensures ok_device { OnOk result (self.new.device ≡ replaced (compaction_of self.old.snapshot) self.old.device) }
-        ensures fault { IsErrOf result NoteFault.SinkFault → self.new.snapshot ≡ compacted self.old.snapshot (Failed self.new.snapshot.kept) }
-        ensures fault_allowed { IsErrOf result NoteFault.SinkFault → MayReplace self.old.snapshot (Failed self.new.snapshot.kept) }
+        ensures fault { IsErrOf result NoteFault.SinkFault → self.new.snapshot ≡ compacted self.old.snapshot (Failed self.new.snapshot.durable) }
+        ensures fault_allowed { IsErrOf result NoteFault.SinkFault → MayReplace self.old.snapshot (Failed self.new.snapshot.durable) }
         ensures fault_device { IsErrOf result NoteFault.SinkFault → FailsReplace self.old.device self.new.device (compaction_of self.old.snapshot) }
         ensures fault_cause { IsErrOf result NoteFault.SinkFault → HasFailed self.old.device.failures self.new.device.failures }
         ensures fault_called { IsErrOf result NoteFault.SinkFault → self.new.device.calls ≡ replace_called self.old.device.calls }
@@ -383,14 +383,14 @@ impl<S: ReplaceSink> Snapshot<S> {
 impl Snapshot<MemSink> {
     /// Tells the sink to fail its n-th append from now on, or none at 0. Takes no memory.
     pub fn fail_append(&mut self, n: u64)
-        ensures { self.new ≡ planned_anew (append_failing n) self.old }
+        ensures { self.new ≡ with_new_plan (append_failing n) self.old }
     {
         self.sink.fail_append(n);
     }
 
     /// Tells the sink to fail its n-th flush from now on, or none at 0. Takes no memory.
     pub fn fail_flush(&mut self, n: u64)
-        ensures { self.new ≡ planned_anew (flush_failing n) self.old }
+        ensures { self.new ≡ with_new_plan (flush_failing n) self.old }
     {
         self.sink.fail_flush(n);
     }
@@ -398,7 +398,7 @@ impl Snapshot<MemSink> {
     /// Tells the sink to fail its n-th replace from now on, and to keep the new text or the old one then, or to
     /// fail none at 0. Takes no memory.
     pub fn fail_replace(&mut self, n: u64, keeps_new: bool)
-        ensures { self.new ≡ planned_anew (replace_failing n keeps_new) self.old }
+        ensures { self.new ≡ with_new_plan (replace_failing n keeps_new) self.old }
     {
         self.sink.fail_replace(n, keeps_new);
     }

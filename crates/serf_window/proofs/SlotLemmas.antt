@@ -8,7 +8,7 @@ use Rattle.std.proofs.lemmas.Nat.{mod_below}
 use Rattle.std.proofs.lemmas.List.{get_or-set_same, get_or-set_other}
 use Rattle.std.proofs.Math.ListN.{length-set}
 use Rattle.std.proofs.Math.Nat.{div-add-mod, mul-le-mul_left}
-use Rattle.serf_window.specs.Window.{Timed, greatest_time, held_at, held_of, entries_of, slot_of, slots_of, slot_after, was_entered}
+use Rattle.serf_window.specs.Window.{TimedEntry, greatest_time, held_at, held_of, entries_of, slot_of, slots_of, slot_after, was_entered}
 
 -- times of one slot are at least n apart
 pub time_apart : (n s t : ℕ) → s % n ≡ t % n → t < s → t + n ≤ s
@@ -18,22 +18,22 @@ time_apart n s t same later = elim (cases_lt (t / n) (s / n)) [
 ]
 
 -- what was entered at a time, by the list of what is held at it
-pub was_entered-held : {K : Type 0} (same : K → K → Bool) (es : List (Timed K)) (t : ℕ) (what : K) → was_entered same es t what ≡ list_any (λ k. same k what) (held_at t es)
+pub was_entered-held : {K : Type 0} (same : K → K → Bool) (es : List (TimedEntry K)) (t : ℕ) (what : K) → was_entered same es t what ≡ list_any (λ k. same k what) (held_at t es)
 was_entered-held same [] t what = refl
 was_entered-held same (e ∷ es) t what = grind (arith, common_steps, was_entered-held same es t what)
 
 -- what is held at a time is of one slot
-pub held_at-entries_of : {K : Type 0} (n t : ℕ) (es : List (Timed K)) → held_at t (entries_of n (t % n) es) ≡ held_at t es
+pub held_at-entries_of : {K : Type 0} (n t : ℕ) (es : List (TimedEntry K)) → held_at t (entries_of n (t % n) es) ≡ held_at t es
 held_at-entries_of n t [] = refl
 held_at-entries_of n t (e ∷ es) = grind (arith, common_steps, held_at-entries_of n t es)
 
 -- nothing is held above the greatest time
-pub held_at-above : {K : Type 0} (t : ℕ) (es : List (Timed K)) → greatest_time es < t → held_at t es ≡ []
+pub held_at-above : {K : Type 0} (t : ℕ) (es : List (TimedEntry K)) → greatest_time es < t → held_at t es ≡ []
 held_at-above t [] h = refl
 held_at-above t (e ∷ es) h = let ne : (e.time == t) ≡ false = ne_eqb _ _ (λ q. omega arith) in let ih : held_at t es ≡ [] = held_at-above t es (omega arith) in grind (arith, common_steps)
 
 -- the greatest time of a slot is one of its times, or 0
-pub greatest_time-slot : {K : Type 0} (n i : ℕ) (es : List (Timed K)) → (greatest_time (entries_of n i es) ≡ 0) ⊎ (greatest_time (entries_of n i es) % n ≡ i)
+pub greatest_time-slot : {K : Type 0} (n i : ℕ) (es : List (TimedEntry K)) → (greatest_time (entries_of n i es) ≡ 0) ⊎ (greatest_time (entries_of n i es) % n ≡ i)
 greatest_time-slot n i [] = inl refl
 greatest_time-slot n i (e ∷ es) = elim (cases_Bool (e.time % n == i)) [
   | inl here ↦ rw here (elim (cases_lt (greatest_time (entries_of n i es)) e.time) [
@@ -44,18 +44,18 @@ greatest_time-slot n i (e ∷ es) = elim (cases_Bool (e.time % n == i)) [
 ]
 
 -- the greatest time with one more entry
-pub greatest_time-append : {K : Type 0} (es : List (Timed K)) (e : Timed K) → greatest_time (es ++ e ∷ []) ≡ max (greatest_time es) e.time
+pub greatest_time-append : {K : Type 0} (es : List (TimedEntry K)) (e : TimedEntry K) → greatest_time (es ++ e ∷ []) ≡ max (greatest_time es) e.time
 greatest_time-append [] e = omega arith
 greatest_time-append (d ∷ es) e = let ih : greatest_time (es ++ e ∷ []) ≡ max (greatest_time es) e.time = greatest_time-append es e in omega arith
 
 -- what is held at a time with one more entry
-pub held_at-append : {K : Type 0} (t : ℕ) (es : List (Timed K)) (e : Timed K) → held_at t (es ++ e ∷ []) ≡ held_at t es ++ cond (e.time == t) (e.what ∷ []) []
+pub held_at-append : {K : Type 0} (t : ℕ) (es : List (TimedEntry K)) (e : TimedEntry K) → held_at t (es ++ e ∷ []) ≡ held_at t es ++ cond (e.time == t) (e.key ∷ []) []
 held_at-append t [] e = grind (arith, common_steps)
 held_at-append t (d ∷ es) e = grind (arith, common_steps, held_at-append t es e)
 
 -- what a slot holds of a time is what was entered at it, where a slot's time is below the clock and the time
 -- isn't too old
-pub held_of-slot : {K : Type 0} (n clock t : ℕ) (es : List (Timed K)) → (slot_of n es (t % n)).time < clock → clock ≤ t + n → held_of (slot_of n es (t % n)) t ≡ held_at t es
+pub held_of-slot : {K : Type 0} (n clock t : ℕ) (es : List (TimedEntry K)) → (slot_of n es (t % n)).time < clock → clock ≤ t + n → held_of (slot_of n es (t % n)) t ≡ held_at t es
 held_of-slot {K} n clock t es below young =
     elim (cases_order t (greatest_time (entries_of n (t % n) es))) [
       | inl now ↦ rw (← now, eq-eqb t t refl) (held_at-entries_of n t es)
@@ -70,7 +70,7 @@ held_of-slot {K} n clock t es below young =
     ]
 
 -- the slot of a time that isn't too old holds no later time
-pub slot-not_later : {K : Type 0} (n clock t : ℕ) (es : List (Timed K)) → (slot_of n es (t % n)).time < clock → clock ≤ t + n → (slot_of n es (t % n)).time ≤ t
+pub slot-not_later : {K : Type 0} (n clock t : ℕ) (es : List (TimedEntry K)) → (slot_of n es (t % n)).time < clock → clock ≤ t + n → (slot_of n es (t % n)).time ≤ t
 slot-not_later {K} n clock t es below young = elim (cases_lt t (greatest_time (entries_of n (t % n) es))) [
   | inl before ↦ absurd (elim (greatest_time-slot n (t % n) es) [
     | inl none ↦ omega arith
@@ -79,18 +79,18 @@ slot-not_later {K} n clock t es below young = elim (cases_lt t (greatest_time (e
   | inr le ↦ le
 ]
 
-pub entries_of-append : {K : Type 0} (n i : ℕ) (es : List (Timed K)) (e : Timed K) → entries_of n i (es ++ e ∷ []) ≡ entries_of n i es ++ cond (e.time % n == i) (e ∷ []) []
+pub entries_of-append : {K : Type 0} (n i : ℕ) (es : List (TimedEntry K)) (e : TimedEntry K) → entries_of n i (es ++ e ∷ []) ≡ entries_of n i es ++ cond (e.time % n == i) (e ∷ []) []
 entries_of-append n i es e = filter-append (λ d. d.time % n == i) es (e ∷ [])
 
 -- an entry leaves the other slots as they are
-pub slot_of-other : {K : Type 0} (n i : ℕ) (es : List (Timed K)) (e : Timed K) → i ≢ e.time % n → slot_of n (es ++ e ∷ []) i ≡ slot_of n es i
+pub slot_of-other : {K : Type 0} (n i : ℕ) (es : List (TimedEntry K)) (e : TimedEntry K) → i ≢ e.time % n → slot_of n (es ++ e ∷ []) i ≡ slot_of n es i
 slot_of-other n i es e other =
     let no : (e.time % n == i) ≡ false = ne_eqb _ _ (λ q. other (sym q)) in
     let same : entries_of n i (es ++ e ∷ []) ≡ entries_of n i es = entries_of-append n i es e ∙ rw no (grind (arith, common_steps)) in
     rw same refl
 
 -- an entry's own slot
-pub slot_of-append : {K : Type 0} (n : ℕ) (es : List (Timed K)) (e : Timed K) → (slot_of n es (e.time % n)).time ≤ e.time → slot_of n (es ++ e ∷ []) (e.time % n) ≡ slot_after (slot_of n es (e.time % n)) e
+pub slot_of-append : {K : Type 0} (n : ℕ) (es : List (TimedEntry K)) (e : TimedEntry K) → (slot_of n es (e.time % n)).time ≤ e.time → slot_of n (es ++ e ∷ []) (e.time % n) ≡ slot_after (slot_of n es (e.time % n)) e
 slot_of-append {K} n es e not_later =
     let yes : (e.time % n == e.time % n) ≡ true = eq-eqb _ _ refl in
     let mine : entries_of n (e.time % n) (es ++ e ∷ []) ≡ entries_of n (e.time % n) es ++ e ∷ [] = entries_of-append n (e.time % n) es e ∙ rw yes refl in
@@ -102,7 +102,7 @@ slot_of-append {K} n es e not_later =
     ])
 
 -- the slots with an entry at the end
-pub slots_of-append : {K : Type 0} (n : ℕ) (es : List (Timed K)) (e : Timed K) → 0 < n → (slot_of n es (e.time % n)).time ≤ e.time
+pub slots_of-append : {K : Type 0} (n : ℕ) (es : List (TimedEntry K)) (e : TimedEntry K) → 0 < n → (slot_of n es (e.time % n)).time ≤ e.time
     → set (slots_of n es) (e.time % n) (slot_after (slot_of n es (e.time % n)) e) ≡ slots_of n (es ++ e ∷ [])
 slots_of-append {K} n es e pos not_later =
     let size : length (slots_of n es) ≡ n = length-map-range_with_len (slot_of n es) 0 n in

@@ -6,15 +6,15 @@ use Rattle.std.proofs.lemmas.List.Elements.{All-contains_itself, All-filter, All
 use Rattle.std.proofs.lemmas.List.FromFn.{length-map-range_with_len}
 use Rattle.std.proofs.lemmas.List.Sums.{sum_by-le}
 use Rattle.serf_window.specs.Laws.{SlotLaws}
-use Rattle.serf_window.specs.Window.{SlotOf, Timed, TimesBelow, count_in, entries_of, greatest_time, held_at, held_of, slot_for, slot_of, slots_of, time_in}
+use Rattle.serf_window.specs.Window.{SlotOf, TimedEntry, TimesBelow, count_in, entries_of, greatest_time, held_at, held_of, slot_for, slot_of, slots_of, time_in}
 use Rattle.serf_window.proofs.SlotLemmas.{held_of-slot}
 use Rattle.serf_window.proofs.WindowLemmas.{slot_for-below, slot_for-slots_of}
 
-pub length-slots_of : {K : Type 0} (n : ℕ) (es : List (Timed K)) → length (slots_of n es) ≡ n
+pub length-slots_of : {K : Type 0} (n : ℕ) (es : List (TimedEntry K)) → length (slots_of n es) ≡ n
 length-slots_of n es = length-map-range_with_len (slot_of n es) 0 n
 
 -- the slot of a time holds all that was entered at it, or the time is too old
-pub held_or_too_old : {K : Type 0} (n clock t : ℕ) (es : List (Timed K)) → 0 < n → TimesBelow clock (slots_of n es) → (held_of (slot_for (slots_of n es) t) t ≡ held_at t es) ⊎ (t + n < clock)
+pub held_or_too_old : {K : Type 0} (n clock t : ℕ) (es : List (TimedEntry K)) → 0 < n → TimesBelow clock (slots_of n es) → (held_of (slot_for (slots_of n es) t) t ≡ held_at t es) ⊎ (t + n < clock)
 held_or_too_old {K} n clock t es pos below = elim (cases_lt (t + n) clock) [
   | inl old ↦ inr old
   | inr young ↦
@@ -25,30 +25,30 @@ held_or_too_old {K} n clock t es pos below = elim (cases_lt (t + n) clock) [
 ]
 
 -- what holds of all that was entered holds of what is held at a time
-pub held_at-each : {K : Type 0} (P : Timed K → Type 0) (t : ℕ) (es : List (Timed K)) → All P es → All (λ what. P (record { time = t; what = what })) (held_at t es)
-held_at-each {K} P t es each = All-map (λ what. P (record { time = t; what = what })) (λ (e : Timed K). e.what) (filter (λ e. e.time == t) es) (λ k d within.
-    subst (λ (u : ℕ). P (record { time = u; what = (get_or (filter (λ e. e.time == t) es) k d).what })) (eqb-true _ _ (filter_passes (λ (e : Timed K). e.time == t) es k d within)) (All-filter (λ (e : Timed K). e.time == t) P es each k d within))
+pub held_at-each : {K : Type 0} (P : TimedEntry K → Type 0) (t : ℕ) (es : List (TimedEntry K)) → All P es → All (λ what. P (record { time = t; key = what })) (held_at t es)
+held_at-each {K} P t es each = All-map (λ what. P (record { time = t; key = what })) (λ (e : TimedEntry K). e.key) (filter (λ e. e.time == t) es) (λ k d within.
+    subst (λ (u : ℕ). P (record { time = u; key = (get_or (filter (λ e. e.time == t) es) k d).key })) (eqb-true _ _ (filter_passes (λ (e : TimedEntry K). e.time == t) es k d within)) (All-filter (λ (e : TimedEntry K). e.time == t) P es each k d within))
 
 -- what holds of all that was entered holds of all that the slots hold
-pub slots_of-each : {K : Type 0} (P : Timed K → Type 0) (n : ℕ) (es : List (Timed K)) → All P es → All (λ s. All (λ what. P (record { time = s.time; what = what })) s.held) (slots_of n es)
-slots_of-each {K} P n es each = All-map (λ (s : SlotOf K). All (λ what. P (record { time = s.time; what = what })) s.held) (slot_of n es) (range_with_len 0 n)
-    (λ i d within. held_at-each P (greatest_time (entries_of n (get_or (range_with_len 0 n) i d) es)) (entries_of n (get_or (range_with_len 0 n) i d) es) (All-filter (λ (e : Timed K). e.time % n == get_or (range_with_len 0 n) i d) P es each))
+pub slots_of-each : {K : Type 0} (P : TimedEntry K → Type 0) (n : ℕ) (es : List (TimedEntry K)) → All P es → All (λ s. All (λ what. P (record { time = s.time; key = what })) s.held) (slots_of n es)
+slots_of-each {K} P n es each = All-map (λ (s : SlotOf K). All (λ what. P (record { time = s.time; key = what })) s.held) (slot_of n es) (range_with_len 0 n)
+    (λ i d within. held_at-each P (greatest_time (entries_of n (get_or (range_with_len 0 n) i d) es)) (entries_of n (get_or (range_with_len 0 n) i d) es) (All-filter (λ (e : TimedEntry K). e.time % n == get_or (range_with_len 0 n) i d) P es each))
 
-pub greatest_time-below : {K : Type 0} (clock : ℕ) (es : List (Timed K)) → 0 < clock → All (λ e. e.time < clock) es → greatest_time es < clock
+pub greatest_time-below : {K : Type 0} (clock : ℕ) (es : List (TimedEntry K)) → 0 < clock → All (λ e. e.time < clock) es → greatest_time es < clock
 greatest_time-below clock [] pos each = pos
 greatest_time-below {K} clock (e ∷ es) pos each =
-    let head : e.time < clock = All-head (λ (d : Timed K). d.time < clock) e es each in
-    let rest : greatest_time es < clock = greatest_time-below clock es pos (All-tail (λ (d : Timed K). d.time < clock) e es each) in
+    let head : e.time < clock = All-head (λ (d : TimedEntry K). d.time < clock) e es each in
+    let rest : greatest_time es < clock = greatest_time-below clock es pos (All-tail (λ (d : TimedEntry K). d.time < clock) e es each) in
     omega arith
 
 -- where all that was entered is below the clock, so are the slots
-pub slots_of-below : {K : Type 0} (n clock : ℕ) (es : List (Timed K)) → 0 < clock → All (λ e. e.time < clock) es → TimesBelow clock (slots_of n es)
+pub slots_of-below : {K : Type 0} (n clock : ℕ) (es : List (TimedEntry K)) → 0 < clock → All (λ e. e.time < clock) es → TimesBelow clock (slots_of n es)
 slots_of-below {K} n clock es pos each = All-map (λ (s : SlotOf K). s.time < clock) (slot_of n es) (range_with_len 0 n)
-    (λ i d within. greatest_time-below clock (entries_of n (get_or (range_with_len 0 n) i d) es) pos (All-filter (λ (e : Timed K). e.time % n == get_or (range_with_len 0 n) i d) (λ (e : Timed K). e.time < clock) es each))
+    (λ i d within. greatest_time-below clock (entries_of n (get_or (range_with_len 0 n) i d) es) pos (All-filter (λ (e : TimedEntry K). e.time % n == get_or (range_with_len 0 n) i d) (λ (e : TimedEntry K). e.time < clock) es each))
 
 -- the slots of no entries are below each clock above 0
 pub starts_below : {K : Type 0} (n clock : ℕ) → 0 < clock → TimesBelow {K = K} clock (slots_of n [])
-starts_below {K} n clock pos = slots_of-below n clock [] pos (All-nil (λ (e : Timed K). e.time < clock))
+starts_below {K} n clock pos = slots_of-below n clock [] pos (All-nil (λ (e : TimedEntry K). e.time < clock))
 
 -- a time that isn't below the clock has a free slot, and nothing was entered at it
 pub fresh_may_enter : {K : Type 0} (k clock t : ℕ) (slots : List (SlotOf K)) → 0 < k → TimesBelow clock slots → clock ≤ t → (time_in slots t ≤ t) × (count_in slots t < k)

@@ -10,13 +10,13 @@ use Rattle.std.proofs.lemmas.List.Sums.{sum_by-le}
 use Rattle.std.proofs.Math.Nat.{mul-le-mul_left}
 use Rattle.serf_window.specs.declared.verdict.Verdict.TheVariants.{Seen, TimeFull, New}
 use Rattle.serf_window.specs.OneSlot.{slot_verdict}
-use Rattle.serf_window.specs.Window.{Timed, SlotOf, count_at, count_in, EachAtMost, IsWindow, empty_slot, held_at, held_count, held_of, room_for, slot_after, slot_for, slot_of, slots_after, slots_of, time_in, TimesBelow, verdict_of, was_entered}
+use Rattle.serf_window.specs.Window.{TimedEntry, SlotOf, count_at, count_in, EachAtMost, IsWindow, empty_slot, held_at, held_count, held_of, room_for, slot_after, slot_for, slot_of, slots_after, slots_of, time_in, TimesBelow, verdict_of, was_entered}
 use Rattle.serf_window.proofs.SlotLemmas.{held_of-slot, slot-not_later, slots_of-append, was_entered-held}
 
 -- What a window's slots say, over plain lists of slots
 
 -- the slot of a time, where the slots are those of entries
-pub slot_for-slots_of : {K : Type 0} (n t : ℕ) (slots : List (SlotOf K)) (es : List (Timed K)) → n ≡ length slots → 0 < n → slots ≡ slots_of n es → slot_for slots t ≡ slot_of n es (t % n)
+pub slot_for-slots_of : {K : Type 0} (n t : ℕ) (slots : List (SlotOf K)) (es : List (TimedEntry K)) → n ≡ length slots → 0 < n → slots ≡ slots_of n es → slot_for slots t ≡ slot_of n es (t % n)
 slot_for-slots_of {K} n t slots es size pos is =
     ap (λ m. get_or slots (t % m) empty_slot) (sym size) ∙ ap (λ xs. get_or xs (t % n) empty_slot) is ∙ get_or-map-range_with_len (slot_of n es) 0 n (t % n) (t % n) empty_slot (mod_below t n pos) (omega arith)
 
@@ -36,12 +36,12 @@ slot_verdict-held same k t what slot some not_later = elim (cases_order t slot.t
 ]
 
 -- a verdict that is neither below the minimum nor too old
-pub verdict_of-open : {K : Type 0} (same : K → K → Bool) (n k : ℕ) (es : List (Timed K)) (clock minimum t : ℕ) (what : K) → minimum ≤ t → clock ≤ t + n
+pub verdict_of-open : {K : Type 0} (same : K → K → Bool) (n k : ℕ) (es : List (TimedEntry K)) (clock minimum t : ℕ) (what : K) → minimum ≤ t → clock ≤ t + n
     → verdict_of same n k es clock minimum t what ≡ cond (was_entered same es t what) Seen (cond (nat_le k (count_at es t)) TimeFull New)
 verdict_of-open same n k es clock minimum t what low young = rw (le-ltb t minimum low, le-ltb (t + n) clock young) refl
 
 -- what a slot says is what all entries say
-pub slot_verdict-entered : {K : Type 0} (same : K → K → Bool) (n k clock minimum t : ℕ) (what : K) (slots : List (SlotOf K)) (es : List (Timed K)) → n ≡ length slots → 0 < n → 0 < k → slots ≡ slots_of n es
+pub slot_verdict-entered : {K : Type 0} (same : K → K → Bool) (n k clock minimum t : ℕ) (what : K) (slots : List (SlotOf K)) (es : List (TimedEntry K)) → n ≡ length slots → 0 < n → 0 < k → slots ≡ slots_of n es
     → TimesBelow clock slots → minimum ≤ t → clock ≤ t + n → slot_verdict same k (slot_for slots t) t what ≡ verdict_of same n k es clock minimum t what
 slot_verdict-entered {K} same n k clock minimum t what slots es size pos some is below low young =
     let mine = slot_for-slots_of n t slots es size pos is in
@@ -55,19 +55,19 @@ slot_verdict-entered {K} same n k clock minimum t what slots es size pos some is
     ∙ sym (verdict_of-open same n k es clock minimum t what low young)
 
 -- the slots after an entry are those of the entries with it at the end
-pub slots_after-entered : {K : Type 0} (n : ℕ) (slots : List (SlotOf K)) (e : Timed K) (es : List (Timed K)) → n ≡ length slots → 0 < n → slots ≡ slots_of n es → time_in slots e.time ≤ e.time → slots_after slots e ≡ slots_of n (es ++ e ∷ [])
+pub slots_after-entered : {K : Type 0} (n : ℕ) (slots : List (SlotOf K)) (e : TimedEntry K) (es : List (TimedEntry K)) → n ≡ length slots → 0 < n → slots ≡ slots_of n es → time_in slots e.time ≤ e.time → slots_after slots e ≡ slots_of n (es ++ e ∷ [])
 slots_after-entered {K} n slots e es size pos is not_later =
     let mine = slot_for-slots_of n e.time slots es size pos is in
     let bound : (slot_of n es (e.time % n)).time ≤ e.time = subst (λ (s : SlotOf K). s.time ≤ e.time) mine not_later in
     ap (λ m. set slots (e.time % m) (slot_after (slot_for slots e.time) e)) (sym size) ∙ ap (λ xs. set xs (e.time % n) (slot_after (slot_for slots e.time) e)) is ∙ ap (λ s. set (slots_of n es) (e.time % n) (slot_after s e)) mine ∙ slots_of-append n es e pos bound
 
 -- an entry of a time below the clock leaves all below it
-pub TimesBelow-after : {K : Type 0} (clock : ℕ) (slots : List (SlotOf K)) (e : Timed K) → e.time < clock → TimesBelow clock slots → TimesBelow clock (slots_after slots e)
+pub TimesBelow-after : {K : Type 0} (clock : ℕ) (slots : List (SlotOf K)) (e : TimedEntry K) → e.time < clock → TimesBelow clock slots → TimesBelow clock (slots_after slots e)
 TimesBelow-after {K} clock slots e low below = All-set (λ (s : SlotOf K). s.time < clock) slots (e.time % length slots) (slot_after (slot_for slots e.time) e) low below
 
 -- an entry where there is a place for it leaves at most k of each time
-pub EachAtMost-after : {K : Type 0} (k : ℕ) (slots : List (SlotOf K)) (e : Timed K) → count_in slots e.time < k → EachAtMost k slots → EachAtMost k (slots_after slots e)
-EachAtMost-after {K} k slots e free each = All-set (λ (s : SlotOf K). length s.held ≤ k) slots (e.time % length slots) (slot_after (slot_for slots e.time) e) (omega (arith, length-append (held_of (slot_for slots e.time) e.time) (e.what ∷ []))) each
+pub EachAtMost-after : {K : Type 0} (k : ℕ) (slots : List (SlotOf K)) (e : TimedEntry K) → count_in slots e.time < k → EachAtMost k slots → EachAtMost k (slots_after slots e)
+EachAtMost-after {K} k slots e free each = All-set (λ (s : SlotOf K). length s.held ≤ k) slots (e.time % length slots) (slot_after (slot_for slots e.time) e) (omega (arith, length-append (held_of (slot_for slots e.time) e.time) (e.key ∷ []))) each
 
 -- no slot of no entries holds any
 pub EachAtMost-none : {K : Type 0} (n k : ℕ) → EachAtMost {K = K} k (slots_of n [])
@@ -81,7 +81,7 @@ slot_for-map show items i t slot within place at =
     ap (λ n. get_or (map show items) (t % n) empty_slot) (length-map items show) ∙ ap (λ k. get_or (map show items) k empty_slot) (sym place) ∙ get_or-map show items i slot empty_slot within ∙ sym (ap show at)
 
 -- the slots after one of them was written
-pub slots_after-map : {S K : Type 0} (show : S → SlotOf K) (items : List S) (i : ℕ) (e : Timed K) (slot after : S) → i < length items → i ≡ e.time % length items → slot ≡ get_or items i slot → show after ≡ slot_after (show slot) e
+pub slots_after-map : {S K : Type 0} (show : S → SlotOf K) (items : List S) (i : ℕ) (e : TimedEntry K) (slot after : S) → i < length items → i ≡ e.time % length items → slot ≡ get_or items i slot → show after ≡ slot_after (show slot) e
     → map show (set items i after) ≡ slots_after (map show items) e
 slots_after-map show items i e slot after within place at becomes =
     map-set show items i after ∙ ap (set (map show items) i) (becomes ∙ ap (λ s. slot_after s e) (sym (slot_for-map show items i e.time slot within place at)))

@@ -8,8 +8,8 @@ abbrev pub same_id : ℕ → ℕ → Bool
 same_id a b = a == b
 
 -- a slot of IDs
-abbrev pub shown_ids : IdSlot → SlotOf ℕ
-shown_ids s = record { time = s.time; held = s.ids.items }
+abbrev pub id_slot_view : IdSlot → SlotOf ℕ
+id_slot_view s = record { time = s.time; held = s.ids.items }
 
 -- how many more IDs a slot takes without memory
 abbrev pub room_in_ids : IdSlot → ℕ

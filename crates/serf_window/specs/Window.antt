@@ -8,9 +8,9 @@ use Rattle.serf_window.specs.declared.verdict.Verdict.{Verdict}
 use Rattle.serf_window.specs.declared.verdict.Verdict.TheVariants.{BelowMinimum, TooOld, Seen, TimeFull, New}
 
 -- Something that was entered, and its time.
-pub record Timed (K : Type 0) : Type 0 where
+pub record TimedEntry (K : Type 0) : Type 0 where
   pub time : ℕ
-  pub what : K
+  pub key : K
 
 -- A slot: the time that it holds, and what was entered at that time, in order (`serf.go`, `userEvents` and
 -- `queries`). One that nothing was entered into has the time 0.
@@ -32,36 +32,36 @@ IsBadSize n = (n ≡ 0) ⊎ (65536 < n)
 -- What entries are held in slots
 
 -- the greatest time of these entries, and 0 where there are none
-abbrev pub greatest_time : {K : Type 0} → List (Timed K) → ℕ
+abbrev pub greatest_time : {K : Type 0} → List (TimedEntry K) → ℕ
 greatest_time [] = 0
 greatest_time (e ∷ es) = max e.time (greatest_time es)
 
 -- what was entered at a time, in order
-abbrev pub held_at : {K : Type 0} → ℕ → List (Timed K) → List K
-held_at t es = map (λ e. e.what) (filter (λ e. e.time == t) es)
+abbrev pub held_at : {K : Type 0} → ℕ → List (TimedEntry K) → List K
+held_at t es = map (λ e. e.key) (filter (λ e. e.time == t) es)
 
 -- the entries whose time is i modulo n
-abbrev pub entries_of : {K : Type 0} → ℕ → ℕ → List (Timed K) → List (Timed K)
+abbrev pub entries_of : {K : Type 0} → ℕ → ℕ → List (TimedEntry K) → List (TimedEntry K)
 entries_of n i es = filter (λ e. e.time % n == i) es
 
 -- the slot i of n: of the entries whose time is i modulo n, those of the greatest such time, in order
-abbrev pub slot_of : {K : Type 0} → ℕ → List (Timed K) → ℕ → SlotOf K
+abbrev pub slot_of : {K : Type 0} → ℕ → List (TimedEntry K) → ℕ → SlotOf K
 slot_of n es i =
     let t = greatest_time (entries_of n i es) in
     record { time = t; held = held_at t (entries_of n i es) }
 
 -- the n slots of these entries
-abbrev pub slots_of : {K : Type 0} → ℕ → List (Timed K) → List (SlotOf K)
+abbrev pub slots_of : {K : Type 0} → ℕ → List (TimedEntry K) → List (SlotOf K)
 slots_of n es = map (slot_of n es) (range_with_len 0 n)
 
 -- What is decided of an offer, by all that was ever entered
 
 -- whether this was entered at this time
-abbrev pub was_entered : {K : Type 0} → (K → K → Bool) → List (Timed K) → ℕ → K → Bool
-was_entered same es t what = list_any (λ e. (e.time == t) && same e.what what) es
+abbrev pub was_entered : {K : Type 0} → (K → K → Bool) → List (TimedEntry K) → ℕ → K → Bool
+was_entered same es t what = list_any (λ e. (e.time == t) && same e.key what) es
 
 -- how many were entered at this time
-abbrev pub count_at : {K : Type 0} → List (Timed K) → ℕ → ℕ
+abbrev pub count_at : {K : Type 0} → List (TimedEntry K) → ℕ → ℕ
 count_at es t = length (held_at t es)
 
 -- The verdict on what is offered with the time t, where n is the number of slots, k the number of entries of one
@@ -71,7 +71,7 @@ count_at es t = length (held_at t es)
 -- Seen: the same was entered at this time.
 -- TimeFull, a rule of this project's own: k were entered at this time.
 -- Else it is New.
-abbrev pub verdict_of : {K : Type 0} → (K → K → Bool) → ℕ → ℕ → List (Timed K) → ℕ → ℕ → ℕ → K → Verdict
+abbrev pub verdict_of : {K : Type 0} → (K → K → Bool) → ℕ → ℕ → List (TimedEntry K) → ℕ → ℕ → ℕ → K → Verdict
 verdict_of same n k es clock minimum t what =
     if nat_lt t minimum then BelowMinimum else
     if nat_lt (t + n) clock then TooOld else
@@ -105,11 +105,11 @@ abbrev pub room_for : {K : Type 0} → WindowOf K → ℕ → ℕ
 room_for w t = slice_index w.rooms (t % length w.slots)
 
 -- the slot after an entry: it goes on with the entry's time, or begins anew with it
-abbrev pub slot_after : {K : Type 0} → SlotOf K → Timed K → SlotOf K
-slot_after slot e = record { time = e.time; held = held_of slot e.time ++ e.what ∷ [] }
+abbrev pub slot_after : {K : Type 0} → SlotOf K → TimedEntry K → SlotOf K
+slot_after slot e = record { time = e.time; held = held_of slot e.time ++ e.key ∷ [] }
 
 -- the slots after an entry
-abbrev pub slots_after : {K : Type 0} → List (SlotOf K) → Timed K → List (SlotOf K)
+abbrev pub slots_after : {K : Type 0} → List (SlotOf K) → TimedEntry K → List (SlotOf K)
 slots_after slots e = slice_set slots (e.time % length slots) (slot_after (slot_for slots e.time) e)
 
 -- each slot's time is below the clock

@@ -2,15 +2,15 @@
 
 ghost use Rattle.std.specs.Prelude.{◌≡◌, ◌≢◌, ℕ, ◌<◌, ◌≤◌, ◌*◌, ◌%◌, ◌^◌, ◌↔◌, ◌⊎◌, List, [], ◌∷◌, ◌++◌, map, length, sum_by, OnOk, OnErr, IfOk, IsErrOf, vec_len};
 ghost use Rattle.std.specs.List.{list_any};
-ghost use Rattle.serf_wire.specs.declared.texts.EventText.{EventText};
+ghost use Rattle.serf_wire.specs.declared.texts.EventBody.{EventBody};
 ghost use Rattle.serf_window.specs.OneSlot.{slot_verdict};
-ghost use Rattle.serf_window.specs.Texts.{event_of, same_texts, shown};
-ghost use Rattle.serf_window.specs.Window.{IsBadSize, IsWindow, TimesBelow, Timed, count_in, empty_slot, held_count, room_for, slot_after, slots_after, slots_of, time_in, verdict_of};
+ghost use Rattle.serf_window.specs.Texts.{event_of, same_texts, slot_view};
+ghost use Rattle.serf_window.specs.Window.{IsBadSize, IsWindow, TimesBelow, TimedEntry, count_in, empty_slot, held_count, room_for, slot_after, slots_after, slots_of, time_in, verdict_of};
 
 use crate::place::place_of;
-use crate::verdict::{MAX_SIZE, NewWindowFault, Verdict};
+use crate::verdict::{MAX_PER_TIME, MAX_SLOTS, NewWindowFault, Verdict};
 use serf_lamport::Time;
-use serf_wire::{Bytes, EventText, EventTexts, Slot};
+use serf_wire::{Bytes, EventBodies, EventBody, Slot};
 use std::alloc::{AllocError, Global};
 use std::marker::Model;
 
@@ -18,16 +18,16 @@ use std::marker::Model;
 #[derive(Debug, Drop)]
 pub struct Entry {
     time: Time,
-    event: EventText,
+    event: EventBody,
 }
 
 impl Model for Entry {
-    ghost use Rattle.serf_wire.specs.declared.texts.EventText.{EventText};
-    ghost use Rattle.serf_window.specs.Window.{Timed};
+    ghost use Rattle.serf_wire.specs.declared.texts.EventBody.{EventBody};
+    ghost use Rattle.serf_window.specs.Window.{TimedEntry};
 
-    ghost Value = { Timed EventText };
+    ghost Value = { TimedEntry EventBody };
 
-    ghost view = { λ e. record { time = e.time; what = e.event } };
+    ghost view = { λ e. record { time = e.time; key = e.event } };
 }
 
 /// The events of the last times, in N slots by time modulo N, at most K of one time.
@@ -42,21 +42,21 @@ pub struct EventWindow {
 impl Model for EventWindow {
     ghost use Rattle.std.specs.Prelude.{map};
     ghost use Rattle.std.specs.Vec.{vec_len};
-    ghost use Rattle.serf_wire.specs.declared.texts.EventText.{EventText};
+    ghost use Rattle.serf_wire.specs.declared.texts.EventBody.{EventBody};
     ghost use Rattle.serf_window.specs.Window.{IsWindow, WindowOf};
 
-    ghost Value = { WindowOf EventText };
+    ghost Value = { WindowOf EventBody };
 
-    ghost use Rattle.serf_window.specs.Texts.{shown, room_in};
+    ghost use Rattle.serf_window.specs.Texts.{slot_view, room_in};
 
-    ghost view = { λ w. record { slots = map shown w.slots.items; rooms = map room_in w.slots.items; per_time = w.per_time } };
+    ghost view = { λ w. record { slots = map slot_view w.slots.items; rooms = map room_in w.slots.items; per_time = w.per_time } };
 
-    ghost invariant = { λ w. IsWindow (vec_len w.slots) w.per_time (map shown w.slots.items) };
+    ghost invariant = { λ w. IsWindow (vec_len w.slots) w.per_time (map slot_view w.slots.items) };
 }
 
 /// Whether an event has this name and this payload. The lengths and the payload, which mostly differ, come
 /// first.
-fn has_texts(event: &EventText, name: &[u8], payload: &[u8]) -> bool
+fn has_texts(event: &EventBody, name: &[u8], payload: &[u8]) -> bool
     ensures { result ≡ same_texts event.now (event_of name.now payload.now) }
 {
     let own_name = event.name.as_slice();
@@ -68,7 +68,7 @@ fn has_texts(event: &EventText, name: &[u8], payload: &[u8]) -> bool
 }
 
 /// Whether one of the events has this name and this payload.
-fn is_among(events: &[EventText], name: &[u8], payload: &[u8]) -> bool
+fn is_among(events: &[EventBody], name: &[u8], payload: &[u8]) -> bool
     ensures { result ≡ list_any (λ e. same_texts e (event_of name.now payload.now)) events.now }
 {
     events.iter().any(|event| has_texts(event, name, payload))
@@ -76,7 +76,7 @@ fn is_among(events: &[EventText], name: &[u8], payload: &[u8]) -> bool
 
 /// The verdict of the slot of an event's time, where that time isn't below the minimum, nor too old.
 fn verdict_in(slot: &Slot, per_time: u64, time: Time, name: &[u8], payload: &[u8]) -> Verdict
-    ensures { result ≡ slot_verdict same_texts per_time (shown slot.now) time (event_of name.now payload.now) }
+    ensures { result ≡ slot_verdict same_texts per_time (slot_view slot.now) time (event_of name.now payload.now) }
 {
     let held = slot.time.get();
     let events = slot.events.as_slice();
@@ -94,10 +94,10 @@ fn verdict_in(slot: &Slot, per_time: u64, time: Time, name: &[u8], payload: &[u8
 }
 
 /// Takes an event into the slot of its time. A slot of an older time begins anew, and keeps its memory.
-fn take_in(slot: &mut Slot, time: Time, event: EventText)
+fn take_in(slot: &mut Slot, time: Time, event: EventBody)
     requires room { 0 < slot.old.events.room }
     requires not_later { slot.old.time ≤ time }
-    ensures { shown slot.new ≡ slot_after (shown slot.old) (record { time = time; what = event }) }
+    ensures { slot_view slot.new ≡ slot_after (slot_view slot.old) (record { time = time; key = event }) }
 {
     if slot.time.get() < time.get() {
         slot.events.clear();
@@ -119,21 +119,21 @@ fn count_held(slots: &[Slot]) -> u64
 
 /// A slot that holds nothing.
 fn empty_slot(alloc: Global) -> Slot
-    ensures { shown result ≡ empty_slot }
+    ensures { slot_view result ≡ empty_slot }
 {
     let Some(time) = Time::new(0) else {
         unreachable!()
     };
     Slot {
         time,
-        events: EventTexts::new(alloc),
+        events: EventBodies::new(alloc),
     }
 }
 
 /// The slots of a window that holds nothing.
 fn empty_slots(alloc: Global, n: u64) -> Result<Vec<Slot>, AllocError>
     ensures size { IfOk result (λ slots. vec_len slots ≡ n) }
-    ensures empty { IfOk result (λ slots. map shown slots.items ≡ slots_of n []) }
+    ensures empty { IfOk result (λ slots. map slot_view slots.items ≡ slots_of n []) }
 {
     let mut slots = Vec::with_capacity(alloc, n as usize)?;
     for _ in 0..n {
@@ -143,18 +143,18 @@ fn empty_slots(alloc: Global, n: u64) -> Result<Vec<Slot>, AllocError>
 }
 
 impl EventWindow {
-    /// A window of n empty slots, which takes k events of one time at most. `BadSize` where n or k is 0 or
-    /// above 65,536, and `OutOfMemory` where there is no memory for the slots.
-    pub fn new(alloc: Global, n: u64, k: u64) -> Result<Self, NewWindowFault>
-        ensures slots { IfOk result (λ window. window.slots ≡ slots_of n []) }
-        ensures per_time { IfOk result (λ window. window.per_time ≡ k) }
-        ensures bad { IsErrOf result NewWindowFault.BadSize ↔ (IsBadSize n ⊎ IsBadSize k) }
+    /// A window of `slot_count` empty slots, which takes `per_time` events of one time at most. `BadSize` where one
+    /// of the two is 0 or above 65,536, and `OutOfMemory` where there is no memory for the slots.
+    pub fn new(alloc: Global, slot_count: u64, per_time: u64) -> Result<Self, NewWindowFault>
+        ensures slots { IfOk result (λ window. window.slots ≡ slots_of slot_count []) }
+        ensures per_time { IfOk result (λ window. window.per_time ≡ per_time) }
+        ensures bad { IsErrOf result NewWindowFault.BadSize ↔ (IsBadSize slot_count ⊎ IsBadSize per_time) }
     {
-        if n == 0 || n > MAX_SIZE || k == 0 || k > MAX_SIZE {
+        if slot_count == 0 || slot_count > MAX_SLOTS || per_time == 0 || per_time > MAX_PER_TIME {
             return Err(NewWindowFault::BadSize);
         }
-        let slots = empty_slots(alloc, n).map_err(|_| NewWindowFault::OutOfMemory)?;
-        Ok(EventWindow { slots, per_time: k })
+        let slots = empty_slots(alloc, slot_count).map_err(|_| NewWindowFault::OutOfMemory)?;
+        Ok(EventWindow { slots, per_time })
     }
 
     /// The verdict on an event, by all that was ever entered, though the window holds the last of it alone.
@@ -169,7 +169,7 @@ impl EventWindow {
         name: &[u8],
         payload: &[u8],
     ) -> Verdict
-        ensures verdict { (entries : List (Timed EventText)) → self.now.slots ≡ slots_of (length self.now.slots) entries
+        ensures verdict { (entries : List (TimedEntry EventBody)) → self.now.slots ≡ slots_of (length self.now.slots) entries
             → time < clock_after → TimesBelow clock_after self.now.slots
             → result ≡ verdict_of same_texts (length self.now.slots) self.now.per_time entries clock_after minimum time (event_of name.now payload.now) }
 
@@ -196,7 +196,7 @@ impl EventWindow {
         name: &[u8],
         payload: &[u8],
     ) -> Result<Entry, AllocError>
-        ensures entry { IfOk result (λ entry. entry ≡ record { time = time; what = event_of name.now payload.now }) }
+        ensures entry { IfOk result (λ entry. entry ≡ record { time = time; key = event_of name.now payload.now }) }
         ensures room { OnOk result (0 < room_for self.new time) }
         ensures slots { self.new.slots ≡ self.old.slots }
         ensures per_time { self.new.per_time ≡ self.old.per_time }
@@ -210,7 +210,7 @@ impl EventWindow {
         slot.events.make_room()?;
         Ok(Entry {
             time,
-            event: EventText { name, payload },
+            event: EventBody { name, payload },
         })
     }
 
@@ -221,7 +221,7 @@ impl EventWindow {
         requires not_later { time_in self.old.slots entry.time ≤ entry.time }
         requires not_full { count_in self.old.slots entry.time < self.old.per_time }
 
-        ensures slots { (entries : List (Timed EventText)) → self.old.slots ≡ slots_of (length self.old.slots) entries
+        ensures slots { (entries : List (TimedEntry EventBody)) → self.old.slots ≡ slots_of (length self.old.slots) entries
             → self.new.slots ≡ slots_of (length self.old.slots) (entries ++ entry ∷ []) }
         ensures after { self.new.slots ≡ slots_after self.old.slots entry }
         ensures below { (clock : ℕ) → entry.time < clock → TimesBelow clock self.old.slots → TimesBelow clock self.new.slots }
@@ -236,7 +236,7 @@ impl EventWindow {
 
     /// All N slots, in order. Takes no memory.
     pub fn slots(&self) -> &[Slot]
-        ensures slots { map shown result.now ≡ self.now.slots }
+        ensures slots { map slot_view result.now ≡ self.now.slots }
         ensures bounds { IsWindow (length self.now.slots) self.now.per_time self.now.slots }
     {
         self.slots.as_slice()

@@ -21,4 +21,4 @@ pub use events::{Entry, EventWindow};
 pub use ids::{IdSlot, Ids};
 pub use laws::slot_laws;
 pub use queries::{IdEntry, QueryWindow};
-pub use verdict::{MAX_SIZE, NewWindowFault, Verdict};
+pub use verdict::{MAX_PER_TIME, MAX_SLOTS, NewWindowFault, Verdict};

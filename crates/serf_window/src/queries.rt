@@ -3,12 +3,12 @@
 ghost use Rattle.std.specs.Prelude.{◌≡◌, ◌≢◌, ℕ, ◌<◌, ◌≤◌, ◌*◌, ◌%◌, ◌^◌, ◌↔◌, ◌⊎◌, List, [], ◌∷◌, ◌++◌, map, length, sum_by, OnOk, OnErr, IfOk, IsErrOf, vec_len};
 ghost use Rattle.std.specs.List.{list_any};
 ghost use Rattle.serf_window.specs.OneSlot.{slot_verdict};
-ghost use Rattle.serf_window.specs.Queries.{same_id, shown_ids};
-ghost use Rattle.serf_window.specs.Window.{IsBadSize, IsWindow, TimesBelow, Timed, count_in, empty_slot, held_count, room_for, slot_after, slots_after, slots_of, time_in, verdict_of};
+ghost use Rattle.serf_window.specs.Queries.{same_id, id_slot_view};
+ghost use Rattle.serf_window.specs.Window.{IsBadSize, IsWindow, TimesBelow, TimedEntry, count_in, empty_slot, held_count, room_for, slot_after, slots_after, slots_of, time_in, verdict_of};
 
 use crate::ids::{IdSlot, Ids};
 use crate::place::place_of;
-use crate::verdict::{MAX_SIZE, NewWindowFault, Verdict};
+use crate::verdict::{MAX_PER_TIME, MAX_SLOTS, NewWindowFault, Verdict};
 use serf_lamport::Time;
 use std::alloc::{AllocError, Global};
 use std::marker::Model;
@@ -22,11 +22,11 @@ pub struct IdEntry {
 
 impl Model for IdEntry {
     ghost use Rattle.std.specs.Prelude.{ℕ};
-    ghost use Rattle.serf_window.specs.Window.{Timed};
+    ghost use Rattle.serf_window.specs.Window.{TimedEntry};
 
-    ghost Value = { Timed ℕ };
+    ghost Value = { TimedEntry ℕ };
 
-    ghost view = { λ e. record { time = e.time; what = e.id } };
+    ghost view = { λ e. record { time = e.time; key = e.id } };
 }
 
 /// The queries of the last times, in N slots by time modulo N, at most K of one time. A query is known by its
@@ -46,11 +46,11 @@ impl Model for QueryWindow {
 
     ghost Value = { WindowOf ℕ };
 
-    ghost use Rattle.serf_window.specs.Queries.{shown_ids, room_in_ids};
+    ghost use Rattle.serf_window.specs.Queries.{id_slot_view, room_in_ids};
 
-    ghost view = { λ w. record { slots = map shown_ids w.slots.items; rooms = map room_in_ids w.slots.items; per_time = w.per_time } };
+    ghost view = { λ w. record { slots = map id_slot_view w.slots.items; rooms = map room_in_ids w.slots.items; per_time = w.per_time } };
 
-    ghost invariant = { λ w. IsWindow (vec_len w.slots) w.per_time (map shown_ids w.slots.items) };
+    ghost invariant = { λ w. IsWindow (vec_len w.slots) w.per_time (map id_slot_view w.slots.items) };
 }
 
 /// Whether one of the IDs is this one.
@@ -62,7 +62,7 @@ fn is_among(ids: &[u32], id: u32) -> bool
 
 /// The verdict of the slot of a query's time, where that time isn't below the minimum, nor too old.
 fn verdict_in(slot: &IdSlot, per_time: u64, time: Time, id: u32) -> Verdict
-    ensures { result ≡ slot_verdict same_id per_time (shown_ids slot.now) time id }
+    ensures { result ≡ slot_verdict same_id per_time (id_slot_view slot.now) time id }
 {
     let held = slot.time.get();
     let ids = slot.ids.as_slice();
@@ -83,7 +83,7 @@ fn verdict_in(slot: &IdSlot, per_time: u64, time: Time, id: u32) -> Verdict
 fn take_in(slot: &mut IdSlot, time: Time, id: u32)
     requires room { 0 < slot.old.ids.room }
     requires not_later { slot.old.time ≤ time }
-    ensures { shown_ids slot.new ≡ slot_after (shown_ids slot.old) (record { time = time; what = id }) }
+    ensures { id_slot_view slot.new ≡ slot_after (id_slot_view slot.old) (record { time = time; key = id }) }
 {
     if slot.time.get() < time.get() {
         slot.ids.clear();
@@ -105,7 +105,7 @@ fn count_held(slots: &[IdSlot]) -> u64
 
 /// A slot that holds nothing.
 fn empty_slot(alloc: Global) -> IdSlot
-    ensures { shown_ids result ≡ empty_slot }
+    ensures { id_slot_view result ≡ empty_slot }
 {
     let Some(time) = Time::new(0) else {
         unreachable!()
@@ -119,7 +119,7 @@ fn empty_slot(alloc: Global) -> IdSlot
 /// The slots of a window that holds nothing.
 fn empty_slots(alloc: Global, n: u64) -> Result<Vec<IdSlot>, AllocError>
     ensures size { IfOk result (λ slots. vec_len slots ≡ n) }
-    ensures empty { IfOk result (λ slots. map shown_ids slots.items ≡ slots_of n []) }
+    ensures empty { IfOk result (λ slots. map id_slot_view slots.items ≡ slots_of n []) }
 {
     let mut slots = Vec::with_capacity(alloc, n as usize)?;
     for _ in 0..n {
@@ -129,18 +129,18 @@ fn empty_slots(alloc: Global, n: u64) -> Result<Vec<IdSlot>, AllocError>
 }
 
 impl QueryWindow {
-    /// A window of n empty slots, which takes k queries of one time at most. `BadSize` where n or k is 0 or
-    /// above 65,536, and `OutOfMemory` where there is no memory for the slots.
-    pub fn new(alloc: Global, n: u64, k: u64) -> Result<Self, NewWindowFault>
-        ensures slots { IfOk result (λ window. window.slots ≡ slots_of n []) }
-        ensures per_time { IfOk result (λ window. window.per_time ≡ k) }
-        ensures bad { IsErrOf result NewWindowFault.BadSize ↔ (IsBadSize n ⊎ IsBadSize k) }
+    /// A window of `slot_count` empty slots, which takes `per_time` queries of one time at most. `BadSize` where one
+    /// of the two is 0 or above 65,536, and `OutOfMemory` where there is no memory for the slots.
+    pub fn new(alloc: Global, slot_count: u64, per_time: u64) -> Result<Self, NewWindowFault>
+        ensures slots { IfOk result (λ window. window.slots ≡ slots_of slot_count []) }
+        ensures per_time { IfOk result (λ window. window.per_time ≡ per_time) }
+        ensures bad { IsErrOf result NewWindowFault.BadSize ↔ (IsBadSize slot_count ⊎ IsBadSize per_time) }
     {
-        if n == 0 || n > MAX_SIZE || k == 0 || k > MAX_SIZE {
+        if slot_count == 0 || slot_count > MAX_SLOTS || per_time == 0 || per_time > MAX_PER_TIME {
             return Err(NewWindowFault::BadSize);
         }
-        let slots = empty_slots(alloc, n).map_err(|_| NewWindowFault::OutOfMemory)?;
-        Ok(QueryWindow { slots, per_time: k })
+        let slots = empty_slots(alloc, slot_count).map_err(|_| NewWindowFault::OutOfMemory)?;
+        Ok(QueryWindow { slots, per_time })
     }
 
     /// The verdict on a query, by all that was ever entered, though the window holds the last of it alone.
@@ -148,7 +148,7 @@ impl QueryWindow {
     /// takes. Takes no memory.
     #[inline]
     pub fn offer(&self, clock_after: u64, minimum: u64, time: Time, id: u32) -> Verdict
-        ensures verdict { (entries : List (Timed ℕ)) → self.now.slots ≡ slots_of (length self.now.slots) entries
+        ensures verdict { (entries : List (TimedEntry ℕ)) → self.now.slots ≡ slots_of (length self.now.slots) entries
             → time < clock_after → TimesBelow clock_after self.now.slots
             → result ≡ verdict_of same_id (length self.now.slots) self.now.per_time entries clock_after minimum time id }
 
@@ -169,7 +169,7 @@ impl QueryWindow {
     /// Makes room for a query, so that it enters without memory. What the window holds is unchanged; where
     /// there is no memory, the whole window is.
     pub fn prepare(&mut self, alloc: Global, time: Time, id: u32) -> Result<IdEntry, AllocError>
-        ensures entry { IfOk result (λ entry. entry ≡ record { time = time; what = id }) }
+        ensures entry { IfOk result (λ entry. entry ≡ record { time = time; key = id }) }
         ensures room { OnOk result (0 < room_for self.new time) }
         ensures slots { self.new.slots ≡ self.old.slots }
         ensures per_time { self.new.per_time ≡ self.old.per_time }
@@ -189,7 +189,7 @@ impl QueryWindow {
         requires not_later { time_in self.old.slots entry.time ≤ entry.time }
         requires not_full { count_in self.old.slots entry.time < self.old.per_time }
 
-        ensures slots { (entries : List (Timed ℕ)) → self.old.slots ≡ slots_of (length self.old.slots) entries
+        ensures slots { (entries : List (TimedEntry ℕ)) → self.old.slots ≡ slots_of (length self.old.slots) entries
             → self.new.slots ≡ slots_of (length self.old.slots) (entries ++ entry ∷ []) }
         ensures after { self.new.slots ≡ slots_after self.old.slots entry }
         ensures below { (clock : ℕ) → entry.time < clock → TimesBelow clock self.old.slots → TimesBelow clock self.new.slots }
@@ -204,7 +204,7 @@ impl QueryWindow {
 
     /// All N slots, in order. Takes no memory.
     pub fn slots(&self) -> &[IdSlot]
-        ensures slots { map shown_ids result.now ≡ self.now.slots }
+        ensures slots { map id_slot_view result.now ≡ self.now.slots }
         ensures bounds { IsWindow (length self.now.slots) self.now.per_time self.now.slots }
     {
         self.slots.as_slice()

@@ -5,11 +5,11 @@ use Rattle.serf_pack.specs.Tree.{Tree, nil, pairs}
 use Rattle.serf_pack.specs.Packs.{Packs}
 use Rattle.serf_pack.specs.Canonical.{map_head, raw_bytes, uint_bytes, int_bytes, flag_bytes}
 use Rattle.serf_pack.specs.View.{item_list, pair_list}
-use Rattle.serf_wire.specs.declared.texts.EventText.{EventText}
+use Rattle.serf_wire.specs.declared.texts.EventBody.{EventBody}
 use Rattle.serf_wire.specs.Slots.{SlotContent, empty, held}
 use Rattle.serf_wire.specs.Canonical.{entry, list_bytes, status_bytes, event_bytes, slot_bytes, canonical_event, canonical_query, canonical_response, canonical_push_pull, canonical, without_events, without_empty_slots, is_long, is_long_event, is_long_slot, has_long}
 use Rattle.serf_wire.specs.Message.{Message, UserEvent, Query, QueryResponse, PushPull, user_event, query, query_response, push_pull, foreign}
-use Rattle.serf_wire.specs.Fields.{all, text, time, both, event_text, slot, status_time}
+use Rattle.serf_wire.specs.Fields.{all, text, time, both, event_body, slot, status_time}
 use Rattle.serf_wire.specs.Spells.{IsUserEvent, IsQuery, IsQueryResponse, IsPushPull, SpellsBehind, Spells}
 use Rattle.serf_wire.specs.Ranges.{IsRangedQuery, IsRangedResponse, IsTimed, IsRangedPushPull, InRange}
 use Rattle.serf_wire.proofs.Short.{short, neither, short_query}
@@ -26,20 +26,20 @@ number_entry d name n short lt = record { short = short; is = number_is_part d n
 abbrev event_entries : UserEvent → List Entry
 event_entries e =
     record { name = codes "LTime"; value = number_part e.time } ∷ record { name = codes "Name"; value = text_part e.name } ∷ record { name = codes "Payload"; value = text_part e.payload }
-    ∷ record { name = codes "CC"; value = flag_part e.cc } ∷ []
+    ∷ record { name = codes "CC"; value = flag_part e.coalesce } ∷ []
 
 regroup_four : (h a b c d : List ℕ) → (((h ++ a) ++ b) ++ c) ++ d ≡ h ++ (a ++ (b ++ (c ++ (d ++ []))))
 regroup_four h a b c d = simp (append_assoc, append-nil)
 
 event_fields : (e : UserEvent) → e.time < 18446744073709551615 → (p : ℕ) → IsUserEvent e (pair_list (pairs_from (λ x. x) p (event_entries e)))
-event_fields e lt p = record { keys = (refl, (refl, (refl, (refl, tt)))); time = within 18446744073709551614 e.time (omega arith); name = refl; payload = refl; cc = refl }
+event_fields e lt p = record { keys = (refl, (refl, (refl, (refl, tt)))); time = within 18446744073709551614 e.time (omega arith); name = refl; payload = refl; coalesce = refl }
 
 pub event_spelled : (e : UserEvent) → e.time < 18446744073709551615 → length e.name < 4294967296 → length e.payload < 4294967296 → Spells (user_event e) (canonical_event e)
 event_spelled e time name payload =
-    let are : AllByRecursion (IsEntry 1) (event_entries e) = (number_entry 1 (codes "LTime") e.time (lit< tt) (omega arith), (text_entry 1 (codes "Name") e.name (lit< tt) name, (text_entry 1 (codes "Payload") e.payload (lit< tt) payload, (record { short = lit< tt; is = flag_is_part 1 e.cc }, tt)))) in (
+    let are : AllByRecursion (IsEntry 1) (event_entries e) = (number_entry 1 (codes "LTime") e.time (lit< tt) (omega arith), (text_entry 1 (codes "Name") e.name (lit< tt) name, (text_entry 1 (codes "Payload") e.payload (lit< tt) payload, (record { short = lit< tt; is = flag_is_part 1 e.coalesce }, tt)))) in (
       pairs_from (λ x. x) 1 (event_entries e),
       subst (Packs (pairs 0 (pairs_from (λ x. x) 1 (event_entries e))) 0 0)
-          (sym (regroup_four (map_head 4) (entry (codes "LTime") (uint_bytes e.time)) (entry (codes "Name") (raw_bytes e.name)) (entry (codes "Payload") (raw_bytes e.payload)) (entry (codes "CC") (flag_bytes e.cc))))
+          (sym (regroup_four (map_head 4) (entry (codes "LTime") (uint_bytes e.time)) (entry (codes "Name") (raw_bytes e.name)) (entry (codes "Payload") (raw_bytes e.payload)) (entry (codes "CC") (flag_bytes e.coalesce))))
           (entries_are_part 0 (event_entries e) (lit< tt) are (lit< tt) 0),
       event_fields e time 1,
     )
@@ -170,28 +170,28 @@ query_spelled q g none = (
 both_are : {A B C : Type 0} (make : A → B → C) (o : Option A) (p : Option B) (a : A) (b : B) → o ≡ Some a → p ≡ Some b → both make o p ≡ Some (make a b)
 both_are make o p a b e f = rw (e, f) refl
 
-abbrev text_entries : EventText → List Entry
+abbrev text_entries : EventBody → List Entry
 text_entries e = record { name = codes "Name"; value = text_part e.name } ∷ record { name = codes "Payload"; value = text_part e.payload } ∷ []
 
 regroup_two : (h a b : List ℕ) → (h ++ a) ++ b ≡ h ++ (a ++ (b ++ []))
 regroup_two h a b = simp (append_assoc, append-nil)
 
-abbrev event_part : EventText → Part
+abbrev event_part : EventBody → Part
 event_part e = record { bytes = event_bytes e; tree = (entries_part (text_entries e)).tree }
 
-event_is_part : (d : ℕ) → d < 7 → (e : EventText) → is_long_event e ≡ false → IsPart d (event_part e)
+event_is_part : (d : ℕ) → d < 7 → (e : EventBody) → is_long_event e ≡ false → IsPart d (event_part e)
 event_is_part d room e none = λ p.
     let s = neither _ _ none in
     subst (Packs ((entries_part (text_entries e)).tree p) d p) (sym (regroup_two (map_head 2) (entry (codes "Name") (raw_bytes e.name)) (entry (codes "Payload") (raw_bytes e.payload))))
     (entries_are_part d (text_entries e) (omega arith) (text_entry (d + 1) (codes "Name") e.name (lit< tt) (short _ s.0), (text_entry (d + 1) (codes "Payload") e.payload (lit< tt) (short _ s.1), tt)) (lit< tt) p)
 
-event_read : (e : EventText) (p : ℕ) → event_text ((event_part e).tree p) ≡ Some e
+event_read : (e : EventBody) (p : ℕ) → event_body ((event_part e).tree p) ≡ Some e
 event_read e p = refl
 
-events_read : (es : List EventText) (p : ℕ) → all event_text (item_list (items_from event_part p es)) ≡ Some es
-events_read es p = all_read event_text event_part (λ e. e) (λ e. Unit {0}) (λ e u q. event_read e q) es (all_true es) p ∙ ap (λ us. Some us) (map_same es)
+events_read : (es : List EventBody) (p : ℕ) → all event_body (item_list (items_from event_part p es)) ≡ Some es
+events_read es p = all_read event_body event_part (λ e. e) (λ e. Unit {0}) (λ e u q. event_read e q) es (all_true es) p ∙ ap (λ us. Some us) (map_same es)
 
-abbrev slot_entries : ℕ → List EventText → List Entry
+abbrev slot_entries : ℕ → List EventBody → List Entry
 slot_entries t es = record { name = codes "LTime"; value = number_part t } ∷ record { name = codes "Events"; value = array_part event_part es } ∷ []
 
 abbrev slot_tree : SlotContent → ℕ → Tree
@@ -234,8 +234,8 @@ status_read (p ∷ ps) times q =
 
 abbrev push_pull_entries : PushPull → List Entry
 push_pull_entries m =
-    record { name = codes "LTime"; value = number_part m.member } ∷ record { name = codes "StatusLTimes"; value = map_part status_entry m.status } ∷ record { name = codes "LeftMembers"; value = array_part text_part m.left }
-    ∷ record { name = codes "EventLTime"; value = number_part m.event } ∷ record { name = codes "Events"; value = array_part slot_part m.slots } ∷ record { name = codes "QueryLTime"; value = number_part m.query } ∷ []
+    record { name = codes "LTime"; value = number_part m.member_clock } ∷ record { name = codes "StatusLTimes"; value = map_part status_entry m.status } ∷ record { name = codes "LeftMembers"; value = array_part text_part m.left }
+    ∷ record { name = codes "EventLTime"; value = number_part m.event_clock } ∷ record { name = codes "Events"; value = array_part slot_part m.slots } ∷ record { name = codes "QueryLTime"; value = number_part m.query_clock } ∷ []
 
 regroup_six : (h a b c d e f : List ℕ) → (((((h ++ a) ++ b) ++ c) ++ d) ++ e) ++ f ≡ h ++ (a ++ (b ++ (c ++ (d ++ (e ++ (f ++ []))))))
 regroup_six h a b c d e f = simp (append_assoc, append-nil)
@@ -243,12 +243,12 @@ regroup_six h a b c d e f = simp (append_assoc, append-nil)
 push_pull_fields : (m : PushPull) → IsRangedPushPull m → (p : ℕ) → IsPushPull (record m { slots = map without_events m.slots }) (pair_list (pairs_from (λ x. x) p (push_pull_entries m)))
 push_pull_fields m g p = record {
   keys = (refl, (refl, (refl, (refl, (refl, (refl, tt))))));
-  member = within 0xffff_ffff_ffff_ffff m.member (omega (arith, g.member));
+  member_clock = within 0xffff_ffff_ffff_ffff m.member_clock (omega (arith, g.member_clock));
   status = status_read m.status g.status _;
   left = texts_read m.left _;
-  event = within 0xffff_ffff_ffff_ffff m.event (omega (arith, g.event));
+  event_clock = within 0xffff_ffff_ffff_ffff m.event_clock (omega (arith, g.event_clock));
   slots = all_read slot slot_part without_events IsTimed slot_read m.slots g.slots _;
-  query = within 0xffff_ffff_ffff_ffff m.query (omega (arith, g.query));
+  query_clock = within 0xffff_ffff_ffff_ffff m.query_clock (omega (arith, g.query_clock));
 }
 
 record IsShortPushPull (m : PushPull) : Type 0 where
@@ -272,28 +272,28 @@ short_push_pull m none =
 push_pull_are : (m : PushPull) → IsRangedPushPull m → has_long (push_pull m) ≡ false → AllByRecursion (IsEntry 1) (push_pull_entries m)
 push_pull_are m g none =
     let s = short_push_pull m none in (
-      number_entry 1 (codes "LTime") m.member (lit< tt) (omega (arith, g.member)),
+      number_entry 1 (codes "LTime") m.member_clock (lit< tt) (omega (arith, g.member_clock)),
       (
         record { short = lit< tt; is = status_is_part m.status g.status s.names s.status },
         (
           record { short = lit< tt; is = texts_are_part 1 m.left (lit< tt) s.each s.left },
           (
-            number_entry 1 (codes "EventLTime") m.event (lit< tt) (omega (arith, g.event)),
+            number_entry 1 (codes "EventLTime") m.event_clock (lit< tt) (omega (arith, g.event_clock)),
             (
               record { short = lit< tt; is = array_is_part 1 slot_part (λ x. (is_long_slot x ≡ false) × IsTimed x) (lit< tt) slot_is_part m.slots (both_all _ _ m.slots (none_all is_long_slot m.slots s.contents) g.slots) s.slots },
-              (number_entry 1 (codes "QueryLTime") m.query (lit< tt) (omega (arith, g.query)), tt),
+              (number_entry 1 (codes "QueryLTime") m.query_clock (lit< tt) (omega (arith, g.query_clock)), tt),
             ),
           ),
         ),
       ),
     )
 
-push_pull_regrouped : (m : PushPull) → (entries_part (push_pull_entries m)).bytes ≡ map_head 6 ++ entry (codes "LTime") (uint_bytes m.member) ++ entry (codes "StatusLTimes") (status_bytes m.status)
-    ++ entry (codes "LeftMembers") (list_bytes raw_bytes m.left) ++ entry (codes "EventLTime") (uint_bytes m.event) ++ entry (codes "Events") (list_bytes slot_bytes m.slots)
-    ++ entry (codes "QueryLTime") (uint_bytes m.query)
+push_pull_regrouped : (m : PushPull) → (entries_part (push_pull_entries m)).bytes ≡ map_head 6 ++ entry (codes "LTime") (uint_bytes m.member_clock) ++ entry (codes "StatusLTimes") (status_bytes m.status)
+    ++ entry (codes "LeftMembers") (list_bytes raw_bytes m.left) ++ entry (codes "EventLTime") (uint_bytes m.event_clock) ++ entry (codes "Events") (list_bytes slot_bytes m.slots)
+    ++ entry (codes "QueryLTime") (uint_bytes m.query_clock)
 push_pull_regrouped m =
-    sym (regroup_six (map_head 6) (entry (codes "LTime") (uint_bytes m.member)) (entry (codes "StatusLTimes") (status_bytes m.status)) (entry (codes "LeftMembers") (list_bytes raw_bytes m.left)) (entry (codes "EventLTime") (uint_bytes m.event))
-    (entry (codes "Events") (list_bytes slot_bytes m.slots)) (entry (codes "QueryLTime") (uint_bytes m.query)))
+    sym (regroup_six (map_head 6) (entry (codes "LTime") (uint_bytes m.member_clock)) (entry (codes "StatusLTimes") (status_bytes m.status)) (entry (codes "LeftMembers") (list_bytes raw_bytes m.left)) (entry (codes "EventLTime") (uint_bytes m.event_clock))
+    (entry (codes "Events") (list_bytes slot_bytes m.slots)) (entry (codes "QueryLTime") (uint_bytes m.query_clock)))
 
 pub push_pull_spelled : (m : PushPull) → IsRangedPushPull m → has_long (push_pull m) ≡ false → Spells (without_empty_slots (push_pull m)) (canonical_push_pull m)
 push_pull_spelled m g none = (

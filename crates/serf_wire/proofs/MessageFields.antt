@@ -6,18 +6,18 @@ use Rattle.serf_wire.specs.declared.layout.Layout.TheVariants as layouts
 use Rattle.serf_wire.specs.declared.layout.Kind.{Kind}
 use Rattle.serf_wire.specs.declared.layout.Kind.TheVariants as kinds
 use Rattle.serf_wire.specs.Layout.{fields_of, kind_in}
-use Rattle.serf_wire.specs.Fields.{field, sole, values_of, text, truth, number, time, signed, list, status, both, event_text, slot}
+use Rattle.serf_wire.specs.Fields.{field, sole, values_of, text, truth, number, time, signed, list, status, both, event_body, slot}
 use Rattle.serf_wire.specs.Faults.{value_faults, faults_behind, map_faults}
 use Rattle.serf_wire.specs.Message.{UserEvent, Query, QueryResponse, PushPull}
-use Rattle.serf_wire.specs.Lookups.{value_at, text_in, truth_in, number_in, time_in, signed_in, list_in, status_in, event_text_in, slot_in}
+use Rattle.serf_wire.specs.Lookups.{value_at, text_in, truth_in, number_in, time_in, signed_in, list_in, status_in, event_body_in, slot_in}
 use Rattle.serf_wire.specs.Reading.{event_in, query_in, response_in, push_pull_in}
 use Rattle.serf_wire.specs.Spells.{IsUserEvent, IsQuery, IsQueryResponse, IsPushPull, HasRawKeys}
-use Rattle.serf_wire.specs.declared.texts.EventText.{EventText}
+use Rattle.serf_wire.specs.declared.texts.EventBody.{EventBody}
 use Rattle.serf_wire.specs.Slots.{SlotContent, empty, held}
 use Rattle.serf_wire.proofs.Meanings.{IsExact, text_exact, truth_exact, number_exact, time_exact, signed_exact, list_exact, status_exact, map_exact, pairs_value, both_from}
 use Rattle.serf_wire.proofs.Sound.{Pairs, first_is, first_sound, raw_keys, IsSole, clean, each_known}
 
-nil_clean : (room : ℕ) (k : Kind) (q : ℕ) → value_faults room k (nil q) ≡ []
+nil_clean : (depth_left : ℕ) (k : Kind) (q : ℕ) → value_faults depth_left k (nil q) ≡ []
 nil_clean zero kinds.Time q = refl
 nil_clean zero (kinds.Natural max) q = refl
 nil_clean zero kinds.Signed q = refl
@@ -26,26 +26,26 @@ nil_clean zero kinds.Flag q = refl
 nil_clean zero kinds.Texts q = refl
 nil_clean zero kinds.Status q = refl
 nil_clean zero (kinds.Maps layout) q = refl
-nil_clean (suc room) kinds.Time q = refl
-nil_clean (suc room) (kinds.Natural max) q = refl
-nil_clean (suc room) kinds.Signed q = refl
-nil_clean (suc room) kinds.Text q = refl
-nil_clean (suc room) kinds.Flag q = refl
-nil_clean (suc room) kinds.Texts q = refl
-nil_clean (suc room) kinds.Status q = refl
-nil_clean (suc room) (kinds.Maps layout) q = refl
+nil_clean (suc depth_left) kinds.Time q = refl
+nil_clean (suc depth_left) (kinds.Natural max) q = refl
+nil_clean (suc depth_left) kinds.Signed q = refl
+nil_clean (suc depth_left) kinds.Text q = refl
+nil_clean (suc depth_left) kinds.Flag q = refl
+nil_clean (suc depth_left) kinds.Texts q = refl
+nil_clean (suc depth_left) kinds.Status q = refl
+nil_clean (suc depth_left) (kinds.Maps layout) q = refl
 
 -- the field of this name, in a map without faults
-pub field_there : {A : Type 0} (meaning : Tree → Option A) (value : Tree → A) (room : ℕ) (k : Kind) → IsExact meaning value (value_faults room k) → (layout : Layout) (name : List ℕ) → kind_in name (fields_of layout) ≡ Some k
-    → (ps : Pairs) → faults_behind (value_faults room) layout [] ps ≡ [] → field meaning name ps ≡ Some (value (value_at name ps))
-field_there meaning value room k exact layout name known ps none =
-    first_is (value_faults room) layout name k known meaning [] ps none ∙ exact.there (value_at name ps) (first_sound (value_faults room) layout name k known [] ps (nil_clean room k) none)
+pub field_there : {A : Type 0} (meaning : Tree → Option A) (value : Tree → A) (depth_left : ℕ) (k : Kind) → IsExact meaning value (value_faults depth_left k) → (layout : Layout) (name : List ℕ) → kind_in name (fields_of layout) ≡ Some k
+    → (ps : Pairs) → faults_behind (value_faults depth_left) layout [] ps ≡ [] → field meaning name ps ≡ Some (value (value_at name ps))
+field_there meaning value depth_left k exact layout name known ps none =
+    first_is (value_faults depth_left) layout name k known meaning [] ps none ∙ exact.there (value_at name ps) (first_sound (value_faults depth_left) layout name k known [] ps (nil_clean depth_left k) none)
 
 -- a field that is there has one sound value at most
-pub sole_there : {A : Type 0} (meaning : Tree → Option A) (value : Tree → A) (room : ℕ) (k : Kind) → IsExact meaning value (value_faults room k) → (vs : List Tree) (x : A) → sole meaning vs ≡ Some x → IsSole (value_faults room) k false vs
-sole_there meaning value room k exact [] x e = tt
-sole_there meaning value room k exact (v ∷ []) x e = (exact.sound v x e, refl)
-sole_there meaning value room k exact (v ∷ w ∷ vs) x e = absurd cc
+pub sole_there : {A : Type 0} (meaning : Tree → Option A) (value : Tree → A) (depth_left : ℕ) (k : Kind) → IsExact meaning value (value_faults depth_left k) → (vs : List Tree) (x : A) → sole meaning vs ≡ Some x → IsSole (value_faults depth_left) k false vs
+sole_there meaning value depth_left k exact [] x e = tt
+sole_there meaning value depth_left k exact (v ∷ []) x e = (exact.sound v x e, refl)
+sole_there meaning value depth_left k exact (v ∷ w ∷ vs) x e = absurd cc
 
 pub event_there : (ps : Pairs) → faults_behind (value_faults 2) layouts.UserEvent [] ps ≡ [] → IsUserEvent (event_in ps) ps
 event_there ps none = record {
@@ -53,25 +53,25 @@ event_there ps none = record {
   time = field_there time time_in 2 kinds.Time time_exact layouts.UserEvent (codes "LTime") refl ps none;
   name = field_there text text_in 2 kinds.Text text_exact layouts.UserEvent (codes "Name") refl ps none;
   payload = field_there text text_in 2 kinds.Text text_exact layouts.UserEvent (codes "Payload") refl ps none;
-  cc = field_there truth truth_in 2 kinds.Flag truth_exact layouts.UserEvent (codes "CC") refl ps none;
+  coalesce = field_there truth truth_in 2 kinds.Flag truth_exact layouts.UserEvent (codes "CC") refl ps none;
 }
 
 pub event_clean : (e : UserEvent) (ps : Pairs) → IsUserEvent e ps → faults_behind (value_faults 2) layouts.UserEvent [] ps ≡ []
 event_clean e ps h =
     clean (value_faults 2) layouts.UserEvent [] ps h.keys (each_known (λ n k. IsSole (value_faults 2) k false (values_of n ps)) (fields_of layouts.UserEvent)
-    (sole_there time time_in 2 kinds.Time time_exact _ _ h.time, (sole_there text text_in 2 kinds.Text text_exact _ _ h.name, (sole_there text text_in 2 kinds.Text text_exact _ _ h.payload, (sole_there truth truth_in 2 kinds.Flag truth_exact _ _ h.cc, tt)))))
+    (sole_there time time_in 2 kinds.Time time_exact _ _ h.time, (sole_there text text_in 2 kinds.Text text_exact _ _ h.name, (sole_there text text_in 2 kinds.Text text_exact _ _ h.payload, (sole_there truth truth_in 2 kinds.Flag truth_exact _ _ h.coalesce, tt)))))
 
 of_some : {A : Type 0} (x y : A) → Some x ≡ Some y → x ≡ y
 of_some x y e = cc
 
 same_event : (ps : Pairs) (d e : UserEvent) → IsUserEvent d ps → IsUserEvent e ps → d ≡ e
 same_event ps d e h g =
-    let make : ℕ → List ℕ → List ℕ → Bool → UserEvent = λ t n p c. record { time = t; name = n; payload = p; cc = c } in
+    let make : ℕ → List ℕ → List ℕ → Bool → UserEvent = λ t n p c. record { time = t; name = n; payload = p; coalesce = c } in
     let time : d.time ≡ e.time = of_some _ _ (sym h.time ∙ g.time) in
     let name : d.name ≡ e.name = of_some _ _ (sym h.name ∙ g.name) in
     let payload : d.payload ≡ e.payload = of_some _ _ (sym h.payload ∙ g.payload) in
-    let flag : d.cc ≡ e.cc = of_some _ _ (sym h.cc ∙ g.cc) in
-    let all : make d.time d.name d.payload d.cc ≡ make e.time e.name e.payload e.cc = rw (time, name, payload, flag) refl in
+    let flag : d.coalesce ≡ e.coalesce = of_some _ _ (sym h.coalesce ∙ g.coalesce) in
+    let all : make d.time d.name d.payload d.coalesce ≡ make e.time e.name e.payload e.coalesce = rw (time, name, payload, flag) refl in
     all
 
 pub event_is : (e : UserEvent) (ps : Pairs) → IsUserEvent e ps → event_in ps ≡ e
@@ -79,18 +79,18 @@ event_is e ps h = same_event ps (event_in ps) e (event_there ps (event_clean e p
 
 -- ---- the events of a slot, and slots
 
-abbrev event_with : List ℕ → List ℕ → EventText
+abbrev event_with : List ℕ → List ℕ → EventBody
 event_with n p = record { name = n; payload = p }
 
-event_text_values : (v : Tree) → pairs_value (record { name = []; payload = [] }) (λ ps. event_with (text_in (value_at (codes "Name") ps)) (text_in (value_at (codes "Payload") ps))) v ≡ event_text_in v
-event_text_values (nil p) = refl
-event_text_values (flag p b) = refl
-event_text_values (int p z) = refl
-event_text_values (raw p s) = refl
-event_text_values (array p vs) = refl
-event_text_values (pairs p ps) = refl
+event_body_values : (v : Tree) → pairs_value (record { name = []; payload = [] }) (λ ps. event_with (text_in (value_at (codes "Name") ps)) (text_in (value_at (codes "Payload") ps))) v ≡ event_body_in v
+event_body_values (nil p) = refl
+event_body_values (flag p b) = refl
+event_body_values (int p z) = refl
+event_body_values (raw p s) = refl
+event_body_values (array p vs) = refl
+event_body_values (pairs p ps) = refl
 
-slot_values : (v : Tree) → pairs_value empty (λ ps. held (time_in (value_at (codes "LTime") ps)) (list_in event_text_in (value_at (codes "Events") ps))) v ≡ slot_in v
+slot_values : (v : Tree) → pairs_value empty (λ ps. held (time_in (value_at (codes "LTime") ps)) (list_in event_body_in (value_at (codes "Events") ps))) v ≡ slot_in v
 slot_values (nil p) = refl
 slot_values (flag p b) = refl
 slot_values (int p z) = refl
@@ -102,27 +102,27 @@ event_there_in : (ps : Pairs) → faults_behind (value_faults 0) layouts.Event [
 event_there_in ps none =
     rw (field_there text text_in 0 kinds.Text text_exact layouts.Event (codes "Name") refl ps none, field_there text text_in 0 kinds.Text text_exact layouts.Event (codes "Payload") refl ps none) refl
 
-event_sound_in : (ps : Pairs) (x : EventText) → HasRawKeys ps → both (λ n p. event_with n p) (field text (codes "Name") ps) (field text (codes "Payload") ps) ≡ Some x → faults_behind (value_faults 0) layouts.Event [] ps ≡ []
+event_sound_in : (ps : Pairs) (x : EventBody) → HasRawKeys ps → both (λ n p. event_with n p) (field text (codes "Name") ps) (field text (codes "Payload") ps) ≡ Some x → faults_behind (value_faults 0) layouts.Event [] ps ≡ []
 event_sound_in ps x keys e =
     let b = both_from (λ n p. event_with n p) _ _ x e in
     clean (value_faults 0) layouts.Event [] ps keys (each_known (λ n k. IsSole (value_faults 0) k false (values_of n ps)) (fields_of layouts.Event)
     (sole_there text text_in 0 kinds.Text text_exact _ _ b.one_is, (sole_there text text_in 0 kinds.Text text_exact _ _ b.other_is, tt)))
 
-pub event_text_exact : IsExact event_text event_text_in (map_faults (value_faults 0) layouts.Event)
-event_text_exact = map_exact _ _ (value_faults 0) layouts.Event _ event_text_values event_there_in event_sound_in
+pub event_body_exact : IsExact event_body event_body_in (map_faults (value_faults 0) layouts.Event)
+event_body_exact = map_exact _ _ (value_faults 0) layouts.Event _ event_body_values event_there_in event_sound_in
 
-slot_there_in : (ps : Pairs) → faults_behind (value_faults 1) layouts.Slot [] ps ≡ [] → both held (field time (codes "LTime") ps) (field (list event_text) (codes "Events") ps) ≡ Some (held (time_in (value_at (codes "LTime") ps)) (list_in event_text_in (value_at (codes "Events") ps)))
+slot_there_in : (ps : Pairs) → faults_behind (value_faults 1) layouts.Slot [] ps ≡ [] → both held (field time (codes "LTime") ps) (field (list event_body) (codes "Events") ps) ≡ Some (held (time_in (value_at (codes "LTime") ps)) (list_in event_body_in (value_at (codes "Events") ps)))
 slot_there_in ps none =
-    rw (field_there time time_in 1 kinds.Time time_exact layouts.Slot (codes "LTime") refl ps none, field_there (list event_text) (list_in event_text_in) 1 (kinds.Maps layouts.Event) (list_exact _ _ _ event_text_exact) layouts.Slot (codes "Events") refl ps none) refl
+    rw (field_there time time_in 1 kinds.Time time_exact layouts.Slot (codes "LTime") refl ps none, field_there (list event_body) (list_in event_body_in) 1 (kinds.Maps layouts.Event) (list_exact _ _ _ event_body_exact) layouts.Slot (codes "Events") refl ps none) refl
 
-slot_sound_in : (ps : Pairs) (x : SlotContent) → HasRawKeys ps → both held (field time (codes "LTime") ps) (field (list event_text) (codes "Events") ps) ≡ Some x → faults_behind (value_faults 1) layouts.Slot [] ps ≡ []
+slot_sound_in : (ps : Pairs) (x : SlotContent) → HasRawKeys ps → both held (field time (codes "LTime") ps) (field (list event_body) (codes "Events") ps) ≡ Some x → faults_behind (value_faults 1) layouts.Slot [] ps ≡ []
 slot_sound_in ps x keys e =
     let b = both_from held _ _ x e in
     clean (value_faults 1) layouts.Slot [] ps keys (each_known (λ n k. IsSole (value_faults 1) k false (values_of n ps)) (fields_of layouts.Slot)
-    (sole_there time time_in 1 kinds.Time time_exact _ _ b.one_is, (sole_there (list event_text) (list_in event_text_in) 1 (kinds.Maps layouts.Event) (list_exact _ _ _ event_text_exact) _ _ b.other_is, tt)))
+    (sole_there time time_in 1 kinds.Time time_exact _ _ b.one_is, (sole_there (list event_body) (list_in event_body_in) 1 (kinds.Maps layouts.Event) (list_exact _ _ _ event_body_exact) _ _ b.other_is, tt)))
 
-pub events_exact : IsExact (list event_text) (list_in event_text_in) (value_faults 1 (kinds.Maps layouts.Event))
-events_exact = list_exact _ _ _ event_text_exact
+pub events_exact : IsExact (list event_body) (list_in event_body_in) (value_faults 1 (kinds.Maps layouts.Event))
+events_exact = list_exact _ _ _ event_body_exact
 
 pub slot_exact : IsExact slot slot_in (map_faults (value_faults 1) layouts.Slot)
 slot_exact = map_exact _ _ (value_faults 1) layouts.Slot _ slot_values slot_there_in slot_sound_in
@@ -212,29 +212,29 @@ response_is r ps h = same_response ps (response_in ps) r (response_there ps (res
 pub push_pull_there : (ps : Pairs) → faults_behind (value_faults 2) layouts.PushPull [] ps ≡ [] → IsPushPull (push_pull_in ps) ps
 push_pull_there ps none = record {
   keys = raw_keys (value_faults 2) layouts.PushPull [] ps none;
-  member = field_there (number 0xffff_ffff_ffff_ffff) (number_in 0xffff_ffff_ffff_ffff) 2 (kinds.Natural 0xffff_ffff_ffff_ffff) (number_exact 0xffff_ffff_ffff_ffff) layouts.PushPull (codes "LTime") refl ps none;
+  member_clock = field_there (number 0xffff_ffff_ffff_ffff) (number_in 0xffff_ffff_ffff_ffff) 2 (kinds.Natural 0xffff_ffff_ffff_ffff) (number_exact 0xffff_ffff_ffff_ffff) layouts.PushPull (codes "LTime") refl ps none;
   status = field_there status status_in 2 kinds.Status status_exact layouts.PushPull (codes "StatusLTimes") refl ps none;
   left = field_there (list text) (list_in text_in) 2 kinds.Texts texts_exact layouts.PushPull (codes "LeftMembers") refl ps none;
-  event = field_there (number 0xffff_ffff_ffff_ffff) (number_in 0xffff_ffff_ffff_ffff) 2 (kinds.Natural 0xffff_ffff_ffff_ffff) (number_exact 0xffff_ffff_ffff_ffff) layouts.PushPull (codes "EventLTime") refl ps none;
+  event_clock = field_there (number 0xffff_ffff_ffff_ffff) (number_in 0xffff_ffff_ffff_ffff) 2 (kinds.Natural 0xffff_ffff_ffff_ffff) (number_exact 0xffff_ffff_ffff_ffff) layouts.PushPull (codes "EventLTime") refl ps none;
   slots = field_there (list slot) (list_in slot_in) 2 (kinds.Maps layouts.Slot) slots_exact layouts.PushPull (codes "Events") refl ps none;
-  query = field_there (number 0xffff_ffff_ffff_ffff) (number_in 0xffff_ffff_ffff_ffff) 2 (kinds.Natural 0xffff_ffff_ffff_ffff) (number_exact 0xffff_ffff_ffff_ffff) layouts.PushPull (codes "QueryLTime") refl ps none;
+  query_clock = field_there (number 0xffff_ffff_ffff_ffff) (number_in 0xffff_ffff_ffff_ffff) 2 (kinds.Natural 0xffff_ffff_ffff_ffff) (number_exact 0xffff_ffff_ffff_ffff) layouts.PushPull (codes "QueryLTime") refl ps none;
 }
 
 pub push_pull_clean : (q : PushPull) (ps : Pairs) → IsPushPull q ps → faults_behind (value_faults 2) layouts.PushPull [] ps ≡ []
 push_pull_clean q ps h =
     clean (value_faults 2) layouts.PushPull [] ps h.keys (each_known (λ n k. IsSole (value_faults 2) k false (values_of n ps)) (fields_of layouts.PushPull)
-    (sole_there (number 0xffff_ffff_ffff_ffff) (number_in 0xffff_ffff_ffff_ffff) 2 (kinds.Natural 0xffff_ffff_ffff_ffff) (number_exact 0xffff_ffff_ffff_ffff) _ _ h.member, (sole_there status status_in 2 kinds.Status status_exact _ _ h.status, (sole_there (list text) (list_in text_in) 2 kinds.Texts texts_exact _ _ h.left, (sole_there (number 0xffff_ffff_ffff_ffff) (number_in 0xffff_ffff_ffff_ffff) 2 (kinds.Natural 0xffff_ffff_ffff_ffff) (number_exact 0xffff_ffff_ffff_ffff) _ _ h.event, (sole_there (list slot) (list_in slot_in) 2 (kinds.Maps layouts.Slot) slots_exact _ _ h.slots, (sole_there (number 0xffff_ffff_ffff_ffff) (number_in 0xffff_ffff_ffff_ffff) 2 (kinds.Natural 0xffff_ffff_ffff_ffff) (number_exact 0xffff_ffff_ffff_ffff) _ _ h.query, tt)))))))
+    (sole_there (number 0xffff_ffff_ffff_ffff) (number_in 0xffff_ffff_ffff_ffff) 2 (kinds.Natural 0xffff_ffff_ffff_ffff) (number_exact 0xffff_ffff_ffff_ffff) _ _ h.member_clock, (sole_there status status_in 2 kinds.Status status_exact _ _ h.status, (sole_there (list text) (list_in text_in) 2 kinds.Texts texts_exact _ _ h.left, (sole_there (number 0xffff_ffff_ffff_ffff) (number_in 0xffff_ffff_ffff_ffff) 2 (kinds.Natural 0xffff_ffff_ffff_ffff) (number_exact 0xffff_ffff_ffff_ffff) _ _ h.event_clock, (sole_there (list slot) (list_in slot_in) 2 (kinds.Maps layouts.Slot) slots_exact _ _ h.slots, (sole_there (number 0xffff_ffff_ffff_ffff) (number_in 0xffff_ffff_ffff_ffff) 2 (kinds.Natural 0xffff_ffff_ffff_ffff) (number_exact 0xffff_ffff_ffff_ffff) _ _ h.query_clock, tt)))))))
 
 same_push_pull : (ps : Pairs) (d e : PushPull) → IsPushPull d ps → IsPushPull e ps → d ≡ e
 same_push_pull ps d e h g =
-    let make : ℕ → List (List ℕ × ℕ) → List (List ℕ) → ℕ → List SlotContent → ℕ → PushPull = λ a b c d e f. record { member = a; status = b; left = c; event = d; slots = e; query = f } in
-    let p0 : d.member ≡ e.member = of_some _ _ (sym h.member ∙ g.member) in
+    let make : ℕ → List (List ℕ × ℕ) → List (List ℕ) → ℕ → List SlotContent → ℕ → PushPull = λ a b c d e f. record { member_clock = a; status = b; left = c; event_clock = d; slots = e; query_clock = f } in
+    let p0 : d.member_clock ≡ e.member_clock = of_some _ _ (sym h.member_clock ∙ g.member_clock) in
     let p1 : d.status ≡ e.status = of_some _ _ (sym h.status ∙ g.status) in
     let p2 : d.left ≡ e.left = of_some _ _ (sym h.left ∙ g.left) in
-    let p3 : d.event ≡ e.event = of_some _ _ (sym h.event ∙ g.event) in
+    let p3 : d.event_clock ≡ e.event_clock = of_some _ _ (sym h.event_clock ∙ g.event_clock) in
     let p4 : d.slots ≡ e.slots = of_some _ _ (sym h.slots ∙ g.slots) in
-    let p5 : d.query ≡ e.query = of_some _ _ (sym h.query ∙ g.query) in
-    let all : make d.member d.status d.left d.event d.slots d.query ≡ make e.member e.status e.left e.event e.slots e.query = rw (p0, p1, p2, p3, p4, p5) refl in
+    let p5 : d.query_clock ≡ e.query_clock = of_some _ _ (sym h.query_clock ∙ g.query_clock) in
+    let all : make d.member_clock d.status d.left d.event_clock d.slots d.query_clock ≡ make e.member_clock e.status e.left e.event_clock e.slots e.query_clock = rw (p0, p1, p2, p3, p4, p5) refl in
     all
 
 pub push_pull_is : (q : PushPull) (ps : Pairs) → IsPushPull q ps → push_pull_in ps ≡ q

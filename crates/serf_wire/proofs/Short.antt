@@ -31,9 +31,9 @@ short_query q none =
     let f1 = neither _ _ f2.0 in
     record { addr = short _ f1.0; source = short _ f1.1; filters = short _ f2.1; each = f3.1; name = short _ f4.1; payload = short _ f5.1 }
 
-pub short_event_texts : (t : ℕ) (n p : List ℕ) (cc : Bool) → is_long n ≡ false → is_long p ≡ false → has_long (user_event_of t n p cc) ≡ false
+pub short_event_texts : (t : ℕ) (n p : List ℕ) (coalesce : Bool) → is_long n ≡ false → is_long p ≡ false → has_long (user_event_of t n p coalesce) ≡ false
 unfolding has_long
-short_event_texts t n p cc none other = rw (none, other) refl
+short_event_texts t n p coalesce none other = rw (none, other) refl
 
 pub short_response_texts : (t id : ℕ) (n : List ℕ) (flags : ℕ) (p : List ℕ) → is_long n ≡ false → is_long p ≡ false → has_long (response_of t id n flags p) ≡ false
 unfolding has_long

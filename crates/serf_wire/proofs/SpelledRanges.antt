@@ -11,7 +11,7 @@ use Rattle.serf_wire.specs.declared.layout.MessageType.TheVariants as types
 use Rattle.serf_wire.specs.declared.layout.Class.{Class}
 use Rattle.serf_wire.specs.declared.layout.Class.TheVariants as classes
 use Rattle.serf_wire.specs.Layout.{class_of}
-use Rattle.serf_wire.specs.Fields.{number, up_to, time, fits, signed, event_text, sole, values_of, field, list, all, in_front, slot, status, status_time, both, raw_keys}
+use Rattle.serf_wire.specs.Fields.{number, up_to, time, fits, signed, event_body, sole, values_of, field, list, all, in_front, slot, status, status_time, both, raw_keys}
 use Rattle.serf_wire.specs.Slots.{SlotContent, empty, held}
 use Rattle.serf_wire.specs.Message.{Message, user_event, query, query_response, push_pull}
 use Rattle.serf_wire.specs.Ranges.{InRange, IsTimed}
@@ -105,9 +105,9 @@ slot_timed (raw p t) s e = absurd (cc e)
 slot_timed (array p vs) s e = absurd (cc e)
 slot_timed (pairs p ps) s e = by (raw_keys (pair_list ps)) e
   where
-    by : (b : Bool) → cond b (both held (field time (codes "LTime") (pair_list ps)) (field (list event_text) (codes "Events") (pair_list ps))) None ≡ Some s → IsTimed s
+    by : (b : Bool) → cond b (both held (field time (codes "LTime") (pair_list ps)) (field (list event_body) (codes "Events") (pair_list ps))) None ≡ Some s → IsTimed s
     by true is =
-        both_has IsTimed held (field time (codes "LTime") (pair_list ps)) (field (list event_text) (codes "Events") (pair_list ps)) s
+        both_has IsTimed held (field time (codes "LTime") (pair_list ps)) (field (list event_body) (codes "Events") (pair_list ps)) s
         (λ t es timed with. let le = field_within 18446744073709551614 t (codes "LTime") (pair_list ps) timed in omega arith) is
     by false is = absurd (cc is)
 
@@ -135,15 +135,15 @@ fields_ranged types.QueryResponse (query_response r) ps h =
     let flags = field_within 0xffff_ffff r.flags (codes "Flags") ps h.flags in
     record { time = omega arith; id = omega arith; flags = omega arith }
 fields_ranged types.PushPull (push_pull m) ps h =
-    let member = field_within 0xffff_ffff_ffff_ffff m.member (codes "LTime") ps h.member in
-    let event = field_within 0xffff_ffff_ffff_ffff m.event (codes "EventLTime") ps h.event in
-    let query = field_within 0xffff_ffff_ffff_ffff m.query (codes "QueryLTime") ps h.query in
+    let member_clock = field_within 0xffff_ffff_ffff_ffff m.member_clock (codes "LTime") ps h.member_clock in
+    let event_clock = field_within 0xffff_ffff_ffff_ffff m.event_clock (codes "EventLTime") ps h.event_clock in
+    let query_clock = field_within 0xffff_ffff_ffff_ffff m.query_clock (codes "QueryLTime") ps h.query_clock in
     record {
-      member = omega arith;
+      member_clock = omega arith;
       status = sole_has (AllByRecursion HasTime) status status_timed (values_of (codes "StatusLTimes") ps) m.status h.status;
-      event = omega arith;
+      event_clock = omega arith;
       slots = sole_has (AllByRecursion IsTimed) (list slot) (list_has IsTimed slot slot_timed) (values_of (codes "Events") ps) m.slots h.slots;
-      query = omega arith;
+      query_clock = omega arith;
     }
 fields_ranged _ _ ps h = absurd h
 

@@ -2,7 +2,7 @@
 use Rattle.std.specs.Prelude.{ℕ, Bool, false, List, [], ◌∷◌, ◌++◌, ◌||◌, length, codes, map, nat_le}
 use Rattle.std.specs.List.{flat_map, list_any}
 use Rattle.serf_pack.specs.Canonical.{map_head, array_head, raw_bytes, uint_bytes, int_bytes, flag_bytes}
-use Rattle.serf_wire.specs.declared.texts.EventText.{EventText}
+use Rattle.serf_wire.specs.declared.texts.EventBody.{EventBody}
 use Rattle.serf_wire.specs.Slots.{SlotContent, empty, held}
 use Rattle.serf_wire.specs.Message.{Message, UserEvent, Query, QueryResponse, PushPull, user_event, query, query_response, push_pull, foreign}
 
@@ -20,7 +20,7 @@ status_time_bytes p = entry p.0 (uint_bytes p.1)
 abbrev pub status_bytes : List (List ℕ × ℕ) → List ℕ
 status_bytes ps = map_head (length ps) ++ flat_map status_time_bytes ps
 
-abbrev pub event_bytes : EventText → List ℕ
+abbrev pub event_bytes : EventBody → List ℕ
 event_bytes e = map_head 2 ++ entry (codes "Name") (raw_bytes e.name) ++ entry (codes "Payload") (raw_bytes e.payload)
 
 -- a slot without events is nil
@@ -32,7 +32,7 @@ slot_bytes (held t (e ∷ es)) = map_head 2 ++ entry (codes "LTime") (uint_bytes
 abbrev pub canonical_event : UserEvent → List ℕ
 canonical_event e =
     3 ∷ [] ++ map_head 4 ++ entry (codes "LTime") (uint_bytes e.time) ++ entry (codes "Name") (raw_bytes e.name) ++ entry (codes "Payload") (raw_bytes e.payload)
-    ++ entry (codes "CC") (flag_bytes e.cc)
+    ++ entry (codes "CC") (flag_bytes e.coalesce)
 
 abbrev pub canonical_query : Query → List ℕ
 canonical_query q =
@@ -48,9 +48,9 @@ canonical_response r =
 
 abbrev pub canonical_push_pull : PushPull → List ℕ
 canonical_push_pull m =
-    2 ∷ [] ++ map_head 6 ++ entry (codes "LTime") (uint_bytes m.member) ++ entry (codes "StatusLTimes") (status_bytes m.status)
-    ++ entry (codes "LeftMembers") (list_bytes raw_bytes m.left) ++ entry (codes "EventLTime") (uint_bytes m.event) ++ entry (codes "Events") (list_bytes slot_bytes m.slots)
-    ++ entry (codes "QueryLTime") (uint_bytes m.query)
+    2 ∷ [] ++ map_head 6 ++ entry (codes "LTime") (uint_bytes m.member_clock) ++ entry (codes "StatusLTimes") (status_bytes m.status)
+    ++ entry (codes "LeftMembers") (list_bytes raw_bytes m.left) ++ entry (codes "EventLTime") (uint_bytes m.event_clock) ++ entry (codes "Events") (list_bytes slot_bytes m.slots)
+    ++ entry (codes "QueryLTime") (uint_bytes m.query_clock)
 
 -- a message that is not read has its type alone
 unfoldable pub canonical : Message → List ℕ
@@ -77,7 +77,7 @@ without_empty_slots (foreign k) = foreign k
 abbrev pub is_long : {A : Type 0} → List A → Bool
 is_long xs = nat_le 4294967296 (length xs)
 
-abbrev pub is_long_event : EventText → Bool
+abbrev pub is_long_event : EventBody → Bool
 is_long_event e = is_long e.name || is_long e.payload
 
 abbrev pub is_long_slot : SlotContent → Bool

@@ -119,7 +119,7 @@ kind_faults maps (kinds.Maps layout) v = maps layout v
 -- the same, where lists of maps stand inside one another at most so often
 abbrev pub value_faults : ℕ → Kind → Tree → List WireFault
 value_faults zero kind v = kind_faults (λ layout v. []) kind v
-value_faults (suc room) kind v = kind_faults (λ layout. list_faults (map_faults (value_faults room) layout)) kind v
+value_faults (suc depth_left) kind v = kind_faults (λ layout. list_faults (map_faults (value_faults depth_left) layout)) kind v
 
 -- the first of a list, if it has one
 abbrev pub first : {A : Type 0} → List A → Option A

@@ -1,7 +1,7 @@
 -- What the fields of a map are.
 use Rattle.std.specs.Prelude.{ℕ, ℤ, pos, negsuc, Bool, true, false, ◌||◌, ◌&&◌, List, [], ◌∷◌, Option, Some, None, is_some, codes, nat_le, nat_lt, if◌then◌else◌}
 use Rattle.std.specs.Str.{bytes_eq}
-use Rattle.serf_wire.specs.declared.texts.EventText.{EventText}
+use Rattle.serf_wire.specs.declared.texts.EventBody.{EventBody}
 use Rattle.serf_wire.specs.Slots.{SlotContent, empty, held}
 use Rattle.serf_pack.specs.Tree.{Tree, nil, flag, int, raw, array, pairs}
 use Rattle.serf_pack.specs.View.{raw_of, item_list, pair_list}
@@ -126,11 +126,11 @@ status (array p vs) = None
 status (pairs p ps) = all status_time (pair_list ps)
 
 -- an event in a slot; nil is one with empty texts
-abbrev pub event_text : Tree → Option EventText
-event_text = map_of (record { name = []; payload = [] }) (λ ps. both (λ n p. record { name = n; payload = p }) (field text (codes "Name") ps) (field text (codes "Payload") ps))
+abbrev pub event_body : Tree → Option EventBody
+event_body = map_of (record { name = []; payload = [] }) (λ ps. both (λ n p. record { name = n; payload = p }) (field text (codes "Name") ps) (field text (codes "Payload") ps))
 
 abbrev pub slot : Tree → Option SlotContent
-slot = map_of empty (λ ps. both held (field time (codes "LTime") ps) (field (list event_text) (codes "Events") ps))
+slot = map_of empty (λ ps. both held (field time (codes "LTime") ps) (field (list event_body) (codes "Events") ps))
 
 -- whether a pair has this key
 abbrev pub has_key : List ℕ → List (Tree × Tree) → Bool

@@ -9,7 +9,7 @@ pub mod Message
 pub mod Reading
 pub mod Spells
 pub mod Keys
-pub mod Flat
+pub mod Fast
 pub mod Decoded
 pub mod Canonical
 pub mod Parts

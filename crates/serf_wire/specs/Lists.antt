@@ -3,7 +3,7 @@ use Rattle.std.specs.Prelude.{ℕ, List, [], map, Option, Some, None}
 use Rattle.serf_pack.specs.declared.walk.Items.{Items}
 use Rattle.serf_pack.specs.declared.walk.Pairs.{Pairs}
 use Rattle.serf_pack.specs.Walk.{items_left, pairs_left}
-use Rattle.serf_wire.specs.declared.texts.EventText.{EventText}
+use Rattle.serf_wire.specs.declared.texts.EventBody.{EventBody}
 use Rattle.serf_wire.specs.declared.lists.Texts.{Texts}
 use Rattle.serf_wire.specs.declared.lists.StatusTime.{StatusTime}
 use Rattle.serf_wire.specs.declared.lists.StatusTimes.{StatusTimes}
@@ -13,7 +13,7 @@ use Rattle.serf_wire.specs.declared.lists.SlotView.{SlotView}
 use Rattle.serf_wire.specs.declared.lists.SlotView.TheVariants.{Empty, Held}
 use Rattle.serf_wire.specs.declared.lists.SlotViews.{SlotViews}
 use Rattle.serf_wire.specs.Slots.{SlotContent, empty, held}
-use Rattle.serf_wire.specs.Lookups.{text_in, status_time_in, event_text_in, slot_in}
+use Rattle.serf_wire.specs.Lookups.{text_in, status_time_in, event_body_in, slot_in}
 
 abbrev pub texts_walk : Option Items → List (List ℕ)
 texts_walk None = []
@@ -34,15 +34,15 @@ status_left status = status_walk status.pairs
 abbrev pub status_of : StatusTime → List ℕ × ℕ
 status_of s = (s.name.now, s.time)
 
-abbrev pub events_walk : Option Items → List EventText
+abbrev pub events_walk : Option Items → List EventBody
 events_walk None = []
-events_walk (Some walk) = map event_text_in (items_left walk)
+events_walk (Some walk) = map event_body_in (items_left walk)
 
 -- the events that are still to come
-abbrev pub events_left : EventViews → List EventText
+abbrev pub events_left : EventViews → List EventBody
 events_left events = events_walk events.items
 
-abbrev pub event_of : EventView → EventText
+abbrev pub event_of : EventView → EventBody
 event_of e = record { name = e.name.now; payload = e.payload.now }
 
 abbrev pub slots_walk : Option Items → List SlotContent

@@ -2,7 +2,7 @@
 use Rattle.std.specs.Prelude.{ℕ, ℤ, pos, Bool, List, [], ◌∷◌, map, Option, Some, None, unwrap_or, false, codes, if◌then◌else◌}
 use Rattle.serf_pack.specs.Tree.{Tree, nil, flag, int, raw, array, pairs}
 use Rattle.serf_pack.specs.View.{items_of, pairs_of, pair_list}
-use Rattle.serf_wire.specs.declared.texts.EventText.{EventText}
+use Rattle.serf_wire.specs.declared.texts.EventBody.{EventBody}
 use Rattle.serf_wire.specs.Slots.{SlotContent, empty, held}
 use Rattle.serf_wire.specs.Fields.{text, truth, number, time, signed, is_key}
 
@@ -40,8 +40,8 @@ status_time_in p = (text_in p.0, number_in 0xffff_ffff_ffff_ffff p.1)
 abbrev pub status_in : Tree → List (List ℕ × ℕ)
 status_in v = map status_time_in (pairs_of v)
 
-abbrev pub event_text_in : Tree → EventText
-event_text_in v = record { name = text_in (value_at (codes "Name") (pairs_of v)); payload = text_in (value_at (codes "Payload") (pairs_of v)) }
+abbrev pub event_body_in : Tree → EventBody
+event_body_in v = record { name = text_in (value_at (codes "Name") (pairs_of v)); payload = text_in (value_at (codes "Payload") (pairs_of v)) }
 
 abbrev pub slot_in : Tree → SlotContent
 slot_in (nil p) = empty
@@ -49,4 +49,4 @@ slot_in (flag p b) = empty
 slot_in (int p z) = empty
 slot_in (raw p s) = empty
 slot_in (array p vs) = empty
-slot_in (pairs p ps) = held (time_in (value_at (codes "LTime") (pair_list ps))) (list_in event_text_in (value_at (codes "Events") (pair_list ps)))
+slot_in (pairs p ps) = held (time_in (value_at (codes "LTime") (pair_list ps))) (list_in event_body_in (value_at (codes "Events") (pair_list ps)))

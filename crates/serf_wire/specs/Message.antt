@@ -9,7 +9,7 @@ pub record UserEvent : Type 0 where
   pub time : ℕ
   pub name : List ℕ
   pub payload : List ℕ
-  pub cc : Bool
+  pub coalesce : Bool
 
 pub record Query : Type 0 where
   pub time : ℕ
@@ -33,12 +33,12 @@ pub record QueryResponse : Type 0 where
 
 -- the status is the list of its pairs of a name and a time, in order
 pub record PushPull : Type 0 where
-  pub member : ℕ
+  pub member_clock : ℕ
   pub status : List (List ℕ × ℕ)
   pub left : List (List ℕ)
-  pub event : ℕ
+  pub event_clock : ℕ
   pub slots : List SlotContent
-  pub query : ℕ
+  pub query_clock : ℕ
 
 pub data Message : Type 0 where
   user_event : UserEvent → Message
@@ -49,14 +49,14 @@ pub data Message : Type 0 where
   foreign : ℕ → Message
 
 abbrev pub user_event_of : ℕ → List ℕ → List ℕ → Bool → Message
-user_event_of time name payload cc = user_event (record { time = time; name = name; payload = payload; cc = cc })
+user_event_of time name payload coalesce = user_event (record { time = time; name = name; payload = payload; coalesce = coalesce })
 
 abbrev pub response_of : ℕ → ℕ → List ℕ → ℕ → List ℕ → Message
 response_of time id from flags payload = query_response (record { time = time; id = id; from = from; flags = flags; payload = payload })
 
 -- the meaning of a message whose texts lie in a packet
 abbrev pub message_of : Lent → Message
-message_of (lent.UserEvent time name payload cc) = user_event (record { time = time; name = name.now; payload = payload.now; cc = cc })
+message_of (lent.UserEvent time name payload coalesce) = user_event (record { time = time; name = name.now; payload = payload.now; coalesce = coalesce })
 message_of (lent.Query time id addr port source filters flags relay_factor timeout name payload) = query (record {
   time = time;
   id = id;
@@ -71,6 +71,6 @@ message_of (lent.Query time id addr port source filters flags relay_factor timeo
   payload = payload.now;
 })
 message_of (lent.QueryResponse time id from flags payload) = query_response (record { time = time; id = id; from = from.now; flags = flags; payload = payload.now })
-message_of (lent.PushPull member status left event slots last) =
-    push_pull (record { member = member; status = status_left status; left = texts_left left; event = event; slots = slots_left slots; query = last })
+message_of (lent.PushPull member_clock status left event_clock slots last) =
+    push_pull (record { member_clock = member_clock; status = status_left status; left = texts_left left; event_clock = event_clock; slots = slots_left slots; query_clock = last })
 message_of (lent.Foreign kind) = foreign kind

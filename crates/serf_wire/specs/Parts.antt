@@ -30,17 +30,17 @@ slot_content s = held s.time s.events.items
 
 abbrev pub push_pull_of : PushPullParts → PushPull
 push_pull_of p = record {
-  member = p.member;
+  member_clock = p.member_clock;
   status = map status_of p.status.now;
   left = map (λ t. t.now) p.left.now;
-  event = p.event;
+  event_clock = p.event_clock;
   slots = map slot_content p.slots.now;
-  query = p.query;
+  query_clock = p.query_clock;
 }
 
 -- the canonical packet of a push/pull, written from its parts
 abbrev pub parts_bytes : PushPullParts → List ℕ
 parts_bytes p =
-    2 ∷ [] ++ map_head 6 ++ entry (codes "LTime") (uint_bytes p.member) ++ entry (codes "StatusLTimes") (map_head (length p.status.now) ++ flat_map (λ s. status_time_bytes (status_of s)) p.status.now)
-    ++ entry (codes "LeftMembers") (list_bytes (λ t. raw_bytes t.now) p.left.now) ++ entry (codes "EventLTime") (uint_bytes p.event)
-    ++ entry (codes "Events") (list_bytes (λ s. slot_bytes (slot_content s)) p.slots.now) ++ entry (codes "QueryLTime") (uint_bytes p.query)
+    2 ∷ [] ++ map_head 6 ++ entry (codes "LTime") (uint_bytes p.member_clock) ++ entry (codes "StatusLTimes") (map_head (length p.status.now) ++ flat_map (λ s. status_time_bytes (status_of s)) p.status.now)
+    ++ entry (codes "LeftMembers") (list_bytes (λ t. raw_bytes t.now) p.left.now) ++ entry (codes "EventLTime") (uint_bytes p.event_clock)
+    ++ entry (codes "Events") (list_bytes (λ s. slot_bytes (slot_content s)) p.slots.now) ++ entry (codes "QueryLTime") (uint_bytes p.query_clock)

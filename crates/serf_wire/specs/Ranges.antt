@@ -26,11 +26,11 @@ IsTimed empty = Unit {0}
 IsTimed (held t es) = t < 18446744073709551615
 
 pub record IsRangedPushPull (m : PushPull) : Type 0 where
-  pub member : m.member < 2 ^ 64
+  pub member_clock : m.member_clock < 2 ^ 64
   pub status : AllByRecursion (λ p. p.1 < 18446744073709551616) m.status
-  pub event : m.event < 2 ^ 64
+  pub event_clock : m.event_clock < 2 ^ 64
   pub slots : AllByRecursion IsTimed m.slots
-  pub query : m.query < 2 ^ 64
+  pub query_clock : m.query_clock < 2 ^ 64
 
 abbrev pub InRange : Message → Type 0
 InRange (user_event e) = e.time < 18446744073709551615

@@ -15,7 +15,7 @@ event_in ps = record {
   time = time_in (value_at (codes "LTime") ps);
   name = text_in (value_at (codes "Name") ps);
   payload = text_in (value_at (codes "Payload") ps);
-  cc = truth_in (value_at (codes "CC") ps);
+  coalesce = truth_in (value_at (codes "CC") ps);
 }
 
 abbrev pub query_in : List (Tree × Tree) → Query
@@ -44,12 +44,12 @@ response_in ps = record {
 
 abbrev pub push_pull_in : List (Tree × Tree) → PushPull
 push_pull_in ps = record {
-  member = number_in 0xffff_ffff_ffff_ffff (value_at (codes "LTime") ps);
+  member_clock = number_in 0xffff_ffff_ffff_ffff (value_at (codes "LTime") ps);
   status = status_in (value_at (codes "StatusLTimes") ps);
   left = list_in text_in (value_at (codes "LeftMembers") ps);
-  event = number_in 0xffff_ffff_ffff_ffff (value_at (codes "EventLTime") ps);
+  event_clock = number_in 0xffff_ffff_ffff_ffff (value_at (codes "EventLTime") ps);
   slots = list_in slot_in (value_at (codes "Events") ps);
-  query = number_in 0xffff_ffff_ffff_ffff (value_at (codes "QueryLTime") ps);
+  query_clock = number_in 0xffff_ffff_ffff_ffff (value_at (codes "QueryLTime") ps);
 }
 
 abbrev pub message_in : MessageType → List (Tree × Tree) → Message

@@ -1,8 +1,8 @@
 -- What a slot of a push/pull means (Serf's messages.go, messagePushPull and userEvents).
 use Rattle.std.specs.Prelude.{ℕ, List}
-use Rattle.serf_wire.specs.declared.texts.EventText.{EventText}
+use Rattle.serf_wire.specs.declared.texts.EventBody.{EventBody}
 
 -- nothing, or a time and its events in order
 pub data SlotContent : Type 0 where
   empty : SlotContent
-  held : ℕ → List EventText → SlotContent
+  held : ℕ → List EventBody → SlotContent

@@ -28,7 +28,7 @@ pub record IsUserEvent (e : UserEvent) (ps : List (Tree × Tree)) : Type 0 where
   pub time : field time (codes "LTime") ps ≡ Some e.time
   pub name : field text (codes "Name") ps ≡ Some e.name
   pub payload : field text (codes "Payload") ps ≡ Some e.payload
-  pub cc : field truth (codes "CC") ps ≡ Some e.cc
+  pub coalesce : field truth (codes "CC") ps ≡ Some e.coalesce
 
 pub record IsQuery (q : Query) (ps : List (Tree × Tree)) : Type 0 where
   pub keys : HasRawKeys ps
@@ -54,12 +54,12 @@ pub record IsQueryResponse (r : QueryResponse) (ps : List (Tree × Tree)) : Type
 
 pub record IsPushPull (m : PushPull) (ps : List (Tree × Tree)) : Type 0 where
   pub keys : HasRawKeys ps
-  pub member : field (number 0xffff_ffff_ffff_ffff) (codes "LTime") ps ≡ Some m.member
+  pub member_clock : field (number 0xffff_ffff_ffff_ffff) (codes "LTime") ps ≡ Some m.member_clock
   pub status : field status (codes "StatusLTimes") ps ≡ Some m.status
   pub left : field (list text) (codes "LeftMembers") ps ≡ Some m.left
-  pub event : field (number 0xffff_ffff_ffff_ffff) (codes "EventLTime") ps ≡ Some m.event
+  pub event_clock : field (number 0xffff_ffff_ffff_ffff) (codes "EventLTime") ps ≡ Some m.event_clock
   pub slots : field (list slot) (codes "Events") ps ≡ Some m.slots
-  pub query : field (number 0xffff_ffff_ffff_ffff) (codes "QueryLTime") ps ≡ Some m.query
+  pub query_clock : field (number 0xffff_ffff_ffff_ffff) (codes "QueryLTime") ps ≡ Some m.query_clock
 
 -- the map's fields are the message's
 abbrev pub HasFields : MessageType → Message → List (Tree × Tree) → Type 0

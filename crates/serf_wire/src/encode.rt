@@ -50,11 +50,11 @@ fn write_user_event(
     time: Time,
     name: &[u8],
     payload: &[u8],
-    cc: bool,
+    coalesce: bool,
 ) -> Result<Vec<u8>, AllocError>
     requires name { length name.now < 2 ^ 32 }
     requires payload { length payload.now < 2 ^ 32 }
-    ensures bytes { IfOk result (λ packet. packet.items ≡ canonical (user_event_of time name.now payload.now cc)) }
+    ensures bytes { IfOk result (λ packet. packet.items ≡ canonical (user_event_of time name.now payload.now coalesce)) }
     ensures time { OnOk result (time < 18446744073709551615) }
 {
     let mut out = Vec::new(alloc);
@@ -63,7 +63,7 @@ fn write_user_event(
     put_number_field(&mut out, b"LTime", time.get())?;
     put_text_field(&mut out, b"Name", name)?;
     put_text_field(&mut out, b"Payload", payload)?;
-    put_flag_field(&mut out, b"CC", cc)?;
+    put_flag_field(&mut out, b"CC", coalesce)?;
     Ok(out)
 }
 
@@ -153,12 +153,12 @@ fn write_push_pull(alloc: Global, parts: &PushPullParts) -> Result<Vec<u8>, Allo
     let mut out = Vec::new(alloc);
     out.extend_from_slice(&[2])?;
     put_map(&mut out, 6)?;
-    put_number_field(&mut out, b"LTime", parts.member)?;
+    put_number_field(&mut out, b"LTime", parts.member_clock)?;
     put_status_field(&mut out, b"StatusLTimes", parts.status)?;
     put_texts_field(&mut out, b"LeftMembers", parts.left)?;
-    put_number_field(&mut out, b"EventLTime", parts.event)?;
+    put_number_field(&mut out, b"EventLTime", parts.event_clock)?;
     put_slots_field(&mut out, b"Events", parts.slots)?;
-    put_number_field(&mut out, b"QueryLTime", parts.query)?;
+    put_number_field(&mut out, b"QueryLTime", parts.query_clock)?;
     Ok(out)
 }
 
@@ -170,16 +170,16 @@ pub fn encode_user_event(
     time: Time,
     name: &[u8],
     payload: &[u8],
-    cc: bool,
+    coalesce: bool,
 ) -> Result<Vec<u8>, EncodeFault>
-    ensures canonical { IfOk result (λ packet. packet.items ≡ canonical (user_event_of time name.now payload.now cc)) }
-    ensures spells { IfOk result (λ packet. Spells (user_event_of time name.now payload.now cc) packet.items) }
-    ensures too_long { (result ≡ Err EncodeFault.TooLong) ↔ IsTrue (has_long (user_event_of time name.now payload.now cc)) }
+    ensures canonical { IfOk result (λ packet. packet.items ≡ canonical (user_event_of time name.now payload.now coalesce)) }
+    ensures spells { IfOk result (λ packet. Spells (user_event_of time name.now payload.now coalesce) packet.items) }
+    ensures too_long { (result ≡ Err EncodeFault.TooLong) ↔ IsTrue (has_long (user_event_of time name.now payload.now coalesce)) }
 {
     if is_long_text(name) || is_long_text(payload) {
         return Err(EncodeFault::TooLong);
     }
-    Ok(write_user_event(alloc, time, name, payload, cc)?)
+    Ok(write_user_event(alloc, time, name, payload, coalesce)?)
 }
 
 /// The canonical packet of a query. `TooLong` comes where a text or the list of filters is longer than

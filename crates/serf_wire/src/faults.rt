@@ -143,10 +143,10 @@ fn status_fault(value: &View) -> Option<WireFault>
     }
 }
 
-/// The first fault of a value in a field of this kind. Lists of maps stand inside one another at most `room` times.
+/// The first fault of a value in a field of this kind. Lists of maps stand inside one another at most `depth_left` times.
 #[cycle(faults)]
-fn value_fault(room: u8, kind: Kind, value: &View) -> Option<WireFault>
-    ensures { result ≡ first (value_faults room kind (tree_of value.now)) }
+fn value_fault(depth_left: u8, kind: Kind, value: &View) -> Option<WireFault>
+    ensures { result ≡ first (value_faults depth_left kind (tree_of value.now)) }
 {
     match kind {
         Kind::Time => time_fault(value),
@@ -157,23 +157,23 @@ fn value_fault(room: u8, kind: Kind, value: &View) -> Option<WireFault>
         Kind::Texts => texts_fault(value),
         Kind::Status => status_fault(value),
         Kind::Maps(layout) => {
-            if room == 0 {
+            if depth_left == 0 {
                 return None;
             }
-            maps_fault(room - 1, layout, value)
+            maps_fault(depth_left - 1, layout, value)
         }
     }
 }
 
 #[cycle(faults)]
-fn maps_fault(room: u8, layout: Layout, value: &View) -> Option<WireFault>
-    ensures { result ≡ first (list_faults (map_faults (value_faults room) layout) (tree_of value.now)) }
+fn maps_fault(depth_left: u8, layout: Layout, value: &View) -> Option<WireFault>
+    ensures { result ≡ first (list_faults (map_faults (value_faults depth_left) layout) (tree_of value.now)) }
 {
     match value.kind() {
         serf_pack::Kind::Nil => None,
         serf_pack::Kind::Array => {
             'maps: for item in value.items() {
-                if let Some(fault) = map_fault(room, layout, &item) {
+                if let Some(fault) = map_fault(depth_left, layout, &item) {
                     return Some(fault);
                 }
             }
@@ -184,12 +184,12 @@ fn maps_fault(room: u8, layout: Layout, value: &View) -> Option<WireFault>
 }
 
 #[cycle(faults)]
-fn map_fault(room: u8, layout: Layout, value: &View) -> Option<WireFault>
-    ensures { result ≡ first (map_faults (value_faults room) layout (tree_of value.now)) }
+fn map_fault(depth_left: u8, layout: Layout, value: &View) -> Option<WireFault>
+    ensures { result ≡ first (map_faults (value_faults depth_left) layout (tree_of value.now)) }
 {
     match value.kind() {
         serf_pack::Kind::Nil => None,
-        serf_pack::Kind::Map => pairs_fault(room, layout, value),
+        serf_pack::Kind::Map => pairs_fault(depth_left, layout, value),
         _ => Some(WireFault::WrongKind(value.offset() + 1)),
     }
 }
@@ -197,14 +197,14 @@ fn map_fault(room: u8, layout: Layout, value: &View) -> Option<WireFault>
 /// The first fault of a pair of the map, of which `before` pairs stand in front of it.
 #[cycle(faults)]
 fn pair_fault(
-    room: u8,
+    depth_left: u8,
     layout: Layout,
     map: &View,
     before: usize,
     key: &View,
     value: &View,
 ) -> Option<WireFault>
-    ensures { result ≡ first (key_faults (value_faults room) layout (take before (pairs_of (tree_of map.now))) (tree_of key.now, tree_of value.now) (raw_of (tree_of key.now))) }
+    ensures { result ≡ first (key_faults (value_faults depth_left) layout (take before (pairs_of (tree_of map.now))) (tree_of key.now, tree_of value.now) (raw_of (tree_of key.now))) }
 {
     let Some(name) = key.raw() else {
         return Some(WireFault::BadKey(key.offset() + 1));
@@ -213,17 +213,17 @@ fn pair_fault(
     if is_among(map, before, name) {
         return Some(WireFault::Twice(key.offset() + 1));
     }
-    value_fault(room, kind, value)
+    value_fault(depth_left, kind, value)
 }
 
 /// The first fault of a map's pairs.
 #[cycle(faults)]
-fn pairs_fault(room: u8, layout: Layout, map: &View) -> Option<WireFault>
-    ensures { result ≡ first (faults_behind (value_faults room) layout [] (pairs_of (tree_of map.now))) }
+fn pairs_fault(depth_left: u8, layout: Layout, map: &View) -> Option<WireFault>
+    ensures { result ≡ first (faults_behind (value_faults depth_left) layout [] (pairs_of (tree_of map.now))) }
 {
     let mut before = 0;
     'pairs: for (key, value) in map.pairs() {
-        if let Some(fault) = pair_fault(room, layout, map, before, &key, &value) {
+        if let Some(fault) = pair_fault(depth_left, layout, map, before, &key, &value) {
             return Some(fault);
         }
         before += 1;

@@ -120,10 +120,10 @@ fn query_numbers_len(parts: &QueryParts) -> u128
 /// The length of the canonical packet of a user event. The header of a text that no packet can hold, longer
 /// than 4,294,967,295 bytes, counts as five bytes. Takes no memory.
 #[tactic(auto, unfolding(crate::specs::Canonical::canonical))]
-pub fn user_event_len(time: Time, name: &[u8], payload: &[u8], cc: bool) -> u128
-    ensures { result ≡ length (canonical (user_event_of time name.now payload.now cc)) }
+pub fn user_event_len(time: Time, name: &[u8], payload: &[u8], coalesce: bool) -> u128
+    ensures { result ≡ length (canonical (user_event_of time name.now payload.now coalesce)) }
 {
-    let _ = cc;
+    let _ = coalesce;
     25 + number_len(time.get()) + text_len(name) + text_len(payload)
 }
 

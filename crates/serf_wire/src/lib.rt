@@ -5,12 +5,13 @@
 //! the one canonical packet of a message. `passes` says which nodes a query asks.
 #![tactic(auto)]
 
+mod compact;
 mod encode;
+mod fast;
 mod fault;
 mod faults;
 mod fields;
 mod filter;
-mod flat;
 mod key;
 mod laws;
 mod layout;
@@ -20,7 +21,6 @@ mod long;
 mod message;
 mod packet;
 mod parts;
-mod plain;
 mod put;
 mod steps;
 mod texts;
@@ -34,4 +34,4 @@ pub use lists::{EventView, EventViews, SlotView, SlotViews, StatusTime, StatusTi
 pub use message::Message;
 pub use packet::decode;
 pub use parts::{PushPullParts, QueryParts};
-pub use texts::{Bytes, EventText, EventTexts, Slot};
+pub use texts::{Bytes, EventBodies, EventBody, Slot};

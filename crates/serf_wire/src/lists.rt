@@ -99,12 +99,12 @@ impl<'a> EventViews<'a> {
     ghost use Rattle.std.specs.Prelude.{◌≡◌};
     ghost use Rattle.std.specs.Option.{option_map};
     ghost use Rattle.serf_pack.specs.View.{tree_of};
-    ghost use Rattle.serf_wire.specs.Lookups.{list_in, tree_or_nil, event_text_in};
+    ghost use Rattle.serf_wire.specs.Lookups.{list_in, tree_or_nil, event_body_in};
     ghost use Rattle.serf_wire.specs.Lists.{events_left};
 
     /// The events of a list, where each item is one.
     pub(crate) fn of(list: Option<View<'a>>) -> EventViews<'a>
-        ensures { events_left result ≡ list_in event_text_in (tree_or_nil (option_map tree_of list.entry)) }
+        ensures { events_left result ≡ list_in event_body_in (tree_or_nil (option_map tree_of list.entry)) }
     {
         match list {
             None => EventViews { items: None },
@@ -138,12 +138,12 @@ impl<'a> SlotViews<'a> {
 impl<'a> EventView<'a> {
     ghost use Rattle.std.specs.Prelude.{◌≡◌};
     ghost use Rattle.serf_pack.specs.View.{tree_of};
-    ghost use Rattle.serf_wire.specs.Lookups.{event_text_in};
+    ghost use Rattle.serf_wire.specs.Lookups.{event_body_in};
     ghost use Rattle.serf_wire.specs.Lists.{event_of};
 
     /// The event that a value is, where it is one.
     pub(crate) fn of(value: &View<'a>) -> EventView<'a>
-        ensures { event_of result ≡ event_text_in (tree_of value.now) }
+        ensures { event_of result ≡ event_body_in (tree_of value.now) }
     {
         EventView {
             name: text_at(value, b"Name"),

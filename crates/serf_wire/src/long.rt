@@ -8,7 +8,7 @@ ghost use Rattle.serf_wire.specs.Parts.{query_of, push_pull_of, slot_content};
 
 use crate::lists::StatusTime;
 use crate::parts::{PushPullParts, QueryParts};
-use crate::texts::{Bytes, EventText, Slot};
+use crate::texts::{Bytes, EventBody, Slot};
 
 /// The longest text or list whose length a header can say.
 pub const LONGEST: usize = 4_294_967_295;
@@ -54,7 +54,7 @@ fn has_long_name(status: &[StatusTime]) -> bool
     false
 }
 
-fn has_long_event(events: &[EventText]) -> bool
+fn has_long_event(events: &[EventBody]) -> bool
     ensures { result ≡ list_any is_long_event events.now }
 {
     for event in events {

@@ -12,7 +12,7 @@ pub enum Message<'a> {
         name: &'a [u8],
         payload: &'a [u8],
         /// Whether agents may coalesce it with others of its name.
-        cc: bool,
+        coalesce: bool,
     },
     /// A query, as it was asked.
     Query {
@@ -47,17 +47,17 @@ pub enum Message<'a> {
     /// A node's whole state.
     PushPull {
         /// The member clock.
-        member: u64,
+        member_clock: u64,
         /// The members' status times.
         status: StatusTimes<'a>,
         /// The members that left.
         left: Texts<'a>,
         /// The event clock.
-        event: u64,
+        event_clock: u64,
         /// The event buffer.
         slots: SlotViews<'a>,
         /// The query clock.
-        query: u64,
+        query_clock: u64,
     },
     /// A message of this type, which is not read.
     Foreign(u8),

@@ -9,12 +9,12 @@ ghost use Rattle.serf_wire.specs.Reading.{message_in, read_tree};
 ghost use Rattle.serf_wire.specs.Spells.{Spells, SpellsMap, IsFirstFault, shifted, fault_place};
 ghost use Rattle.serf_wire.specs.Decoded.{read_value, decoded};
 
+use crate::fast::{read_push_pull, read_query, read_response, read_user_event};
 use crate::fault::WireFault;
 use crate::faults::find_fault;
 use crate::fields::{
     flag_at, natural_at, signed_at, slots_at, status_at, text_at, texts_at, time_at,
 };
-use crate::flat::{read_push_pull, read_query, read_response, read_user_event};
 use crate::layout::{Class, MessageType, class_for};
 use crate::message::Message;
 use serf_pack::{Kind, PackFault, View, check};
@@ -41,7 +41,7 @@ fn message_at<'a>(message: MessageType, map: &View<'a>) -> Message<'a>
             time: time_at(map, b"LTime"),
             name: text_at(map, b"Name"),
             payload: text_at(map, b"Payload"),
-            cc: flag_at(map, b"CC"),
+            coalesce: flag_at(map, b"CC"),
         },
         MessageType::Query => Message::Query {
             time: time_at(map, b"LTime"),
@@ -64,12 +64,12 @@ fn message_at<'a>(message: MessageType, map: &View<'a>) -> Message<'a>
             payload: text_at(map, b"Payload"),
         },
         MessageType::PushPull => Message::PushPull {
-            member: natural_at(map, b"LTime", u64::MAX),
+            member_clock: natural_at(map, b"LTime", u64::MAX),
             status: status_at(map, b"StatusLTimes"),
             left: texts_at(map, b"LeftMembers"),
-            event: natural_at(map, b"EventLTime", u64::MAX),
+            event_clock: natural_at(map, b"EventLTime", u64::MAX),
             slots: slots_at(map, b"Events"),
-            query: natural_at(map, b"QueryLTime", u64::MAX),
+            query_clock: natural_at(map, b"QueryLTime", u64::MAX),
         },
     }
 }
@@ -97,9 +97,9 @@ fn read_checked(message: MessageType, bytes: &[u8]) -> Result<Message<'_>, WireF
     }
 }
 
-/// The message of a map in plain spellings, which is read in one pass. Every other map is left to
+/// The message of a map in compact spellings, which is read in one pass. Every other map is left to
 /// `read_checked`.
-fn read_flat(message: MessageType, bytes: &[u8]) -> Option<Message<'_>>
+fn read_fast(message: MessageType, bytes: &[u8]) -> Option<Message<'_>>
     ensures { IfSome result (λ m. SpellsMap message (message_of m) bytes.now) }
 {
     match message {
@@ -114,7 +114,7 @@ fn read_flat(message: MessageType, bytes: &[u8]) -> Option<Message<'_>>
 fn read_map(message: MessageType, bytes: &[u8]) -> Result<Message<'_>, WireFault>
     ensures { Gives message_of result (read_value message (whole_at 8 bytes.now)) }
 {
-    match read_flat(message, bytes) {
+    match read_fast(message, bytes) {
         Some(found) => Ok(found),
         None => read_checked(message, bytes),
     }

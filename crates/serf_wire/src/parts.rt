@@ -29,15 +29,15 @@ pub struct QueryParts<'a> {
 #[derive(Clone, Copy)]
 pub struct PushPullParts<'a> {
     /// The member clock.
-    pub member: u64,
+    pub member_clock: u64,
     /// The members' status times.
     pub status: &'a [StatusTime<'a>],
     /// The members that left.
     pub left: &'a [&'a [u8]],
     /// The event clock.
-    pub event: u64,
+    pub event_clock: u64,
     /// The event buffer.
     pub slots: &'a [Slot],
     /// The query clock.
-    pub query: u64,
+    pub query_clock: u64,
 }

@@ -10,7 +10,7 @@ ghost use Rattle.serf_wire.specs.Canonical.{entry, list_bytes, status_bytes, eve
 
 use crate::lists::StatusTime;
 use crate::parts::QueryParts;
-use crate::texts::{Bytes, EventText, Slot};
+use crate::texts::{Bytes, EventBody, Slot};
 use serf_pack::{put_array, put_bool, put_int, put_map, put_nil, put_raw, put_uint};
 use std::alloc::AllocError;
 
@@ -127,7 +127,7 @@ pub fn put_status_field(
     put_status_times(out, status)
 }
 
-fn put_event(out: &mut Vec<u8>, event: &EventText) -> Result<(), AllocError>
+fn put_event(out: &mut Vec<u8>, event: &EventBody) -> Result<(), AllocError>
     requires { is_long_event event.now ≡ false }
     ensures { OnOk result (out.new.items ≡ out.old.items ++ event_bytes event.now) }
 {
@@ -137,7 +137,7 @@ fn put_event(out: &mut Vec<u8>, event: &EventText) -> Result<(), AllocError>
 }
 
 /// The items of a list of events.
-fn put_events(out: &mut Vec<u8>, events: &[EventText]) -> Result<(), AllocError>
+fn put_events(out: &mut Vec<u8>, events: &[EventBody]) -> Result<(), AllocError>
     requires { list_any is_long_event events.now ≡ false }
     ensures { OnOk result (out.new.items ≡ out.old.items ++ flat_map event_bytes events.now) }
 {
@@ -148,7 +148,7 @@ fn put_events(out: &mut Vec<u8>, events: &[EventText]) -> Result<(), AllocError>
 }
 
 /// A slot with events.
-fn put_held(out: &mut Vec<u8>, time: u64, events: &[EventText]) -> Result<(), AllocError>
+fn put_held(out: &mut Vec<u8>, time: u64, events: &[EventBody]) -> Result<(), AllocError>
     requires list { length events.now < 2 ^ 32 }
     requires items { list_any is_long_event events.now ≡ false }
     ensures { OnOk result (out.new.items ≡ out.old.items ++ (map_head 2 ++ entry (codes "LTime") (uint_bytes time) ++ entry (codes "Events") (list_bytes event_bytes events.now))) }

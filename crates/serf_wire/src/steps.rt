@@ -1,19 +1,19 @@
-//! Steps over the slots and the events of a packet: a plainly spelled one is read in one pass, and every other in the
+//! Steps over the slots and the events of a packet: a compact one is read in one pass, and every other in the
 //! general way.
 
 ghost use Rattle.std.specs.Prelude.{◌≡◌, ◌∷◌, [], map, IfSome, IfNone};
 ghost use Rattle.serf_pack.specs.Walk.{items_left};
 ghost use Rattle.serf_wire.specs.Lists.{event_of, slot_of};
-ghost use Rattle.serf_wire.specs.Lookups.{event_text_in, slot_in};
+ghost use Rattle.serf_wire.specs.Lookups.{event_body_in, slot_in};
 
-use crate::flat::{read_event, read_slot};
+use crate::fast::{read_event, read_slot};
 use crate::lists::{EventView, SlotView};
 use serf_pack::Items;
 
-/// The next event, where it is spelled plainly, and what is left behind it.
+/// The next event, where it is compact, and what is left behind it.
 #[inline(always)]
-fn plain_event<'a>(items: &Items<'a>) -> Option<(EventView<'a>, Items<'a>)>
-    ensures { IfSome result (λ x. map event_text_in (items_left items.now) ≡ event_of x.0 ∷ map event_text_in (items_left x.1)) }
+fn compact_event<'a>(items: &Items<'a>) -> Option<(EventView<'a>, Items<'a>)>
+    ensures { IfSome result (λ x. map event_body_in (items_left items.now) ≡ event_of x.0 ∷ map event_body_in (items_left x.1)) }
 {
     let bytes = items.bytes();
     let Some((event, rest)) = read_event(bytes) else {
@@ -28,13 +28,13 @@ fn plain_event<'a>(items: &Items<'a>) -> Option<(EventView<'a>, Items<'a>)>
 /// The next event, and what is left behind it.
 #[inline]
 pub fn next_event<'a>(items: &Items<'a>) -> Option<(EventView<'a>, Items<'a>)>
-    ensures some { IfSome result (λ x. map event_text_in (items_left items.now) ≡ event_of x.0 ∷ map event_text_in (items_left x.1)) }
+    ensures some { IfSome result (λ x. map event_body_in (items_left items.now) ≡ event_of x.0 ∷ map event_body_in (items_left x.1)) }
     ensures none { IfNone result (items_left items.now ≡ []) }
 {
     if items.left() == 0 {
         return None;
     }
-    if let Some(found) = plain_event(items) {
+    if let Some(found) = compact_event(items) {
         return Some(found);
     }
     let mut behind = *items;
@@ -44,9 +44,9 @@ pub fn next_event<'a>(items: &Items<'a>) -> Option<(EventView<'a>, Items<'a>)>
     }
 }
 
-/// The next slot, where it is spelled plainly, and what is left behind it.
+/// The next slot, where it is compact, and what is left behind it.
 #[inline(always)]
-fn plain_slot<'a>(items: &Items<'a>) -> Option<(SlotView<'a>, Items<'a>)>
+fn compact_slot<'a>(items: &Items<'a>) -> Option<(SlotView<'a>, Items<'a>)>
     ensures { IfSome result (λ x. map slot_in (items_left items.now) ≡ slot_of x.0 ∷ map slot_in (items_left x.1)) }
 {
     let bytes = items.bytes();
@@ -65,7 +65,7 @@ pub fn next_slot<'a>(items: &Items<'a>) -> Option<(SlotView<'a>, Items<'a>)>
     ensures some { IfSome result (λ x. map slot_in (items_left items.now) ≡ slot_of x.0 ∷ map slot_in (items_left x.1)) }
     ensures none { IfNone result (items_left items.now ≡ []) }
 {
-    if let Some(found) = plain_slot(items) {
+    if let Some(found) = compact_slot(items) {
         return Some(found);
     }
     let mut behind = *items;

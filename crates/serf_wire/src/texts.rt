@@ -56,7 +56,7 @@ impl Bytes {
 
 /// What a user event carries beside its time: its name and its payload.
 #[derive(Debug, Drop)]
-pub struct EventText {
+pub struct EventBody {
     pub name: Bytes,
     pub payload: Bytes,
 }
@@ -65,51 +65,51 @@ pub struct EventText {
 ///
 /// Contracts see the list of them, and how many more go in without memory.
 #[derive(Debug, Drop)]
-pub struct EventTexts {
-    items: Vec<EventText>,
+pub struct EventBodies {
+    items: Vec<EventBody>,
 }
 
-impl Model for EventTexts {
+impl Model for EventBodies {
     ghost use Rattle.std.specs.Prelude.{◌-◌};
     ghost use Rattle.std.specs.Vec.{vec_len, vec_capacity};
-    ghost use Rattle.serf_wire.specs.declared.texts.EventText.{EventText};
+    ghost use Rattle.serf_wire.specs.declared.texts.EventBody.{EventBody};
     ghost use Rattle.serf_wire.specs.Roomy.{Roomy};
 
-    ghost Value = { Roomy EventText };
+    ghost Value = { Roomy EventBody };
 
     ghost view = { λ e. record { items = e.items.items; room = vec_capacity e.items - vec_len e.items } };
 }
 
-impl EventTexts {
+impl EventBodies {
     /// No events. Takes no memory.
-    pub fn new(alloc: Global) -> EventTexts
+    pub fn new(alloc: Global) -> EventBodies
         ensures { result.items ≡ [] }
     {
-        EventTexts {
+        EventBodies {
             items: Vec::new(alloc),
         }
     }
 
     /// The events of a vector. Takes no memory.
-    pub fn from_vec(items: Vec<EventText>) -> EventTexts
+    pub fn from_vec(items: Vec<EventBody>) -> EventBodies
         ensures items { result.items ≡ items.items }
         ensures room { result.room ≡ vec_capacity items - vec_len items }
     {
-        EventTexts { items }
+        EventBodies { items }
     }
 
     /// The events. Takes no memory.
-    pub fn as_slice(&self) -> &[EventText]
+    pub fn as_slice(&self) -> &[EventBody]
         ensures { result.now ≡ self.now.items }
     {
         self.items.as_slice()
     }
 
     /// The vector of the events. Takes no memory.
-    pub fn into_vec(self) -> Vec<EventText>
+    pub fn into_vec(self) -> Vec<EventBody>
         ensures { result.items ≡ self.items }
     {
-        let EventTexts { items } = self;
+        let EventBodies { items } = self;
         items
     }
 
@@ -134,7 +134,7 @@ impl EventTexts {
     }
 
     /// Adds an event where there is room for it, and takes up just its place. Takes no memory.
-    pub fn add(&mut self, event: EventText)
+    pub fn add(&mut self, event: EventBody)
         requires { 0 < self.old.room }
         ensures items { self.new.items ≡ self.old.items ++ event ∷ [] }
         ensures room { self.new.room + 1 ≡ self.old.room }
@@ -148,5 +148,5 @@ impl EventTexts {
 #[derive(Debug, Drop)]
 pub struct Slot {
     pub time: Time,
-    pub events: EventTexts,
+    pub events: EventBodies,
 }

@@ -3,7 +3,7 @@
 use crate::vectors::{ACK_OF_B, DEPLOY, QUERY_LOAD, RESPONSE_OF_B, STATE_OF_DEPLOY, TWO_SLOTS};
 use serf_lamport::Time;
 use serf_wire::{
-    Bytes, EncodeFault, EventText, EventTexts, PushPullParts, QueryParts, Slot, StatusTime,
+    Bytes, EncodeFault, EventBodies, EventBody, PushPullParts, QueryParts, Slot, StatusTime,
     encode_push_pull, encode_query, encode_response, encode_user_event, node_filter, query_len,
     response_len, user_event_len,
 };
@@ -27,11 +27,11 @@ fn is_event(
     alloc: Global,
     name: &[u8],
     payload: &[u8],
-    cc: bool,
+    coalesce: bool,
     expected: &[u8],
 ) -> Result<bool, Fail> {
     Ok(is_packet(
-        encode_user_event(alloc, time(1)?, name, payload, cc),
+        encode_user_event(alloc, time(1)?, name, payload, coalesce),
         expected,
     ))
 }
@@ -117,18 +117,18 @@ fn answers(rt: HostRuntime) {
 /// A slot: none, or the time, the name and the payload of its only event.
 type Held<'a> = Option<(u64, &'a [u8], &'a [u8])>;
 
-fn one_event(alloc: Global, name: &[u8], payload: &[u8]) -> Result<EventTexts, AllocError> {
+fn one_event(alloc: Global, name: &[u8], payload: &[u8]) -> Result<EventBodies, AllocError> {
     let name = Bytes::copy_of(alloc, name)?;
     let payload = Bytes::copy_of(alloc, payload)?;
-    let mut events = EventTexts::new(alloc);
+    let mut events = EventBodies::new(alloc);
     events.make_room()?;
-    events.add(EventText { name, payload });
+    events.add(EventBody { name, payload });
     Ok(events)
 }
 
 fn slot_of(alloc: Global, slot: Held) -> Result<Slot, Fail> {
     let (number, events) = match slot {
-        None => (0, EventTexts::new(alloc)),
+        None => (0, EventBodies::new(alloc)),
         Some((number, name, payload)) => (number, one_event(alloc, name, payload)?),
     };
     Ok(Slot {
@@ -148,7 +148,7 @@ fn slots_of(alloc: Global, held: &[Held]) -> Result<Vec<Slot>, Fail> {
 /// Whether the state with member clock 1, query clock 1, this event clock, these members and these slots has this packet.
 fn is_state(
     alloc: Global,
-    event: u64,
+    event_clock: u64,
     status: &[StatusTime],
     left: &[&[u8]],
     held: &[Held],
@@ -156,12 +156,12 @@ fn is_state(
 ) -> Result<bool, Fail> {
     let slots = slots_of(alloc, held)?;
     let parts = PushPullParts {
-        member: 1,
+        member_clock: 1,
         status,
         left,
-        event,
+        event_clock,
         slots: slots.as_slice(),
-        query: 1,
+        query_clock: 1,
     };
     Ok(is_packet(encode_push_pull(alloc, &parts), expected))
 }

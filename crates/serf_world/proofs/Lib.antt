@@ -1,3 +1,3 @@
-pub mod SeatLaws
+pub mod NodeLaws
 pub mod MergeLaws
 pub mod ResultLaws

@@ -2,11 +2,11 @@
 use Rattle.std.proofs.Common.{◌≡◌, ◌≢◌, ℕ, ◌<◌, ◌-◌, ◌^◌, cond, Bool, true, false, List, [], ◌∷◌, ◌++◌, Option, Some, None, Result, Ok, Err, refl, sym, ap, subst, ◌∙◌, inl, inr}
 use Rattle.std.specs.List.{AllByRecursion}
 use Rattle.serf_wire.specs.declared.fault.WireFault.{WireFault}
-use Rattle.serf_wire.specs.declared.texts.EventText.{EventText}
+use Rattle.serf_wire.specs.declared.texts.EventBody.{EventBody}
 use Rattle.serf_wire.specs.Decoded.{decoded}
 use Rattle.serf_wire.specs.Message.{Message, PushPull, user_event, query, query_response, push_pull, foreign}
 use Rattle.serf_wire.proofs.SpelledRanges.{decoded_ranged}
-use Rattle.serf_window.specs.Window.{Timed}
+use Rattle.serf_window.specs.Window.{TimedEntry}
 use Rattle.serf_snap.specs.Notes.{Kept}
 use Rattle.serf_agent.specs.declared.outcome.EventOut.{EventOut}
 use Rattle.serf_agent.specs.declared.outcome.MergeFault.{MergeFault}
@@ -18,29 +18,29 @@ use Rattle.serf_agent.specs.declared.outcome.ReceiveFault.TheVariants.{SinkFault
 use Rattle.serf_agent.specs.Calls.{Step, planned, ended, will}
 use Rattle.serf_agent.specs.Events.{admission, received_as}
 use Rattle.serf_agent.specs.Ideal.{IdealAgent}
-use Rattle.serf_agent.specs.States.{Receives, EndsAt, Merges, receive_one, taken, gained, handed_by, joined, events_of, merge_refusal}
-use Rattle.serf_agent.specs.View.{Stored, view_of}
+use Rattle.serf_agent.specs.States.{Receives, EndsAt, Merges, receive_one, after_event, delivered, handed_by, joined, events_of, merge_refusal}
+use Rattle.serf_agent.specs.View.{ConcreteState, view_of}
 use Rattle.serf_world.specs.declared.done.Done.{Done as Made}
 use Rattle.serf_model.specs.declared.line.Answer.TheVariants as answers
 use Rattle.serf_model.specs.declared.line.Refusal.TheVariants.{SinkFault as FailedSink}
-use Rattle.serf_model.specs.Cluster.{Member, Merged, merges_as, merges_events, merges_on, merges_packet}
-use Rattle.serf_world.specs.Seats.{DoesCall, done_of, merge_answer}
-use Rattle.serf_model.specs.Ready.{IsGood}
-use Rattle.serf_model.proofs.ReadyLaws.{good-received, good-joined, runs-on, times-of, none-if}
-use Rattle.serf_world.proofs.SeatLaws.{may-will, steps-planned}
+use Rattle.serf_model.specs.Cluster.{IdealNode, Merged, merges_as, merges_events, merges_on, merges_packet}
+use Rattle.serf_world.specs.Nodes.{DoesCall, done_of, merge_answer}
+use Rattle.serf_model.specs.Ready.{IsRepresentable}
+use Rattle.serf_model.proofs.InvariantKept.{representable-received, representable-joined, runs-on, times-of, none-if}
+use Rattle.serf_world.proofs.NodeLaws.{may-will, steps-planned}
 
 -- what a merge came to
-pub record Merging (o : Merged) (gains : List EventOut) (new : Stored) (fault : Option MergeFault) : Type 0 where
-  pub events : gains ≡ o.events
+pub record Merging (o : Merged) (deliveries : List EventOut) (new : ConcreteState) (fault : Option MergeFault) : Type 0 where
+  pub events : deliveries ≡ o.events
   pub state : new ≡ view_of o.agent
   pub failed : fault ≡ cond o.failed (Some merges.SinkFault) None
 
--- where the line is kept an event is received
-kept-answer : (i : IdealAgent) (t : ℕ) (what : EventText) (r : Option Reason) → (outcome : Outcome) × ((ended i (received_as r i t what false) Kept).answer ≡ Ok outcome)
+-- where the line is durable an event is received
+kept-answer : (i : IdealAgent) (t : ℕ) (what : EventBody) (r : Option Reason) → (outcome : Outcome) × ((ended i (received_as r i t what false) Kept).answer ≡ Ok outcome)
 kept-answer i t what (Some reason) = (_, refl)
 kept-answer i t what None = (_, refl)
 
-merging-ok : (o : Step (Result Outcome ReceiveFault)) (rest : IdealAgent → Merged) (outcome : Outcome) (more : List EventOut) (new : Stored) (fault : Option MergeFault) → o.answer ≡ Ok outcome → Merging (rest o.agent) more new fault
+merging-ok : (o : Step (Result Outcome ReceiveFault)) (rest : IdealAgent → Merged) (outcome : Outcome) (more : List EventOut) (new : ConcreteState) (fault : Option MergeFault) → o.answer ≡ Ok outcome → Merging (rest o.agent) more new fault
     → Merging (merges_on o rest) (handed_by o.answer ++ more) new fault
 merging-ok o rest outcome more new fault is h = by o.answer is
   where
@@ -48,36 +48,36 @@ merging-ok o rest outcome more new fault is h = by o.answer is
     by (Ok x) e = record { events = ap (λ l. handed_by (Ok x) ++ l) h.events; state = h.state; failed = h.failed }
     by (Err f) e = absurd (cc e)
 
-merging-err : (o : Step (Result Outcome ReceiveFault)) (rest : IdealAgent → Merged) (new : Stored) → Err SinkFault ≡ o.answer → new ≡ view_of o.agent → Merging (merges_on o rest) [] new (Some merges.SinkFault)
+merging-err : (o : Step (Result Outcome ReceiveFault)) (rest : IdealAgent → Merged) (new : ConcreteState) → Err SinkFault ≡ o.answer → new ≡ view_of o.agent → Merging (merges_on o rest) [] new (Some merges.SinkFault)
 merging-err o rest new is state = by o.answer is
   where
     by : (r : Result Outcome ReceiveFault) → Err SinkFault ≡ r → Merging (merges_on (record { agent = o.agent; answer = r }) rest) [] new (Some merges.SinkFault)
     by (Ok x) e = absurd (cc e)
     by (Err f) e = record { events = refl; state = state; failed = refl }
 
-pub receives-planned : (es : List (Timed EventText)) (i : IdealAgent) (gains : List EventOut) (new : Stored) (fault : Option MergeFault) → IsGood i → i.snapshot.stopped ≡ false → AllByRecursion (λ e. e.time < 2 ^ 64 - 1) es → fault ≢ Some merges.OutOfMemory
-    → Receives i es gains new fault → Merging (merges_events es i) gains new fault
-receives-planned [] i gains new fault good runs times memory h = record { events = h.0; state = h.1; failed = h.3 }
-receives-planned (e ∷ es) i gains new fault good runs times memory (inl h) =
-    let kept : Kept ≡ will i (receive_one i e) = may-will i (receive_one i e) Kept good.ready.told h.0 in
+pub receives-planned : (es : List (TimedEntry EventBody)) (i : IdealAgent) (deliveries : List EventOut) (new : ConcreteState) (fault : Option MergeFault) → IsRepresentable i → i.snapshot.stopped ≡ false → AllByRecursion (λ e. e.time < 2 ^ 64 - 1) es → fault ≢ Some merges.OutOfMemory
+    → Receives i es deliveries new fault → Merging (merges_events es i) deliveries new fault
+receives-planned [] i deliveries new fault representable runs times memory h = record { events = h.0; state = h.1; failed = h.3 }
+receives-planned (e ∷ es) i deliveries new fault representable runs times memory (inl h) =
+    let kept : Kept ≡ will i (receive_one i e) = may-will i (receive_one i e) Kept representable.consistent.observable h.0 in
     let same : ended i (receive_one i e) Kept ≡ planned i (receive_one i e) = ap (ended i (receive_one i e)) kept in
-    let answer = kept-answer i e.time e.what (admission i e.time e.what) in
+    let answer = kept-answer i e.time e.key (admission i e.time e.key) in
     let planned_is : (planned i (receive_one i e)).answer ≡ Ok answer.0 = ap (λ (o : Step (Result Outcome ReceiveFault)). o.answer) (sym same) ∙ answer.1 in
-    let first : IsGood (planned i (receive_one i e)).agent = good-received i e.time e.what false (admission i e.time e.what) good runs times.0 refl in
-    let next : IsGood (taken i e) = subst (λ (o : Step (Result Outcome ReceiveFault)). IsGood o.agent) (sym same) first in
-    let going = subst (λ (o : Step (Result Outcome ReceiveFault)). o.agent.snapshot.stopped ≡ false) (sym same) (runs-on i e.time e.what false (admission i e.time e.what) answer.0 runs planned_is) in
-    let rest = receives-planned es (taken i e) h.1.0 new fault next going times.1 memory h.1.2 in
+    let first : IsRepresentable (planned i (receive_one i e)).agent = representable-received i e.time e.key false (admission i e.time e.key) representable runs times.0 refl in
+    let next : IsRepresentable (after_event i e) = subst (λ (o : Step (Result Outcome ReceiveFault)). IsRepresentable o.agent) (sym same) first in
+    let going = subst (λ (o : Step (Result Outcome ReceiveFault)). o.agent.snapshot.stopped ≡ false) (sym same) (runs-on i e.time e.key false (admission i e.time e.key) answer.0 runs planned_is) in
+    let rest = receives-planned es (after_event i e) h.1.0 new fault next going times.1 memory h.1.2 in
     let all : Merging (merges_on (ended i (receive_one i e) Kept) (merges_events es)) (handed_by (ended i (receive_one i e) Kept).answer ++ h.1.0) new fault =
     merging-ok (ended i (receive_one i e) Kept) (merges_events es) answer.0 h.1.0 new fault answer.1 rest in
     subst (λ (l : List EventOut). Merging (merges_events (e ∷ es) i) l new fault) (sym h.1.1)
-    (subst (λ (o : Step (Result Outcome ReceiveFault)). Merging (merges_on o (merges_events es)) (gained i e ++ h.1.0) new fault) same all)
-receives-planned (e ∷ es) i gains new fault good runs times memory (inr h) = by h.1.0 h.1.1 h.1.2
+    (subst (λ (o : Step (Result Outcome ReceiveFault)). Merging (merges_on o (merges_events es)) (delivered i e ++ h.1.0) new fault) same all)
+receives-planned (e ∷ es) i deliveries new fault representable runs times memory (inr h) = by h.1.0 h.1.1 h.1.2
   where
-    by : (f : MergeFault) → fault ≡ Some f → EndsAt i e new f → Merging (merges_events (e ∷ es) i) gains new fault
+    by : (f : MergeFault) → fault ≡ Some f → EndsAt i e new f → Merging (merges_events (e ∷ es) i) deliveries new fault
     by merges.OutOfMemory is ends = absurd (memory is)
     by merges.SinkFault is ends =
-        let p = steps-planned i (receive_one i e) (Err SinkFault) new good.ready.told ends in
-        subst (λ (f : Option MergeFault). Merging (merges_events (e ∷ es) i) gains new f) (sym is)
+        let p = steps-planned i (receive_one i e) (Err SinkFault) new representable.consistent.observable ends in
+        subst (λ (f : Option MergeFault). Merging (merges_events (e ∷ es) i) deliveries new f) (sym is)
         (subst (λ (l : List EventOut). Merging (merges_events (e ∷ es) i) l new (Some merges.SinkFault)) (sym h.0)
         (merging-err (planned i (receive_one i e)) (merges_events es) new p.answers p.state))
     by merges.Stopped is ends = absurd ends
@@ -85,39 +85,39 @@ receives-planned (e ∷ es) i gains new fault good runs times memory (inr h) = b
     by merges.NotPushPull is ends = absurd ends
 
 -- a whole merge
-pub merges-planned : (i : IdealAgent) (packet : List ℕ) (m : PushPull) (join : Bool) (gains : List EventOut) (new : Stored) (fault : Option MergeFault) → IsGood i → decoded packet ≡ Ok (push_pull m) → merge_refusal (view_of i) (Ok (push_pull m)) ≡ None → fault ≢ Some merges.OutOfMemory
-    → Receives (joined m join i) (events_of m.slots) gains new fault → Merging (merges_events (events_of m.slots) (joined m join i)) gains new fault
-merges-planned i packet m join gains new fault good is refuses memory h =
+pub merges-planned : (i : IdealAgent) (packet : List ℕ) (m : PushPull) (join : Bool) (deliveries : List EventOut) (new : ConcreteState) (fault : Option MergeFault) → IsRepresentable i → decoded packet ≡ Ok (push_pull m) → merge_refusal (view_of i) (Ok (push_pull m)) ≡ None → fault ≢ Some merges.OutOfMemory
+    → Receives (joined m join i) (events_of m.slots) deliveries new fault → Merging (merges_events (events_of m.slots) (joined m join i)) deliveries new fault
+merges-planned i packet m join deliveries new fault representable is refuses memory h =
     let ranged = decoded_ranged packet (push_pull m) is in
     let runs = none-if i.snapshot.stopped merges.Stopped None refuses in
-    receives-planned (events_of m.slots) (joined m join i) gains new fault (good-joined m join i good ranged) runs.0 (times-of m.slots ranged.slots) memory h
+    receives-planned (events_of m.slots) (joined m join i) deliveries new fault (representable-joined m join i representable ranged) runs.0 (times-of m.slots ranged.slots) memory h
 
 not-state : (b : Bool) → cond b (Some merges.Stopped) (Some merges.NotPushPull) ≡ None → ⊥
 not-state true e = cc
 not-state false e = cc
 
 -- what a merge does, however its packet reads
-does-merge-read : (m : Member) (join : Bool) (packet : List ℕ) (fault : Option MergeFault) (new : Stored) (out : List EventOut) (d : Made) (f : Option MergeFault) (r : Result Message WireFault) → IsGood m.agent → fault ≢ Some merges.OutOfMemory
+does-merge-read : (m : IdealNode) (join : Bool) (packet : List ℕ) (fault : Option MergeFault) (new : ConcreteState) (out : List EventOut) (d : Made) (f : Option MergeFault) (r : Result Message WireFault) → IsRepresentable m.agent → fault ≢ Some merges.OutOfMemory
     → decoded packet ≡ r → merge_refusal (view_of m.agent) r ≡ f
     → ((g : MergeFault) → f ≡ Some g → (fault ≡ Some g) × (new ≡ view_of m.agent) × (out ≡ []))
     → ((p : PushPull) → f ≡ None → r ≡ Ok (push_pull p) → Merges m.agent p join [] out new fault)
     → done_of d ≡ record { answer = merge_answer fault; packets = []; events = out; handed = None } → DoesCall (merges_as f m join r) new d
-does-merge-read m join packet fault new out d (Some g) r good memory is refuses refused_as merged gives =
+does-merge-read m join packet fault new out d (Some g) r representable memory is refuses refused_as merged gives =
     let h = refused_as g refl in
     record { state = h.1; gives = gives ∙ (λ k. record { answer = merge_answer (h.0 k); packets = []; events = h.2 k; handed = None }) }
-does-merge-read m join packet fault new out d None (Err e) good memory is refuses refused_as merged gives = absurd (never m.agent.snapshot.stopped refuses)
+does-merge-read m join packet fault new out d None (Err e) representable memory is refuses refused_as merged gives = absurd (never m.agent.snapshot.stopped refuses)
   where
     never : (b : Bool) → cond b (Some merges.Stopped) (Some (merges.Wire e)) ≡ None → ⊥
     never true e = cc
     never false e = cc
-does-merge-read m join packet fault new out d None (Ok (user_event e)) good memory is refuses refused_as merged gives = absurd (not-state m.agent.snapshot.stopped refuses)
-does-merge-read m join packet fault new out d None (Ok (query e)) good memory is refuses refused_as merged gives = absurd (not-state m.agent.snapshot.stopped refuses)
-does-merge-read m join packet fault new out d None (Ok (query_response e)) good memory is refuses refused_as merged gives = absurd (not-state m.agent.snapshot.stopped refuses)
-does-merge-read m join packet fault new out d None (Ok (foreign e)) good memory is refuses refused_as merged gives = absurd (not-state m.agent.snapshot.stopped refuses)
-does-merge-read m join packet fault new out d None (Ok (push_pull p)) good memory is refuses refused_as merged gives =
+does-merge-read m join packet fault new out d None (Ok (user_event e)) representable memory is refuses refused_as merged gives = absurd (not-state m.agent.snapshot.stopped refuses)
+does-merge-read m join packet fault new out d None (Ok (query e)) representable memory is refuses refused_as merged gives = absurd (not-state m.agent.snapshot.stopped refuses)
+does-merge-read m join packet fault new out d None (Ok (query_response e)) representable memory is refuses refused_as merged gives = absurd (not-state m.agent.snapshot.stopped refuses)
+does-merge-read m join packet fault new out d None (Ok (foreign e)) representable memory is refuses refused_as merged gives = absurd (not-state m.agent.snapshot.stopped refuses)
+does-merge-read m join packet fault new out d None (Ok (push_pull p)) representable memory is refuses refused_as merged gives =
     let h = merged p refl refl in
     let o : Merged = merges_events (events_of p.slots) (joined p join m.agent) in
-    let done = merges-planned m.agent packet p join h.gains new fault good is refuses memory h.receives in
+    let done = merges-planned m.agent packet p join h.deliveries new fault representable is refuses memory h.receives in
     let answer : merge_answer fault ≡ cond (merges_events (events_of p.slots) (joined p join m.agent)).failed (answers.Refused FailedSink) answers.Merged =
     ap merge_answer done.failed ∙ answers-as (merges_events (events_of p.slots) (joined p join m.agent)).failed in
     record { state = done.state; gives = gives ∙ (λ k. record { answer = answer k; packets = []; events = (h.out ∙ done.events) k; handed = None }) }
@@ -126,12 +126,12 @@ does-merge-read m join packet fault new out d None (Ok (push_pull p)) good memor
     answers-as true = refl
     answers-as false = refl
 
-pub does-merge : (m : Member) (join : Bool) (packet : List ℕ) (fault : Option MergeFault) (new : Stored) (out : List EventOut) (d : Made) → IsGood m.agent → fault ≢ Some merges.OutOfMemory
+pub does-merge : (m : IdealNode) (join : Bool) (packet : List ℕ) (fault : Option MergeFault) (new : ConcreteState) (out : List EventOut) (d : Made) → IsRepresentable m.agent → fault ≢ Some merges.OutOfMemory
     → ((g : MergeFault) → merge_refusal (view_of m.agent) (decoded packet) ≡ Some g → (fault ≡ Some g) × (new ≡ view_of m.agent) × (out ≡ []))
     → ((p : PushPull) → merge_refusal (view_of m.agent) (decoded packet) ≡ None → decoded packet ≡ Ok (push_pull p) → Merges m.agent p join [] out new fault)
     → done_of d ≡ record { answer = merge_answer fault; packets = []; events = out; handed = None } → DoesCall (merges_packet m join (decoded packet)) new d
-does-merge m join packet fault new out d good memory refused_as merged gives =
-    does-merge-read m join packet fault new out d (merge_refusal (view_of m.agent) (decoded packet)) (decoded packet) good memory refl refl refused_as merged gives
+does-merge m join packet fault new out d representable memory refused_as merged gives =
+    does-merge-read m join packet fault new out d (merge_refusal (view_of m.agent) (decoded packet)) (decoded packet) representable memory refl refl refused_as merged gives
 
 -- an agent that refuses no packet runs
 pub runs-merge : (i : IdealAgent) (r : Result Message WireFault) → merge_refusal (view_of i) r ≡ None → i.snapshot.stopped ≡ false

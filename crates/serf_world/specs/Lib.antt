@@ -8,7 +8,7 @@ pub use Rattle.serf_model.specs.Queried
 pub use Rattle.serf_model.specs.AnswerPromises
 pub use Rattle.serf_model.specs.Bounds
 pub mod View
-pub mod Seats
+pub mod Nodes
 pub mod Turns
 pub mod Names
 pub mod Roster

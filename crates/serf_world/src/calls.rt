@@ -7,13 +7,13 @@ ghost use Rattle.serf_agent.specs.Restart.{IsInText};
 ghost use Rattle.serf_agent.specs.Config.{is_sound};
 ghost use Rattle.serf_agent.specs.Sound.{IsSound};
 ghost use Rattle.serf_agent.specs.View.{view_of};
-ghost use Rattle.serf_model.specs.Cluster.{Member, breaks, compacts, fires_event, fires_query, receives_packet, reopened, restarts, saves, sends_state};
-ghost use Rattle.serf_model.specs.Ready.{IsGood};
-ghost use Rattle.serf_world.specs.Seats.{DoesCall, done_of};
+ghost use Rattle.serf_model.specs.Cluster.{IdealNode, breaks, compacts, fires_event, fires_query, receives_packet, reopened, restarts, saves, sends_state};
+ghost use Rattle.serf_model.specs.Ready.{IsRepresentable};
+ghost use Rattle.serf_world.specs.Nodes.{DoesCall, done_of};
 
 use crate::done::{Done, fire_done, note_done, only_answer, query_done, receive_done, state_done};
 use serf_agent::{Agent, Config, QueryParams};
-use serf_model::{Answer, SinkCall, good_agents};
+use serf_model::{Answer, SinkCall, representable_agents};
 use serf_snap::MemSink;
 use serf_wire::Bytes;
 use std::alloc::{AllocError, Global};
@@ -24,11 +24,11 @@ pub(crate) fn fire_at(
     agent: &mut Agent<MemSink>,
     name: &[u8],
     payload: &[u8],
-    cc: bool,
+    coalesce: bool,
 ) -> Result<Done, AllocError>
-    ensures { (m : Member) → IsGood m.agent → agent.old.stored ≡ view_of m.agent → IfOk result (DoesCall (fires_event m (event_of name.now payload.now) cc) agent.new.stored) }
+    ensures { (m : IdealNode) → IsRepresentable m.agent → agent.old.concrete ≡ view_of m.agent → IfOk result (DoesCall (fires_event m (event_of name.now payload.now) coalesce) agent.new.concrete) }
 {
-    let fired = agent.fire(alloc, name, payload, cc);
+    let fired = agent.fire(alloc, name, payload, coalesce);
     let done = fire_done(alloc, fired)?;
     Ok(done)
 }
@@ -40,7 +40,7 @@ pub(crate) fn receive_at(
     now: u64,
     packet: &[u8],
 ) -> Result<Done, AllocError>
-    ensures { (m : Member) → IsGood m.agent → agent.old.stored ≡ view_of m.agent → IfOk result (DoesCall (receives_packet m now packet.now) agent.new.stored) }
+    ensures { (m : IdealNode) → IsRepresentable m.agent → agent.old.concrete ≡ view_of m.agent → IfOk result (DoesCall (receives_packet m now packet.now) agent.new.concrete) }
 {
     let received = agent.receive(alloc, now, packet);
     let done = receive_done(alloc, packet, received)?;
@@ -49,9 +49,9 @@ pub(crate) fn receive_at(
 
 /// An agent sends its state.
 pub(crate) fn state_at(alloc: Global, agent: &Agent<MemSink>) -> Result<Done, AllocError>
-    ensures { (m : Member) → agent.now.stored ≡ view_of m.agent → IfOk result (DoesCall (sends_state m) agent.now.stored) }
+    ensures { (m : IdealNode) → agent.now.concrete ≡ view_of m.agent → IfOk result (DoesCall (sends_state m) agent.now.concrete) }
 {
-    let state = agent.push_pull(alloc, &[], &[]);
+    let state = agent.local_state(alloc, &[], &[]);
     let done = state_done(alloc, state)?;
     Ok(done)
 }
@@ -66,7 +66,7 @@ pub(crate) fn query_at(
     payload: &[u8],
     params: &QueryParams,
 ) -> Result<Done, AllocError>
-    ensures { (m : Member) → IsGood m.agent → agent.old.stored ≡ view_of m.agent → IfOk result (DoesCall (fires_query m now id name.now payload.now params.now) agent.new.stored) }
+    ensures { (m : IdealNode) → IsRepresentable m.agent → agent.old.concrete ≡ view_of m.agent → IfOk result (DoesCall (fires_query m now id name.now payload.now params.now) agent.new.concrete) }
 {
     let fired = agent.query(alloc, now, id, name, payload, params);
     let done = query_done(alloc, fired)?;
@@ -75,16 +75,16 @@ pub(crate) fn query_at(
 
 /// An agent notes its member clock.
 pub(crate) fn save_at(alloc: Global, agent: &mut Agent<MemSink>) -> Result<Done, AllocError>
-    ensures { (m : Member) → IsGood m.agent → agent.old.stored ≡ view_of m.agent → IfOk result (DoesCall (saves m) agent.new.stored) }
+    ensures { (m : IdealNode) → IsRepresentable m.agent → agent.old.concrete ≡ view_of m.agent → IfOk result (DoesCall (saves m) agent.new.concrete) }
 {
-    let noted = agent.update_member_clock(alloc);
+    let noted = agent.save_member_clock(alloc);
     let done = note_done(alloc, Answer::Saved, noted)?;
     Ok(done)
 }
 
 /// An agent replaces its snapshot's text by its last lines.
 pub(crate) fn compact_at(alloc: Global, agent: &mut Agent<MemSink>) -> Result<Done, AllocError>
-    ensures { (m : Member) → IsGood m.agent → agent.old.stored ≡ view_of m.agent → IfOk result (DoesCall (compacts m) agent.new.stored) }
+    ensures { (m : IdealNode) → IsRepresentable m.agent → agent.old.concrete ≡ view_of m.agent → IfOk result (DoesCall (compacts m) agent.new.concrete) }
 {
     let noted = agent.compact(alloc);
     let done = note_done(alloc, Answer::Compacted, noted)?;
@@ -98,7 +98,7 @@ pub(crate) fn break_at(
     call: SinkCall,
     count: u64,
 ) -> Done
-    ensures { (m : Member) → agent.old.stored ≡ view_of m.agent → DoesCall (breaks m call count) agent.new.stored result }
+    ensures { (m : IdealNode) → agent.old.concrete ≡ view_of m.agent → DoesCall (breaks m call count) agent.new.concrete result }
 {
     match call {
         SinkCall::Append => agent.fail_append(count),
@@ -110,7 +110,7 @@ pub(crate) fn break_at(
 }
 
 /// A copy of settings.
-pub(crate) fn copied(alloc: Global, config: &Config) -> Result<Config, AllocError>
+pub(crate) fn copy_of(alloc: Global, config: &Config) -> Result<Config, AllocError>
     ensures { IfOk result (λ copy. copy ≡ config.now) }
 {
     Ok(Config {
@@ -130,7 +130,7 @@ pub(crate) fn open_on(
     config: Config,
     text: &[u8],
 ) -> Result<Agent<MemSink>, AllocError>
-    ensures opened { (i : IdealAgent) → IsSound i → i.config ≡ config → IsInText i text.now → IfOk result (λ agent. agent.stored ≡ view_of (reopened i text.now)) }
+    ensures opened { (i : IdealAgent) → IsSound i → i.config ≡ config → IsInText i text.now → IfOk result (λ agent. agent.concrete ≡ view_of (reopened i text.now)) }
     ensures sound { OnOk result (is_sound config ≡ true) }
 {
     let sink = MemSink::with(alloc, text)?;
@@ -142,9 +142,9 @@ pub(crate) fn open_on(
 
 /// What an agent's sink keeps, and then a tail.
 fn text_of(alloc: Global, agent: &Agent<MemSink>, tail: &[u8]) -> Result<Vec<u8>, AllocError>
-    ensures { IfOk result (λ text. text.items ≡ unwrap_or agent.now.stored.snapshot.kept [] ++ tail.now) }
+    ensures { IfOk result (λ text. text.items ≡ unwrap_or agent.now.concrete.snapshot.durable [] ++ tail.now) }
 {
-    let mut text = Vec::from_slice(alloc, agent.sink().kept())?;
+    let mut text = Vec::from_slice(alloc, agent.sink().durable())?;
     text.extend_from_slice(tail)?;
     Ok(text)
 }
@@ -155,19 +155,19 @@ pub(crate) fn restart_at(
     agent: &mut Agent<MemSink>,
     tail: &[u8],
 ) -> Result<Done, AllocError>
-    ensures { (m : Member) → IsGood m.agent → agent.old.stored ≡ view_of m.agent → IfOk result (DoesCall (restarts m tail.now) agent.new.stored) }
+    ensures { (m : IdealNode) → IsRepresentable m.agent → agent.old.concrete ≡ view_of m.agent → IfOk result (DoesCall (restarts m tail.now) agent.new.concrete) }
 {
-    good_agents();
+    representable_agents();
     let text = text_of(alloc, agent, tail)?;
-    let config = copied(alloc, agent.config())?;
+    let config = copy_of(alloc, agent.config())?;
     let opened = open_on(alloc, config, text.as_slice())?;
     *agent = opened;
     Ok(only_answer(
         alloc,
         Answer::Restarted {
-            member: agent.member_time(),
-            event: agent.event_time(),
-            query: agent.query_time(),
+            member_clock: agent.member_time(),
+            event_clock: agent.event_time(),
+            query_clock: agent.query_time(),
         },
     ))
 }

@@ -3,7 +3,7 @@
 ghost use Rattle.std.specs.Prelude.{◌≡◌, ◌≢◌, ◌∷◌, ◌++◌, [], IfOk, OnOk, if◌then◌else◌};
 ghost use Rattle.std.specs.Option.{option_to_list};
 ghost use Rattle.serf_model.specs.Cluster.{fire_gives, note_gives, only, query_gives, receive_gives, refused, state_gives};
-ghost use Rattle.serf_world.specs.Seats.{done_of};
+ghost use Rattle.serf_world.specs.Nodes.{done_of};
 
 use serf_agent::{
     BytesList, EventOut, FireFault, Fired, FiredQuery, HandedQuery, Outcome, PushPullFault,
@@ -159,7 +159,7 @@ fn outcome_done(alloc: Global, packet: &[u8], outcome: Outcome) -> Result<Done, 
         Outcome::Response => Ok(only_answer(alloc, Answer::Response)),
         Outcome::Ignored(reason) => Ok(only_answer(alloc, Answer::Ignored(reason))),
         Outcome::Foreign(kind) => Ok(only_answer(alloc, Answer::Foreign(kind))),
-        Outcome::UsePushPull => Ok(only_answer(alloc, Answer::PushPull)),
+        Outcome::PushPull => Ok(only_answer(alloc, Answer::PushPull)),
     }
 }
 

@@ -2,16 +2,16 @@
 //! and queries do, one action after another.
 #![tactic(auto)]
 
-mod acts;
+mod apply;
 mod calls;
 mod done;
 mod fault;
 mod merging;
 mod names;
+mod node;
 mod respond;
 mod roster;
 mod running;
-mod seat;
 mod sizes;
 mod turn;
 mod world;

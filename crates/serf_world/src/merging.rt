@@ -4,9 +4,9 @@ ghost use Rattle.std.specs.Prelude.{◌≡◌, ◌≢◌, ◌++◌, [], IfOk, Er
 ghost use Rattle.serf_wire.specs.Decoded.{decoded};
 ghost use Rattle.serf_agent.specs.States.{fault_in};
 ghost use Rattle.serf_agent.specs.View.{view_of};
-ghost use Rattle.serf_model.specs.Cluster.{Member, merge_refusal_of, merges_packet};
-ghost use Rattle.serf_model.specs.Ready.{IsGood};
-ghost use Rattle.serf_world.specs.Seats.{DoesCall, done_of, merge_answer};
+ghost use Rattle.serf_model.specs.Cluster.{IdealNode, merge_refusal_of, merges_packet};
+ghost use Rattle.serf_model.specs.Ready.{IsRepresentable};
+ghost use Rattle.serf_world.specs.Nodes.{DoesCall, done_of, merge_answer};
 
 use crate::done::Done;
 use serf_agent::{Agent, BytesList, EventOut, MergeFault, PushPull};
@@ -35,10 +35,10 @@ pub(crate) fn merge_at(
     packet: &[u8],
     join: bool,
 ) -> Result<Done, AllocError>
-    ensures { (m : Member) → IsGood m.agent → agent.old.stored ≡ view_of m.agent → IfOk result (DoesCall (merges_packet m join (decoded packet.now)) agent.new.stored) }
+    ensures { (m : IdealNode) → IsRepresentable m.agent → agent.old.concrete ≡ view_of m.agent → IfOk result (DoesCall (merges_packet m join (decoded packet.now)) agent.new.concrete) }
 {
     let mut events: Vec<EventOut> = Vec::new(alloc);
-    let merged = agent.merge(alloc, packet, join, &mut events);
+    let merged = agent.merge_remote_state(alloc, packet, join, &mut events);
     let answer = merge_answer(&merged)?;
     Ok(Done {
         answer,

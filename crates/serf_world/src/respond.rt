@@ -1,8 +1,8 @@
 //! A query that was handed to an agent is answered.
 
 ghost use Rattle.std.specs.Prelude.{◌≡◌, ℕ, IfOk, OnOk, slice_get};
-ghost use Rattle.serf_model.specs.Cluster.{Member, responds};
-ghost use Rattle.serf_world.specs.Seats.{DoesRespond, done_of, slot_after, slot_gives};
+ghost use Rattle.serf_model.specs.Cluster.{IdealNode, responds};
+ghost use Rattle.serf_world.specs.Nodes.{DoesRespond, done_of, slot_after, slot_gives};
 
 use crate::done::{Done, refusal, with_packet};
 use serf_agent::{HandedQuery, RespondFault};
@@ -43,7 +43,7 @@ pub(crate) fn respond_at(
     now: u64,
     payload: &[u8],
 ) -> Result<Done, AllocError>
-    ensures { (m : Member) → handed.old.items ≡ m.handed → IfOk result (DoesRespond (responds m number (slice_get m.handed number) now payload.now) handed.new.items) }
+    ensures { (m : IdealNode) → handed.old.items ≡ m.handed → IfOk result (DoesRespond (responds m number (slice_get m.handed number) now payload.now) handed.new.items) }
 {
     let number = number as usize;
     if number >= handed.len() {

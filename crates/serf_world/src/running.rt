@@ -7,7 +7,7 @@ ghost use Rattle.serf_model.specs.Bounds.{EventsBounded, QueriesBounded};
 ghost use Rattle.serf_model.specs.Cluster.{Cluster, Run, after, run_of, step, trace_of};
 ghost use Rattle.serf_model.specs.Promises.{Held, Later, Once, OnlyFired, QueryFired, QueryHandedOnce, QueryLater, QueryOnce};
 ghost use Rattle.serf_model.specs.Queried.{QueryOnlyFired};
-ghost use Rattle.serf_model.specs.Ready.{AreGood};
+ghost use Rattle.serf_model.specs.Ready.{AreRepresentable};
 ghost use Rattle.serf_model.specs.Runs.{AreConfigs, IsRun, OfTurns};
 ghost use Rattle.serf_model.specs.Trace.{outcome_of};
 ghost use Rattle.serf_world.specs.View.{AddsLine, IsViewed};
@@ -25,7 +25,7 @@ fn step_to(
     lines: &mut Vec<Line>,
     action: &Action,
 ) -> Result<(), AllocError>
-    ensures step { (c : Cluster) → IsViewed c world.old → AreGood c → OnOk result (AddsLine (step c action.now) world.new lines.old.items lines.new.items) }
+    ensures step { (c : Cluster) → IsViewed c world.old → AreRepresentable c → OnOk result (AddsLine (step c action.now) world.new lines.old.items lines.new.items) }
     ensures err_lines { OnErr result (lines.new.items ≡ lines.old.items) }
     ensures err_sent { OnErr result (world.new.sent ≡ world.old.sent) }
 {
@@ -41,8 +41,8 @@ fn step_to(
 
 /// Does all actions in a cluster. Where memory runs out, gives the trace of those done before.
 fn run_in(alloc: Global, world: World, actions: &[Action]) -> Result<Trace, Trace>
-    ensures done { (r : Run) → IsViewed r.cluster world → AreGood r.cluster → r.turns ≡ [] → IfOk result (λ trace. outcome_of trace ≡ trace_of (fold after r actions.now)) }
-    ensures memory { (r : Run) → IsViewed r.cluster world → AreGood r.cluster → r.turns ≡ []
+    ensures done { (r : Run) → IsViewed r.cluster world → AreRepresentable r.cluster → r.turns ≡ [] → IfOk result (λ trace. outcome_of trace ≡ trace_of (fold after r actions.now)) }
+    ensures memory { (r : Run) → IsViewed r.cluster world → AreRepresentable r.cluster → r.turns ≡ []
         → IfErr result (λ trace. (n : ℕ) × (n ≤ length actions.now) × (outcome_of trace ≡ trace_of (fold after r (take n actions.now)))) }
 {
     let mut world = world;

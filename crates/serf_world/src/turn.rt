@@ -2,14 +2,14 @@
 
 ghost use Rattle.std.specs.Prelude.{◌≡◌, ◌+◌, ◌-◌, ◌^◌, ◌≤◌, ◌++◌, ℕ, IfOk, OnOk, OnErr, Some, length, map};
 ghost use Rattle.std.specs.Option.{option_map, option_to_list};
-ghost use Rattle.serf_model.specs.Cluster.{Member, acts, event_line, handed_line, numbers_from};
-ghost use Rattle.serf_model.specs.Ready.{IsGood};
+ghost use Rattle.serf_model.specs.Cluster.{IdealNode, apply, event_line, handed_line, numbers_from};
+ghost use Rattle.serf_model.specs.Ready.{IsRepresentable};
 ghost use Rattle.serf_world.specs.Turns.{TakesTurn};
-ghost use Rattle.serf_world.specs.View.{seat_of};
+ghost use Rattle.serf_world.specs.View.{node_of};
 
-use crate::acts::act;
+use crate::apply::apply_action;
 use crate::done::Done;
-use crate::seat::Seat;
+use crate::node::Node;
 use serf_agent::{BytesList, EventOut, HandedQuery};
 use serf_model::{Action, Answer, EventLine, EventLines, HandedLine, Numbers};
 use serf_wire::Bytes;
@@ -33,7 +33,7 @@ fn line_of(agent: u64, event: EventOut) -> EventLine
         time: event.time,
         name: event.name,
         payload: event.payload,
-        cc: event.cc,
+        coalesce: event.coalesce,
     }
 }
 
@@ -77,20 +77,20 @@ fn hand_over(
 pub(crate) fn take_turn(
     alloc: Global,
     agent: u64,
-    seat: &mut Seat,
+    node: &mut Node,
     sent: &[Bytes],
     action: &Action,
 ) -> Result<Turn, AllocError>
-    ensures { (m : Member) → IsGood m.agent → seat.old ≡ seat_of m → IfOk result (TakesTurn agent (acts m sent.now action.now) seat.new) }
+    ensures { (m : IdealNode) → IsRepresentable m.agent → node.old ≡ node_of m → IfOk result (TakesTurn agent (apply m sent.now action.now) node.new) }
 {
     let Done {
         answer,
         packets,
         events,
         handed,
-    } = act(alloc, seat, sent, action)?;
+    } = apply_action(alloc, node, sent, action)?;
     let events = lines_of(alloc, agent, events)?;
-    let handed = hand_over(alloc, agent, &mut seat.handed, handed)?;
+    let handed = hand_over(alloc, agent, &mut node.handed, handed)?;
     Ok(Turn {
         answer,
         packets,

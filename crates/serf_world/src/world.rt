@@ -2,19 +2,21 @@
 
 ghost use Rattle.std.specs.Prelude.{◌≡◌, ◌↔◌, ℕ, [], false, true, map, slice_get, IfErr, IfOk, IsErrOf, IsTrue, OnErr, OnOk};
 ghost use Rattle.std.specs.Option.{option_map};
-ghost use Rattle.serf_model.specs.Cluster.{Cluster, joining, on_agent, start, step};
-ghost use Rattle.serf_model.specs.Ready.{AreGood};
+ghost use Rattle.serf_model.specs.Cluster.{Cluster, first_node, on_agent, start, step};
+ghost use Rattle.serf_model.specs.Ready.{AreRepresentable};
 ghost use Rattle.serf_model.specs.Runs.{AreConfigs, IsNewFault, first_bad};
 ghost use Rattle.serf_model.specs.Trace.{actor_of, injects_of};
-ghost use Rattle.serf_world.specs.View.{IsViewed, TakesStep, agent_at, seat_of};
+ghost use Rattle.serf_world.specs.View.{IsViewed, TakesStep, agent_at, node_of};
 
 use crate::calls::open_on;
 use crate::fault::StepFault;
 use crate::names::{NamesFault, distinct};
-use crate::seat::Seat;
+use crate::node::Node;
 use crate::turn::{Turn, send, take_turn};
 use serf_agent::{Agent, BytesList, Config};
-use serf_model::{Action, Answer, EventLines, Line, NewFault, Numbers, Refusal, good_agents};
+use serf_model::{
+    Action, Answer, EventLines, Line, NewFault, Numbers, Refusal, representable_agents,
+};
 use serf_snap::MemSink;
 use serf_wire::Bytes;
 use std::alloc::{AllocError, Global};
@@ -25,9 +27,9 @@ use std::marker::Model;
 /// Contracts see what it stores of an ideal cluster.
 #[derive(Drop)]
 pub struct World {
-    seats: Vec<Seat>,
+    nodes: Vec<Node>,
     sent: Vec<Bytes>,
-    spent: bool,
+    poisoned: bool,
 }
 
 impl Model for World {
@@ -35,7 +37,7 @@ impl Model for World {
 
     ghost Value = { WorldState };
 
-    ghost view = { λ w. record { seats = w.seats.items; sent = w.sent.items; spent = w.spent } };
+    ghost view = { λ w. record { nodes = w.nodes.items; sent = w.sent.items; poisoned = w.poisoned } };
 }
 
 /// The number of the agent that acts.
@@ -77,18 +79,18 @@ fn bad_config(configs: &[Config]) -> Option<usize>
 }
 
 /// Agents of these settings that have done nothing.
-fn open_all(alloc: Global, configs: Vec<Config>) -> Result<Vec<Seat>, AllocError>
-    ensures { IfOk result (λ seats. seats.items ≡ map (λ c. seat_of (joining c)) configs.items) }
+fn open_all(alloc: Global, configs: Vec<Config>) -> Result<Vec<Node>, AllocError>
+    ensures { IfOk result (λ nodes. nodes.items ≡ map (λ c. node_of (first_node c)) configs.items) }
 {
-    let mut seats = Vec::with_capacity(alloc, configs.len())?;
+    let mut nodes = Vec::with_capacity(alloc, configs.len())?;
     for config in configs {
         let agent = open_on(alloc, config, b"")?;
-        seats.push(Seat {
+        nodes.push(Node {
             agent,
             handed: Vec::new(alloc),
         })?;
     }
-    Ok(seats)
+    Ok(nodes)
 }
 
 /// An answer alone.
@@ -109,12 +111,12 @@ impl World {
     /// `NameTwice` is looked at before `BadConfig`; each names the first such agent.
     pub fn new(alloc: Global, configs: Vec<Config>) -> Result<World, NewFault>
         ensures start { IfOk result (IsViewed (start configs.items).cluster) }
-        ensures fresh { IfOk result (λ world. world.spent ≡ false) }
+        ensures fresh { IfOk result (λ world. world.poisoned ≡ false) }
         ensures configs { OnOk result (AreConfigs configs.items) }
-        ensures good { OnOk result (AreGood (start configs.items).cluster) }
+        ensures representable { OnOk result (AreRepresentable (start configs.items).cluster) }
         ensures fault { IfErr result (IsNewFault configs.items) }
     {
-        good_agents();
+        representable_agents();
         let configs = match distinct(alloc, configs) {
             Ok(configs) => configs,
             Err(NamesFault::Twice(number)) => return Err(NewFault::NameTwice(number)),
@@ -124,10 +126,10 @@ impl World {
             return Err(NewFault::BadConfig(number as u64));
         }
         match open_all(alloc, configs) {
-            Ok(seats) => Ok(World {
-                seats,
+            Ok(nodes) => Ok(World {
+                nodes,
                 sent: Vec::new(alloc),
-                spent: false,
+                poisoned: false,
             }),
             Err(_) => Err(NewFault::OutOfMemory),
         }
@@ -135,33 +137,33 @@ impl World {
 
     /// Does an action. A refused action is a line too.
     ///
-    /// `OutOfMemory` where it found no memory: the cluster is spent then, and answers `Spent` from then on.
+    /// `OutOfMemory` where it found no memory: the cluster is poisoned then, and answers `Spent` from then on.
     pub fn step(&mut self, alloc: Global, action: &Action) -> Result<Line, StepFault>
-        ensures step { (c : Cluster) → IsViewed c self.old → AreGood c → IfOk result (TakesStep (step c action.now) self.new) }
-        ensures spent { IsErrOf result StepFault.Spent ↔ IsTrue self.old.spent }
-        ensures ok { OnOk result (self.new.spent ≡ false) }
-        ensures err { OnErr result (self.new.spent ≡ true) }
+        ensures step { (c : Cluster) → IsViewed c self.old → AreRepresentable c → IfOk result (TakesStep (step c action.now) self.new) }
+        ensures spent { IsErrOf result StepFault.Spent ↔ IsTrue self.old.poisoned }
+        ensures ok { OnOk result (self.new.poisoned ≡ false) }
+        ensures err { OnErr result (self.new.poisoned ≡ true) }
         ensures kept { OnErr result (self.new.sent ≡ self.old.sent) }
     {
-        if self.spent {
+        if self.poisoned {
             return Err(StepFault::Spent);
         }
         match self.try_step(alloc, action) {
             Ok(line) => Ok(line),
             Err(_) => {
-                self.spent = true;
+                self.poisoned = true;
                 Err(StepFault::OutOfMemory)
             }
         }
     }
 
     fn try_step(&mut self, alloc: Global, action: &Action) -> Result<Line, AllocError>
-        ensures step { (c : Cluster) → IsViewed c self.old → AreGood c → IfOk result (TakesStep (step c action.now) self.new) }
-        ensures spent { self.new.spent ≡ self.old.spent }
+        ensures step { (c : Cluster) → IsViewed c self.old → AreRepresentable c → IfOk result (TakesStep (step c action.now) self.new) }
+        ensures poisoned { self.new.poisoned ≡ self.old.poisoned }
         ensures err { OnErr result (self.new.sent ≡ self.old.sent) }
     {
         match actor(action) {
-            Some(agent) => self.act(alloc, agent, action),
+            Some(agent) => self.apply_action(alloc, agent, action),
             None => {
                 let packets = injected(alloc, action)?;
                 let sent = send(alloc, &mut self.sent, packets)?;
@@ -176,20 +178,25 @@ impl World {
     }
 
     /// The agent of this number acts.
-    fn act(&mut self, alloc: Global, agent: u64, action: &Action) -> Result<Line, AllocError>
-        ensures step { (c : Cluster) → IsViewed c self.old → AreGood c → IfOk result (TakesStep (on_agent c action.now agent (slice_get c.members agent)) self.new) }
-        ensures spent { self.new.spent ≡ self.old.spent }
+    fn apply_action(
+        &mut self,
+        alloc: Global,
+        agent: u64,
+        action: &Action,
+    ) -> Result<Line, AllocError>
+        ensures step { (c : Cluster) → IsViewed c self.old → AreRepresentable c → IfOk result (TakesStep (on_agent c action.now agent (slice_get c.nodes agent)) self.new) }
+        ensures poisoned { self.new.poisoned ≡ self.old.poisoned }
         ensures err { OnErr result (self.new.sent ≡ self.old.sent) }
     {
-        good_agents();
+        representable_agents();
         let number = agent as usize;
-        if number >= self.seats.len() {
+        if number >= self.nodes.len() {
             return Ok(line_only(alloc, Answer::Refused(Refusal::NoAgent)));
         }
         let turn = take_turn(
             alloc,
             agent,
-            &mut self.seats[number],
+            &mut self.nodes[number],
             self.sent.as_slice(),
             action,
         )?;
@@ -210,10 +217,10 @@ impl World {
 
     /// The agent of this number, lent for reading. Takes no memory.
     pub fn agent(&self, number: u64) -> Option<&Agent<MemSink>>
-        ensures { option_map (λ a. a.now.stored) result ≡ agent_at self.now number }
+        ensures { option_map (λ a. a.now.concrete) result ≡ agent_at self.now number }
     {
-        match self.seats.get(number as usize) {
-            Some(seat) => Some(&seat.agent),
+        match self.nodes.get(number as usize) {
+            Some(node) => Some(&node.agent),
             None => None,
         }
     }

@@ -2,9 +2,9 @@ use Rattle.serf_model.specs.Cluster.{run_of}
 use Rattle.serf_model.proofs.AnswerLaws.{acked-once}
 use Rattle.serf_model.proofs.AnswerPromiseLaws.{counting-run, served-run}
 use Rattle.serf_model.proofs.BoundLaws.{events-bounded, queries-bounded}
-use Rattle.serf_model.proofs.CountedLaws.{counted-once, open-hold}
+use Rattle.serf_model.proofs.CountingPromises.{counted-once, open-hold}
 use Rattle.serf_model.proofs.PromiseLaws.{promised, query-fired}
-use Rattle.serf_model.proofs.QueriedLaws.{query-only-fired}
+use Rattle.serf_model.proofs.QueriesEntered.{query-only-fired}
 use Rattle.serf_model.proofs.laws.run_promises.Goals as goal
 
 pub returns-clause-once : goal.returns-clause-once

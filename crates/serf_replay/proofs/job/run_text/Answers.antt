@@ -11,7 +11,7 @@ pub loop-action-init : goal.loop-action-init
 loop-action-init g c =
     let all = c.into_iter-action-iterator.ensures.into_iter_gives.0 in (
       start c.args.schedule.configs.items,
-      record { view = c.in-Ok.ensures.start; good = c.in-Ok.ensures.good; shown = λ more. sym c.new-out.ensures.items },
+      record { view = c.in-Ok.ensures.start; representable = c.in-Ok.ensures.representable; shown = λ more. sym c.new-out.ensures.items },
       refl,
       omega (arith, ap length all),
       ap (fold after (start c.args.schedule.configs.items)) all,

@@ -8,30 +8,30 @@ pub loop-i-preserved : goal.loop-i-preserved
 loop-i-preserved c = elim c.if-byte-eq10.branch [
   | then-byte-eq10 w ↦
       record {
-        member = rw (w.clocks-is, w.from-is, w.after_line-clocks.ensures.member) (reads-line Member c.args.text.now c.loop-i.from c.loop-i.i c.loop-i.clocks.member _ c.loop-i.invariant.member c.loop-i-test.true w.if-byte-eq10.true refl);
-        event = rw (w.clocks-is, w.from-is, w.after_line-clocks.ensures.event) (reads-line Event c.args.text.now c.loop-i.from c.loop-i.i c.loop-i.clocks.event _ c.loop-i.invariant.event c.loop-i-test.true w.if-byte-eq10.true refl);
-        query = rw (w.clocks-is, w.from-is, w.after_line-clocks.ensures.query) (reads-line Query c.args.text.now c.loop-i.from c.loop-i.i c.loop-i.clocks.query _ c.loop-i.invariant.query c.loop-i-test.true w.if-byte-eq10.true refl);
+        member = rw (w.clocks-is, w.from-is, w.after_line-clocks.ensures.member) (reads-line Member c.args.text.now c.loop-i.from c.loop-i.i c.loop-i.clocks.member_clock _ c.loop-i.invariant.member c.loop-i-test.true w.if-byte-eq10.true refl);
+        event = rw (w.clocks-is, w.from-is, w.after_line-clocks.ensures.event) (reads-line Event c.args.text.now c.loop-i.from c.loop-i.i c.loop-i.clocks.event_clock _ c.loop-i.invariant.event c.loop-i-test.true w.if-byte-eq10.true refl);
+        query = rw (w.clocks-is, w.from-is, w.after_line-clocks.ensures.query) (reads-line Query c.args.text.now c.loop-i.from c.loop-i.i c.loop-i.clocks.query_clock _ c.loop-i.invariant.query c.loop-i-test.true w.if-byte-eq10.true refl);
       }
   | else-byte-eq10 w ↦
       record {
-        member = rw (w.clocks-is, w.from-is) (reads-byte Member c.args.text.now c.loop-i.from c.loop-i.i c.loop-i.clocks.member c.loop-i.invariant.member c.loop-i-test.true w.if-byte-eq10.false);
-        event = rw (w.clocks-is, w.from-is) (reads-byte Event c.args.text.now c.loop-i.from c.loop-i.i c.loop-i.clocks.event c.loop-i.invariant.event c.loop-i-test.true w.if-byte-eq10.false);
-        query = rw (w.clocks-is, w.from-is) (reads-byte Query c.args.text.now c.loop-i.from c.loop-i.i c.loop-i.clocks.query c.loop-i.invariant.query c.loop-i-test.true w.if-byte-eq10.false);
+        member = rw (w.clocks-is, w.from-is) (reads-byte Member c.args.text.now c.loop-i.from c.loop-i.i c.loop-i.clocks.member_clock c.loop-i.invariant.member c.loop-i-test.true w.if-byte-eq10.false);
+        event = rw (w.clocks-is, w.from-is) (reads-byte Event c.args.text.now c.loop-i.from c.loop-i.i c.loop-i.clocks.event_clock c.loop-i.invariant.event c.loop-i-test.true w.if-byte-eq10.false);
+        query = rw (w.clocks-is, w.from-is) (reads-byte Query c.args.text.now c.loop-i.from c.loop-i.i c.loop-i.clocks.query_clock c.loop-i.invariant.query c.loop-i-test.true w.if-byte-eq10.false);
       }
 ]
 
 pub returns-clause-member : goal.returns-clause-member
-returns-clause-member c = reads-end Member c.args.text.now c.loop-i.from c.loop-i.i c.loop-i.clocks.member c.loop-i.invariant.member c.loop-i-test.false c.loop-i.auto.i-end
+returns-clause-member c = reads-end Member c.args.text.now c.loop-i.from c.loop-i.i c.loop-i.clocks.member_clock c.loop-i.invariant.member c.loop-i-test.false c.loop-i.auto.i-end
 
 pub returns-clause-event : goal.returns-clause-event
-returns-clause-event c = reads-end Event c.args.text.now c.loop-i.from c.loop-i.i c.loop-i.clocks.event c.loop-i.invariant.event c.loop-i-test.false c.loop-i.auto.i-end
+returns-clause-event c = reads-end Event c.args.text.now c.loop-i.from c.loop-i.i c.loop-i.clocks.event_clock c.loop-i.invariant.event c.loop-i-test.false c.loop-i.auto.i-end
 
 pub returns-clause-query : goal.returns-clause-query
-returns-clause-query c = reads-end Query c.args.text.now c.loop-i.from c.loop-i.i c.loop-i.clocks.query c.loop-i.invariant.query c.loop-i-test.false c.loop-i.auto.i-end
+returns-clause-query c = reads-end Query c.args.text.now c.loop-i.from c.loop-i.i c.loop-i.clocks.query_clock c.loop-i.invariant.query c.loop-i-test.false c.loop-i.auto.i-end
 
 pub returns-clause-times : goal.returns-clause-times
 returns-clause-times c = (
-  rw (reads-end Member c.args.text.now c.loop-i.from c.loop-i.i c.loop-i.clocks.member c.loop-i.invariant.member c.loop-i-test.false c.loop-i.auto.i-end) (last_clock-below Member c.args.text.now),
-  rw (reads-end Event c.args.text.now c.loop-i.from c.loop-i.i c.loop-i.clocks.event c.loop-i.invariant.event c.loop-i-test.false c.loop-i.auto.i-end) (last_clock-below Event c.args.text.now),
-  rw (reads-end Query c.args.text.now c.loop-i.from c.loop-i.i c.loop-i.clocks.query c.loop-i.invariant.query c.loop-i-test.false c.loop-i.auto.i-end) (last_clock-below Query c.args.text.now),
+  rw (reads-end Member c.args.text.now c.loop-i.from c.loop-i.i c.loop-i.clocks.member_clock c.loop-i.invariant.member c.loop-i-test.false c.loop-i.auto.i-end) (last_clock-below Member c.args.text.now),
+  rw (reads-end Event c.args.text.now c.loop-i.from c.loop-i.i c.loop-i.clocks.event_clock c.loop-i.invariant.event c.loop-i-test.false c.loop-i.auto.i-end) (last_clock-below Event c.args.text.now),
+  rw (reads-end Query c.args.text.now c.loop-i.from c.loop-i.i c.loop-i.clocks.query_clock c.loop-i.invariant.query c.loop-i-test.false c.loop-i.auto.i-end) (last_clock-below Query c.args.text.now),
 )

@@ -20,9 +20,9 @@ put_slots_field-requires c =
 
 pub returns-clause-ranged : goal.returns-clause-ranged
 returns-clause-ranged c = record {
-  member = assumption;
+  member_clock = assumption;
   status = status_ranged c.args.parts.now.status.now c.in_ok-put_status_field.ensures.times;
-  event = assumption;
+  event_clock = assumption;
   slots = slots_timed c.args.parts.now.slots.now c.in_ok-put_slots_field.ensures.times;
-  query = assumption;
+  query_clock = assumption;
 }

@@ -1,5 +1,5 @@
 use Rattle.std.proofs.Common.{codes, arith}
-use Rattle.serf_wire.proofs.FlatReading.{starts}
+use Rattle.serf_wire.proofs.FastReading.{starts}
 use Rattle.serf_wire.proofs.key.key_of_four.Goals as goal
 
 pub returns-in-65-clause-key : goal.returns-in-65-clause-key

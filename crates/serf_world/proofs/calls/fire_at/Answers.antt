@@ -1,10 +1,10 @@
 use Rattle.serf_window.specs.Texts.{event_of}
 use Rattle.serf_agent.specs.Events.{fire}
 use Rattle.serf_model.specs.Cluster.{fire_gives}
-use Rattle.serf_world.proofs.SeatLaws.{does-call}
+use Rattle.serf_world.proofs.NodeLaws.{does-call}
 use Rattle.serf_world.proofs.calls.fire_at.Goals as goal
 
 pub returns : goal.returns
-returns c = λ m good is.
-    does-call m (fire m.agent (event_of c.args.name.now c.args.payload.now) c.args.cc) c.fire-fired.result c.fire-fired.new.self.stored fire_gives c.in_ok-done.done good
-    (c.fire-fired.ensures.step m.agent good.ready.sound is c.in_ok-done.ensures.1) c.in_ok-done.ensures.0
+returns c = λ m representable is.
+    does-call m (fire m.agent (event_of c.args.name.now c.args.payload.now) c.args.coalesce) c.fire-fired.result c.fire-fired.new.self.concrete fire_gives c.in_ok-done.done representable
+    (c.fire-fired.ensures.step m.agent representable.consistent.sound is c.in_ok-done.ensures.1) c.in_ok-done.ensures.0

@@ -1,9 +1,9 @@
 use Rattle.serf_agent.specs.Receive.{receive}
 use Rattle.serf_model.specs.Cluster.{receive_gives}
-use Rattle.serf_world.proofs.SeatLaws.{does-call}
+use Rattle.serf_world.proofs.NodeLaws.{does-call}
 use Rattle.serf_world.proofs.calls.receive_at.Goals as goal
 
 pub returns : goal.returns
-returns c = λ m good is.
-    does-call m (receive m.agent c.args.now c.args.packet.now) c.receive-received.result c.receive-received.new.self.stored (receive_gives c.args.packet.now) c.in_ok-done.done good
-    (c.receive-received.ensures.step m.agent good.ready.sound is c.in_ok-done.ensures.1) c.in_ok-done.ensures.0
+returns c = λ m representable is.
+    does-call m (receive m.agent c.args.now c.args.packet.now) c.receive-received.result c.receive-received.new.self.concrete (receive_gives c.args.packet.now) c.in_ok-done.done representable
+    (c.receive-received.ensures.step m.agent representable.consistent.sound is c.in_ok-done.ensures.1) c.in_ok-done.ensures.0

@@ -1,5 +1,5 @@
 use Rattle.std.proofs.Common.{◌<◌, arith, length}
-use Rattle.serf_world.proofs.SeatLaws.{responds-there}
+use Rattle.serf_world.proofs.NodeLaws.{responds-there}
 use Rattle.serf_world.proofs.respond.respond_at.Goals as goal
 
 pub returns : goal.returns

@@ -1,10 +1,10 @@
 use Rattle.std.proofs.Common.{◌≡◌, [], take}
 use Rattle.std.specs.List.{fold}
 use Rattle.serf_model.specs.Cluster.{Run, after}
-use Rattle.serf_model.specs.Ready.{AreGood}
+use Rattle.serf_model.specs.Ready.{AreRepresentable}
 use Rattle.serf_world.specs.View.{IsAt, IsViewed}
 use Rattle.serf_world.proofs.running.run_in.Given as goal
 
 -- the world and the lines are those of the actions so far
 abbrev pub invariant-loop-action : goal.invariant-loop-action
-invariant-loop-action l = (r : Run) → IsViewed r.cluster l.initial.world → AreGood r.cluster → r.turns ≡ [] → IsAt (fold after r (take l.action-index l.actions)) l.world l.lines.items
+invariant-loop-action l = (r : Run) → IsViewed r.cluster l.initial.world → AreRepresentable r.cluster → r.turns ≡ [] → IsAt (fold after r (take l.action-index l.actions)) l.world l.lines.items

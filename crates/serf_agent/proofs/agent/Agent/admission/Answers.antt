@@ -3,7 +3,7 @@ use Rattle.std.proofs.lemmas.Bool.{le-ltb}
 use Rattle.serf_window.specs.Texts.{event_of, same_texts}
 use Rattle.serf_agent.specs.declared.outcome.Reason.TheVariants.{Oversize}
 use Rattle.serf_agent.specs.Tracks.{track_reason}
-use Rattle.serf_agent.specs.View.{Stored}
+use Rattle.serf_agent.specs.View.{ConcreteState}
 use Rattle.serf_agent.proofs.agent.Agent.admission.Goals as goal
 
 pub returns-clause-reason : goal.returns-clause-reason
@@ -11,7 +11,7 @@ returns-clause-reason g c = rw (← c.self.view_is) (λ i sound is.
     let what = event_of c.args.name.now c.args.payload.now in
     let short : length c.args.name.now + length c.args.payload.now ≤ 9216 = omega arith in
     let fits : nat_lt 9216 (length c.args.name.now + length c.args.payload.now) ≡ false = le-ltb _ _ short in
-    let per_time : c.self.inside.events.window.per_time ≡ i.config.per_time = c.self.invariant.event_per_time ∙ ap (λ (s : Stored). s.config.per_time) is in
-    c.reason.ensures.reason i.events i.config.event_buffer i.life i.snapshot.event sound.events (ap (λ (s : Stored). s.events) is)
+    let per_time : c.self.inside.events.window.per_time ≡ i.config.per_time = c.self.invariant.event_per_time ∙ ap (λ (s : ConcreteState). s.config.per_time) is in
+    c.reason.ensures.reason i.events i.config.event_buffer i.life i.snapshot.event_clock sound.events (ap (λ (s : ConcreteState). s.events) is)
     ∙ ap (λ (k : ℕ). track_reason same_texts i.config.event_buffer k i.life i.events c.args.time what) per_time
     ∙ sym (ap (λ (b : Bool). cond b (Some Oversize) (track_reason same_texts i.config.event_buffer i.config.per_time i.life i.events c.args.time what)) fits))

@@ -2,7 +2,7 @@ use Rattle.std.proofs.Common.{◌≡◌, ◌<◌, ℕ, List, All, filter, length
 use Rattle.std.proofs.lemmas.List.Elements.{All-filter}
 use Rattle.serf_agent.specs.declared.open_query.OpenQuery.{OpenQuery}
 use Rattle.serf_agent.specs.Queries.{is_due}
-use Rattle.serf_agent.specs.View.{AgentState, Stored}
+use Rattle.serf_agent.specs.View.{AgentState, ConcreteState}
 use Rattle.serf_agent.proofs.SoundLaws.{sound-closed}
 use Rattle.serf_agent.proofs.agent.Agent.close_due.Goals as goal
 
@@ -21,10 +21,10 @@ invariant_of-self g c =
 
 pub returns-clause-step : goal.returns-clause-step
 returns-clause-step g c = λ i sound is.
-    let was = ap (λ (a : AgentState). a.stored) c.self.view_is ∙ is in
-    let asked = ap (λ (s : Stored). s.asked) was in
+    let was = ap (λ (a : AgentState). a.concrete) c.self.view_is ∙ is in
+    let asked = ap (λ (s : ConcreteState). s.asked) was in
     let left = c.close_due.ensures.left ∙ ap (λ (l : List (ℕ × OpenQuery)). filter (λ q. not (is_due c.args.now q)) l) asked in (
       c.close_due.ensures.count ∙ ap (λ (l : List (ℕ × OpenQuery)). length (filter (is_due c.args.now) l)) asked,
-      λ k. record { config = (was k).config; member = (was k).member; events = (was k).events; queries = (was k).queries; snapshot = (was k).snapshot; asked = left k },
+      λ k. record { config = (was k).config; member_clock = (was k).member_clock; events = (was k).events; queries = (was k).queries; snapshot = (was k).snapshot; asked = left k },
       sound-closed c.args.now i sound,
     )

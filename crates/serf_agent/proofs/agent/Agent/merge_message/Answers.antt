@@ -11,8 +11,8 @@ returns-in-Ok-clause-merged g c = λ i m sound is says.
     let same : lent ≡ m = same-push_pull lent m (sym c.in-Some.ensures.some ∙ says) in
     let join = c.join.ensures.joined i sound is in
     let r = c.in-Ok.ensures.received (joined lent c.args.is_join i) join.1 join.0 in
-    subst (λ (p : PushPull). Merges i p c.args.is_join c.args.out.now.items c.receive_slots.new.out.items c.receive_slots.new.self.stored None) same
-    (merges-all i lent c.args.is_join c.args.out.now.items c.receive_slots.new.out.items c.receive_slots.new.self.stored c.in-Ok.field-0 r)
+    subst (λ (p : PushPull). Merges i p c.args.is_join c.args.out.now.items c.receive_slots.new.out.items c.receive_slots.new.self.concrete None) same
+    (merges-all i lent c.args.is_join c.args.out.now.items c.receive_slots.new.out.items c.receive_slots.new.self.concrete c.in-Ok.field-0 r)
 
 pub returns-in-Err-clause-merged : goal.returns-in-Err-clause-merged
 returns-in-Err-clause-merged g c = λ i m sound is says.
@@ -20,5 +20,5 @@ returns-in-Err-clause-merged g c = λ i m sound is says.
     let same : lent ≡ m = same-push_pull lent m (sym c.in-Some.ensures.some ∙ says) in
     let join = c.join.ensures.joined i sound is in
     let r = c.in-Err.ensures.received (joined lent c.args.is_join i) join.1 join.0 in
-    subst (λ (p : PushPull). Merges i p c.args.is_join c.args.out.now.items c.receive_slots.new.out.items c.receive_slots.new.self.stored (Some c.in-Err.fault)) same
-    (merges-wrong i lent c.args.is_join c.args.out.now.items c.receive_slots.new.out.items c.receive_slots.new.self.stored c.in-Err.fault r)
+    subst (λ (p : PushPull). Merges i p c.args.is_join c.args.out.now.items c.receive_slots.new.out.items c.receive_slots.new.self.concrete (Some c.in-Err.fault)) same
+    (merges-wrong i lent c.args.is_join c.args.out.now.items c.receive_slots.new.out.items c.receive_slots.new.self.concrete c.in-Err.fault r)

@@ -5,7 +5,7 @@ use Rattle.serf_agent.specs.Calls.{MayNote}
 use Rattle.serf_agent.specs.declared.outcome.LineFault.{LineFault}
 use Rattle.serf_agent.specs.Ideal.{with_snapshot}
 use Rattle.serf_agent.specs.Queries.{fired_query, is_too_large_query, query_asked, query_at}
-use Rattle.serf_agent.specs.View.{AgentState, Stored, view_of}
+use Rattle.serf_agent.specs.View.{AgentState, ConcreteState, view_of}
 use Rattle.serf_agent.proofs.StepLaws.{query-allowed, steps-query_asked, steps-query_fire_failed}
 use Rattle.serf_agent.proofs.ViewLaws.{failed-view}
 use Rattle.serf_agent.proofs.agent.Agent.query.Goals as goal
@@ -15,17 +15,17 @@ returns-in-Ok-clause-step g c = λ i sound is _.
     let name = c.args.name.now in
     let payload = c.args.payload.now in
     let params = c.args.params.now in
-    let was = ap (λ (a : AgentState). a.stored) c.self.view_is ∙ is in
+    let was = ap (λ (a : AgentState). a.concrete) c.self.view_is ∙ is in
     let e = c.in-Ok.ensures in
-    let node = ap (λ (s : Stored). s.config.name) is in
-    let at : c.in-Some.time ≡ i.queries.clock = c.in-Some.ensures.some.1 ∙ ap (λ (s : Stored). s.queries.clock) was in
-    let time : i.queries.clock < 2 ^ 64 - 1 = subst (λ (n : ℕ). n < 2 ^ 64 - 1) (ap (λ (s : Stored). s.queries.clock) was) c.in-Some.ensures.some.0 in
-    let runs = sym (ap (λ (s : Stored). s.snapshot.stopped) was) ∙ (sym c.is_stopped.ensures ∙ c.if-is_stopped.false) in
-    let small : is_too_large_query i.config.name i.queries.clock c.args.id name payload params ≡ false = ap (λ (s : Stored). is_too_large_query s.config.name s.queries.clock c.args.id name payload params) (sym is) ∙ (sym c.query_is_too_large.ensures ∙ c.if-query_is_too_large.false) in
+    let node = ap (λ (s : ConcreteState). s.config.name) is in
+    let at : c.in-Some.time ≡ i.queries.clock = c.in-Some.ensures.some.1 ∙ ap (λ (s : ConcreteState). s.queries.clock) was in
+    let time : i.queries.clock < 2 ^ 64 - 1 = subst (λ (n : ℕ). n < 2 ^ 64 - 1) (ap (λ (s : ConcreteState). s.queries.clock) was) c.in-Some.ensures.some.0 in
+    let runs = sym (ap (λ (s : ConcreteState). s.snapshot.stopped) was) ∙ (sym c.is_stopped.ensures ∙ c.if-is_stopped.false) in
+    let small : is_too_large_query i.config.name i.queries.clock c.args.id name payload params ≡ false = ap (λ (s : ConcreteState). is_too_large_query s.config.name s.queries.clock c.args.id name payload params) (sym is) ∙ (sym c.query_is_too_large.ensures ∙ c.if-query_is_too_large.false) in
     let some = sym c.has_no_time.ensures ∙ c.if-has_no_time.false in
-    let may = subst (λ (t : ℕ). MayNote kinds.Query t i.snapshot Kept) at (subst (λ (s : Stored). MayNote kinds.Query c.in-Some.time s.snapshot Kept) is e.allowed) in
+    let may = subst (λ (t : ℕ). MayNote kinds.Query t i.snapshot Kept) at (subst (λ (s : ConcreteState). MayNote kinds.Query c.in-Some.time s.snapshot Kept) is e.allowed) in
     let fired = e.fired ∙ (λ k. fired_query (node k) c.args.now (query_at (at k) (node k) c.args.id name payload params)) in
-    steps-query_asked i c.args.now c.args.id name payload params _ c.ask.new.self.stored sound runs time (query-allowed i c.args.id name payload params runs small some time) may
+    steps-query_asked i c.args.now c.args.id name payload params _ c.ask.new.self.concrete sound runs time (query-allowed i c.args.id name payload params runs small some time) may
     (λ k. Ok (fired k))
     (e.entered i is ∙ (λ k. view_of (with_snapshot (noted kinds.Query (at k) i.snapshot Kept) (query_asked c.args.now (query_at (at k) (node k) c.args.id name payload params) i))))
 
@@ -34,16 +34,16 @@ returns-in-Err-SinkFault-clause-step g c = λ i sound is _.
     let name = c.args.name.now in
     let payload = c.args.payload.now in
     let params = c.args.params.now in
-    let was = ap (λ (a : AgentState). a.stored) c.self.view_is ∙ is in
+    let was = ap (λ (a : AgentState). a.concrete) c.self.view_is ∙ is in
     let e = c.in-Err-SinkFault.ensures in
     let err = ap (λ (x : LineFault). Err x) c.in-Err-SinkFault.field-0-is in
-    let at : c.in-Some.time ≡ i.queries.clock = c.in-Some.ensures.some.1 ∙ ap (λ (s : Stored). s.queries.clock) was in
-    let time : i.queries.clock < 2 ^ 64 - 1 = subst (λ (n : ℕ). n < 2 ^ 64 - 1) (ap (λ (s : Stored). s.queries.clock) was) c.in-Some.ensures.some.0 in
-    let runs = sym (ap (λ (s : Stored). s.snapshot.stopped) was) ∙ (sym c.is_stopped.ensures ∙ c.if-is_stopped.false) in
-    let small : is_too_large_query i.config.name i.queries.clock c.args.id name payload params ≡ false = ap (λ (s : Stored). is_too_large_query s.config.name s.queries.clock c.args.id name payload params) (sym is) ∙ (sym c.query_is_too_large.ensures ∙ c.if-query_is_too_large.false) in
+    let at : c.in-Some.time ≡ i.queries.clock = c.in-Some.ensures.some.1 ∙ ap (λ (s : ConcreteState). s.queries.clock) was in
+    let time : i.queries.clock < 2 ^ 64 - 1 = subst (λ (n : ℕ). n < 2 ^ 64 - 1) (ap (λ (s : ConcreteState). s.queries.clock) was) c.in-Some.ensures.some.0 in
+    let runs = sym (ap (λ (s : ConcreteState). s.snapshot.stopped) was) ∙ (sym c.is_stopped.ensures ∙ c.if-is_stopped.false) in
+    let small : is_too_large_query i.config.name i.queries.clock c.args.id name payload params ≡ false = ap (λ (s : ConcreteState). is_too_large_query s.config.name s.queries.clock c.args.id name payload params) (sym is) ∙ (sym c.query_is_too_large.ensures ∙ c.if-query_is_too_large.false) in
     let some = sym c.has_no_time.ensures ∙ c.if-has_no_time.false in
-    let kept = c.ask.new.self.stored.snapshot.kept in
-    let may = subst (λ (t : ℕ). MayNote kinds.Query t i.snapshot (Failed kept)) at (subst (λ (s : Stored). MayNote kinds.Query c.in-Some.time s.snapshot (Failed kept)) is (e.fault_allowed err)) in
-    let state = failed-view i c.args.self.now.stored c.ask.new.self.stored kinds.Query c.in-Some.time kept is (e.failed err) in
-    steps-query_fire_failed i c.args.now c.args.id name payload params kept _ c.ask.new.self.stored sound (query-allowed i c.args.id name payload params runs small some time) may refl
-    (state ∙ ap (λ (t : ℕ). view_of (with_snapshot (written kinds.Query t i.snapshot (Failed kept)) i)) at)
+    let durable = c.ask.new.self.concrete.snapshot.durable in
+    let may = subst (λ (t : ℕ). MayNote kinds.Query t i.snapshot (Failed durable)) at (subst (λ (s : ConcreteState). MayNote kinds.Query c.in-Some.time s.snapshot (Failed durable)) is (e.fault_allowed err)) in
+    let state = failed-view i c.args.self.now.concrete c.ask.new.self.concrete kinds.Query c.in-Some.time durable is (e.failed err) in
+    steps-query_fire_failed i c.args.now c.args.id name payload params durable _ c.ask.new.self.concrete sound (query-allowed i c.args.id name payload params runs small some time) may refl
+    (state ∙ ap (λ (t : ℕ). view_of (with_snapshot (written kinds.Query t i.snapshot (Failed durable)) i)) at)

@@ -1,11 +1,11 @@
 use Rattle.std.proofs.Common.{◌≡◌, ℕ, ap, ◌∙◌}
 use Rattle.serf_window.specs.Queries.{same_id}
 use Rattle.serf_agent.specs.Tracks.{track_reason}
-use Rattle.serf_agent.specs.View.{Stored}
+use Rattle.serf_agent.specs.View.{ConcreteState}
 use Rattle.serf_agent.proofs.agent.Agent.query_admission.Goals as goal
 
 pub returns-clause-reason : goal.returns-clause-reason
 returns-clause-reason g c = rw (← c.self.view_is) (λ i sound is.
-    let per_time : c.self.inside.queries.window.per_time ≡ i.config.per_time = c.self.invariant.query_per_time ∙ ap (λ (s : Stored). s.config.per_time) is in
-    c.reason.ensures.reason i.queries i.config.query_buffer i.life i.snapshot.query sound.queries (ap (λ (s : Stored). s.queries) is)
+    let per_time : c.self.inside.queries.window.per_time ≡ i.config.per_time = c.self.invariant.query_per_time ∙ ap (λ (s : ConcreteState). s.config.per_time) is in
+    c.reason.ensures.reason i.queries i.config.query_buffer i.life i.snapshot.query_clock sound.queries (ap (λ (s : ConcreteState). s.queries) is)
     ∙ ap (λ (k : ℕ). track_reason same_id i.config.query_buffer k i.life i.queries c.args.time c.args.id) per_time)

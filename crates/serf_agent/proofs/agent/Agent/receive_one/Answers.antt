@@ -1,16 +1,16 @@
 use Rattle.std.proofs.Common.{◌≡◌, ℕ, ap, sym, refl, ◌∙◌}
 use Rattle.serf_window.specs.Window.{WindowOf}
-use Rattle.serf_wire.specs.declared.texts.EventText.{EventText}
+use Rattle.serf_wire.specs.declared.texts.EventBody.{EventBody}
 use Rattle.serf_wire.specs.Lists.{event_of}
-use Rattle.serf_agent.specs.View.{AgentState, Stored}
+use Rattle.serf_agent.specs.View.{AgentState, ConcreteState}
 use Rattle.serf_agent.proofs.MergeLaws.{goes-ignored, received-ignored}
 use Rattle.serf_agent.proofs.ViewLaws.{event_observed-view}
 use Rattle.serf_agent.proofs.agent.Agent.receive_one.Goals as goal
 
 pub returns-in-Some-clause-received : goal.returns-in-Some-clause-received
 returns-in-Some-clause-received g c = λ i sound is.
-    let was = ap (λ (a : AgentState). a.stored) c.self.view_is ∙ is in
+    let was = ap (λ (a : AgentState). a.concrete) c.self.view_is ∙ is in
     let e = c.observe.ensures in
-    let runs = sym (ap (λ (s : Stored). s.snapshot.stopped) is) ∙ c.requires in
-    let state = event_observed-view i _ _ c.args.time was e.clock e.minimum (ap (λ (w : WindowOf EventText). w.slots) e.window) in
+    let runs = sym (ap (λ (s : ConcreteState). s.snapshot.stopped) is) ∙ c.requires in
+    let state = event_observed-view i _ _ c.args.time was e.clock e.minimum (ap (λ (w : WindowOf EventBody). w.slots) e.window) in
     received-ignored i _ c.args.out.now.items _ _ refl (goes-ignored i c.args.time (event_of c.args.event.now) c.in-Some.field-0 _ sound runs (sym (c.in-Some.ensures.reason i sound is)) state)

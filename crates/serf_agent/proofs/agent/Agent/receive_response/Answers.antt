@@ -3,9 +3,9 @@ use Rattle.std.specs.Option.{option_copied}
 use Rattle.serf_agent.specs.declared.open_query.OpenQuery.{OpenQuery}
 use Rattle.serf_agent.specs.declared.outcome.Outcome.{Outcome}
 use Rattle.serf_agent.specs.Lent.{response_in}
-use Rattle.serf_agent.specs.Queries.{answer_refusal, asked_at, counted, is_full, with_asked_at}
-use Rattle.serf_agent.specs.View.{AgentState, Stored}
-use Rattle.serf_agent.proofs.AskedLaws.{set_value-keys}
+use Rattle.serf_agent.specs.Queries.{answer_ignore_reason, asked_at, counted, is_full, with_asked_at}
+use Rattle.serf_agent.specs.View.{AgentState, ConcreteState}
+use Rattle.serf_agent.proofs.OpenQueries.{set_value-keys}
 use Rattle.serf_agent.proofs.StepLaws.{steps-counted}
 use Rattle.serf_agent.proofs.agent.Agent.receive_response.Goals as goal
 
@@ -30,13 +30,13 @@ returns-clause-step g c = λ i sound is _.
     let t = c.args.answer.now.time in
     let r = response_in c.args.answer.now in
     let q = c.in-Some.query.now in
-    let was = ap (λ (a : AgentState). a.stored) c.self.view_is ∙ is in
-    let asked = ap (λ (s : Stored). s.asked) was in
+    let was = ap (λ (a : AgentState). a.concrete) c.self.view_is ∙ is in
+    let asked = ap (λ (s : ConcreteState). s.asked) was in
     let there : asked_at t c.self.inside.asked ≡ Some q = sym c.get.ensures ∙ ap option_copied c.in-Some.is in
     let new = subst (λ (o : Option OpenQuery). IfSome o (λ p. c.count.new.self ≡ with_asked_at t (counted r p) c.self.inside.asked)) there c.in-Ok.ensures.ok in
     let at : asked_at t i.asked ≡ Some q = ap (λ (l : List (ℕ × OpenQuery)). asked_at t l) (sym asked) ∙ there in
-    let none : answer_refusal c.args.now r q ≡ None = sym c.refusal.ensures ∙ c.in-None.is in
-    let room : is_full i.config.responders r q ≡ false = ap (λ (s : Stored). is_full s.config.responders r q) (sym was) ∙ sym c.if-is_full.ensures in
+    let none : answer_ignore_reason c.args.now r q ≡ None = sym c.ignore_reason.ensures ∙ c.in-None.is in
+    let room : is_full i.config.responders r q ≡ false = ap (λ (s : ConcreteState). is_full s.config.responders r q) (sym was) ∙ sym c.if-is_full.ensures in
     let left = new ∙ ap (λ (l : List (ℕ × OpenQuery)). with_asked_at t (counted r q) l) asked in
     steps-counted i c.args.now r q _ _ sound at none room (ap (λ (o : Outcome). Ok o) c.outcome_of.ensures)
-    (λ k. record { config = (was k).config; member = (was k).member; events = (was k).events; queries = (was k).queries; snapshot = (was k).snapshot; asked = left k })
+    (λ k. record { config = (was k).config; member_clock = (was k).member_clock; events = (was k).events; queries = (was k).queries; snapshot = (was k).snapshot; asked = left k })

@@ -3,13 +3,13 @@ use Rattle.serf_wire.specs.declared.lists.SlotView.{SlotView}
 use Rattle.serf_wire.specs.Lists.{slot_of}
 use Rattle.serf_agent.specs.Merging.{Received}
 use Rattle.serf_agent.specs.States.{events_of_slot}
-use Rattle.serf_agent.specs.View.{Stored}
+use Rattle.serf_agent.specs.View.{ConcreteState}
 use Rattle.serf_agent.proofs.MergeLaws.{goes-start, received-ignored}
 use Rattle.serf_agent.proofs.agent.Agent.receive_slot.Goals as goal
 
 pub returns-in-Empty-clause-received : goal.returns-in-Empty-clause-received
 returns-in-Empty-clause-received g c = λ i sound is.
     let before = c.args.out.now.items in
-    let runs = sym (ap (λ (s : Stored). s.snapshot.stopped) is) ∙ c.requires in
-    subst (λ (s : SlotView). Received i (events_of_slot (slot_of s)) before before c.args.self.now.stored (Ok tt)) (sym c.in-Empty.is)
-    (received-ignored i [] before before c.args.self.now.stored refl (goes-start i c.args.self.now.stored sound runs is))
+    let runs = sym (ap (λ (s : ConcreteState). s.snapshot.stopped) is) ∙ c.requires in
+    subst (λ (s : SlotView). Received i (events_of_slot (slot_of s)) before before c.args.self.now.concrete (Ok tt)) (sym c.in-Empty.is)
+    (received-ignored i [] before before c.args.self.now.concrete refl (goes-start i c.args.self.now.concrete sound runs is))

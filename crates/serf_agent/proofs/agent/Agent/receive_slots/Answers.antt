@@ -1,12 +1,12 @@
 use Rattle.std.proofs.Common.{◌≡◌, List, false, ap, sym, subst, refl, ◌∙◌}
 use Rattle.serf_wire.specs.declared.lists.SlotViews.{SlotViews}
-use Rattle.serf_wire.specs.declared.texts.EventText.{EventText}
+use Rattle.serf_wire.specs.declared.texts.EventBody.{EventBody}
 use Rattle.serf_wire.specs.Lists.{slot_of, slots_left}
 use Rattle.serf_wire.specs.Slots.{SlotContent}
-use Rattle.serf_window.specs.Window.{Timed}
+use Rattle.serf_window.specs.Window.{TimedEntry}
 use Rattle.serf_agent.specs.Merging.{HasReceived}
 use Rattle.serf_agent.specs.States.{events_of, events_of_slot}
-use Rattle.serf_agent.specs.View.{Stored}
+use Rattle.serf_agent.specs.View.{ConcreteState}
 use Rattle.serf_agent.proofs.MergeLaws.{has-more, has-start, has-wrong}
 use Rattle.serf_agent.proofs.agent.Agent.receive_slots.Goals as goal
 
@@ -15,8 +15,8 @@ loop-slot-init g c = record {
   received = λ i sound is.
       let all = events_of (slots_left c.args.slots) in
       let before = c.args.out.now.items in
-      let runs = sym (ap (λ (s : Stored). s.snapshot.stopped) is) ∙ c.requires in
-      subst (λ (it : SlotViews). HasReceived i all (events_of (slots_left it)) before before c.args.self.now.stored) (sym c.into_iter-slot-iterator.ensures.into_iter_gives) (has-start i all before c.args.self.now.stored sound runs is);
+      let runs = sym (ap (λ (s : ConcreteState). s.snapshot.stopped) is) ∙ c.requires in
+      subst (λ (it : SlotViews). HasReceived i all (events_of (slots_left it)) before before c.args.self.now.concrete) (sym c.into_iter-slot-iterator.ensures.into_iter_gives) (has-start i all before c.args.self.now.concrete sound runs is);
   runs = c.requires;
   calm = refl;
 }
@@ -27,10 +27,10 @@ loop-slot-preserved g c = record {
       let all = events_of (slots_left c.args.slots) in
       let before = c.args.out.now.items in
       let mid = c.loop-slot.out.items in
-      let stored = c.loop-slot.self.stored in
-      let part : List (Timed EventText) = events_of_slot (slot_of c.in-Some.slot) in
-      let has = subst (λ (l : List (Timed EventText)). HasReceived i all l before mid stored) (ap (λ (l : List SlotContent). events_of l) c.in-Some.ensures.steps) (c.loop-slot.invariant.received i sound is) in
-      has-more i all part (events_of (slots_left c.next.new.self)) before mid c.receive_slot.new.out.items stored c.receive_slot.new.self.stored has (c.in-Ok.ensures.received has.goes.agent has.goes.sound has.goes.state);
+      let concrete = c.loop-slot.self.concrete in
+      let part : List (TimedEntry EventBody) = events_of_slot (slot_of c.in-Some.slot) in
+      let has = subst (λ (l : List (TimedEntry EventBody)). HasReceived i all l before mid concrete) (ap (λ (l : List SlotContent). events_of l) c.in-Some.ensures.steps) (c.loop-slot.invariant.received i sound is) in
+      has-more i all part (events_of (slots_left c.next.new.self)) before mid c.receive_slot.new.out.items concrete c.receive_slot.new.self.concrete has (c.in-Ok.ensures.received has.goes.agent has.goes.sound has.goes.state);
   runs = c.in-Ok.ensures.runs;
   calm = c.in-Ok.ensures.calm ∙ c.loop-slot.invariant.calm;
 }
@@ -40,7 +40,7 @@ returns-in-Err-clause-received g c = λ i sound is.
     let all = events_of (slots_left c.args.slots) in
     let before = c.args.out.now.items in
     let mid = c.loop-slot.out.items in
-    let stored = c.loop-slot.self.stored in
-    let part : List (Timed EventText) = events_of_slot (slot_of c.in-Some.slot) in
-    let has = subst (λ (l : List (Timed EventText)). HasReceived i all l before mid stored) (ap (λ (l : List SlotContent). events_of l) c.in-Some.ensures.steps) (c.loop-slot.invariant.received i sound is) in
-    has-wrong i all part (events_of (slots_left c.next.new.self)) before mid c.receive_slot.new.out.items stored c.receive_slot.new.self.stored c.in-Err.fault has (c.in-Err.ensures.received has.goes.agent has.goes.sound has.goes.state)
+    let concrete = c.loop-slot.self.concrete in
+    let part : List (TimedEntry EventBody) = events_of_slot (slot_of c.in-Some.slot) in
+    let has = subst (λ (l : List (TimedEntry EventBody)). HasReceived i all l before mid concrete) (ap (λ (l : List SlotContent). events_of l) c.in-Some.ensures.steps) (c.loop-slot.invariant.received i sound is) in
+    has-wrong i all part (events_of (slots_left c.next.new.self)) before mid c.receive_slot.new.out.items concrete c.receive_slot.new.self.concrete c.in-Err.fault has (c.in-Err.ensures.received has.goes.agent has.goes.sound has.goes.state)

@@ -2,7 +2,7 @@ use Rattle.std.proofs.Common.{rules, arith, ◌≡◌, ◌+◌, ◌-◌, ℕ, Li
 use Rattle.indexmap.proofs.CallerLemmas.{filter-RetainsPairs}
 use Rattle.serf_agent.specs.declared.open_query.OpenQuery.{OpenQuery}
 use Rattle.serf_agent.specs.Queries.{is_due}
-use Rattle.serf_agent.proofs.AskedLaws.{count-rest}
+use Rattle.serf_agent.proofs.OpenQueries.{count-rest}
 use Rattle.serf_agent.proofs.asked.Asked.close_due.Goals as goal
 
 pub returns-clause-left : goal.returns-clause-left

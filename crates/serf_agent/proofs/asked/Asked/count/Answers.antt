@@ -3,7 +3,7 @@ use Rattle.std.specs.Map.{lookup, set_value}
 use Rattle.std.specs.Option.{option_copied_mut}
 use Rattle.std.specs.declared.alloc.AllocError.{AllocError}
 use Rattle.serf_agent.specs.declared.open_query.OpenQuery.{OpenQuery}
-use Rattle.serf_agent.proofs.AskedLaws.{set_value-same, on_err-map}
+use Rattle.serf_agent.proofs.OpenQueries.{set_value-same, on_err-map}
 use Rattle.serf_agent.proofs.asked.Asked.count.Goals as goal
 use Rattle.serf_agent.proofs.asked.Asked.count.Goals.{in-Some, in-None}
 

@@ -1,6 +1,6 @@
 use Rattle.std.proofs.Common.{◌≡◌, ◌<◌, ◌++◌, ◌∷◌, [], ℕ, List, All, ap, sym, subst, ◌∙◌}
 use Rattle.serf_agent.specs.declared.open_query.OpenQuery.{OpenQuery}
-use Rattle.serf_agent.proofs.AskedLaws.{insert-later}
+use Rattle.serf_agent.proofs.OpenQueries.{insert-later}
 use Rattle.serf_agent.proofs.asked.Asked.push.Goals as goal
 
 pub returns-in-Ok-clause-ok : goal.returns-in-Ok-clause-ok

@@ -8,4 +8,4 @@ invariant_of-result c =
     let clock = c.new-2.result in
     let pos : 0 < clock = omega (arith, c.new-2.ensures) in
     let some : 0 < c.in-Ok.window.per_time = omega (arith, c.in-Ok.ensures.per_time, c.requires) in
-    (some, subst (λ (slots : List (SlotOf ℕ)). TimesBelow clock slots) (sym c.in-Ok.ensures.slots) (starts_below c.args.n clock pos))
+    (some, subst (λ (slots : List (SlotOf ℕ)). TimesBelow clock slots) (sym c.in-Ok.ensures.slots) (starts_below c.args.slot_count clock pos))

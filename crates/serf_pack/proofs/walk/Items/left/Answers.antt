@@ -8,4 +8,4 @@ pub returns : goal.returns
 unfolding items_left
 returns c =
     let walk = c.args.self.now in
-    sym (item_count_is (value_at walk.room walk.total) walk.left walk.rest.now walk.checked)
+    sym (item_count_is (value_at walk.depth_left walk.total) walk.left walk.rest.now walk.checked)

@@ -7,7 +7,7 @@ pub invariant_of-self-in-Ok : goal.invariant_of-self-in-Ok
 invariant_of-self-in-Ok g c =
     let top = c.self.invariant in (
       λ _. c.in-Ok.ensures.clean,
-      rw c.with-self-inside.ensures.member (once_set-below Member c.args.kind c.get-value.result c.self.inside.last.member (2 ^ 64 - 1) c.get-value.ensures.time top.1),
-      rw c.with-self-inside.ensures.event (once_set-below Event c.args.kind c.get-value.result c.self.inside.last.event (2 ^ 64 - 1) c.get-value.ensures.time top.2),
-      rw c.with-self-inside.ensures.query (once_set-below Query c.args.kind c.get-value.result c.self.inside.last.query (2 ^ 64 - 1) c.get-value.ensures.time top.3),
+      rw c.with-self-inside.ensures.member (once_set-below Member c.args.kind c.get-value.result c.self.inside.last.member_clock (2 ^ 64 - 1) c.get-value.ensures.time top.1),
+      rw c.with-self-inside.ensures.event (once_set-below Event c.args.kind c.get-value.result c.self.inside.last.event_clock (2 ^ 64 - 1) c.get-value.ensures.time top.2),
+      rw c.with-self-inside.ensures.query (once_set-below Query c.args.kind c.get-value.result c.self.inside.last.query_clock (2 ^ 64 - 1) c.get-value.ensures.time top.3),
     )

@@ -1,7 +1,7 @@
 use Rattle.std.proofs.Common.{rules, arith, ◌≡◌, ◌<◌, ◌≤◌, ◌+◌, ◌%◌, length, map, sym, ◌∙◌, ap, refl}
 use Rattle.std.proofs.lemmas.List.{length-map}
 use Rattle.serf_window.specs.OneSlot.{slot_verdict}
-use Rattle.serf_window.specs.Queries.{same_id, shown_ids}
+use Rattle.serf_window.specs.Queries.{same_id, id_slot_view}
 use Rattle.serf_window.proofs.WindowLemmas.{slot_for-map, slot_verdict-entered}
 use Rattle.serf_window.proofs.queries.QueryWindow.offer.Goals as goal
 
@@ -10,15 +10,15 @@ returns-clause-verdict c =
     let items = c.self.inside.slots.items in
     let per_time = c.self.inside.per_time in
     let what = c.args.id in
-    let count : length (map shown_ids c.self.inside.slots.items) ≡ length c.self.inside.slots.items = length-map c.self.inside.slots.items shown_ids in
+    let count : length (map id_slot_view c.self.inside.slots.items) ≡ length c.self.inside.slots.items = length-map c.self.inside.slots.items id_slot_view in
     let within : c.place_of.result < length c.self.inside.slots.items = omega arith in
     let place : c.place_of.result ≡ c.args.time % length c.self.inside.slots.items = search rules in
     let some : 0 < c.self.inside.per_time = omega arith in
     let low : c.args.minimum ≤ c.args.time = omega arith in
-    let young : c.args.clock_after ≤ c.args.time + length (map shown_ids c.self.inside.slots.items) = omega arith in
-    let pos : 0 < length (map shown_ids c.self.inside.slots.items) = omega arith in
-    let mine = slot_for-map shown_ids items c.place_of.result c.args.time c.index-slot.result.now within place c.index-slot.ensures in
+    let young : c.args.clock_after ≤ c.args.time + length (map id_slot_view c.self.inside.slots.items) = omega arith in
+    let pos : 0 < length (map id_slot_view c.self.inside.slots.items) = omega arith in
+    let mine = slot_for-map id_slot_view items c.place_of.result c.args.time c.index-slot.result.now within place c.index-slot.ensures in
     rw (← c.self.view_is) (λ es is lt below.
     c.verdict_in.ensures
     ∙ ap (λ s. slot_verdict same_id per_time s c.args.time what) (sym mine)
-    ∙ slot_verdict-entered same_id (length (map shown_ids items)) per_time c.args.clock_after c.args.minimum c.args.time what (map shown_ids items) es refl pos some is below low young)
+    ∙ slot_verdict-entered same_id (length (map id_slot_view items)) per_time c.args.clock_after c.args.minimum c.args.time what (map id_slot_view items) es refl pos some is below low young)

@@ -1,13 +1,13 @@
 use Rattle.std.proofs.Common.{rules, arith, ◌≡◌, ◌<◌, ◌%◌, length, map, refl, sym, subst, set}
 use Rattle.std.proofs.Math.Seq.{map-set_same}
-use Rattle.serf_window.specs.Queries.{room_in_ids, shown_ids}
+use Rattle.serf_window.specs.Queries.{room_in_ids, id_slot_view}
 use Rattle.serf_window.specs.Window.{EachAtMost}
 use Rattle.serf_window.proofs.WindowLemmas.{room_for-set, room_for-set_own}
 use Rattle.serf_window.proofs.queries.QueryWindow.prepare.Goals as goal
 
 -- the slots are as they were
-unchanged : (c : goal.In_ok-make_room) → map shown_ids (set c.self.inside.slots.items c.place_of-place.result (record { time = c.index_mut-slot.result.now.time; ids = c.make_room.new.self })) ≡ map shown_ids c.self.inside.slots.items
-unchanged c = map-set_same shown_ids c.self.inside.slots.items _ _ c.index_mut-slot.result.now (rw (← c.index_mut-slot.ensures.value, c.make_room.ensures.items) refl)
+unchanged : (c : goal.In_ok-make_room) → map id_slot_view (set c.self.inside.slots.items c.place_of-place.result (record { time = c.index_mut-slot.result.now.time; ids = c.make_room.new.self })) ≡ map id_slot_view c.self.inside.slots.items
+unchanged c = map-set_same id_slot_view c.self.inside.slots.items _ _ c.index_mut-slot.result.now (rw (← c.index_mut-slot.ensures.value, c.make_room.ensures.items) refl)
 
 pub returns-clause-slots : goal.returns-clause-slots
 returns-clause-slots c = rw (← c.self.view_is) (unchanged c)
@@ -17,13 +17,13 @@ returns-clause-room c =
     let within : c.place_of-place.result < length c.self.inside.slots.items = omega arith in
     let place : c.place_of-place.result ≡ c.args.time % length c.self.inside.slots.items = search rules in
     let room : 0 < c.make_room.new.self.room = search rules in
-    room_for-set_own shown_ids room_in_ids c.self.inside.slots.items c.self.inside.per_time c.place_of-place.result c.args.time _ within place room
+    room_for-set_own id_slot_view room_in_ids c.self.inside.slots.items c.self.inside.per_time c.place_of-place.result c.args.time _ within place room
 
 pub returns-clause-others : goal.returns-clause-others
 returns-clause-others c =
     let within : c.place_of-place.result < length c.self.inside.slots.items = omega arith in
     let room : 0 < c.make_room.new.self.room = search rules in
-    rw (← c.self.view_is) (λ t before. room_for-set shown_ids room_in_ids c.self.inside.slots.items c.self.inside.per_time c.place_of-place.result t _ within room before)
+    rw (← c.self.view_is) (λ t before. room_for-set id_slot_view room_in_ids c.self.inside.slots.items c.self.inside.per_time c.place_of-place.result t _ within room before)
 
 pub invariant_of-self-2 : goal.invariant_of-self-2
 invariant_of-self-2 c =

@@ -1,0 +1,133 @@
+-- What each run counts: each name once, in time, and as it was sent.
+use Rattle.std.proofs.Common.{zero, suc, ◌≡◌, ◌≢◌, ℕ, Bool, true, false, cond, List, [], ◌∷◌, ◌++◌, Option, Some, None, Result, refl, sym, ap, subst, ◌∙◌, arith}
+use Rattle.std.specs.Prelude.{All, AllPairs, Contains, slice_get}
+use Rattle.std.specs.Option.{option_to_list}
+use Rattle.std.proofs.lemmas.List.Elements.{All-nil, All-cons, All-head, All-tail, All-weaker}
+use Rattle.serf_wire.specs.declared.fault.WireFault.{WireFault}
+use Rattle.serf_wire.specs.Message.{Message}
+use Rattle.serf_agent.specs.declared.config.Config.{Config}
+use Rattle.serf_model.specs.declared.action.Action.{Action}
+use Rattle.serf_model.specs.declared.action.Action.TheVariants as actions
+use Rattle.serf_model.specs.AnswerPromises.{CountedInTime, CountedOnce, CountedSent, HoldsCounted, IsAwaited, IsDelivered, OpenQueriesHold, answer_brought, answers_in, as_fired, counted_at, counted_by, is_counted, life_of, own_queries}
+use Rattle.serf_model.specs.Cluster.{IdealNode, Cluster, Run, applied, apply, after, on_agent, start, step, step_by}
+use Rattle.serf_model.specs.Ready.{IsRepresentable}
+use Rattle.serf_model.specs.Trace.{Turn, actor_of, packet_given, turns_by}
+use Rattle.serf_model.proofs.PerAgent.{Each, AreNobodys, IsRefused, each-step, each-start, nobodys-step, nobodys-start}
+use Rattle.serf_model.proofs.PresentLife.{last_life, own_life}
+use Rattle.serf_model.proofs.OpenLaws.{opens-apply}
+use Rattle.serf_model.proofs.RunLaws.{IsAfter, all-at, queries_of}
+use Rattle.serf_model.proofs.OpenQueryContents.{IsOpen, IsTallied, Tells, counted_in, tallied-step, tells}
+use Rattle.serf_model.proofs.TurnLaws.{at_each_nil, at_each_push}
+
+-- what each agent's turns counted
+abbrev Tallies : ℕ → List Turn → IdealNode → Type 0
+Tallies a ts m = IsTallied ts m.agent
+
+pub record IsCounting (c : Cluster) (turns : List Turn) : Type 0 where
+  pub each : Each (λ a ts m. IsTallied ts m.agent) c turns
+  pub nobody : AreNobodys c turns
+  pub sent : CountedSent turns
+  pub in_time : CountedInTime turns
+
+-- ---- a turn
+
+there : {X : Type 0} (xs : List X) (k : ℕ) (x : X) → slice_get xs k ≡ Some x → Contains xs x
+there [] k x is = absurd (cc is)
+there (y ∷ ys) zero x is = let same : y ≡ x = cc is in (0, omega arith, same)
+there (y ∷ ys) (suc k) x is = let c = there ys k x is in (suc c.0, omega (arith, c.1), c.2)
+
+abbrev SentAt : List Turn → Turn → Type 0
+SentAt before turn = (ack : Bool) → is_counted ack turn.line.answer ≡ true → IsDelivered before turn ack
+
+abbrev InTimeAt : List Turn → Turn → Type 0
+InTimeAt before turn = (a packet now : ℕ) (ack : Bool) → turn.action ≡ actions.Deliver a packet now → All (IsAwaited (life_of a before) now) (counted_at ack turn)
+
+representable-at : (c : Cluster) (turns : List Turn) (b : ℕ) (m : IdealNode) → IsAfter c turns → slice_get c.nodes b ≡ Some m → IsRepresentable m.agent
+representable-at c turns b m h at = all-at (λ m. IsRepresentable m.agent) c.nodes b m h.representable at
+
+tells-at : (c : Cluster) (turns : List Turn) (action : Action) (b : ℕ) (m : IdealNode) (ack : Bool) → IsCounting c turns → slice_get c.nodes b ≡ Some m → (let t = (applied c action b (apply m c.sent action)).turn in is_counted ack t.line.answer ≡ true → Tells (turns_by b turns) t ack)
+tells-at c turns action b m ack h at counted = tells (turns_by b turns) (applied c action b (apply m c.sent action)).turn m.agent (apply m c.sent action).node.agent ack (h.each b m at) (opens-apply m c.sent action) counted
+
+sent-agent : (c : Cluster) (turns : List Turn) (action : Action) (b : ℕ) (r : Option IdealNode) → IsAfter c turns → IsCounting c turns → slice_get c.nodes b ≡ r → SentAt turns (on_agent c action b r).turn
+sent-agent c turns action b None after h at ack counted = absurd (cc counted)
+sent-agent c turns action b (Some m) after h at ack counted =
+    let t = tells-at c turns action b m ack h at counted in
+    let place : slice_get c.sent t.number ≡ Some t.packet = ap (packet_given c.sent) (sym t.action) ∙ t.given in
+    record {
+      agent = t.to;
+      number = t.number;
+      now = t.now;
+      action = t.action;
+      packet = t.packet;
+      given = t.given;
+      sent = subst (λ l. Contains l t.packet) after.sent (there c.sent t.number t.packet place);
+      answer = t.answer;
+      says = t.says;
+      kind = t.kind;
+    }
+
+sent-by : (c : Cluster) (turns : List Turn) (action : Action) (o : Option ℕ) → IsAfter c turns → IsCounting c turns → SentAt turns (step_by c action o).turn
+sent-by c turns action None after h = λ ack counted. absurd (cc counted)
+sent-by c turns action (Some b) after h = sent-agent c turns action b (slice_get c.nodes b) after h refl
+
+in_time-agent : (c : Cluster) (turns : List Turn) (action : Action) (b : ℕ) (r : Option IdealNode) → IsCounting c turns → actor_of action ≡ Some b → slice_get c.nodes b ≡ r → InTimeAt turns (on_agent c action b r).turn
+in_time-agent c turns action b None h actor at a packet now ack is = All-nil (IsAwaited (life_of a turns) now)
+in_time-agent c turns action b (Some m) h actor at a packet now ack is = by (is_counted ack (apply m c.sent action).done.answer) refl
+  where
+    by : (x : Bool) → is_counted ack (apply m c.sent action).done.answer ≡ x → All (IsAwaited (life_of a turns) now) (cond x (answers_in (option_to_list (packet_given c.sent action))) [])
+    by false never = All-nil (IsAwaited (life_of a turns) now)
+    by true counted =
+        let t = tells-at c turns action b m ack h at counted in
+        let same : Some b ≡ Some a = sym actor ∙ ap actor_of is in
+        let agent : b ≡ a = cc same in
+        let deliver : actions.Deliver t.to t.number t.now ≡ actions.Deliver a packet now = sym t.action ∙ is in
+        let moment : t.now ≡ now = cc deliver in
+        let one : answers_in (option_to_list (packet_given c.sent action)) ≡ t.answer ∷ [] = ap (λ g. answers_in (option_to_list g)) t.given ∙ ap (λ (d : Result Message WireFault). answer_brought d ++ []) t.says in
+        let own : IsAwaited (last_life (turns_by a turns)) now t.answer =
+        subst (λ (n : ℕ). IsAwaited (last_life (turns_by a turns)) n t.answer) moment (subst (λ (n : ℕ). IsAwaited (last_life (turns_by n turns)) t.now t.answer) agent t.awaited) in
+        let here : IsAwaited (life_of a turns) now t.answer = subst (λ (l : List Turn). IsAwaited l now t.answer) (sym (own_life a turns)) own in
+        subst (All (IsAwaited (life_of a turns) now)) (sym one) (All-cons (IsAwaited (life_of a turns) now) t.answer [] here (All-nil (IsAwaited (life_of a turns) now)))
+
+in_time-by : (c : Cluster) (turns : List Turn) (action : Action) (o : Option ℕ) → IsCounting c turns → actor_of action ≡ o → InTimeAt turns (step_by c action o).turn
+in_time-by c turns action None h actor = λ a packet now ack is. absurd (let never : None ≡ Some a = sym actor ∙ ap actor_of is in cc)
+in_time-by c turns action (Some b) h actor = in_time-agent c turns action b (slice_get c.nodes b) h actor refl
+
+pub counting-step : (r : Run) (action : Action) → IsAfter r.cluster r.turns → IsCounting r.cluster r.turns → IsCounting (after r action).cluster (after r action).turns
+counting-step r action h all = record {
+  each = each-step (λ a ts m. IsTallied ts m.agent) r action all.each
+      (λ b m actor at p. tallied-step (turns_by b r.turns) (applied r.cluster action b (apply m r.cluster.sent action)).turn m.agent (apply m r.cluster.sent action).node.agent (representable-at r.cluster r.turns b m h at)
+      (ap queries_of (sym at) ∙ h.queries b) p (opens-apply m r.cluster.sent action));
+  nobody = nobodys-step r action all.nobody;
+  sent = at_each_push SentAt r.turns (step r.cluster action).turn all.sent (sent-by r.cluster r.turns action (actor_of action) h all);
+  in_time = at_each_push InTimeAt r.turns (step r.cluster action).turn all.in_time (in_time-by r.cluster r.turns action (actor_of action) all refl);
+}
+
+pub counting-start : (configs : List Config) → IsCounting (start configs).cluster []
+counting-start configs = record {
+  each = each-start (λ a ts m. IsTallied ts m.agent) configs (λ a config at. record {
+    asked = All-nil (IsOpen []);
+    past = λ ack. All-nil _;
+    once = λ ack i j d lt within. absurd (omega arith);
+  });
+  nobody = nobodys-start configs;
+  sent = at_each_nil SentAt;
+  in_time = at_each_nil InTimeAt;
+}
+
+-- ---- the promises
+
+refused-count : (ack : Bool) (ts : List Turn) → All IsRefused ts → counted_in ack ts ≡ []
+refused-count ack [] all = refl
+refused-count ack (t ∷ ts) all =
+    let first = All-head IsRefused t ts all in
+    ap (λ a. cond (is_counted ack a) (answers_in (option_to_list t.given)) [] ++ counted_in ack ts) first.answer ∙ refused-count ack ts (All-tail IsRefused t ts all)
+
+pub counted-once : (c : Cluster) (turns : List Turn) → IsCounting c turns → CountedOnce turns
+counted-once c turns h a ack = by (slice_get c.nodes a) refl
+  where
+    by : (r : Option IdealNode) → slice_get c.nodes a ≡ r → AllPairs (λ x y. x.time ≡ y.time → x.from ≢ y.from) (counted_by ack a turns)
+    by None none = subst (AllPairs (λ x y. x.time ≡ y.time → x.from ≢ y.from)) (sym (refused-count ack (turns_by a turns) (h.nobody a none))) (λ i j d lt within. absurd (omega arith))
+    by (Some m) at = (h.each a m at).once ack
+
+pub open-hold : (r : Run) → IsCounting r.cluster r.turns → OpenQueriesHold r
+open-hold r h a m at = All-weaker (IsOpen (turns_by a r.turns)) (HoldsCounted a r.turns) (λ q o. record { fired = subst (λ l. Contains (own_queries l) (as_fired q)) (sym (own_life a r.turns)) o.fired; acks = o.acks; responses = o.responses }) m.agent.asked (h.each a m at).asked

@@ -1,0 +1,304 @@
+-- What an agent's open queries hold is what its turns counted.
+use Rattle.std.proofs.Common.{◌≡◌, ◌≢◌, ℕ, ◌<◌, ◌≤◌, ◌==◌, nat_lt, Bool, true, false, cond, List, [], ◌∷◌, ◌++◌, Option, Some, None, Result, Ok, refl, sym, ap, subst, ◌∙◌, map, not}
+use Rattle.std.specs.Prelude.{All, AllPairs, Contains}
+use Rattle.std.specs.List.{flat_map}
+use Rattle.std.specs.Option.{option_to_list}
+use Rattle.std.proofs.lemmas.Bool.{eqb-true, eq-eqb, ltb-false, not-false}
+use Rattle.std.proofs.lemmas.List.{append-nil, map-append}
+use Rattle.std.proofs.lemmas.List.Elements.{All-nil, All-push, All-weaker, All-map, All-filter, All-contains, Contains-append_left, Contains-push}
+use Rattle.std.proofs.lemmas.List.Quantifiers.{all_pairs_push}
+use Rattle.std.proofs.lemmas.List.Sums.{fold_push}
+use Rattle.serf_wire.specs.declared.fault.WireFault.{WireFault}
+use Rattle.serf_wire.specs.Decoded.{decoded}
+use Rattle.serf_wire.specs.Message.{Message, QueryResponse, query_response}
+use Rattle.serf_window.specs.Window.{TimedEntry}
+use Rattle.serf_agent.specs.declared.lists.Response.{Response}
+use Rattle.serf_agent.specs.declared.open_query.OpenQuery.{OpenQuery}
+use Rattle.serf_agent.specs.declared.outcome.QueryParams.{QueryParams}
+use Rattle.serf_agent.specs.declared.outcome.Reason.TheVariants.{OtherId, Closed, AckNotAsked, AckTwice, ResponseTwice}
+use Rattle.serf_agent.specs.Ideal.{IdealAgent, Past}
+use Rattle.serf_agent.specs.Queries.{ack_flag, ack_ignore_reason, answer_ignore_reason, asked_at, counted, deadline_of, flags_of, has_acked, has_flag, has_responded, is_ack, is_due, opened_query, query_at, response_ignore_reason, with_asked_at}
+use Rattle.serf_model.specs.declared.action.Action.TheVariants as actions
+use Rattle.serf_model.specs.declared.line.Answer.TheVariants as lines
+use Rattle.serf_model.specs.AnswerPromises.{OwnQuery, IsAwaited, answer_brought, answers_in, as_fired, counted_at, is_counted, own_queries, own_query, query_answered, response_held, to_time}
+use Rattle.serf_model.specs.Bounds.{is_restarted}
+use Rattle.serf_model.specs.Ready.{IsRepresentable}
+use Rattle.serf_model.specs.Trace.{Turn, entered_by}
+use Rattle.serf_model.proofs.HistoryGrowth.{entries}
+use Rattle.serf_model.proofs.PresentLife.{last_life, lives_on}
+use Rattle.serf_model.proofs.OpenLaws.{IsQuiet, Opens, stays, closes, restarts, asks, counts, opens-none, quiet-counts, quiet-opens}
+use Rattle.serf_model.proofs.InvariantKept.{fresh-name, fresh-response, none-if}
+use Rattle.serf_model.proofs.TurnLaws.{flat_map-push}
+use Rattle.serf_model.proofs.AnswersByTime.{asked-found, asked-replaced, none-to_time, passing, to_time-other, to_time-same}
+
+-- ---- one more turn of an agent
+
+abbrev entered : Turn → List (TimedEntry ℕ)
+entered t = entered_by t.action t.given t.line.answer
+
+-- the queries that entered, and what was counted
+abbrev pub queries_in : List Turn → List (TimedEntry ℕ)
+queries_in ts = flat_map (λ t. entered_by t.action t.given t.line.answer) ts
+
+abbrev pub counted_in : Bool → List Turn → List QueryResponse
+counted_in ack ts = flat_map (counted_at ack) ts
+
+queries-push : (ts : List Turn) (t : Turn) → queries_in (ts ++ t ∷ []) ≡ queries_in ts ++ entered t
+queries-push ts t = flat_map-push (λ t. entered_by t.action t.given t.line.answer) ts t
+
+queries-more : (ts : List Turn) (t : Turn) (x : TimedEntry ℕ) → Contains (queries_in ts) x → Contains (queries_in (ts ++ t ∷ [])) x
+queries-more ts t x h = subst (λ l. Contains l x) (sym (queries-push ts t)) (Contains-append_left (queries_in ts) (entered t) x h)
+
+own-push : (ts : List Turn) (t : Turn) → is_restarted t.line.answer ≡ false → own_queries (last_life (ts ++ t ∷ [])) ≡ own_queries (last_life ts) ++ own_query t.action t.line.answer
+own-push ts t on =
+    ap own_queries (fold_push lives_on [] ts t ∙ ap (λ b. cond b [] (last_life ts ++ t ∷ [])) on)
+    ∙ flat_map-push (λ t. own_query t.action t.line.answer) (last_life ts) t
+
+own-more : (ts : List Turn) (t : Turn) (x : OwnQuery) → is_restarted t.line.answer ≡ false → Contains (own_queries (last_life ts)) x → Contains (own_queries (last_life (ts ++ t ∷ []))) x
+own-more ts t x on h = subst (λ l. Contains l x) (sym (own-push ts t on)) (Contains-append_left (own_queries (last_life ts)) (own_query t.action t.line.answer) x h)
+
+counted-push : (ack : Bool) (ts : List Turn) (t : Turn) → counted_in ack (ts ++ t ∷ []) ≡ counted_in ack ts ++ counted_at ack t
+counted-push ack ts t = flat_map-push (counted_at ack) ts t
+
+counted-still : (ack : Bool) (ts : List Turn) (t : Turn) → is_counted ack t.line.answer ≡ false → counted_in ack (ts ++ t ∷ []) ≡ counted_in ack ts
+counted-still ack ts t never = counted-push ack ts t ∙ ap (λ b. counted_in ack ts ++ cond b (answers_in (option_to_list t.given)) []) never ∙ append-nil (counted_in ack ts)
+
+-- ---- the invariant
+
+-- of two answers to one time the names differ
+abbrev pub AreNamedOnce : List QueryResponse → Type 0
+AreNamedOnce rs = AllPairs (λ x y. x.time ≡ y.time → x.from ≢ y.from) rs
+
+abbrev pub as_entered : ℕ × OpenQuery → TimedEntry ℕ
+as_entered q = record { time = q.0; key = q.1.id }
+
+-- what is true of an open query, where these are its agent's turns
+pub record IsOpen (ts : List Turn) (q : ℕ × OpenQuery) : Type 0 where
+  pub fired : Contains (own_queries (last_life ts)) (as_fired q)
+  pub entered : Contains (queries_in ts) (as_entered q)
+  pub acks : q.1.acks ≡ map (λ r. r.from) (to_time q.0 (counted_in true ts))
+  pub responses : q.1.responses ≡ map response_held (to_time q.0 (counted_in false ts))
+
+-- what is true of an agent, where these are its turns
+pub record IsTallied (ts : List Turn) (i : IdealAgent) : Type 0 where
+  pub asked : All (IsOpen ts) i.asked
+  pub past : (ack : Bool) → All (λ r. Contains (queries_in ts) (query_answered r)) (counted_in ack ts)
+  pub once : (ack : Bool) → AreNamedOnce (counted_in ack ts)
+
+-- an open query where a turn counts nothing to it
+open-more : (ts : List Turn) (t : Turn) (q : ℕ × OpenQuery) → is_restarted t.line.answer ≡ false → ((ack : Bool) → to_time q.0 (counted_in ack (ts ++ t ∷ [])) ≡ to_time q.0 (counted_in ack ts)) → IsOpen ts q → IsOpen (ts ++ t ∷ []) q
+open-more ts t q on same h = record {
+  fired = own-more ts t (as_fired q) on h.fired;
+  entered = queries-more ts t (as_entered q) h.entered;
+  acks = h.acks ∙ ap (map (λ (r : QueryResponse). r.from)) (sym (same true));
+  responses = h.responses ∙ ap (map response_held) (sym (same false));
+}
+
+-- a turn that counts nothing
+tallied-still : (ts : List Turn) (t : Turn) (i j : IdealAgent) → IsTallied ts i → ((ack : Bool) → is_counted ack t.line.answer ≡ false) → All (IsOpen (ts ++ t ∷ [])) j.asked → IsTallied (ts ++ t ∷ []) j
+tallied-still ts t i j h never all = record {
+  asked = all;
+  past = λ ack. subst (All (λ r. Contains (queries_in (ts ++ t ∷ [])) (query_answered r))) (sym (counted-still ack ts t (never ack)))
+      (All-weaker (λ r. Contains (queries_in ts) (query_answered r)) (λ r. Contains (queries_in (ts ++ t ∷ [])) (query_answered r)) (λ r. queries-more ts t (query_answered r)) (counted_in ack ts) (h.past ack));
+  once = λ ack. subst AreNamedOnce (sym (counted-still ack ts t (never ack))) (h.once ack);
+}
+
+open-still : (ts : List Turn) (t : Turn) (l : List (ℕ × OpenQuery)) → IsQuiet t.line.answer → All (IsOpen ts) l → All (IsOpen (ts ++ t ∷ [])) l
+open-still ts t l quiet all =
+    All-weaker (IsOpen ts) (IsOpen (ts ++ t ∷ [])) (λ q. open-more ts t q (quiet-opens t.line.answer quiet) (λ ack. ap (to_time q.0) (counted-still ack ts t (quiet-counts ack t.line.answer quiet)))) l all
+
+-- ---- a query that is fired
+
+flags-ask : (want_ack no_broadcast : Bool) → has_flag ack_flag (flags_of want_ack no_broadcast) ≡ want_ack
+flags-ask true true = refl
+flags-ask true false = refl
+flags-ask false true = refl
+flags-ask false false = refl
+
+-- all that was counted is to times below the clock
+past-below : (ts : List Turn) (i : IdealAgent) (ack : Bool) → IsRepresentable i → entries i.queries.history ≡ queries_in ts → IsTallied ts i → All (λ r. r.time < i.queries.clock) (counted_in ack ts)
+past-below ts i ack representable same h =
+    let below : All (λ e. e.time < i.queries.clock) (queries_in ts) =
+    subst (All (λ e. e.time < i.queries.clock)) same (All-map (λ (e : TimedEntry ℕ). e.time < i.queries.clock) (λ (p : Past ℕ). p.entry) i.queries.history representable.consistent.sound.queries.below_clock) in
+    All-weaker (λ r. Contains (queries_in ts) (query_answered r)) (λ r. r.time < i.queries.clock) (λ r c. All-contains (λ (e : TimedEntry ℕ). e.time < i.queries.clock) (queries_in ts) (query_answered r) below c)
+    (counted_in ack ts) (h.past ack)
+
+tallied-asks : (ts : List Turn) (t : Turn) (i j : IdealAgent) (agent now id : ℕ) (name payload : List ℕ) (params : QueryParams) → IsRepresentable i → entries i.queries.history ≡ queries_in ts → IsTallied ts i
+    → t.action ≡ actions.Query agent now id name payload params → t.line.answer ≡ lines.Queried i.queries.clock
+    → j.asked ≡ i.asked ++ (i.queries.clock, opened_query now (query_at i.queries.clock i.config.name id name payload params)) ∷ [] → IsTallied (ts ++ t ∷ []) j
+tallied-asks ts t i j agent now id name payload params representable same h action answer is =
+    let on : is_restarted t.line.answer ≡ false = ap is_restarted answer in
+    let never : (ack : Bool) → is_counted ack t.line.answer ≡ false = λ ack. ap (is_counted ack) answer in
+    let still : (ack : Bool) → counted_in ack (ts ++ t ∷ []) ≡ counted_in ack ts = λ ack. counted-still ack ts t (never ack) in
+    let new : OpenQuery = opened_query now (query_at i.queries.clock i.config.name id name payload params) in
+    let none : (ack : Bool) → to_time i.queries.clock (counted_in ack (ts ++ t ∷ [])) ≡ [] = λ ack. ap (to_time i.queries.clock) (still ack) ∙ none-to_time i.queries.clock (counted_in ack ts) (past-below ts i ack representable same h) in
+    let asked : own_query t.action t.line.answer ≡ as_fired (i.queries.clock, new) ∷ [] =
+    ap (λ a. own_query a t.line.answer) action ∙ ap (own_query (actions.Query agent now id name payload params)) answer
+    ∙ ap (λ b. record { time = i.queries.clock; id = id; deadline = deadline_of now params.timeout; wants_ack = b } ∷ []) (sym (flags-ask params.want_ack params.no_broadcast)) in
+    let enters : entered t ≡ as_entered (i.queries.clock, new) ∷ [] = ap (λ a. entered_by a t.given t.line.answer) action ∙ ap (entered_by (actions.Query agent now id name payload params) t.given) answer in
+    let first : IsOpen (ts ++ t ∷ []) (i.queries.clock, new) = record {
+      fired = subst (λ l. Contains l (as_fired (i.queries.clock, new))) (sym (own-push ts t on ∙ ap (λ l. own_queries (last_life ts) ++ l) asked)) (Contains-push (own_queries (last_life ts)) (as_fired (i.queries.clock, new)));
+      entered = subst (λ l. Contains l (as_entered (i.queries.clock, new))) (sym (queries-push ts t ∙ ap (λ l. queries_in ts ++ l) enters)) (Contains-push (queries_in ts) (as_entered (i.queries.clock, new)));
+      acks = ap (map (λ (r : QueryResponse). r.from)) (sym (none true));
+      responses = ap (map response_held) (sym (none false));
+    } in
+    tallied-still ts t i j h never (subst (All (IsOpen (ts ++ t ∷ []))) (sym is)
+    (All-push (IsOpen (ts ++ t ∷ [])) i.asked (i.queries.clock, new) (All-weaker (IsOpen ts) (IsOpen (ts ++ t ∷ [])) (λ q. open-more ts t q on (λ ack. ap (to_time q.0) (still ack))) i.asked h.asked) first))
+
+-- ---- an answer that is counted
+
+-- the kind that is counted is the answer's
+kind-counted : (ack b : Bool) → is_counted ack (cond b lines.Ack lines.Response) ≡ true → b ≡ ack
+kind-counted true true e = refl
+kind-counted true false e = absurd (cc e)
+kind-counted false true e = absurd (cc e)
+kind-counted false false e = refl
+
+-- what isn't refused
+record IsTaken (now : ℕ) (r : QueryResponse) (q : OpenQuery) : Type 0 where
+  id : q.id ≡ r.id
+  in_time : now ≤ q.deadline
+  asks : is_ack r ≡ true → q.wants_ack ≡ true
+  acks : is_ack r ≡ true → All (λ a. a ≢ r.from) q.acks
+  responses : is_ack r ≡ false → All (λ a. a.from ≢ r.from) q.responses
+
+taken : (now : ℕ) (r : QueryResponse) (q : OpenQuery) → answer_ignore_reason now r q ≡ None → IsTaken now r q
+taken now r q is =
+    let id = none-if (not (q.id == r.id)) OtherId _ is in
+    let deadline = none-if (nat_lt q.deadline now) Closed _ id.1 in
+    by (is_ack r) refl deadline.1 (eqb-true q.id r.id (not-false (q.id == r.id) id.0)) (ltb-false q.deadline now deadline.0)
+  where
+    by : (b : Bool) → is_ack r ≡ b → cond b (ack_ignore_reason r.from q) (response_ignore_reason r.from q) ≡ None → q.id ≡ r.id → now ≤ q.deadline → IsTaken now r q
+    by true kind e id in_time =
+        let asked = none-if (not q.wants_ack) AckNotAsked _ e in
+        let fresh = none-if (has_acked q r.from) AckTwice None asked.1 in
+        record { id = id; in_time = in_time; asks = λ k. not-false q.wants_ack asked.0; acks = λ k. fresh-name q.acks r.from fresh.0; responses = λ k. absurd (let no : true ≡ false = sym kind ∙ k in cc) }
+    by false kind e id in_time =
+        let fresh = none-if (has_responded q r.from) ResponseTwice None e in
+        let not_ack : is_ack r ≡ true → ⊥ = λ k. let no : false ≡ true = sym kind ∙ k in cc in
+        record { id = id; in_time = in_time; asks = λ k. absurd (not_ack k); acks = λ k. absurd (not_ack k); responses = λ k. fresh-response q.responses r.from fresh.0 }
+
+-- the name is new among those of its kind and time
+fresh-counted : (ts : List Turn) (now : ℕ) (r : QueryResponse) (q : OpenQuery) (ack : Bool) → IsOpen ts (r.time, q) → IsTaken now r q → is_ack r ≡ ack → All (λ x. x.time ≡ r.time → x.from ≢ r.from) (counted_in ack ts)
+fresh-counted ts now r q ack here takes kind = by ack kind
+  where
+    timed : (k : Bool) → All (λ x. (x.time == r.time) ≡ true → x.from ≢ r.from) (counted_in k ts) → All (λ x. x.time ≡ r.time → x.from ≢ r.from) (counted_in k ts)
+    timed k all = All-weaker (λ x. (x.time == r.time) ≡ true → x.from ≢ r.from) (λ x. x.time ≡ r.time → x.from ≢ r.from) (λ x h e. h (eq-eqb x.time r.time e)) (counted_in k ts) all
+
+    by : (k : Bool) → is_ack r ≡ k → All (λ x. x.time ≡ r.time → x.from ≢ r.from) (counted_in k ts)
+    by true is = timed true (passing (λ (a : List ℕ). a ≢ r.from) (λ (x : QueryResponse). x.from) (λ x. x.time == r.time) (counted_in true ts) (subst (All (λ a. a ≢ r.from)) here.acks (takes.acks is)))
+    by false is =
+        timed false (passing (λ (a : Response). a.from ≢ r.from) response_held (λ x. x.time == r.time) (counted_in false ts) (subst (All (λ (a : Response). a.from ≢ r.from)) here.responses (takes.responses is)))
+
+-- the open query once it is counted
+open-counted : (ts : List Turn) (t : Turn) (r : QueryResponse) (q : OpenQuery) (b : Bool) → is_restarted t.line.answer ≡ false → ((ack : Bool) → counted_in ack (ts ++ t ∷ []) ≡ counted_in ack ts ++ cond (is_counted ack (cond b lines.Ack lines.Response)) (r ∷ []) [])
+    → IsOpen ts (r.time, q)
+    → IsOpen (ts ++ t ∷ []) (
+      r.time,
+      cond b (record { id = q.id; deadline = q.deadline; wants_ack = q.wants_ack; acks = q.acks ++ r.from ∷ []; responses = q.responses })
+          (record { id = q.id; deadline = q.deadline; wants_ack = q.wants_ack; acks = q.acks; responses = q.responses ++ record { from = r.from; payload = r.payload } ∷ [] }),
+    )
+open-counted ts t r q true on more h = record {
+  fired = own-more ts t (as_fired (r.time, q)) on h.fired;
+  entered = queries-more ts t (as_entered (r.time, q)) h.entered;
+  acks = ap (λ l. l ++ r.from ∷ []) h.acks ∙ sym (ap (λ l. map (λ (x : QueryResponse). x.from) (to_time r.time l)) (more true) ∙ ap (map (λ (x : QueryResponse). x.from)) (to_time-same (counted_in true ts) r)
+      ∙ map-append (λ (x : QueryResponse). x.from) (to_time r.time (counted_in true ts)) (r ∷ []));
+  responses = h.responses ∙ sym (ap (λ l. map response_held (to_time r.time l)) (more false ∙ append-nil (counted_in false ts)));
+}
+open-counted ts t r q false on more h = record {
+  fired = own-more ts t (as_fired (r.time, q)) on h.fired;
+  entered = queries-more ts t (as_entered (r.time, q)) h.entered;
+  acks = h.acks ∙ sym (ap (λ l. map (λ (x : QueryResponse). x.from) (to_time r.time l)) (more true ∙ append-nil (counted_in true ts)));
+  responses = ap (λ l. l ++ record { from = r.from; payload = r.payload } ∷ []) h.responses
+      ∙ sym (ap (λ l. map response_held (to_time r.time l)) (more false) ∙ ap (map response_held) (to_time-same (counted_in false ts) r) ∙ map-append response_held (to_time r.time (counted_in false ts)) (r ∷ []));
+}
+
+-- what a counting turn brings
+brings : (given : Option (List ℕ)) (packet : List ℕ) (r : QueryResponse) → given ≡ Some packet → decoded packet ≡ Ok (query_response r) → answers_in (option_to_list given) ≡ r ∷ []
+brings given packet r is says = ap (λ g. answers_in (option_to_list g)) is ∙ ap (λ (d : Result Message WireFault). answer_brought d ++ []) says
+
+tallied-counts : (ts : List Turn) (t : Turn) (i j : IdealAgent) (now : ℕ) (packet : List ℕ) (r : QueryResponse) (q : OpenQuery) → IsRepresentable i → IsTallied ts i → t.given ≡ Some packet → decoded packet ≡ Ok (query_response r)
+    → asked_at r.time i.asked ≡ Some q → answer_ignore_reason now r q ≡ None → t.line.answer ≡ cond (is_ack r) lines.Ack lines.Response → j.asked ≡ with_asked_at r.time (counted r q) i.asked → IsTallied (ts ++ t ∷ []) j
+tallied-counts ts t i j now packet r q representable h given says at none answer is = record {
+  asked = subst (All (IsOpen (ts ++ t ∷ []))) (sym is)
+      (asked-replaced (IsOpen ts) (IsOpen (ts ++ t ∷ [])) r.time (counted r q) i.asked representable.consistent.sound.asked_distinct h.asked
+      (λ p other here. open-more ts t p on (λ ack. ap (to_time p.0) (more ack) ∙ to_time-other p.0 (counted_in ack ts) r _ (λ e. other (sym e))) here)
+      (open-counted ts t r q (is_ack r) on more found));
+  past = λ ack. subst (All (λ x. Contains (queries_in (ts ++ t ∷ [])) (query_answered x))) (sym (more ack)) (past ack (is_counted ack (cond (is_ack r) lines.Ack lines.Response)));
+  once = λ ack. subst AreNamedOnce (sym (more ack)) (once ack (is_counted ack (cond (is_ack r) lines.Ack lines.Response)) refl);
+}
+  where
+    on : is_restarted t.line.answer ≡ false
+    on = opens-none t.line.answer (is_ack r) answer
+
+    more : (ack : Bool) → counted_in ack (ts ++ t ∷ []) ≡ counted_in ack ts ++ cond (is_counted ack (cond (is_ack r) lines.Ack lines.Response)) (r ∷ []) []
+    more ack =
+        counted-push ack ts t ∙ ap (λ l. counted_in ack ts ++ cond (is_counted ack t.line.answer) l []) (brings t.given packet r given says) ∙ ap (λ a. counted_in ack ts ++ cond (is_counted ack a) (r ∷ []) []) answer
+
+    found : IsOpen ts (r.time, q)
+    found = asked-found (IsOpen ts) r.time i.asked q h.asked at
+
+    takes : IsTaken now r q
+    takes = taken now r q none
+
+    Before : QueryResponse → Type 0
+    Before x = Contains (queries_in (ts ++ t ∷ [])) (query_answered x)
+
+    past : (ack b : Bool) → All (λ x. Contains (queries_in (ts ++ t ∷ [])) (query_answered x)) (counted_in ack ts ++ cond b (r ∷ []) [])
+    past ack b = later b (All-weaker (λ x. Contains (queries_in ts) (query_answered x)) (λ x. Contains (queries_in (ts ++ t ∷ [])) (query_answered x)) (λ x. queries-more ts t (query_answered x)) (counted_in ack ts) (h.past ack))
+      where
+        here : Contains (queries_in (ts ++ t ∷ [])) (query_answered r)
+        here = queries-more ts t (query_answered r) (subst (λ (id : ℕ). Contains (queries_in ts) (record { time = r.time; key = id })) takes.id found.entered)
+
+        later : (b : Bool) → All (λ x. Contains (queries_in (ts ++ t ∷ [])) (query_answered x)) (counted_in ack ts) → All (λ x. Contains (queries_in (ts ++ t ∷ [])) (query_answered x)) (counted_in ack ts ++ cond b (r ∷ []) [])
+        later true all = All-push (λ x. Contains (queries_in (ts ++ t ∷ [])) (query_answered x)) (counted_in ack ts) r all here
+        later false all = subst (All (λ x. Contains (queries_in (ts ++ t ∷ [])) (query_answered x))) (sym (append-nil (counted_in ack ts))) all
+
+    once : (ack b : Bool) → is_counted ack (cond (is_ack r) lines.Ack lines.Response) ≡ b → AreNamedOnce (counted_in ack ts ++ cond b (r ∷ []) [])
+    once ack true kind = all_pairs_push (λ x y. x.time ≡ y.time → x.from ≢ y.from) (counted_in ack ts) r (h.once ack) (fresh-counted ts now r q ack found takes (kind-counted ack (is_ack r) kind))
+    once ack false kind = subst AreNamedOnce (sym (append-nil (counted_in ack ts))) (h.once ack)
+
+-- ---- a turn
+
+pub tallied-step : (ts : List Turn) (t : Turn) (i j : IdealAgent) → IsRepresentable i → entries i.queries.history ≡ queries_in ts → IsTallied ts i → Opens i t.action t.given t.line.answer j → IsTallied (ts ++ t ∷ []) j
+tallied-step ts t i j representable same h (stays quiet is) = tallied-still ts t i j h (λ ack. quiet-counts ack t.line.answer quiet) (open-still ts t j.asked quiet (subst (All (IsOpen ts)) (sym is) h.asked))
+tallied-step ts t i j representable same h (closes now quiet is) =
+    tallied-still ts t i j h (λ ack. quiet-counts ack t.line.answer quiet) (open-still ts t j.asked quiet (subst (All (IsOpen ts)) (sym is) (All-filter (λ q. not (is_due now q)) (IsOpen ts) i.asked h.asked)))
+tallied-step ts t i j representable same h (restarts agent tail member_clock event_clock query_clock action answer is) =
+    tallied-still ts t i j h (λ ack. ap (is_counted ack) answer) (subst (All (IsOpen (ts ++ t ∷ []))) (sym is) (All-nil (IsOpen (ts ++ t ∷ []))))
+tallied-step ts t i j representable same h (asks agent now id name payload params action answer is) = tallied-asks ts t i j agent now id name payload params representable same h action answer is
+tallied-step ts t i j representable same h (counts to number now packet r q action given says at none answer is) = tallied-counts ts t i j now packet r q representable h given says at none answer is
+
+-- what a turn that counts tells
+pub record Tells (ts : List Turn) (t : Turn) (ack : Bool) : Type 0 where
+  pub to : ℕ
+  pub number : ℕ
+  pub now : ℕ
+  pub packet : List ℕ
+  pub answer : QueryResponse
+  pub action : t.action ≡ actions.Deliver to number now
+  pub given : t.given ≡ Some packet
+  pub says : decoded packet ≡ Ok (query_response answer)
+  pub kind : is_ack answer ≡ ack
+  pub awaited : IsAwaited (last_life ts) now answer
+
+pub tells : (ts : List Turn) (t : Turn) (i j : IdealAgent) (ack : Bool) → IsTallied ts i → Opens i t.action t.given t.line.answer j → is_counted ack t.line.answer ≡ true → Tells ts t ack
+tells ts t i j ack h (stays quiet is) counted = absurd (let no : false ≡ true = sym (quiet-counts ack t.line.answer quiet) ∙ counted in cc)
+tells ts t i j ack h (closes now quiet is) counted = absurd (let no : false ≡ true = sym (quiet-counts ack t.line.answer quiet) ∙ counted in cc)
+tells ts t i j ack h (restarts agent tail member_clock event_clock query_clock action answer is) counted = absurd (let no : false ≡ true = sym (ap (is_counted ack) answer) ∙ counted in cc)
+tells ts t i j ack h (asks agent now id name payload params action answer is) counted = absurd (let no : false ≡ true = sym (ap (is_counted ack) answer) ∙ counted in cc)
+tells ts t i j ack h (counts to number now packet r q action given says at none answer is) counted =
+    let here = asked-found (IsOpen ts) r.time i.asked q h.asked at in
+    let takes = taken now r q none in
+    record {
+      to = to;
+      number = number;
+      now = now;
+      packet = packet;
+      answer = r;
+      action = action;
+      given = given;
+      says = says;
+      kind = kind-counted ack (is_ack r) (sym (ap (is_counted ack) answer) ∙ counted);
+      awaited = record { query = as_fired (r.time, q); fired = here.fired; time = refl; id = sym takes.id; in_time = takes.in_time; asks = takes.asks };
+    }

@@ -1,0 +1,122 @@
+-- Which events the packets carry that agents send.
+use Rattle.std.proofs.Common.{◌≡◌, ℕ, ◌<◌, ◌≤◌, ◌-◌, ◌^◌, ◌==◌, Bool, false, List, [], ◌∷◌, refl, sym, ap, subst, arith, map}
+use Rattle.std.specs.Prelude.{All}
+use Rattle.std.specs.List.{AllByRecursion}
+use Rattle.std.proofs.lemmas.List.Elements.{All-nil, All-head, All-tail, All-append, All-map, All-filter, All-weaker}
+use Rattle.serf_pack.specs.Reading.{whole_at}
+use Rattle.serf_wire.specs.declared.layout.MessageType.TheVariants as types
+use Rattle.serf_wire.specs.declared.texts.EventBody.{EventBody}
+use Rattle.serf_wire.specs.Canonical.{canonical, has_long, without_events}
+use Rattle.serf_wire.specs.Decoded.{decoded}
+use Rattle.serf_wire.specs.Message.{UserEvent, Query, PushPull, user_event, query, push_pull, response_of}
+use Rattle.serf_wire.specs.Ranges.{IsRangedPushPull, IsTimed}
+use Rattle.serf_wire.specs.Slots.{held}
+use Rattle.serf_wire.proofs.CanonicalPackets.{canonical_spells}
+use Rattle.serf_wire.proofs.Packets.{read_has, spelled_decoded}
+use Rattle.serf_window.specs.Texts.{event_of}
+use Rattle.serf_window.specs.Window.{TimedEntry, SlotOf, slots_of}
+use Rattle.serf_window.proofs.WindowLaws.{slots_of-each, slots_of-below}
+use Rattle.serf_agent.specs.Events.{event_packet, texts_len}
+use Rattle.serf_agent.specs.Ideal.{IdealAgent, Past}
+use Rattle.serf_agent.specs.States.{state_of, slot_sent, events_of, events_of_slot}
+use Rattle.serf_agent.specs.Tracks.{of_life}
+use Rattle.serf_agent.specs.View.{view_of}
+use Rattle.serf_agent.proofs.WireLaws.{event-not_long}
+use Rattle.serf_model.specs.Trace.{events_in_packet, events_brought, query_brought}
+use Rattle.serf_model.specs.Ready.{IsRepresentable}
+
+-- ---- an event's packet
+
+pub events_in_packet-event : (t : ℕ) (what : EventBody) (coalesce : Bool) → t < 2 ^ 64 - 1 → texts_len what ≤ 9216 → events_in_packet (event_packet t what coalesce) ≡ record { time = t; key = event_of what.name what.payload } ∷ []
+events_in_packet-event t what coalesce small short =
+    let e : UserEvent = record { time = t; name = what.name; payload = what.payload; coalesce = coalesce } in
+    ap events_brought (spelled_decoded (canonical (user_event e)) (user_event e) (canonical_spells (user_event e) small (event-not_long t what.name what.payload coalesce short)))
+
+-- ---- packets of other types carry no events
+
+behind-query : (bytes : List ℕ) → events_in_packet (4 ∷ bytes) ≡ []
+unfolding decoded
+behind-query bytes = read_has (λ r. events_brought r ≡ []) types.Query (whole_at 8 bytes) (λ f. refl) (λ ps. refl)
+
+behind-response : (bytes : List ℕ) → events_in_packet (5 ∷ bytes) ≡ []
+unfolding decoded
+behind-response bytes = read_has (λ r. events_brought r ≡ []) types.QueryResponse (whole_at 8 bytes) (λ f. refl) (λ ps. refl)
+
+pub events_in_packet-query : (q : Query) → events_in_packet (canonical (query q)) ≡ []
+unfolding canonical
+events_in_packet-query q = behind-query _
+
+pub events_in_packet-response : (t id : ℕ) (from : List ℕ) (flags : ℕ) (payload : List ℕ) → events_in_packet (canonical (response_of t id from flags payload)) ≡ []
+unfolding canonical
+events_in_packet-response t id from flags payload = behind-response _
+
+-- ---- packets of other types bring no query
+
+query-behind-event : (bytes : List ℕ) → query_brought (decoded (3 ∷ bytes)) ≡ []
+unfolding decoded
+query-behind-event bytes = read_has (λ r. query_brought r ≡ []) types.UserEvent (whole_at 8 bytes) (λ f. refl) (λ ps. refl)
+
+query-behind-state : (bytes : List ℕ) → query_brought (decoded (2 ∷ bytes)) ≡ []
+unfolding decoded
+query-behind-state bytes = read_has (λ r. query_brought r ≡ []) types.PushPull (whole_at 8 bytes) (λ f. refl) (λ ps. refl)
+
+query-behind-response : (bytes : List ℕ) → query_brought (decoded (5 ∷ bytes)) ≡ []
+unfolding decoded
+query-behind-response bytes = read_has (λ r. query_brought r ≡ []) types.QueryResponse (whole_at 8 bytes) (λ f. refl) (λ ps. refl)
+
+pub no-query-event : (t : ℕ) (what : EventBody) (coalesce : Bool) → query_brought (decoded (event_packet t what coalesce)) ≡ []
+unfolding canonical
+no-query-event t what coalesce = query-behind-event _
+
+pub no-query-state : (m : PushPull) → query_brought (decoded (canonical (push_pull m))) ≡ []
+unfolding canonical
+no-query-state m = query-behind-state _
+
+pub no-query-response : (t id : ℕ) (from : List ℕ) (flags : ℕ) (payload : List ℕ) → query_brought (decoded (canonical (response_of t id from flags payload))) ≡ []
+unfolding canonical
+no-query-response t id from flags payload = query-behind-response _
+
+-- ---- an agent's whole state carries what it entered in this life
+
+-- what holds of all entries holds of all that slots hold
+slots-carry : (P : TimedEntry EventBody → Type 0) (ss : List (SlotOf EventBody)) → All (λ s. All (λ what. P (record { time = s.time; key = what })) s.held) ss
+    → All P (events_of (map without_events (map slot_sent ss)))
+slots-carry P [] all = All-nil P
+slots-carry P (s ∷ ss) all =
+    All-append P _ (events_of (map without_events (map slot_sent ss)))
+    (slot s.held (All-head (λ (s : SlotOf EventBody). All (λ what. P (record { time = s.time; key = what })) s.held) s ss all))
+    (slots-carry P ss (All-tail (λ (s : SlotOf EventBody). All (λ what. P (record { time = s.time; key = what })) s.held) s ss all))
+  where
+    slot : (es : List EventBody) → All (λ what. P (record { time = s.time; key = what })) es → All P (events_of_slot (without_events (held s.time es)))
+    slot [] all = All-nil P
+    slot (e ∷ es) all = All-map P (λ (what : EventBody). record { time = s.time; key = what }) (e ∷ es) all
+
+slots-timed : (ss : List (SlotOf EventBody)) → All (λ s. s.time < 2 ^ 64 - 1) ss → AllByRecursion IsTimed (map slot_sent ss)
+slots-timed [] all = tt
+slots-timed (s ∷ ss) all =
+    let first : s.time < 2 ^ 64 - 1 = All-head (λ (s : SlotOf EventBody). s.time < 2 ^ 64 - 1) s ss all in
+    (omega arith, slots-timed ss (All-tail (λ (s : SlotOf EventBody). s.time < 2 ^ 64 - 1) s ss all))
+
+in-life : (P : TimedEntry EventBody → Type 0) (life : ℕ) (h : List (Past EventBody)) → All (λ p. P p.entry) h → All P (of_life life h)
+in-life P life h all = All-map P (λ (p : Past EventBody). p.entry) _ (All-filter (λ (p : Past EventBody). p.life == life) (λ p. P p.entry) h all)
+
+state-ranged : (i : IdealAgent) → IsRepresentable i → IsRangedPushPull (state_of (view_of i) [] [])
+state-ranged i g =
+    let member_clock : i.member_clock ≤ 2 ^ 64 - 1 = g.consistent.sound.member_clock in
+    let low : All (λ p. p.entry.time < 2 ^ 64 - 1) i.events.history =
+    All-weaker (λ p. p.entry.time < i.events.clock) (λ p. p.entry.time < 2 ^ 64 - 1) (λ p h. omega (arith, g.events)) i.events.history g.consistent.sound.events.below_clock in
+    record {
+      member_clock = omega arith;
+      status = tt;
+      event_clock = omega (arith, g.events);
+      slots = slots-timed (slots_of i.config.event_buffer (of_life i.life i.events.history))
+          (slots_of-below i.config.event_buffer (2 ^ 64 - 1) (of_life i.life i.events.history) (omega arith) (in-life (λ e. e.time < 2 ^ 64 - 1) i.life i.events.history low));
+      query_clock = omega (arith, g.queries);
+    }
+
+pub state-carries : (P : TimedEntry EventBody → Type 0) (i : IdealAgent) → IsRepresentable i → has_long (push_pull (state_of (view_of i) [] [])) ≡ false → All (λ p. P p.entry) i.events.history → All P (events_in_packet (canonical (push_pull (state_of (view_of i) [] []))))
+state-carries P i g short all =
+    let m : PushPull = state_of (view_of i) [] [] in
+    let reads = spelled_decoded (canonical (push_pull m)) _ (canonical_spells (push_pull m) (state-ranged i g) short) in
+    subst (All P) (sym (ap events_brought reads))
+    (slots-carry P (slots_of i.config.event_buffer (of_life i.life i.events.history)) (slots_of-each P i.config.event_buffer (of_life i.life i.events.history) (in-life P i.life i.events.history all)))

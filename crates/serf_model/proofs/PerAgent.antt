@@ -1,0 +1,125 @@
+-- What holds of each agent, where these are the turns that it took.
+use Rattle.std.proofs.Common.{zero, suc, ◌≡◌, ℕ, ◌==◌, Bool, true, false, cond, List, [], ◌∷◌, ◌++◌, Option, Some, None, refl, sym, ap, subst, ◌∙◌, map, set}
+use Rattle.std.specs.Prelude.{All, slice_get}
+use Rattle.std.proofs.lemmas.Bool.{eqb-true, eqb-false, eq-eqb, ne_eqb}
+use Rattle.std.proofs.lemmas.List.{append-nil}
+use Rattle.std.proofs.lemmas.List.Elements.{All-nil, All-push, filter-append}
+use Rattle.serf_agent.specs.declared.config.Config.{Config}
+use Rattle.serf_model.specs.declared.action.Action.{Action}
+use Rattle.serf_model.specs.declared.line.Answer.TheVariants as answers
+use Rattle.serf_model.specs.declared.line.Refusal.TheVariants.{NoAgent}
+use Rattle.serf_model.specs.Cluster.{IdealNode, Cluster, Applied, Run, Stepped, applied, apply, after, first_node, on_agent, start, step_by, with_handed}
+use Rattle.serf_model.specs.Trace.{Turn, actor_of, is_agent, turns_by}
+use Rattle.serf_model.proofs.RunLaws.{slice_get-set_same, slice_get-set_other}
+
+-- this holds of each agent and its turns
+abbrev pub Each : (ℕ → List Turn → IdealNode → Type 0) → Cluster → List Turn → Type 0
+Each P c turns = (a : ℕ) (m : IdealNode) → slice_get c.nodes a ≡ Some m → P a (turns_by a turns) m
+
+pub turns-mine : (a : ℕ) (turns : List Turn) (turn : Turn) → is_agent a (actor_of turn.action) ≡ true → turns_by a (turns ++ turn ∷ []) ≡ turns_by a turns ++ turn ∷ []
+turns-mine a turns turn mine = filter-append (λ (t : Turn). is_agent a (actor_of t.action)) turns (turn ∷ []) ∙ ap (λ b. turns_by a turns ++ cond b (turn ∷ []) []) mine
+
+pub turns-other : (a : ℕ) (turns : List Turn) (turn : Turn) → is_agent a (actor_of turn.action) ≡ false → turns_by a (turns ++ turn ∷ []) ≡ turns_by a turns
+turns-other a turns turn other = filter-append (λ (t : Turn). is_agent a (actor_of t.action)) turns (turn ∷ []) ∙ ap (λ b. turns_by a turns ++ cond b (turn ∷ []) []) other ∙ append-nil (turns_by a turns)
+
+pub is-mine : (a : ℕ) (action : Action) → actor_of action ≡ Some a → is_agent a (actor_of action) ≡ true
+is-mine a action actor = ap (is_agent a) actor ∙ eq-eqb a a refl
+
+each-applied : (P : ℕ → List Turn → IdealNode → Type 0) (c : Cluster) (turns : List Turn) (action : Action) (b : ℕ) (m : IdealNode) (o : Applied) → Each P c turns → actor_of action ≡ Some b → slice_get c.nodes b ≡ Some m
+    → P b (turns_by b turns ++ (applied c action b o).turn ∷ []) (with_handed o.done.handed o.node) → Each P (applied c action b o).cluster (turns ++ (applied c action b o).turn ∷ [])
+each-applied P c turns action b m o all actor at new a n is = by (b == a) refl
+  where
+    turn : Turn
+    turn = (applied c action b o).turn
+
+    by : (t : Bool) → (b == a) ≡ t → P a (turns_by a (turns ++ (applied c action b o).turn ∷ [])) n
+    by true t =
+        let same : b ≡ a = eqb-true b a t in
+        let found : slice_get (set c.nodes b (with_handed o.done.handed o.node)) b ≡ Some (with_handed o.done.handed o.node) = slice_get-set_same c.nodes b m (with_handed o.done.handed o.node) at in
+        let both : Some (with_handed o.done.handed o.node) ≡ Some n = sym found ∙ ap (slice_get (set c.nodes b (with_handed o.done.handed o.node))) same ∙ is in
+        let here : with_handed o.done.handed o.node ≡ n = cc both in
+        subst (λ (j : ℕ). P j (turns_by j (turns ++ (applied c action b o).turn ∷ [])) n) same
+        (subst (λ l. P b l n) (sym (turns-mine b turns (applied c action b o).turn (is-mine b action actor))) (subst (P b (turns_by b turns ++ (applied c action b o).turn ∷ [])) here new))
+    by false t =
+        let found : slice_get c.nodes a ≡ Some n = sym (slice_get-set_other c.nodes b a (with_handed o.done.handed o.node) (eqb-false b a t)) ∙ is in
+        subst (λ l. P a l n) (sym (turns-other a turns (applied c action b o).turn (ap (is_agent a) actor ∙ t))) (all a n found)
+
+-- a turn of no agent
+each-still : (P : ℕ → List Turn → IdealNode → Type 0) (c : Cluster) (turns : List Turn) (s : Stepped) → Each P c turns → s.cluster.nodes ≡ c.nodes → ((a : ℕ) (m : IdealNode) → slice_get c.nodes a ≡ Some m → is_agent a (actor_of s.turn.action) ≡ false)
+    → Each P s.cluster (turns ++ s.turn ∷ [])
+each-still P c turns s all nodes other a m is =
+    let at : slice_get c.nodes a ≡ Some m = ap (λ l. slice_get l a) (sym nodes) ∙ is in
+    subst (λ l. P a l m) (sym (turns-other a turns s.turn (other a m at))) (all a m at)
+
+-- what the turn of an agent has to keep
+abbrev pub Keeps : (ℕ → List Turn → IdealNode → Type 0) → Cluster → List Turn → Action → Type 0
+Keeps P c turns action = (b : ℕ) (m : IdealNode) → actor_of action ≡ Some b → slice_get c.nodes b ≡ Some m → P b (turns_by b turns) m
+    → (let o = apply m c.sent action in P b (turns_by b turns ++ (applied c action b o).turn ∷ []) (with_handed o.done.handed o.node))
+
+each-agent : (P : ℕ → List Turn → IdealNode → Type 0) (c : Cluster) (turns : List Turn) (action : Action) (b : ℕ) (r : Option IdealNode) → Each P c turns → Keeps P c turns action → actor_of action ≡ Some b → slice_get c.nodes b ≡ r
+    → Each P (on_agent c action b r).cluster (turns ++ (on_agent c action b r).turn ∷ [])
+each-agent P c turns action b None all keeps actor at =
+    each-still P c turns (on_agent c action b None) all refl (λ a m is. ap (is_agent a) actor ∙ ne_eqb b a (λ e. let no : None ≡ Some m = sym at ∙ ap (slice_get c.nodes) e ∙ is in cc))
+each-agent P c turns action b (Some m) all keeps actor at = each-applied P c turns action b m (apply m c.sent action) all actor at (keeps b m actor at (all b m at))
+
+each-by : (P : ℕ → List Turn → IdealNode → Type 0) (c : Cluster) (turns : List Turn) (action : Action) (o : Option ℕ) → Each P c turns → Keeps P c turns action → actor_of action ≡ o
+    → Each P (step_by c action o).cluster (turns ++ (step_by c action o).turn ∷ [])
+each-by P c turns action None all keeps actor = each-still P c turns (step_by c action None) all refl (λ a m is. ap (is_agent a) actor)
+each-by P c turns action (Some b) all keeps actor = each-agent P c turns action b (slice_get c.nodes b) all keeps actor refl
+
+pub each-step : (P : ℕ → List Turn → IdealNode → Type 0) (r : Run) (action : Action) → Each P r.cluster r.turns → Keeps P r.cluster r.turns action → Each P (after r action).cluster (after r action).turns
+each-step P r action all keeps = each-by P r.cluster r.turns action (actor_of action) all keeps refl
+
+joined-at : (configs : List Config) (a : ℕ) (m : IdealNode) → slice_get (map first_node configs) a ≡ Some m → (config : Config) × (slice_get configs a ≡ Some config) × (first_node config ≡ m)
+joined-at [] a m is = absurd (cc is)
+joined-at (c ∷ cs) zero m is = let same : first_node c ≡ m = cc is in (c, refl, same)
+joined-at (c ∷ cs) (suc a) m is = joined-at cs a m is
+
+pub each-start : (P : ℕ → List Turn → IdealNode → Type 0) (configs : List Config) → ((a : ℕ) (config : Config) → slice_get configs a ≡ Some config → P a [] (first_node config)) → Each P (start configs).cluster []
+each-start P configs first a m is = let j = joined-at configs a m is in subst (P a []) j.2 (first a j.0 j.1)
+
+-- ---- agents that there aren't
+
+-- what such an agent is asked to do is refused
+pub record IsRefused (t : Turn) : Type 0 where
+  pub answer : t.line.answer ≡ answers.Refused NoAgent
+  pub packets : t.packets ≡ []
+
+abbrev pub AreNobodys : Cluster → List Turn → Type 0
+AreNobodys c turns = (a : ℕ) → slice_get c.nodes a ≡ None → All IsRefused (turns_by a turns)
+
+nobodys-still : (c : Cluster) (turns : List Turn) (s : Stepped) → AreNobodys c turns → s.cluster.nodes ≡ c.nodes → IsRefused s.turn → AreNobodys s.cluster (turns ++ s.turn ∷ [])
+nobodys-still c turns s all nodes refused a none = by (is_agent a (actor_of s.turn.action)) refl
+  where
+    before : All IsRefused (turns_by a turns)
+    before = all a (ap (λ l. slice_get l a) (sym nodes) ∙ none)
+
+    by : (b : Bool) → is_agent a (actor_of s.turn.action) ≡ b → All IsRefused (turns_by a (turns ++ s.turn ∷ []))
+    by true mine = subst (All IsRefused) (sym (turns-mine a turns s.turn mine)) (All-push IsRefused (turns_by a turns) s.turn before refused)
+    by false other = subst (All IsRefused) (sym (turns-other a turns s.turn other)) before
+
+nobodys-applied : (c : Cluster) (turns : List Turn) (action : Action) (b : ℕ) (m : IdealNode) (o : Applied) → AreNobodys c turns → actor_of action ≡ Some b → slice_get c.nodes b ≡ Some m → AreNobodys (applied c action b o).cluster (turns ++ (applied c action b o).turn ∷ [])
+nobodys-applied c turns action b m o all actor at a none = by (b == a) refl
+  where
+    by : (t : Bool) → (b == a) ≡ t → All IsRefused (turns_by a (turns ++ (applied c action b o).turn ∷ []))
+    by true t =
+        let found = slice_get-set_same c.nodes b m (with_handed o.done.handed o.node) at in
+        let no : Some (with_handed o.done.handed o.node) ≡ None = sym found ∙ ap (slice_get (set c.nodes b (with_handed o.done.handed o.node))) (eqb-true b a t) ∙ none in
+        absurd (cc no)
+    by false t =
+        subst (All IsRefused) (sym (turns-other a turns (applied c action b o).turn (ap (is_agent a) actor ∙ t)))
+        (all a (sym (slice_get-set_other c.nodes b a (with_handed o.done.handed o.node) (eqb-false b a t)) ∙ none))
+
+nobodys-agent : (c : Cluster) (turns : List Turn) (action : Action) (b : ℕ) (r : Option IdealNode) → AreNobodys c turns → actor_of action ≡ Some b → slice_get c.nodes b ≡ r → AreNobodys (on_agent c action b r).cluster (turns ++ (on_agent c action b r).turn ∷ [])
+nobodys-agent c turns action b None all actor at = nobodys-still c turns (on_agent c action b None) all refl (record { answer = refl; packets = refl })
+nobodys-agent c turns action b (Some m) all actor at = nobodys-applied c turns action b m (apply m c.sent action) all actor at
+
+nobodys-by : (c : Cluster) (turns : List Turn) (action : Action) (o : Option ℕ) → AreNobodys c turns → actor_of action ≡ o → AreNobodys (step_by c action o).cluster (turns ++ (step_by c action o).turn ∷ [])
+nobodys-by c turns action None all actor = λ a none. subst (All IsRefused) (sym (turns-other a turns (step_by c action None).turn (ap (is_agent a) actor))) (all a none)
+nobodys-by c turns action (Some b) all actor = nobodys-agent c turns action b (slice_get c.nodes b) all actor refl
+
+pub nobodys-step : (r : Run) (action : Action) → AreNobodys r.cluster r.turns → AreNobodys (after r action).cluster (after r action).turns
+nobodys-step r action all = nobodys-by r.cluster r.turns action (actor_of action) all refl
+
+pub nobodys-start : (configs : List Config) → AreNobodys (start configs).cluster []
+nobodys-start configs a none = All-nil IsRefused

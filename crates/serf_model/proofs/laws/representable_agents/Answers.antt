@@ -1,0 +1,12 @@
+use Rattle.serf_model.proofs.InvariantKept.{representable-apply, text-has}
+use Rattle.serf_model.proofs.StartLaws.{representable-start}
+use Rattle.serf_model.proofs.laws.representable_agents.Goals as goal
+
+pub returns-clause-start : goal.returns-clause-start
+returns-clause-start c = representable-start
+
+pub returns-clause-apply : goal.returns-clause-apply
+returns-clause-apply c = representable-apply
+
+pub returns-clause-text : goal.returns-clause-text
+returns-clause-text c = λ m tail representable. text-has m.agent tail representable.consistent

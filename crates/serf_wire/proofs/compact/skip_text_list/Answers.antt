@@ -1,0 +1,8 @@
+use Rattle.std.proofs.Common.{arith}
+use Rattle.serf_wire.specs.Fields.{text}
+use Rattle.serf_wire.proofs.FastPairs.{if_some}
+use Rattle.serf_wire.proofs.FastLists.{list_spans}
+use Rattle.serf_wire.proofs.compact.skip_text_list.Goals as goal
+
+pub returns : goal.returns
+returns c = if_some c.skip_texts.result _ _ (λ rest a. list_spans 8 text c.in_ok-count.count c.args.bytes.now c.in_ok-count.items.now rest.now (omega arith) c.in_ok-count.ensures a) c.skip_texts.ensures

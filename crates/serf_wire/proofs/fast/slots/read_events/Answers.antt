@@ -1,0 +1,10 @@
+use Rattle.std.proofs.Common.{codes, arith}
+use Rattle.serf_pack.specs.Canonical.{raw_bytes}
+use Rattle.serf_wire.proofs.FastReading.{starts}
+use Rattle.serf_wire.proofs.FastPairs.{if_some}
+use Rattle.serf_wire.proofs.fast.slots.read_events.Goals as goal
+
+pub returns : goal.returns
+returns c =
+    let key = starts (raw_bytes (codes "Events")) c.args.bytes.now (omega arith) (omega arith, (omega arith, (omega arith, (omega arith, (omega arith, (omega arith, (omega arith, tt))))))) in
+    if_some c.read_event_list.result _ _ (λ x r. record { behind = _; bytes_are = key; reads = r }) c.read_event_list.ensures

@@ -1,0 +1,14 @@
+use Rattle.std.proofs.Common.{lit<}
+use Rattle.serf_pack.specs.View.{tree_of}
+use Rattle.serf_wire.specs.Fields.{slot, list}
+use Rattle.serf_wire.specs.Lookups.{slot_in, list_in}
+use Rattle.serf_wire.specs.Lists.{slots_left}
+use Rattle.serf_wire.proofs.MessageFields.{slots_exact}
+use Rattle.serf_wire.proofs.FastLists.{lent_reads, packed_before}
+use Rattle.serf_wire.proofs.fast.slots.read_slots.Goals as goal
+
+pub view_before-list-requires-clause-packed : goal.view_before-list-requires-clause-packed
+view_before-list-requires-clause-packed c = packed_before 5 (list slot) c.args.bytes.now c.in_ok-rest.rest.now c.in_ok-rest.ensures (lit< tt)
+
+pub returns : goal.returns
+returns c = lent_reads 5 (list slot) c.args.bytes.now c.in_ok-rest.rest.now c.in_ok-rest.ensures (list_in slot_in) _ (tree_of c.view_before-list.result) (slots_left c.of.result) slots_exact (lit< tt) c.view_before-list.ensures c.of.ensures

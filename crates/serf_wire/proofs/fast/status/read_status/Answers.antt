@@ -1,0 +1,14 @@
+use Rattle.std.proofs.Common.{lit<}
+use Rattle.serf_pack.specs.View.{tree_of}
+use Rattle.serf_wire.specs.Fields.{status}
+use Rattle.serf_wire.specs.Lookups.{status_in}
+use Rattle.serf_wire.specs.Lists.{status_left}
+use Rattle.serf_wire.proofs.Meanings.{status_exact}
+use Rattle.serf_wire.proofs.FastLists.{lent_reads, packed_before}
+use Rattle.serf_wire.proofs.fast.status.read_status.Goals as goal
+
+pub view_before-map-requires-clause-packed : goal.view_before-map-requires-clause-packed
+view_before-map-requires-clause-packed c = packed_before 8 status c.args.bytes.now c.in_ok-rest.rest.now c.in_ok-rest.ensures (lit< tt)
+
+pub returns : goal.returns
+returns c = lent_reads 8 status c.args.bytes.now c.in_ok-rest.rest.now c.in_ok-rest.ensures status_in _ (tree_of c.view_before-map.result) (status_left c.of.result) status_exact (lit< tt) c.view_before-map.ensures c.of.ensures

@@ -1,8 +1,0 @@
-use Rattle.std.proofs.Common.{refl}
-use Rattle.serf_wire.specs.Slots.{empty}
-use Rattle.serf_wire.specs.Fields.{slot}
-use Rattle.serf_wire.proofs.FlatLists.{nil_reads}
-use Rattle.serf_wire.proofs.flat.slots.read_slot.Goals as goal
-
-pub returns-in-Some : goal.returns-in-Some
-returns-in-Some c = nil_reads 6 slot empty c.args.bytes.now c.in-Some.rest.now (λ p. refl) c.in-Some.ensures

@@ -1,5 +1,0 @@
-use Rattle.serf_wire.specs.Flat.{AreParts, status_part_bytes}
-use Rattle.serf_wire.proofs.flat.status.skip_status_times.Given as goal
-
-abbrev pub invariant-times : goal.invariant-times
-invariant-times l = AreParts status_part_bytes l.counter l.bytes l.rest

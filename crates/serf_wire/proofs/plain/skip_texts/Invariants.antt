@@ -1,6 +1,0 @@
-use Rattle.serf_wire.specs.Fields.{text}
-use Rattle.serf_wire.specs.Flat.{AreItems}
-use Rattle.serf_wire.proofs.plain.skip_texts.Given as goal
-
-abbrev pub invariant-texts : goal.invariant-texts
-invariant-texts l = AreItems 9 text l.counter l.bytes l.rest

@@ -1,0 +1,17 @@
+//! Maps in compact spellings, read in one pass: short keys, none of them twice, and no unknown one.
+//!
+//! Nearly every message comes as such a map. What is read here is what the general way reads; at anything else this
+//! way gives up.
+
+mod event;
+mod query;
+mod response;
+mod slots;
+mod state;
+mod status;
+
+pub use event::read_user_event;
+pub use query::read_query;
+pub use response::read_response;
+pub use slots::{read_event, read_slot};
+pub use state::read_push_pull;

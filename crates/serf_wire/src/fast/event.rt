@@ -1,0 +1,115 @@
+//! User events.
+
+ghost use Rattle.std.specs.Prelude.{◌≡◌, ◌<◌, [], false, unwrap_or, IfSome};
+ghost use Rattle.std.specs.Option.{option_copied};
+ghost use Rattle.serf_wire.specs.Fast.{Extends, IsEventSoFar, IsReadSoFar};
+ghost use Rattle.serf_wire.specs.Message.{message_of, user_event_of};
+ghost use Rattle.serf_wire.specs.Spells.{SpellsMap};
+ghost use Rattle.serf_wire.specs.declared.layout.MessageType.TheVariants as types;
+
+use crate::compact::{once_flag, once_number, once_text, read_map_head};
+use crate::key::{Key, read_key};
+use crate::message::Message;
+use serf_lamport::Time;
+
+/// What was found of a user event.
+#[derive(Clone, Copy)]
+struct EventFields<'a> {
+    time: Option<u64>,
+    name: Option<&'a [u8]>,
+    payload: Option<&'a [u8]>,
+    coalesce: Option<bool>,
+}
+
+/// Adds the pair at the front.
+fn read_pair<'a>(found: &mut EventFields<'a>, bytes: &'a [u8]) -> Option<&'a [u8]>
+    ensures { IfSome result (λ rest. Extends IsEventSoFar found.old found.new bytes.now rest.now) }
+{
+    let (key, value) = read_key(bytes)?;
+    match key {
+        Key::Time => {
+            let (time, rest) = once_number(found.time, value)?;
+            found.time = Some(time);
+            Some(rest)
+        }
+        Key::Name => {
+            let (name, rest) = once_text(found.name, value)?;
+            found.name = Some(name);
+            Some(rest)
+        }
+        Key::Payload => {
+            let (payload, rest) = once_text(found.payload, value)?;
+            found.payload = Some(payload);
+            Some(rest)
+        }
+        Key::Cc => {
+            let (coalesce, rest) = once_flag(found.coalesce, value)?;
+            found.coalesce = Some(coalesce);
+            Some(rest)
+        }
+        _ => None,
+    }
+}
+
+/// Reads so many pairs.
+fn read_pairs(count: u8, bytes: &[u8]) -> Option<(EventFields<'_>, &[u8])>
+    ensures { IfSome result (λ x. IsReadSoFar IsEventSoFar x.0 count bytes.now x.1.now) }
+{
+    let mut found = EventFields {
+        time: None,
+        name: None,
+        payload: None,
+        coalesce: None,
+    };
+    let mut rest = bytes;
+    'pairs: for _ in 0..count {
+        let Some(behind) = read_pair(&mut found, rest) else {
+            return None;
+        };
+        rest = behind;
+    }
+    Some((found, rest))
+}
+
+/// The user event of what was found, where its time is one.
+fn event_of<'a>(found: &EventFields<'a>) -> Option<Message<'a>>
+    ensures message { IfSome result (λ m. message_of m ≡ user_event_of (unwrap_or found.now.time 0) (unwrap_or (option_copied found.now.name) []) (unwrap_or (option_copied found.now.payload) []) (unwrap_or found.now.coalesce false)) }
+    ensures time { IfSome result (λ m. unwrap_or found.now.time 0 < 18446744073709551615) }
+{
+    let number = match found.time {
+        None => 0,
+        Some(number) => number,
+    };
+    let Some(time) = Time::new(number) else {
+        return None;
+    };
+    Some(Message::UserEvent {
+        time,
+        name: match found.name {
+            None => b"",
+            Some(name) => name,
+        },
+        payload: match found.payload {
+            None => b"",
+            Some(payload) => payload,
+        },
+        coalesce: match found.coalesce {
+            None => false,
+            Some(coalesce) => coalesce,
+        },
+    })
+}
+
+/// The user event that such a map is.
+pub fn read_user_event(bytes: &[u8]) -> Option<Message<'_>>
+    ensures { IfSome result (λ m. SpellsMap types.UserEvent (message_of m) bytes.now) }
+{
+    let (count, pairs) = read_map_head(bytes)?;
+    let Some((found, end)) = read_pairs(count, pairs) else {
+        return None;
+    };
+    if !end.is_empty() {
+        return None;
+    }
+    event_of(&found)
+}

@@ -1,0 +1,216 @@
+//! The slots of an event buffer: each nil or a map of just a time and its events, and each event a map of just a
+//! name and a payload.
+
+ghost use Rattle.std.specs.Prelude.{◌≡◌, ◌∷◌, codes, None, IfSome};
+ghost use Rattle.std.specs.Option.{option_map};
+ghost use Rattle.serf_wire.specs.Fields.{text, time, list, event_body, slot};
+ghost use Rattle.serf_wire.specs.Fast.{ReadsIn, ReadsPair, Spans, AreItems};
+ghost use Rattle.serf_wire.specs.Lists.{event_of, events_left, slot_of, slots_left};
+ghost use Rattle.serf_wire.specs.Slots.{held};
+
+use crate::compact::{read_array_head, read_number, read_text, skip_nil, view_before};
+use crate::lists::{EventView, EventViews, SlotView, SlotViews};
+use serf_lamport::Time;
+
+/// The name at the front, behind its key, and what follows it.
+#[inline(always)]
+fn read_name(bytes: &[u8]) -> Option<(&[u8], &[u8])>
+    ensures { IfSome result (λ x. ReadsPair 9 text (codes "Name") x.0.now bytes.now x.1.now) }
+{
+    let [0xa4, b'N', b'a', b'm', b'e', value @ ..] = bytes else {
+        return None;
+    };
+    read_text(value)
+}
+
+/// The payload at the front, behind its key, and what follows it.
+#[inline(always)]
+fn read_payload(bytes: &[u8]) -> Option<(&[u8], &[u8])>
+    ensures { IfSome result (λ x. ReadsPair 9 text (codes "Payload") x.0.now bytes.now x.1.now) }
+{
+    let [0xa7, b'P', b'a', b'y', b'l', b'o', b'a', b'd', value @ ..] = bytes else {
+        return None;
+    };
+    read_text(value)
+}
+
+/// The event at the front, and what follows it.
+#[inline(always)]
+pub fn read_event(bytes: &[u8]) -> Option<(EventView<'_>, &[u8])>
+    ensures { IfSome result (λ x. ReadsIn 8 event_body (event_of x.0) bytes.now x.1.now) }
+{
+    let [0x82, fields @ ..] = bytes else {
+        return None;
+    };
+    let (name, next) = read_name(fields)?;
+    let (payload, rest) = read_payload(next)?;
+    Some((EventView { name, payload }, rest))
+}
+
+/// What follows so many events at the front.
+fn skip_events(count: u64, bytes: &[u8]) -> Option<&[u8]>
+    ensures { IfSome result (λ rest. AreItems 8 event_body count bytes.now rest.now) }
+{
+    let mut rest = bytes;
+    'events: for _ in 0..count {
+        let Some((_, behind)) = read_event(rest) else {
+            return None;
+        };
+        rest = behind;
+    }
+    Some(rest)
+}
+
+/// What follows a list of events at the front.
+#[inline(always)]
+fn skip_event_list(bytes: &[u8]) -> Option<&[u8]>
+    ensures { IfSome result (λ rest. Spans 7 (list event_body) bytes.now rest.now) }
+{
+    let (count, items) = read_array_head(bytes)?;
+    skip_events(count, items)
+}
+
+/// The list of events at the front, and what follows it.
+#[inline(always)]
+fn read_event_list(bytes: &[u8]) -> Option<(EventViews<'_>, &[u8])>
+    ensures { IfSome result (λ x. ReadsIn 7 (list event_body) (events_left x.0) bytes.now x.1.now) }
+{
+    let rest = skip_event_list(bytes)?;
+    let list = view_before(bytes, rest);
+    Some((EventViews::of(Some(list)), rest))
+}
+
+/// The list of events at the front, behind its key, and what follows it.
+#[inline(always)]
+fn read_events(bytes: &[u8]) -> Option<(EventViews<'_>, &[u8])>
+    ensures { IfSome result (λ x. ReadsPair 7 (list event_body) (codes "Events") (events_left x.0) bytes.now x.1.now) }
+{
+    let [0xa6, b'E', b'v', b'e', b'n', b't', b's', value @ ..] = bytes else {
+        return None;
+    };
+    read_event_list(value)
+}
+
+/// The time at the front, behind its key, and what follows it.
+#[inline(always)]
+fn read_time(bytes: &[u8]) -> Option<(u64, &[u8])>
+    ensures { IfSome result (λ x. ReadsPair 7 time (codes "LTime") x.0 bytes.now x.1.now) }
+{
+    let [0xa5, b'L', b'T', b'i', b'm', b'e', value @ ..] = bytes else {
+        return None;
+    };
+    let (number, rest) = read_number(value)?;
+    if number >= u64::MAX {
+        return None;
+    }
+    Some((number, rest))
+}
+
+/// The slot at the front, a map whose time stands first, and what follows it. So our encoder writes it.
+#[inline(always)]
+fn read_time_first(fields: &[u8]) -> Option<(u64, EventViews<'_>, &[u8])>
+    ensures { IfSome result (λ x. ReadsIn 6 slot (held x.0 (events_left x.1)) (0x82 ∷ fields.now) x.2.now) }
+{
+    match read_time(fields) {
+        Some((time, next)) => match read_events(next) {
+            Some((events, rest)) => Some((time, events, rest)),
+            None => None,
+        },
+        None => None,
+    }
+}
+
+/// The slot at the front, a map whose events stand first, and what follows it. So Serf writes it.
+#[inline(always)]
+fn read_events_first(fields: &[u8]) -> Option<(u64, EventViews<'_>, &[u8])>
+    ensures { IfSome result (λ x. ReadsIn 6 slot (held x.0 (events_left x.1)) (0x82 ∷ fields.now) x.2.now) }
+{
+    match read_events(fields) {
+        Some((events, next)) => match read_time(next) {
+            Some((time, rest)) => Some((time, events, rest)),
+            None => None,
+        },
+        None => None,
+    }
+}
+
+/// The slot at the front that holds a time, and what follows it.
+#[inline(always)]
+fn read_held(bytes: &[u8]) -> Option<(u64, EventViews<'_>, &[u8])>
+    ensures { IfSome result (λ x. ReadsIn 6 slot (held x.0 (events_left x.1)) bytes.now x.2.now) }
+{
+    let [0x82, fields @ ..] = bytes else {
+        return None;
+    };
+    match read_time_first(fields) {
+        Some(found) => Some(found),
+        None => read_events_first(fields),
+    }
+}
+
+/// The slot at the front, and what follows it.
+#[inline(always)]
+pub fn read_slot(bytes: &[u8]) -> Option<(SlotView<'_>, &[u8])>
+    ensures { IfSome result (λ x. ReadsIn 6 slot (slot_of x.0) bytes.now x.1.now) }
+{
+    match skip_nil(bytes) {
+        Some(rest) => Some((SlotView::Empty, rest)),
+        None => match read_held(bytes) {
+            Some((number, events, rest)) => match Time::new(number) {
+                Some(time) => Some((SlotView::Held(time, events), rest)),
+                None => None,
+            },
+            None => None,
+        },
+    }
+}
+
+/// What follows so many slots at the front.
+fn skip_slots(count: u64, bytes: &[u8]) -> Option<&[u8]>
+    ensures { IfSome result (λ rest. AreItems 6 slot count bytes.now rest.now) }
+{
+    let mut rest = bytes;
+    'slots: for _ in 0..count {
+        let Some((_, behind)) = read_slot(rest) else {
+            return None;
+        };
+        rest = behind;
+    }
+    Some(rest)
+}
+
+/// What follows a list of slots at the front.
+fn skip_slot_list(bytes: &[u8]) -> Option<&[u8]>
+    ensures { IfSome result (λ rest. Spans 5 (list slot) bytes.now rest.now) }
+{
+    match skip_nil(bytes) {
+        Some(rest) => Some(rest),
+        None => {
+            let (count, items) = read_array_head(bytes)?;
+            skip_slots(count, items)
+        }
+    }
+}
+
+/// The list of slots at the front, and what follows it.
+fn read_slots(bytes: &[u8]) -> Option<(SlotViews<'_>, &[u8])>
+    ensures { IfSome result (λ x. ReadsIn 5 (list slot) (slots_left x.0) bytes.now x.1.now) }
+{
+    let rest = skip_slot_list(bytes)?;
+    let list = view_before(bytes, rest);
+    Some((SlotViews::of(Some(list)), rest))
+}
+
+/// The list of slots at the front, of which nothing was found before.
+pub fn once_slots<'a>(
+    found: Option<SlotViews<'a>>,
+    bytes: &'a [u8],
+) -> Option<(SlotViews<'a>, &'a [u8])>
+    ensures none { IfSome result (λ x. option_map slots_left found.entry ≡ None) }
+    ensures reads { IfSome result (λ x. ReadsIn 5 (list slot) (slots_left x.0) bytes.now x.1.now) }
+{
+    if found.is_some() {
+        return None;
+    }
+    read_slots(bytes)
+}

@@ -1,0 +1,53 @@
+-- How the code acts on one agent: private to the crate.
+use Rattle.std.specs.Prelude.{◌≡◌, ℕ, List, [], ◌∷◌, Option, Some, None}
+use Rattle.serf_agent.specs.declared.outcome.RespondFault.{RespondFault}
+use Rattle.serf_agent.specs.declared.outcome.MergeFault.{MergeFault}
+use Rattle.serf_agent.specs.Handed.{Handed}
+use Rattle.serf_agent.specs.Queries.{respond_fault, response_packet}
+use Rattle.serf_agent.specs.View.{ConcreteState, view_of}
+use Rattle.serf_world.specs.declared.done.Done.{Done as Made}
+use Rattle.serf_model.specs.declared.line.Answer.{Answer}
+use Rattle.serf_model.specs.declared.line.Answer.TheVariants as answers
+use Rattle.serf_model.specs.declared.line.Refusal.TheVariants.{NoQuery}
+use Rattle.serf_model.specs.Cluster.{Applied, Done, refused, respond_refusal, merge_refusal_of}
+use Rattle.serf_world.specs.View.{NodeState, node_of}
+
+abbrev pub done_of : Made → Done
+done_of d = record { answer = d.answer; packets = d.packets; events = d.events.items; handed = d.handed }
+
+-- an agent did what the ideal one does
+pub record DoesCall (o : Applied) (new : ConcreteState) (done : Made) : Type 0 where
+  pub state : new ≡ view_of o.node.agent
+  pub gives : done_of done ≡ o.done
+
+-- a node did what the ideal node does
+pub record IsApplied (o : Applied) (new : NodeState) (done : Made) : Type 0 where
+  pub state : new ≡ node_of o.node
+  pub gives : done_of done ≡ o.done
+
+-- what answering the query in a slot gives, and leaves there
+abbrev pub answer_gives : Option RespondFault → Handed → List ℕ → Done
+answer_gives (Some fault) q payload = refused (respond_refusal fault)
+answer_gives None q payload = record { answer = answers.Replied; packets = response_packet q payload ∷ []; events = []; handed = None }
+
+abbrev pub slot_gives : Option Handed → ℕ → List ℕ → Done
+slot_gives None now payload = refused NoQuery
+slot_gives (Some q) now payload = answer_gives (respond_fault q now payload) q payload
+
+abbrev pub answer_after : Option RespondFault → Handed → Option Handed
+answer_after (Some fault) q = Some q
+answer_after None q = None
+
+abbrev pub slot_after : Option Handed → ℕ → List ℕ → Option Handed
+slot_after None now payload = None
+slot_after (Some q) now payload = answer_after (respond_fault q now payload) q
+
+-- the slots after that
+pub record DoesRespond (o : Applied) (new : List (Option Handed)) (done : Made) : Type 0 where
+  pub state : new ≡ o.node.handed
+  pub gives : done_of done ≡ o.done
+
+-- what a merge answers
+abbrev pub merge_answer : Option MergeFault → Answer
+merge_answer None = answers.Merged
+merge_answer (Some fault) = answers.Refused (merge_refusal_of fault)
