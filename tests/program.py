@@ -160,6 +160,8 @@ def faults(count):
     exactly(count, "a bad line", ["replay"], 1, b"", b"bad line 2 BadWord 3\n", b"# four words\nagent 61 x 4 512 8 keep\n")
     exactly(count, "nothing is written before a bad line", ["replay"], 1, b"", b"bad line 3 UnknownWord\n", b"agent 61 4 4 512 8 keep\nfire 0 78 - 0\nfirst\n")
     exactly(count, "the longest text", ["replay"], 0, b"", b"", b"\n" * longest)
+    exactly(count, "the longest line", ["replay"], 1, b"", b"bad line 1 UnknownWord\n", b"x" * longest)
+    exactly(count, "the longest comment", ["replay"], 0, b"", b"", b"#" + b"x" * (longest - 1))
     exactly(count, "one byte more", ["replay"], 1, b"", b"too long\n", b"\n" * (longest + 1))
     exactly(count, "one byte more, with a fault before it", ["replay"], 1, b"", b"too long\n", b"!" + b"\n" * longest)
     exactly(count, "a missing file", ["replay", os.path.join(TOP, "no_such_file")], 3, b"", b"read fault\n")

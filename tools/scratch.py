@@ -1,0 +1,57 @@
+"""A crate of its own over copies of the repository's, in a temporary folder: what the tests compile and run unproved."""
+
+import contextlib
+import os
+import shutil
+import subprocess
+import tempfile
+
+TOP = os.path.dirname(os.path.dirname(os.path.abspath(__file__)))
+CRATES = os.path.join(TOP, "crates")
+
+
+def lines_below(uses):
+    """The lines of crates.txt of these crates and of those below them, by name."""
+    with open(os.path.join(TOP, "crates.txt"), encoding="utf-8") as file:
+        lines = {line.split(":")[0]: line for line in file if ":" in line and not line.startswith("#")}
+    found, asked = {}, list(uses)
+    while asked:
+        name = asked.pop()
+        if name in lines and name not in found:
+            found[name] = lines[name]
+            asked += lines[name].split(":")[1].split()
+    return found
+
+
+@contextlib.contextmanager
+def crate(name, uses):
+    """The folder src of a new crate over copies of these crates and of those below them. It is gone at the end."""
+    with tempfile.TemporaryDirectory(prefix=name) as root:
+        lines = lines_below(uses)
+        for below in lines:
+            for part in ("src", "specs"):
+                shutil.copytree(os.path.join(CRATES, below, part), os.path.join(root, "crates", below, part))
+        with open(os.path.join(root, "crates.txt"), "w", encoding="utf-8") as file:
+            file.writelines([*lines.values(), f"{name}: {' '.join(uses)}\n"])
+        source = os.path.join(root, "crates", name, "src")
+        os.makedirs(source)
+        yield source
+
+
+def copy_sources(folder, source):
+    """Copies the sources of a folder, whose names end in .rattle there, since `rt ci` takes no .rt outside a crate."""
+    for file in sorted(os.listdir(folder)):
+        name, kind = os.path.splitext(file)
+        if kind == ".rattle":
+            shutil.copyfile(os.path.join(folder, file), os.path.join(source, name + ".rt"))
+
+
+def write(source, name, text):
+    with open(os.path.join(source, name), "w", encoding="utf-8") as file:
+        file.write(text)
+
+
+def tried(source, *words):
+    """Compiles a crate without a proof and runs its tests, each in a process of its own: the status, and what was said."""
+    ran = subprocess.run(["rt", "try", "--test", "--seconds", "600", *words], cwd=os.path.dirname(source), stdin=subprocess.DEVNULL, stdout=subprocess.PIPE, stderr=subprocess.STDOUT, timeout=3600)
+    return ran.returncode, ran.stdout.decode("utf-8", "replace")
