@@ -13,15 +13,15 @@ case looks at what stands after a refusal, makes its call again, and prints how 
 
 import os
 import re
-import shutil
-import subprocess
 import sys
-import tempfile
 
 TOP = os.path.dirname(os.path.dirname(os.path.abspath(__file__)))
 CASES = os.path.join(TOP, "tests", "growths")
-CRATES = os.path.join(TOP, "crates")
-BELOW = ["serf_lamport", "serf_pack", "serf_wire", "serf_snap", "serf_window", "serf_agent", "serf_model", "serf_world", "serf_replay"]
+sys.path.insert(0, os.path.join(TOP, "tools"))
+sys.dont_write_bytecode = True
+import scratch
+
+USES = ["serf_lamport", "serf_pack", "serf_wire", "serf_snap", "serf_window", "serf_agent", "serf_model", "serf_world", "serf_replay"]
 
 # The allocation that is refused: REFUSED in tests/growths/lib.rattle.
 REFUSED = 4096
@@ -99,51 +99,37 @@ def rust_text(data):
     return 'b"' + "".join(chr(byte) if 32 <= byte < 127 and byte not in b'"\\' else f"\\x{byte:02x}" for byte in data) + '"'
 
 
-def scratch(root, numbers):
-    """Writes the scratch crate: the cases, the schedule with its trace, and a test for each growth up to its number."""
-    for crate in BELOW:
-        for part in ("src", "specs"):
-            shutil.copytree(os.path.join(CRATES, crate, part), os.path.join(root, "crates", crate, part))
-    source = os.path.join(root, "crates", "growths", "src")
-    os.makedirs(source)
-    for file in sorted(os.listdir(CASES)):
-        name, kind = os.path.splitext(file)
-        if kind == ".rattle":
-            shutil.copyfile(os.path.join(CASES, file), os.path.join(source, name + ".rt"))
+def write_example(source):
+    """The schedule with every word, and its trace, as a source."""
     texts = {}
     for kind in ("schedule", "trace"):
         with open(os.path.join(CASES, "every_word." + kind), "rb") as file:
             texts[kind] = rust_text(file.read())
     lines = ["//! A schedule with every word, and its trace.", "", "use crate::example::Example;", ""]
     lines += [f"pub const EVERY_WORD: &Example = &Example {{ schedule: {texts['schedule']}, trace: {texts['trace']} }};", ""]
-    with open(os.path.join(source, "every_word.rt"), "w", encoding="ascii") as file:
-        file.write("\n".join(lines))
+    scratch.write(source, "every_word.rt", "\n".join(lines))
+
+
+def write_tests(source, numbers):
+    """A test for each growth of each case up to its number."""
     lines = ["//! A test for each growth of each case.", "", "use crate::told;", "use std::io;", ""]
     for name, number in numbers.items():
         for k in [*range(1, number + 1), NOTHING]:
             lines += ["#[test]", f"fn {name}_{k}(rt: HostRuntime) -> io::Result<()> {{", f'    told(&rt, "{name}", {k})', "}", ""]
-    with open(os.path.join(source, "cases.rt"), "w", encoding="ascii") as file:
-        file.write("\n".join(lines))
-    with open(os.path.join(TOP, "crates.txt"), encoding="utf-8") as file:
-        listed = [line for line in file if line.split(":")[0] in BELOW]
-    with open(os.path.join(root, "crates.txt"), "w", encoding="utf-8") as file:
-        file.writelines([*listed, "growths: " + " ".join(BELOW) + "\n"])
+    scratch.write(source, "cases.rt", "\n".join(lines))
 
 
 def outcomes(numbers):
     """How each run of each case came out, what the toolchain said, and its status."""
-    root = tempfile.mkdtemp(prefix="growths")
-    try:
-        scratch(root, numbers)
-        words = ["rt", "try", "--test", "--seconds", "600", "--fail-alloc", str(REFUSED)]
-        ran = subprocess.run(words, cwd=os.path.join(root, "crates", "growths"), stdout=subprocess.PIPE, stderr=subprocess.STDOUT, timeout=3600)
-    finally:
-        shutil.rmtree(root, ignore_errors=True)
-    said = ran.stdout.decode("utf-8", "replace")
+    with scratch.crate("growths", USES) as source:
+        scratch.copy_sources(CASES, source)
+        write_example(source)
+        write_tests(source, numbers)
+        status, said = scratch.tried(source, "--fail-alloc", str(REFUSED))
     came = {name: {} for name in numbers}
     for name, k, how in re.findall(r"^ *came (\w+) (\d+) (.+)$", said, re.M):
         came[name][int(k)] = how
-    return came, said, ran.returncode
+    return came, said, status
 
 
 def refused_in(came):

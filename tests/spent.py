@@ -1,75 +1,63 @@
 """What must not compile: a handed query that is answered twice, or cloned. Answering spends it.
 
-A scratch crate over copies of the repository's own: `rt try` compiles it without a proof, and runs its one test.
+A scratch crate over the repository's own, which `rt try` compiles without a proof: each must have one error, in its last
+line. That a query which is answered once compiles is a test of tests/units, in calls.rattle, which answers it.
 """
 
 import os
-import shutil
-import subprocess
+import re
 import sys
-import tempfile
 
 TOP = os.path.dirname(os.path.dirname(os.path.abspath(__file__)))
-BELOW = ["serf_lamport", "serf_pack", "serf_wire", "serf_snap", "serf_window", "serf_agent"]
+sys.path.insert(0, os.path.join(TOP, "tools"))
+sys.dont_write_bytecode = True
+import scratch
 
-CODE = """//! Answers a handed query.
+CODE = """//! A handed query.
 #![tactic(auto)]
 
 use serf_agent::HandedQuery;
 use std::alloc::Global;
+use std::test::Fail;
 
-pub fn answer(alloc: Global, query: HandedQuery) {{
-{before}    let _first = query.respond(alloc, 0, b"yes");
-{behind}}}
+#[test]
+fn compiles(_rt: HostRuntime) -> Result<(), Fail> {
+    Ok(())
+}
 
-#[cfg(test)]
-mod tests {{
-    use std::test::Fail;
-
-    #[test]
-    fn compiles(_rt: HostRuntime) -> Result<(), Fail> {{
-        Ok(())
-    }}
-}}
+pub fn answer(alloc: Global, query: HandedQuery) {
+    let _first = query.respond(alloc, 0, b"yes");
 """
 
-SECOND = '    let _second = query.respond(alloc, 0, b"no");\n'
+TWICE = '    let _second = query.respond(alloc, 0, b"no");\n'
 
 CLONE = "    let _other = query.clone();\n"
 
+ERROR = re.compile(r"^src/lib\.rt:(\d+):\d+: (error\[.*)$", re.M)
 
-def compiled(root, before="", behind=""):
-    """The status and the words of the toolchain, of the scratch crate."""
-    source = os.path.join(root, "crates", "spent", "src")
-    os.makedirs(source, exist_ok=True)
-    with open(os.path.join(source, "lib.rt"), "w", encoding="utf-8") as file:
-        file.write(CODE.format(before=before, behind=behind))
-    ran = subprocess.run(["rt", "try", "--test"], cwd=os.path.dirname(source), capture_output=True, timeout=600)
-    return ran.returncode, (ran.stdout + ran.stderr).decode("utf-8", "replace")
+
+def is_refused(last, error):
+    """Whether the code with this last line has this error there alone, and what the toolchain said."""
+    with scratch.crate("spent", ["serf_agent"]) as source:
+        scratch.write(source, "lib.rt", CODE + last + "}\n")
+        status, said = scratch.tried(source)
+    errors = ERROR.findall(said)
+    line = CODE.count("\n") + 1
+    well = len(errors) == 1 and int(errors[0][0]) == line and errors[0][1].startswith(error)
+    return status == 1 and well and said.count("error[") == 1, said
 
 
 def main():
-    with tempfile.TemporaryDirectory() as root:
-        for crate in BELOW:
-            shutil.copytree(os.path.join(TOP, "crates", crate), os.path.join(root, "crates", crate), ignore=shutil.ignore_patterns("out"))
-        with open(os.path.join(TOP, "crates.txt"), encoding="utf-8") as file:
-            lines = [line for line in file if line.split(":")[0] in BELOW]
-        with open(os.path.join(root, "crates.txt"), "w", encoding="utf-8") as file:
-            file.writelines(lines + ["spent: serf_agent\n"])
-        once = compiled(root)
-        twice = compiled(root, behind=SECOND)
-        cloned = compiled(root, before=CLONE)
-    results = [
-        ("answering once compiles", once[0] == 0, once[1]),
-        ("answering twice does not", twice[0] == 1 and "error[borrow-e0382]" in twice[1], twice[1]),
-        ("cloning does not", cloned[0] == 1 and "`clone`" in cloned[1] and "error[" in cloned[1], cloned[1]),
-    ]
     failed = 0
-    for name, holds, said in results:
+    for name, last, error in (
+        ("answering twice does not compile", TWICE, "error[borrow-e0382]: use of moved value: `query`"),
+        ("cloning does not", CLONE, "error[unknown-method]: the method `clone` "),
+    ):
+        holds, said = is_refused(last, error)
         if not holds:
             failed += 1
             print(f"FAILED {name}: {said[-1500:]}")
-    print(f"{len(results) - failed} passed, {failed} failed")
+    print(f"{2 - failed} passed, {failed} failed")
     return 1 if failed else 0
 
 
