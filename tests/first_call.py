@@ -1,8 +1,9 @@
 """The first calls of a fresh clone: ./serf-replay answers at once, and never runs a program that isn't current.
 
-Two calls are real, over a copy of what git tracks. All others go through a stand-in for the toolchain's command, in
-tests/first_call, so that a build takes no time: a changed source, one that was taken away, one that changes during the
-build, a build that is broken off, a failed proof, no toolchain, and a folder that can't be written.
+One call is real, over a copy of what git tracks. All others go through a stand-in for the toolchain's command, in
+tests/first_call, so that a build takes no time: fault lines and statuses of an unproved run, and one without an end, a
+changed source, one that was taken away, one that changes during the build, a build that is broken off, a failed proof, no
+toolchain, and a folder that can't be written.
 """
 
 import os
@@ -66,8 +67,8 @@ class Clone:
         path = [self.bin] if has_rt else []
         return {**os.environ, "PATH": os.pathsep.join([*path, os.path.dirname(sys.executable), "/usr/bin", "/bin"])}
 
-    def run(self, *words, has_rt=True):
-        ran = subprocess.run([os.path.join(self.top, words[0]), *words[1:]], env=self.environment(has_rt), stdin=subprocess.DEVNULL, capture_output=True, text=True, timeout=120)
+    def run(self, *words, has_rt=True, given=""):
+        ran = subprocess.run([os.path.join(self.top, words[0]), *words[1:]], env=self.environment(has_rt), input=given, capture_output=True, text=True, timeout=120)
         return ran.returncode, ran.stdout, ran.stderr
 
     def is_unproved(self, text):
@@ -76,6 +77,22 @@ class Clone:
 
     def is_proved(self, text):
         return self.run("serf-replay", "x") == (0, f"proved {text} x\n", "")
+
+
+def unproved(count, clone):
+    """An unproved run's fault lines and status are the program's; one without an end is told."""
+    clone.order("refuses")
+    schedule = os.path.join(clone.top, "schedule")
+    clone.write(schedule, "of a file\n")
+    for name, words, given, said in (("on standard input", ["replay"], "given\n", "given"), ("in a file", ["replay", schedule], "", "of a file")):
+        status, out, err = clone.run("serf-replay", *words, given=given)
+        sentence, *lines = err.splitlines()
+        well = (status, out, lines) == (1, "", ["a fault", f"bad line: {said}"]) and UNPROVED in sentence
+        count.check(f"a refused schedule {name}", well, (status, out, err))
+    clone.order("endless")
+    status, out, err = clone.run("serf-replay", "x")
+    count.check("an unproved run without an end", (status, out) == (3, "") and "did not end as the program does" in err, (status, out, err))
+    clone.order()
 
 
 def builds(count, clone):
@@ -149,7 +166,7 @@ def refused(count, clone):
 
 
 def fresh_clone(count, root):
-    """The first call, and one whose schedule is refused, over what git tracks."""
+    """The first call, over what git tracks."""
     top = os.path.join(root, "fresh")
     listed = subprocess.run(["git", "ls-files", "-z"], cwd=TOP, stdout=subprocess.PIPE, check=True).stdout.decode().split("\0")
     for name in filter(None, listed):
@@ -164,8 +181,6 @@ def fresh_clone(count, root):
         count.check("the first call's trace", (ran.returncode, ran.stdout) == (0, trace.read()), ran)
     count.check("its sentence", ran.stderr.count("\n") == 1 and UNPROVED in ran.stderr and "./prove" in ran.stderr, ran.stderr)
     count.check(f"it takes at most {MOST_SECONDS} seconds", took <= MOST_SECONDS, took)
-    ran = subprocess.run(["./serf-replay", "replay"], cwd=top, input="agent 61 4 4 512 8 keep\nfirst\n", capture_output=True, text=True, timeout=900)
-    count.check("a refused schedule", (ran.returncode, ran.stdout) == (1, "") and ran.stderr.endswith("\nbad line 2 UnknownWord\n"), ran)
 
 
 def one_figure(count):
@@ -180,7 +195,7 @@ def main():
     count = Count()
     with tempfile.TemporaryDirectory(prefix="first-call-") as root:
         clone = Clone(root)
-        for part in (builds, sources, changing, broken_off, refused):
+        for part in (unproved, builds, sources, changing, broken_off, refused):
             part(count, clone)
         fresh_clone(count, root)
     one_figure(count)
