@@ -1,4 +1,4 @@
-"""What the checks of a command cost: the processor seconds of each crate's proof, tests and edits.
+"""What the checks of a command cost: the processor seconds of each crate's proof and edits.
 
 The toolchain tells no times, so its processes are looked at while they run, a few times a second. What a process took
 after the last look, at most that long, is missing.
@@ -25,12 +25,11 @@ def words_of(pid):
 
 
 def check_in(words):
-    """The crate that a process checks, and whether that is its proof, its tests or an edit; None for any other process."""
-    if os.path.basename(words[0]) != "rattle" or "--crate-name" not in words or "fmt" in words[:2]:
+    """The crate that a process checks, and whether that is its proof or an edit; None for any other process."""
+    # (an unproved run of tests has its crate's names looked at, which proves nothing)
+    if os.path.basename(words[0]) != "rattle" or "--crate-name" not in words or "fmt" in words[:2] or "--test" in words:
         return None
     crate = words[words.index("--crate-name") + 1]
-    if "--test" in words:
-        return crate, "tests"
     # a proof writes what it made; an edit's check writes nothing
     return crate, "proof" if "-o" in words else "edits"
 
