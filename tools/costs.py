@@ -26,8 +26,8 @@ def words_of(pid):
 
 def check_in(words):
     """The crate that a process checks, and whether that is its proof or an edit; None for any other process."""
-    # (an unproved run of tests has its crate's names looked at, which proves nothing)
-    if os.path.basename(words[0]) != "rattle" or "--crate-name" not in words or "fmt" in words[:2] or "--test" in words:
+    # (beside an unproved run a crate's names are looked at with --start, which proves nothing)
+    if os.path.basename(words[0]) != "rattle" or "--crate-name" not in words or "fmt" in words[:2] or "--start" in words:
         return None
     crate = words[words.index("--crate-name") + 1]
     # a proof writes what it made; an edit's check writes nothing
