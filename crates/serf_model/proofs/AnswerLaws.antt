@@ -96,17 +96,7 @@ made-injected configs turns turn bytes (Ok (foreign kind)) action is = All-nil (
 
 made-none : (configs : List Config) (c : Cluster) (turns : List Turn) (action : Action) → MadeAt configs turns (step_by c action None).turn
 made-none configs c turns (actions.Inject bytes) = made-injected configs turns (step_by c (actions.Inject bytes) None).turn bytes (decoded bytes) refl refl
-made-none configs c turns (actions.Fire agent name payload coalesce) = All-nil _
-made-none configs c turns (actions.Deliver to packet now) = All-nil _
-made-none configs c turns (actions.State agent) = All-nil _
-made-none configs c turns (actions.Merge to packet join) = All-nil _
-made-none configs c turns (actions.Query agent now id name payload params) = All-nil _
-made-none configs c turns (actions.Respond agent h now payload) = All-nil _
-made-none configs c turns (actions.Restart agent tail) = All-nil _
-made-none configs c turns (actions.Break agent call n) = All-nil _
-made-none configs c turns (actions.Close agent now) = All-nil _
-made-none configs c turns (actions.Save agent) = All-nil _
-made-none configs c turns (actions.Compact agent) = All-nil _
+made-none configs c turns _ = All-nil _
 
 made-by : (configs : List Config) (c : Cluster) (turns : List Turn) (action : Action) (o : Option ℕ) → IsAfter c turns → IsServed configs c turns → HasSizes action → actor_of action ≡ o → MadeAt configs turns (step_by c action o).turn
 made-by configs c turns action None h served ranged actor = made-none configs c turns action
@@ -122,7 +112,8 @@ once-after c turns action b m h actor at =
 pub served-step : (configs : List Config) (r : Run) (action : Action) → HasSizes action → IsAfter r.cluster r.turns → IsServed configs r.cluster r.turns → IsServed configs (after r action).cluster (after r action).turns
 served-step configs r action ranged h served = record {
   each = each-step (IsServing configs) r action served.each
-      (λ b m actor at p. serving-more r.cluster configs (turns_by b r.turns) action b m p (sends-at configs r.cluster r.turns action b m h served ranged at) (keeps-apply m r.cluster.sent action).config
+      (λ b m actor at p. serving-more r.cluster configs (turns_by b r.turns) action b m p (sends-at configs r.cluster r.turns action b m h served ranged at)
+      (keeps-apply m r.cluster.sent action (representable-at r.cluster r.turns b m h at).consistent.sound).config
       (once-after r.cluster r.turns action b m h actor at));
   nobody = nobodys-step r action served.nobody;
   made = at_each_push (MadeAt configs) r.turns (step r.cluster action).turn served.made (made-by configs r.cluster r.turns action (actor_of action) h served ranged refl);

@@ -1,5 +1,5 @@
 -- Which queries an agent can answer, and which it acked.
-use Rattle.std.proofs.Common.{zero, suc, ◌≡◌, ◌≢◌, ℕ, ◌⊎◌, inl, inr, Bool, true, false, cond, List, [], ◌∷◌, ◌++◌, length, Option, Some, None, refl, sym, ap, subst, ◌∙◌, map, set}
+use Rattle.std.proofs.Common.{zero, suc, ◌≡◌, ◌≢◌, ℕ, ◌⊎◌, inl, inr, true, false, cond, List, [], ◌∷◌, ◌++◌, length, Option, Some, None, refl, sym, ap, subst, ◌∙◌, map, set}
 use Rattle.std.specs.Prelude.{All, AllPairs, Contains, filter, slice_get}
 use Rattle.std.specs.List.{flat_map}
 use Rattle.std.specs.Option.{option_map, option_to_list}
@@ -10,20 +10,17 @@ use Rattle.std.proofs.lemmas.List.Sums.{fold_push}
 use Rattle.serf_wire.specs.Message.{QueryResponse}
 use Rattle.serf_window.specs.Window.{TimedEntry}
 use Rattle.serf_agent.specs.declared.config.Config.{Config}
-use Rattle.serf_agent.specs.declared.outcome.RespondFault.{RespondFault}
 use Rattle.serf_agent.specs.Handed.{Handed}
-use Rattle.serf_agent.specs.Queries.{is_ack, respond_fault}
+use Rattle.serf_agent.specs.Queries.{is_ack}
 use Rattle.serf_model.specs.declared.action.Action.{Action}
-use Rattle.serf_model.specs.declared.action.Action.TheVariants as actions
 use Rattle.serf_model.specs.declared.line.HandedLine.{HandedLine}
 use Rattle.serf_model.specs.AnswerPromises.{answers_in, query_answered}
 use Rattle.serf_model.specs.Bounds.{is_restarted}
-use Rattle.serf_model.specs.Cluster.{IdealNode, Cluster, applied, apply, handed_line, responds, responds_as, with_handed}
+use Rattle.serf_model.specs.Cluster.{Applied, Cluster, Done, IdealNode, applied, apply, handed_line, with_handed}
 use Rattle.serf_model.specs.Trace.{Turn, entered_by, handed_in, packet_given}
-use Rattle.serf_model.proofs.HistoryGrowth.{delivers-handed, merges-handed}
 use Rattle.serf_model.proofs.HandedLaws.{fresh-last, hands-apply}
 use Rattle.serf_model.proofs.PresentLife.{last_life, lives_on}
-use Rattle.serf_model.proofs.OpenLaws.{opening-restarts, opens-apply}
+use Rattle.serf_model.proofs.Effects.{Effect, asks, counts, effect, hears, idle-enters, is_asked, reopens, replies}
 use Rattle.serf_model.proofs.SendLaws.{AreHandable, IsHandable, Makes, Sends, makes_none, makes_ack, makes_reply}
 use Rattle.serf_model.proofs.OpenQueryContents.{queries_in}
 use Rattle.serf_model.proofs.TurnLaws.{flat_map-push}
@@ -67,44 +64,22 @@ within-more {X} all some one new h once (inr adds) =
 -- ---- what an action leaves of the queries that can be answered
 
 -- this one stood there before, and no life begins
-record Stood (m : IdealNode) (action : Action) (number : ℕ) (h : Handed) : Type 0 where
+record Stood (m : IdealNode) (done : Done) (number : ℕ) (h : Handed) : Type 0 where
   at : slice_get m.handed number ≡ Some (Some h)
-  goes : (agent : ℕ) (tail : List ℕ) → action ≡ actions.Restart agent tail → ⊥
+  on : is_restarted done.answer ≡ false
 
-stood-responds : (m : IdealNode) (number now : ℕ) (payload : List ℕ) (q : Option (Option Handed)) (k : ℕ) (h : Handed) → slice_get (responds m number q now payload).node.handed k ≡ Some (Some h) → slice_get m.handed k ≡ Some (Some h)
-stood-responds m number now payload None k h is = is
-stood-responds m number now payload (Some None) k h is = is
-stood-responds m number now payload (Some (Some q)) k h is = by (respond_fault q now payload) is
-  where
-    by : (r : Option RespondFault) → slice_get (responds_as r m number q payload).node.handed k ≡ Some (Some h) → slice_get m.handed k ≡ Some (Some h)
-    by (Some fault) is = is
-    by None is = left-at m.handed number k h is
-
-stood : (m : IdealNode) (sent : List (List ℕ)) (action : Action) (k : ℕ) (h : Handed) → slice_get (apply m sent action).node.handed k ≡ Some (Some h) → Stood m action k h
-stood m sent (actions.Fire agent name payload coalesce) k h is = record { at = is; goes = λ a t e. cc }
-stood m sent (actions.Deliver to packet now) k h is = record { at = ap (λ l. slice_get l k) (sym (delivers-handed m now (slice_get sent packet))) ∙ is; goes = λ a t e. cc }
-stood m sent (actions.State agent) k h is = record { at = is; goes = λ a t e. cc }
-stood m sent (actions.Merge to packet join) k h is = record { at = ap (λ l. slice_get l k) (sym (merges-handed m join (slice_get sent packet))) ∙ is; goes = λ a t e. cc }
-stood m sent (actions.Query agent now id name payload params) k h is = record { at = is; goes = λ a t e. cc }
-stood m sent (actions.Respond agent number now payload) k h is = record { at = stood-responds m number now payload (slice_get m.handed number) k h is; goes = λ a t e. cc }
-stood m sent (actions.Restart agent tail) k h is = absurd (cc is)
-stood m sent (actions.Break agent call n) k h is = record { at = is; goes = λ a t e. cc }
-stood m sent (actions.Inject bytes) k h is = record { at = is; goes = λ a t e. cc }
-stood m sent (actions.Close agent now) k h is = record { at = is; goes = λ a t e. cc }
-stood m sent (actions.Save agent) k h is = record { at = is; goes = λ a t e. cc }
-stood m sent (actions.Compact agent) k h is = record { at = is; goes = λ a t e. cc }
-
--- a life that such an action doesn't begin goes on
-goes-on : (m : IdealNode) (sent : List (List ℕ)) (action : Action) → ((agent : ℕ) (tail : List ℕ) → action ≡ actions.Restart agent tail → ⊥) → is_restarted (apply m sent action).done.answer ≡ false
-goes-on m sent action goes = by (is_restarted (apply m sent action).done.answer) refl
-  where
-    by : (b : Bool) → is_restarted (apply m sent action).done.answer ≡ b → b ≡ false
-    by true opening = absurd (opening-restarts ⊥ m.agent (apply m sent action).node.agent action (packet_given sent action) (apply m sent action).done.answer (opens-apply m sent action) opening goes)
-    by false opening = refl
+stood : (m : IdealNode) (action : Action) (given : Option (List ℕ)) (o : Applied) → Effect m action given o → (k : ℕ) (h : Handed) → slice_get o.node.handed k ≡ Some (Some h) → Stood m o.done k h
+stood m action given o (hears j outs answer heard idle) k h is = record { at = is; on = (idle-enters m.agent action given answer idle).1 }
+stood m action given o (counts to number now packet r q true reads at none kind) k h is = record { at = is; on = refl }
+stood m action given o (replies agent number now payload q at may) k h is = record { at = left-at m.handed number k h is; on = refl }
+stood m action given o (reopens agent tail) k h is = absurd (cc is)
+stood m action given o _ k h is = record { at = is; on = refl }
 
 -- where a query is handed out no life begins
-hands-on : (m : IdealNode) (sent : List (List ℕ)) (action : Action) (h : Handed) → (apply m sent action).done.handed ≡ Some h → is_restarted (apply m sent action).done.answer ≡ false
-hands-on m sent action h is = goes-on m sent action (λ agent tail restart. let no : None ≡ Some h = ap (λ (a : Action). (apply m sent a).done.handed) (sym restart) ∙ is in cc)
+hands-on : (m : IdealNode) (action : Action) (given : Option (List ℕ)) (o : Applied) → Effect m action given o → (h : Handed) → o.done.handed ≡ Some h → is_restarted o.done.answer ≡ false
+hands-on m action given o (asks agent now id name payload params may) h is = refl
+hands-on m action given o (is_asked packet now q reads new) h is = refl
+hands-on m action given o _ h is = absurd (cc is)
 
 -- ---- an agent and its turns
 
@@ -168,8 +143,8 @@ slots-more c configs ts action b m serving sends = by (apply m c.sent action).do
 
     old : (number : ℕ) (h : Handed) → slice_get (apply m c.sent action).node.handed number ≡ Some (Some h) → IsHandable m.agent.config.name h × IsShown (ts ++ (applied c action b (apply m c.sent action)).turn ∷ []) number h
     old number h is =
-        let s = stood m c.sent action number h is in
-        (serving.handable number h s.at, shown-more ts (applied c action b (apply m c.sent action)).turn number h (goes-on m c.sent action s.goes) (serving.shown number h s.at))
+        let s = stood m action (packet_given c.sent action) (apply m c.sent action) (effect m c.sent action) number h is in
+        (serving.handable number h s.at, shown-more ts (applied c action b (apply m c.sent action)).turn number h s.on (serving.shown number h s.at))
 
     new : (q : Handed) → (apply m c.sent action).done.handed ≡ Some q → IsShown (ts ++ (applied c action b (apply m c.sent action)).turn ∷ []) (length (apply m c.sent action).node.handed) q
     new q some =
@@ -179,7 +154,7 @@ slots-more c configs ts action b m serving sends = by (apply m c.sent action).do
         record {
           line = handed_line b (length (apply m c.sent action).node.handed) q;
           there = subst (λ l. Contains l (handed_line b (length (apply m c.sent action).node.handed) q))
-              (sym (handed-push ts (applied c action b (apply m c.sent action)).turn (hands-on m c.sent action q some) ∙ ap (λ l. handed_lines (last_life ts) ++ l) lines))
+              (sym (handed-push ts (applied c action b (apply m c.sent action)).turn (hands-on m action (packet_given c.sent action) (apply m c.sent action) (effect m c.sent action) q some) ∙ ap (λ l. handed_lines (last_life ts) ++ l) lines))
               (Contains-push (handed_lines (last_life ts)) (handed_line b (length (apply m c.sent action).node.handed) q));
           index = refl;
           query = refl;

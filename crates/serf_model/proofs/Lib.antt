@@ -1,4 +1,6 @@
 pub mod TurnLaws
+pub mod PerTimeBound
+pub mod Effects
 pub mod HistoryGrowth
 pub mod InvariantKept
 pub mod RunLaws
@@ -11,7 +13,6 @@ pub mod SeenLaws
 pub mod HandedLaws
 pub mod QueryOrigins
 pub mod PromiseLaws
-pub mod PerTimeBound
 pub mod OpenLaws
 pub mod BoundLaws
 pub mod QueriesEntered

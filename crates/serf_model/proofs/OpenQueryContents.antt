@@ -24,7 +24,7 @@ use Rattle.serf_model.specs.AnswerPromises.{OwnQuery, IsAwaited, answer_brought,
 use Rattle.serf_model.specs.Bounds.{is_restarted}
 use Rattle.serf_model.specs.Ready.{IsRepresentable}
 use Rattle.serf_model.specs.Trace.{Turn, entered_by}
-use Rattle.serf_model.proofs.HistoryGrowth.{entries}
+use Rattle.serf_model.proofs.PerTimeBound.{entries}
 use Rattle.serf_model.proofs.PresentLife.{last_life, lives_on}
 use Rattle.serf_model.proofs.OpenLaws.{IsQuiet, Opens, stays, closes, restarts, asks, counts, opens-none, quiet-counts, quiet-opens}
 use Rattle.serf_model.proofs.InvariantKept.{fresh-name, fresh-response, none-if}
