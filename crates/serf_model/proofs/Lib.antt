@@ -13,7 +13,6 @@ pub mod SeenLaws
 pub mod HandedLaws
 pub mod QueryOrigins
 pub mod PromiseLaws
-pub mod OpenLaws
 pub mod BoundLaws
 pub mod QueriesEntered
 pub mod PerAgent
