@@ -43,15 +43,17 @@ use Rattle.serf_model.specs.declared.line.Answer.TheVariants as lines
 use Rattle.serf_model.specs.declared.line.Refusal.TheVariants.{SinkFault}
 use Rattle.serf_model.specs.Bounds.{is_restarted}
 use Rattle.serf_model.specs.Cluster.{Applied, IdealNode, Merged, apply, called, closes, compacts, delivers, does_nothing, fire_gives, merges_as, merges_events, merges_given, merges_on, note_gives, only, query_gives, receive_gives, responds, responds_as, restarts, saves, sends_state, state_gives}
+use Rattle.serf_model.specs.HandOuts.{events_given}
 use Rattle.serf_model.specs.Trace.{entered_by, events_brought, events_in_packet, packet_given}
 use Rattle.serf_model.proofs.PerTimeBound.{Enters, enters-none, enters-one, enters-then, event-room, out_in}
 
 -- ---- the definition
 
--- What an answer that is idle says: no event is fired, no query enters, nothing is counted, no life begins. Where it
+-- What an answer that is idle says: no event is fired or new, no query enters, nothing is counted, no life begins. Where it
 -- ignores an event, the agent has this reason.
 abbrev pub IsIdle : IdealAgent → Option (List ℕ) → Answer → Type 0
 IsIdle i given (lines.Fired t) = ⊥
+IsIdle i given lines.New = ⊥
 IsIdle i given lines.Query = ⊥
 IsIdle i given (lines.Queried t) = ⊥
 IsIdle i given lines.Ack = ⊥
@@ -66,11 +68,6 @@ idle-enters i action given lines.Query idle = absurd idle
 idle-enters i action given (lines.Queried t) idle = absurd idle
 idle-enters i action given (lines.Restarted member_clock event_clock query_clock) idle = absurd idle
 idle-enters i action given _ idle = (refl, refl)
-
--- the events that a packet brings, where one is given
-abbrev pub events_given : Option (List ℕ) → List (TimedEntry EventBody)
-events_given None = []
-events_given (Some packet) = events_in_packet packet
 
 -- An agent's life goes on. It enters just the events that it hands out, each of them one of these.
 pub record Hears (i j : IdealAgent) (brought : List (TimedEntry EventBody)) (outs : List EventOut) : Type 0 where

@@ -24,7 +24,8 @@ use Rattle.serf_model.specs.declared.action.Action.TheVariants as actions
 use Rattle.serf_model.specs.Cluster.{IdealNode, Cluster, Applied, Done, Run, Stepped, apply, applied, on_agent, step_by, after, start, first_node, with_handed, event_line}
 use Rattle.serf_model.specs.Promises.{WasFired, OnlyFired, CarriesOnlyFired}
 use Rattle.serf_model.specs.Trace.{Turn, actor_of, fired_by, fired_in, injected_events, injected_in, injects_of, events_in_packet, events_brought, event_in, packet_given}
-use Rattle.serf_model.proofs.Effects.{Effect, asks, effect, events_given, fires, hears, is_asked, passes_on, replies, tells}
+use Rattle.serf_model.specs.HandOuts.{events_given}
+use Rattle.serf_model.proofs.Effects.{Effect, asks, effect, fires, hears, is_asked, passes_on, replies, tells}
 use Rattle.serf_model.proofs.TurnLaws.{at_each_nil, at_each_push, flat_map-push}
 use Rattle.serf_model.proofs.HistoryGrowth.{keeps-apply}
 use Rattle.serf_model.proofs.PerTimeBound.{enters-entries, entries, out_in}

@@ -24,3 +24,5 @@ pub mod SendLaws
 pub mod HandedQueries
 pub mod AnswerLaws
 pub mod AnswerPromiseLaws
+pub mod HandOutLaws
+pub mod WrongTurns

@@ -1,5 +1,5 @@
 -- Each query that enters was fired, or is forged.
-use Rattle.std.proofs.Common.{◌≡◌, ℕ, ◌<◌, ◌≤◌, ◌^◌, inl, inr, Bool, true, false, List, [], ◌∷◌, ◌++◌, Option, Some, None, refl, sym, ap, subst, ◌∙◌, arith, length}
+use Rattle.std.proofs.Common.{Ok, ◌≡◌, ℕ, ◌<◌, ◌≤◌, ◌^◌, inl, inr, Bool, true, false, List, [], ◌∷◌, ◌++◌, Option, Some, None, refl, sym, ap, subst, ◌∙◌, arith, length}
 use Rattle.std.specs.Prelude.{All, Contains, slice_get}
 use Rattle.std.specs.List.{fold, flat_map}
 use Rattle.std.proofs.lemmas.Bool.{ltb-false}
@@ -56,13 +56,18 @@ asked-short i id name payload params is =
     let same : drawn i.queries.clock ≡ i.queries.clock = omega (arith, may.clock) in
     subst (λ (t : ℕ). length (canonical (query (query_at t i.config.name id name payload params))) ≤ 1024) same (ltb-false 1024 _ large.0)
 
-brings-own : (i : IdealAgent) (id : ℕ) (name payload : List ℕ) (params : QueryParams) → IsSized id params.port params.relay_factor params.timeout → query_fault i id name payload params ≡ None
-    → query_brought (decoded (canonical (query (query_at i.queries.clock i.config.name id name payload params)))) ≡ only_query i.queries.clock id
-brings-own i id name payload params sized is =
+-- the packet of a fired query spells it
+pub own-decoded : (i : IdealAgent) (id : ℕ) (name payload : List ℕ) (params : QueryParams) → IsSized id params.port params.relay_factor params.timeout → query_fault i id name payload params ≡ None
+    → (let q = query_at i.queries.clock i.config.name id name payload params in decoded (canonical (query q)) ≡ Ok (query q))
+own-decoded i id name payload params sized is =
     let may = may-ask i id name payload params is in
     let q : Query = query_at i.queries.clock i.config.name id name payload params in
     let ranged : IsRangedQuery q = record { time = omega (arith, may.clock); id = sized.id_fits; port = sized.port_fits; flags = flags-fit params.want_ack params.no_broadcast; relay_factor = sized.relay_factor_fits; timeout = sized.timeout_fits } in
-    ap query_brought (spelled_decoded (canonical (query q)) (query q) (canonical_spells (query q) ranged (query-not_long q (asked-short i id name payload params is))))
+    spelled_decoded (canonical (query q)) (query q) (canonical_spells (query q) ranged (query-not_long q (asked-short i id name payload params is)))
+
+brings-own : (i : IdealAgent) (id : ℕ) (name payload : List ℕ) (params : QueryParams) → IsSized id params.port params.relay_factor params.timeout → query_fault i id name payload params ≡ None
+    → query_brought (decoded (canonical (query (query_at i.queries.clock i.config.name id name payload params)))) ≡ only_query i.queries.clock id
+brings-own i id name payload params sized is = ap query_brought (own-decoded i id name payload params sized is)
 
 -- ---- what an action sends as a fired query's own
 

@@ -7,6 +7,7 @@ ghost use Rattle.serf_model.specs.declared.action.Action.{Action};
 ghost use Rattle.serf_model.specs.AnswerPromises.{AckedOnce, AnswersMade, CountedInTime, CountedOnce, CountedSent, OpenQueriesHold};
 ghost use Rattle.serf_model.specs.Bounds.{EventsBounded, QueriesBounded};
 ghost use Rattle.serf_model.specs.Cluster.{IdealNode, apply, run_of, start, text_after, trace_of};
+ghost use Rattle.serf_model.specs.HandOuts.{HandsOutEntered, HandsOutGiven, MessagesFired, NewIsHanded, OnlyToActor};
 ghost use Rattle.serf_model.specs.Promises.{Held, Later, Once, OnlyFired, QueryFired, QueryHandedOnce, QueryLater, QueryOnce};
 ghost use Rattle.serf_model.specs.Queried.{QueryOnlyFired};
 ghost use Rattle.serf_model.specs.Ready.{AreRepresentable, IsRepresentable};
@@ -16,7 +17,7 @@ ghost use Rattle.serf_model.specs.Trace.{turns_of};
 
 /// Every run keeps every promise, whatever its settings and its actions are. Does nothing.
 ///
-/// Three promises on queries and answers rest on what the types say of an action's numbers (`HasSizes`).
+/// Four promises on queries and answers rest on what the types say of an action's numbers (`HasSizes`).
 pub fn run_promises()
     // What the turns of every run keep.
     ensures once { (configs : List Config) (actions : List Action) → AreConfigs configs → Once (run_of configs actions).turns }
@@ -28,6 +29,13 @@ pub fn run_promises()
     ensures query_handed { (configs : List Config) (actions : List Action) → AreConfigs configs → QueryHandedOnce (run_of configs actions).turns }
     ensures query_fired { (configs : List Config) (actions : List Action) → QueryFired (run_of configs actions).turns }
     ensures query_only_fired { (configs : List Config) (actions : List Action) → All HasSizes actions → QueryOnlyFired (run_of configs actions).turns }
+
+    // What they keep of what is handed out, and of queries as messages.
+    ensures only_to_actor { (configs : List Config) (actions : List Action) → OnlyToActor (run_of configs actions).turns }
+    ensures hands_out_given { (configs : List Config) (actions : List Action) → HandsOutGiven (run_of configs actions).turns }
+    ensures new_is_handed { (configs : List Config) (actions : List Action) → NewIsHanded (run_of configs actions).turns }
+    ensures hands_out_entered { (configs : List Config) (actions : List Action) → HandsOutEntered configs (run_of configs actions).turns }
+    ensures messages_fired { (configs : List Config) (actions : List Action) → All HasSizes actions → MessagesFired configs (run_of configs actions).turns }
 
     // What they keep of acks and responses.
     ensures counted_once { (configs : List Config) (actions : List Action) → AreConfigs configs → CountedOnce (run_of configs actions).turns }

@@ -1,6 +1,7 @@
 use Rattle.std.proofs.Common.{arith, take}
 use Rattle.serf_model.specs.AnswerPromises.{AckedOnce, AnswersMade, CountedInTime, CountedOnce, CountedSent}
 use Rattle.serf_model.specs.Bounds.{EventsBounded, QueriesBounded}
+use Rattle.serf_model.specs.HandOuts.{HandsOutEntered, HandsOutGiven, MessagesFired, NewIsHanded, OnlyToActor}
 use Rattle.serf_model.specs.Promises.{Held, Later, Once, OnlyFired, QueryFired, QueryHandedOnce, QueryLater, QueryOnce}
 use Rattle.serf_model.specs.Queried.{QueryOnlyFired}
 use Rattle.serf_world.proofs.ResultLaws.{at-none, of-every, of-runs, of-sized}
@@ -32,6 +33,21 @@ returns-clause-query_fired c = of-every QueryFired c.args.configs.items c.args.a
 
 pub returns-clause-query_only_fired : goal.returns-clause-query_only_fired
 returns-clause-query_only_fired c = of-sized QueryOnlyFired c.args.configs.items c.args.actions.now c.run_exactly.result c.turns_shown.ensures (at-none _) (λ done sized ok. c.run_promises.ensures.query_only_fired c.args.configs.items done sized) c.read_all_numbers.ensures c.run_exactly.ensures
+
+pub returns-clause-only_to_actor : goal.returns-clause-only_to_actor
+returns-clause-only_to_actor c = of-every OnlyToActor c.args.configs.items c.args.actions.now c.run_exactly.result c.turns_shown.ensures (λ configs actions ok. c.run_promises.ensures.only_to_actor configs actions) c.run_exactly.ensures
+
+pub returns-clause-hands_out_given : goal.returns-clause-hands_out_given
+returns-clause-hands_out_given c = of-every HandsOutGiven c.args.configs.items c.args.actions.now c.run_exactly.result c.turns_shown.ensures (λ configs actions ok. c.run_promises.ensures.hands_out_given configs actions) c.run_exactly.ensures
+
+pub returns-clause-new_is_handed : goal.returns-clause-new_is_handed
+returns-clause-new_is_handed c = of-every NewIsHanded c.args.configs.items c.args.actions.now c.run_exactly.result c.turns_shown.ensures (λ configs actions ok. c.run_promises.ensures.new_is_handed configs actions) c.run_exactly.ensures
+
+pub returns-clause-hands_out_entered : goal.returns-clause-hands_out_entered
+returns-clause-hands_out_entered c = of-runs (HandsOutEntered c.args.configs.items) c.args.configs.items c.args.actions.now c.run_exactly.result c.turns_shown.ensures (at-none _) (λ done left front ok. c.run_promises.ensures.hands_out_entered c.args.configs.items done) c.run_exactly.ensures
+
+pub returns-clause-messages_fired : goal.returns-clause-messages_fired
+returns-clause-messages_fired c = of-sized (MessagesFired c.args.configs.items) c.args.configs.items c.args.actions.now c.run_exactly.result c.turns_shown.ensures (at-none _) (λ done sized ok. c.run_promises.ensures.messages_fired c.args.configs.items done sized) c.read_all_numbers.ensures c.run_exactly.ensures
 
 pub returns-clause-counted_once : goal.returns-clause-counted_once
 returns-clause-counted_once c = of-every CountedOnce c.args.configs.items c.args.actions.now c.run_exactly.result c.turns_shown.ensures c.run_promises.ensures.counted_once c.run_exactly.ensures
