@@ -60,7 +60,7 @@ made-applied configs c turns action b m serving actor (makes_ack h handed packet
       ack = refl;
       empty = refl;
     }) (All-nil (IsMade configs turns (applied c action b (apply m c.sent action)).turn)))
-made-applied configs c turns action b m serving actor (makes_reply agent number now payload h respond at replies packets) =
+made-applied configs c turns action b m serving actor (makes_reply agent number now payload h respond at replies packets in_time) =
     let same : Some agent ≡ Some b = ap actor_of (sym respond) ∙ actor in
     let mine : agent ≡ b = cc same in
     let shown = serving.shown number h at in
@@ -74,7 +74,12 @@ made-applied configs c turns action b m serving actor (makes_reply agent number 
       replied = replies;
       from = record { config = m.agent.config; settings = serving.settings; name = handable.node_is };
       line = shown.line;
-      handed = subst (λ l. Contains (flat_map (λ t. option_to_list t.line.handed) l) shown.line) (sym (own_life b turns)) shown.there;
+      handing = shown.handing;
+      there = subst (λ l. Contains l shown.handing) (sym (own_life b turns)) shown.there;
+      handed = shown.handed;
+      deadline = h.deadline;
+      until = shown.until;
+      in_time = in_time;
       index = shown.index;
       query = shown.query;
       ack = refl;

@@ -94,8 +94,8 @@ pub data Effect (m : IdealNode) : Action → Option (List ℕ) → Applied → T
       → Effect m (actions.Query agent now id name payload params) given
       (called m (ended m.agent (query_fired_as None m.agent now (query_at m.agent.queries.clock m.agent.config.name id name payload params)) Kept) query_gives)
   -- a query is new
-  is_asked : {action : Action} (packet : List ℕ) (now : ℕ) (q : Query) → decoded packet ≡ Ok (query q) → query_admission m.agent q.time q.id ≡ None
-      → Effect m action (Some packet) (called m (ended m.agent (query_received_as None m.agent now q) Kept) (receive_gives packet))
+  is_asked : (to number : ℕ) (packet : List ℕ) (now : ℕ) (q : Query) → decoded packet ≡ Ok (query q) → query_admission m.agent q.time q.id ≡ None
+      → Effect m (actions.Deliver to number now) (Some packet) (called m (ended m.agent (query_received_as None m.agent now q) Kept) (receive_gives packet))
   -- an answer to an open query is counted
   counts : (to number now : ℕ) (packet : List ℕ) (r : QueryResponse) (q : OpenQuery) (ack : Bool) → decoded packet ≡ Ok (query_response r) → asked_at r.time m.agent.asked ≡ Some q → answer_ignore_reason now r q ≡ None → is_ack r ≡ ack
       → Effect m (actions.Deliver to number now) (Some packet)
@@ -167,7 +167,7 @@ effect-event m to number now packet e None is new = kept-or-failed (Delivered m 
 effect-query : (m : IdealNode) (to number now : ℕ) (packet : List ℕ) (q : Query) (r : Option Reason) → decoded packet ≡ Ok (query q) → query_admission m.agent q.time q.id ≡ r
     → Delivered m to number now packet (planned m.agent (query_received_as r m.agent now q))
 effect-query m to number now packet q (Some reason) is why = idles m _ _ _ _ refl refl refl refl refl (ignored m.agent packet (Ok (query q)) reason is tt)
-effect-query m to number now packet q None is new = kept-or-failed (Delivered m to number now packet) m.agent (query_received_as None m.agent now q) (is_asked packet now q is new) (λ s. idles m _ _ _ _ refl refl refl refl refl tt)
+effect-query m to number now packet q None is new = kept-or-failed (Delivered m to number now packet) m.agent (query_received_as None m.agent now q) (is_asked to number packet now q is new) (λ s. idles m _ _ _ _ refl refl refl refl refl tt)
 
 effect-response : (m : IdealNode) (to number now : ℕ) (packet : List ℕ) (r : QueryResponse) (o : Option OpenQuery) → decoded packet ≡ Ok (query_response r) → asked_at r.time m.agent.asked ≡ o
     → Delivered m to number now packet (planned m.agent (response_received_at o m.agent now r))

@@ -91,7 +91,7 @@ have-effect P m action given o (passes_on packet e is new) g all carries fired =
 have-effect P m action given o (asks agent now id name payload params may) g all carries fired =
     let q : Query = query_at m.agent.queries.clock m.agent.config.name id name payload params in
     record { events = All-nil P; packets = All-cons (Carries P) (canonical (query q)) (option_to_list (ack_if_passed m.agent.config.name q)) (none P (canonical (query q)) (events_in_packet-query q)) (ack-has (Carries P) m.agent.config.name q (no-event-ack P m.agent.config.name q)) }
-have-effect P m action given o (is_asked packet now q is new) g all carries fired =
+have-effect P m action given o (is_asked to number packet now q is new) g all carries fired =
     record { events = All-nil P; packets = entered-has (Carries P) m.agent.config.name packet q (not (has_flag no_broadcast_flag q.flags)) (carries packet refl) (no-event-ack P m.agent.config.name q) }
 have-effect P m action given o (tells short) g all carries fired =
     record { events = All-nil P; packets = one (Carries P) (canonical (push_pull (state_of (view_of m.agent) [] []))) (state-carries P m.agent g short all) }

@@ -123,7 +123,7 @@ new-effect m action given _ (hears j outs answer h idle) = λ is. absurd (not-ne
 new-effect m _ given _ (fires agent name payload coalesce is) = λ says. (_, refl, refl)
 new-effect m action _ _ (passes_on packet e is new) = λ says. (_, refl, ap events_brought is)
 new-effect m _ given _ (asks agent now id name payload params is) = λ says. absurd (cc says)
-new-effect m action _ _ (is_asked packet now q is new) = λ says. absurd (cc says)
+new-effect m action _ _ (is_asked to number packet now q is new) = λ says. absurd (cc says)
 new-effect m _ _ _ (counts to number now packet r q true is at none kind) = λ says. absurd (cc says)
 new-effect m _ _ _ (counts to number now packet r q false is at none kind) = λ says. absurd (cc says)
 new-effect m action given o _ = λ says. absurd (cc says)
@@ -156,7 +156,7 @@ settings-start configs = each-start (HasSettings configs) configs (λ a config i
 
 -- ---- which queries
 
-passed-on : (node : List ℕ) (now : ℕ) (q : Query) (h : Handed) → handed_if_passed node now q ≡ Some h → handed_query node now q ≡ h
+pub passed-on : (node : List ℕ) (now : ℕ) (q : Query) (h : Handed) → handed_if_passed node now q ≡ Some h → handed_query node now q ≡ h
 passed-on node now q h e = by (all_pass q.filters node) e
   where
     by : (b : Bool) → cond b (Some (handed_query node now q)) None ≡ Some h → handed_query node now q ≡ h
@@ -179,7 +179,7 @@ hands-effect configs m _ given _ b actor settings (asks agent now id name payloa
       ap (λ (c : Option Config). map (λ c. query_at m.agent.queries.clock c.name id name payload params) (option_to_list c)) (ap (slice_get configs) me ∙ settings),
       handed-of a n m.agent.config.name now q h (passed-on m.agent.config.name now q h e),
     )
-hands-effect configs m action _ _ b actor settings (is_asked packet now q is new) = λ a n h e. (q, ap query_message is, handed-of a n m.agent.config.name now q h (passed-on m.agent.config.name now q h e))
+hands-effect configs m action _ _ b actor settings (is_asked to number packet now q is new) = λ a n h e. (q, ap query_message is, handed-of a n m.agent.config.name now q h (passed-on m.agent.config.name now q h e))
 hands-effect configs m action given _ b actor settings _ = λ a n h e. absurd (cc e)
 
 abbrev EnteredAt : List Config → List Turn → Turn → Type 0

@@ -36,7 +36,7 @@ passed node now q h e = by (all_pass q.filters node) e
 
 hands-effect : (m : IdealNode) (action : Action) (given : Option (List ℕ)) (o : Applied) → Effect m action given o → Hands action given o.done
 hands-effect m action given o (asks agent now id name payload params may) = λ h e. passed m.agent.config.name now (query_at m.agent.queries.clock m.agent.config.name id name payload params) h e
-hands-effect m action given o (is_asked packet now q is new) = λ h e. ap query_brought is ∙ passed m.agent.config.name now q h e
+hands-effect m action given o (is_asked to number packet now q is new) = λ h e. ap query_brought is ∙ passed m.agent.config.name now q h e
 hands-effect m action given o _ = λ h e. absurd (cc e)
 
 pub hands-apply : (m : IdealNode) (sent : List (List ℕ)) (action : Action) → Hands action (packet_given sent action) (apply m sent action).done

@@ -7,18 +7,20 @@ use Rattle.std.proofs.lemmas.List.{append-nil, map-append}
 use Rattle.std.proofs.lemmas.List.Elements.{All-push, All-weaker, Contains-append_left, Contains-push, filter-append}
 use Rattle.std.proofs.lemmas.List.Quantifiers.{all_pairs_push}
 use Rattle.std.proofs.lemmas.List.Sums.{fold_push}
-use Rattle.serf_wire.specs.Message.{QueryResponse}
+use Rattle.serf_wire.specs.Message.{Query, QueryResponse}
 use Rattle.serf_window.specs.Window.{TimedEntry}
 use Rattle.serf_agent.specs.declared.config.Config.{Config}
 use Rattle.serf_agent.specs.Handed.{Handed}
-use Rattle.serf_agent.specs.Queries.{is_ack}
+use Rattle.serf_agent.specs.Queries.{deadline_of, is_ack, query_at}
 use Rattle.serf_model.specs.declared.action.Action.{Action}
 use Rattle.serf_model.specs.declared.line.HandedLine.{HandedLine}
-use Rattle.serf_model.specs.AnswerPromises.{answers_in, query_answered}
+use Rattle.serf_model.specs.AnswerPromises.{answers_in, query_answered, reply_deadline}
 use Rattle.serf_model.specs.Bounds.{is_restarted}
 use Rattle.serf_model.specs.Cluster.{Applied, Cluster, Done, IdealNode, applied, apply, handed_line, with_handed}
 use Rattle.serf_model.specs.Trace.{Turn, entered_by, handed_in, packet_given}
+use Rattle.serf_model.specs.HandOuts.{query_message}
 use Rattle.serf_model.proofs.HandedLaws.{fresh-last, hands-apply}
+use Rattle.serf_model.proofs.HandOutLaws.{passed-on}
 use Rattle.serf_model.proofs.PresentLife.{last_life, lives_on}
 use Rattle.serf_model.proofs.Effects.{Effect, asks, counts, effect, hears, idle-enters, is_asked, reopens, replies}
 use Rattle.serf_model.proofs.SendLaws.{AreHandable, IsHandable, Makes, Sends, makes_none, makes_ack, makes_reply}
@@ -78,31 +80,44 @@ stood m action given o _ k h is = record { at = is; on = refl }
 -- where a query is handed out no life begins
 hands-on : (m : IdealNode) (action : Action) (given : Option (List ℕ)) (o : Applied) → Effect m action given o → (h : Handed) → o.done.handed ≡ Some h → is_restarted o.done.answer ≡ false
 hands-on m action given o (asks agent now id name payload params may) h is = refl
-hands-on m action given o (is_asked packet now q reads new) h is = refl
+hands-on m action given o (is_asked to number packet now q reads new) h is = refl
 hands-on m action given o _ h is = absurd (cc is)
 
 -- ---- an agent and its turns
 
-abbrev handed_lines : List Turn → List HandedLine
-handed_lines ts = flat_map (λ t. option_to_list t.line.handed) ts
+life-push : (ts : List Turn) (t : Turn) → is_restarted t.line.answer ≡ false → last_life (ts ++ t ∷ []) ≡ last_life ts ++ t ∷ []
+life-push ts t on = fold_push lives_on [] ts t ∙ ap (λ b. cond b [] (last_life ts ++ t ∷ [])) on
 
-handed-push : (ts : List Turn) (t : Turn) → is_restarted t.line.answer ≡ false → handed_lines (last_life (ts ++ t ∷ [])) ≡ handed_lines (last_life ts) ++ option_to_list t.line.handed
-handed-push ts t on = ap handed_lines (fold_push lives_on [] ts t ∙ ap (λ b. cond b [] (last_life ts ++ t ∷ [])) on) ∙ flat_map-push (λ t. option_to_list t.line.handed) (last_life ts) t
-
--- a line of this life showed a query under its number
+-- a turn of this life handed out a query under its number
 pub record IsShown (ts : List Turn) (number : ℕ) (h : Handed) : Type 0 where
   pub line : HandedLine
-  pub there : Contains (handed_lines (last_life ts)) line
+  pub handing : Turn
+  pub there : Contains (last_life ts) handing
+  pub handed : handing.line.handed ≡ Some line
+  pub until : reply_deadline handing ≡ h.deadline ∷ []
   pub index : line.index ≡ number
   pub query : handed_in line ≡ record { time = h.time; key = h.id }
 
 shown-more : (ts : List Turn) (t : Turn) (number : ℕ) (h : Handed) → is_restarted t.line.answer ≡ false → IsShown ts number h → IsShown (ts ++ t ∷ []) number h
 shown-more ts t number h on s = record {
   line = s.line;
-  there = subst (λ l. Contains l s.line) (sym (handed-push ts t on)) (Contains-append_left (handed_lines (last_life ts)) (option_to_list t.line.handed) s.line s.there);
+  handing = s.handing;
+  there = subst (λ l. Contains l s.handing) (sym (life-push ts t on)) (Contains-append_left (last_life ts) (t ∷ []) s.handing s.there);
+  handed = s.handed;
+  until = s.until;
   index = s.index;
   query = s.query;
 }
+
+-- until when a query can be answered that is handed out
+deadline-effect : (m : IdealNode) (action : Action) (given : Option (List ℕ)) (o : Applied) → Effect m action given o → (h : Handed) → o.done.handed ≡ Some h
+    → reply_deadline (record { action = action; line = record { answer = o.done.answer; sent = []; events = []; handed = None }; given = given; packets = [] }) ≡ h.deadline ∷ []
+deadline-effect m action given o (asks agent now id name payload params may) h is =
+    let q : Query = query_at m.agent.queries.clock m.agent.config.name id name payload params in
+    ap (λ (x : Handed). x.deadline ∷ []) (passed-on m.agent.config.name now q h is)
+deadline-effect m action given o (is_asked to number packet now q reads new) h is =
+    ap (λ r. map (λ (q : Query). deadline_of now q.timeout) (query_message r)) reads ∙ ap (λ (x : Handed). x.deadline ∷ []) (passed-on m.agent.config.name now q h is)
+deadline-effect m action given o _ h is = absurd (cc is)
 
 -- the queries that an agent acked
 abbrev pub acked_in : List Turn → List (TimedEntry ℕ)
@@ -128,7 +143,7 @@ adds : (m : IdealNode) (sent : List (List ℕ)) (action : Action) → Makes m ac
     → (let o = apply m sent action in let new = map query_answered (filter is_ack (answers_in o.done.packets)) in (new ≡ []) ⊎ ((x : TimedEntry ℕ) × (new ≡ x ∷ []) × (entered_by action (packet_given sent action) o.done.answer ≡ x ∷ [])))
 adds m sent action (makes_none packets) = inl (ap (λ l. map query_answered (filter is_ack l)) packets)
 adds m sent action (makes_ack h handed packets) = inr (record { time = h.time; key = h.id }, ap (λ l. map query_answered (filter is_ack l)) packets, hands-apply m sent action h handed)
-adds m sent action (makes_reply agent number now payload h respond at replied packets) = inl (ap (λ l. map query_answered (filter is_ack l)) packets)
+adds m sent action (makes_reply agent number now payload h respond at replied packets in_time) = inl (ap (λ l. map query_answered (filter is_ack l)) packets)
 
 -- what can be answered after a turn
 record Slots (name : List ℕ) (ts : List Turn) (handed : List (Option Handed)) : Type 0 where
@@ -148,14 +163,13 @@ slots-more c configs ts action b m serving sends = by (apply m c.sent action).do
 
     new : (q : Handed) → (apply m c.sent action).done.handed ≡ Some q → IsShown (ts ++ (applied c action b (apply m c.sent action)).turn ∷ []) (length (apply m c.sent action).node.handed) q
     new q some =
-        let line : HandedLine = handed_line b (length (apply m c.sent action).node.handed) q in
-        let lines : option_to_list (applied c action b (apply m c.sent action)).turn.line.handed ≡ handed_line b (length (apply m c.sent action).node.handed) q ∷ [] =
-        ap (λ (h : Option Handed). option_to_list (option_map (handed_line b (length (apply m c.sent action).node.handed)) h)) some in
+        let on = hands-on m action (packet_given c.sent action) (apply m c.sent action) (effect m c.sent action) q some in
         record {
           line = handed_line b (length (apply m c.sent action).node.handed) q;
-          there = subst (λ l. Contains l (handed_line b (length (apply m c.sent action).node.handed) q))
-              (sym (handed-push ts (applied c action b (apply m c.sent action)).turn (hands-on m action (packet_given c.sent action) (apply m c.sent action) (effect m c.sent action) q some) ∙ ap (λ l. handed_lines (last_life ts) ++ l) lines))
-              (Contains-push (handed_lines (last_life ts)) (handed_line b (length (apply m c.sent action).node.handed) q));
+          handing = (applied c action b (apply m c.sent action)).turn;
+          there = subst (λ l. Contains l (applied c action b (apply m c.sent action)).turn) (sym (life-push ts (applied c action b (apply m c.sent action)).turn on)) (Contains-push (last_life ts) (applied c action b (apply m c.sent action)).turn);
+          handed = ap (λ (h : Option Handed). option_map (handed_line b (length (apply m c.sent action).node.handed)) h) some;
+          until = deadline-effect m action (packet_given c.sent action) (apply m c.sent action) (effect m c.sent action) q some;
           index = refl;
           query = refl;
         }

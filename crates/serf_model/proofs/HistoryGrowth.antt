@@ -65,7 +65,7 @@ keeps-effect m action given o sound (asks agent now id name payload params may) 
   fired = λ t e. cc;
   asked = λ t e. cc;
 }
-keeps-effect m action given o sound (is_asked packet now q is new) = record {
+keeps-effect m action given o sound (is_asked to number packet now q is new) = record {
   config = refl;
   life = refl;
   events = enters-nothing;

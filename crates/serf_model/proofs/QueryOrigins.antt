@@ -50,7 +50,7 @@ sends-effect W m action given o (passes_on packet e is new) all w = record { pac
 sends-effect W m action given o (asks agent now id name payload params may) all w =
     let q : Query = query_at m.agent.queries.clock m.agent.config.name id name payload params in
     record { packets = All-cons (IsOf W) (canonical (query q)) (option_to_list (ack_if_passed m.agent.config.name q)) (inr (All-head W (canonical (query q)) [] w)) (ack-has (IsOf W) m.agent.config.name q (no-query-ack W m.agent.config.name q)); brings = λ p g e n. cc }
-sends-effect W m action given o (is_asked packet now q is new) all w = record {
+sends-effect W m action given o (is_asked to number packet now q is new) all w = record {
   packets = entered-has (IsOf W) m.agent.config.name packet q (not (has_flag no_broadcast_flag q.flags)) (all packet refl) (no-query-ack W m.agent.config.name q);
   brings = λ p g e n.
       let same : packet ≡ p = cc g in

@@ -88,7 +88,7 @@ pub data Makes (m : IdealNode) (action : Action) (done : Done) : Type 0 where
   makes_none : answers_in done.packets ≡ [] → Makes m action done
   makes_ack : (h : Handed) → done.handed ≡ Some h → answers_in done.packets ≡ ack_of m.agent.config.name h ∷ [] → Makes m action done
   makes_reply : (agent number now : ℕ) (payload : List ℕ) (h : Handed) → action ≡ actions.Respond agent number now payload → slice_get m.handed number ≡ Some (Some h) → done.answer ≡ lines.Replied
-      → answers_in done.packets ≡ reply_of h payload ∷ [] → Makes m action done
+      → answers_in done.packets ≡ reply_of h payload ∷ [] → now ≤ h.deadline → Makes m action done
 
 pub record Sends (m : IdealNode) (action : Action) (done : Done) : Type 0 where
   pub makes : Makes m action done
@@ -148,7 +148,7 @@ sends-effect m action given o (passes_on packet e is new) representable slots ra
 sends-effect m action given o (asks agent now id name payload params may) representable slots ranged =
     let q : Query = query_at m.agent.queries.clock m.agent.config.name id name payload params in
     sends-entered m _ (lines.Queried q.time) now q (canonical (query q) ∷ []) (all_pass q.filters m.agent.config.name) (has_flag ack_flag q.flags) representable (none-in-query q) (may-ask m.agent id name payload params may).clock ranged.id_fits
-sends-effect m action given o (is_asked packet now q is new) representable slots ranged =
+sends-effect m action given o (is_asked to number packet now q is new) representable slots ranged =
     let has = decoded_ranged packet (query q) is in
     sends-entered m action lines.Query now q (cond (not (has_flag no_broadcast_flag q.flags)) (packet ∷ []) []) (all_pass q.filters m.agent.config.name) (has_flag ack_flag q.flags) representable (front (not (has_flag no_broadcast_flag q.flags))) has.time has.id
   where
@@ -163,7 +163,7 @@ sends-effect m action given o (replies agent number now payload h at may) repres
     let s = slots number h at in
     let time : h.time < 2 ^ 64 - 1 = s.time in
     record {
-      makes = makes_reply agent number now payload h refl at refl (one-in-answer (reply_of h payload) (record { time = omega arith; id = s.id; flags = omega arith }) short.0 short.1);
+      makes = makes_reply agent number now payload h refl at refl (one-in-answer (reply_of h payload) (record { time = omega arith; id = s.id; flags = omega arith }) short.0 short.1) (ltb-false h.deadline now late.0);
       hands = λ h e. absurd (cc e);
     }
 sends-effect m action given o _ representable slots ranged = sends-nothing m _ _ refl refl
