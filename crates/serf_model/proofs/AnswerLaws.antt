@@ -1,6 +1,6 @@
 -- Where the acks and responses of each run come from.
 use Rattle.std.proofs.Common.{◌≡◌, ◌≢◌, ℕ, List, [], ◌∷◌, ◌++◌, Option, Some, None, Result, Ok, Err, refl, sym, ap, subst, ◌∙◌, arith, map, length}
-use Rattle.std.specs.Prelude.{All, AllPairs, Contains, filter, slice_get}
+use Rattle.std.specs.Prelude.{All, AllPairs, Contains, filter, not, slice_get}
 use Rattle.std.specs.List.{flat_map}
 use Rattle.std.specs.Option.{option_map, option_to_list}
 use Rattle.std.proofs.lemmas.List.Elements.{All-nil, All-cons, All-head, All-tail}
@@ -12,7 +12,7 @@ use Rattle.serf_agent.specs.Handed.{Handed}
 use Rattle.serf_agent.specs.Queries.{is_ack}
 use Rattle.serf_model.specs.declared.action.Action.{Action}
 use Rattle.serf_model.specs.declared.action.Action.TheVariants as actions
-use Rattle.serf_model.specs.AnswerPromises.{AckedOnce, AnswersMade, IsMade, acked, injected, replied, acked_by, answer_brought, answers_in, query_answered}
+use Rattle.serf_model.specs.AnswerPromises.{AckedOnce, AnswersMade, IsMade, RepliedOnce, acked, injected, replied, acked_by, replied_by, answer_brought, answers_in, query_answered}
 use Rattle.serf_model.specs.Cluster.{IdealNode, Cluster, Run, applied, apply, after, handed_line, on_agent, start, step, step_by}
 use Rattle.serf_model.specs.Sizes.{HasSizes}
 use Rattle.serf_model.specs.Ready.{IsRepresentable}
@@ -24,12 +24,18 @@ use Rattle.serf_model.proofs.OnceLaws.{query-once}
 use Rattle.serf_model.proofs.RunLaws.{IsAfter, after-agent, all-at}
 use Rattle.serf_model.proofs.SendLaws.{Makes, Sends, makes_ack, makes_none, makes_reply, sends-apply}
 use Rattle.serf_model.proofs.HandedQueries.{IsServing, acked_in, serving-more}
+use Rattle.serf_model.proofs.ReplyLaws.{IsAwaiting, awaiting-more, awaiting-none, replied_in}
 use Rattle.serf_model.proofs.OpenQueryContents.{queries_in}
 use Rattle.serf_model.proofs.TurnLaws.{at_each_nil, at_each_push}
+
+-- what an agent can answer, and what it answered
+abbrev Awaits : ℕ → List Turn → IdealNode → Type 0
+Awaits a ts m = IsAwaiting ts m.handed
 
 -- what each agent has to answer, and where what was sent comes from
 pub record IsServed (configs : List Config) (c : Cluster) (turns : List Turn) : Type 0 where
   pub each : Each (IsServing configs) c turns
+  pub awaiting : Each Awaits c turns
   pub nobody : AreNobodys c turns
   pub made : AnswersMade configs turns
 
@@ -120,6 +126,8 @@ served-step configs r action ranged h served = record {
       (λ b m actor at p. serving-more r.cluster configs (turns_by b r.turns) action b m p (sends-at configs r.cluster r.turns action b m h served ranged at)
       (keeps-apply m r.cluster.sent action (representable-at r.cluster r.turns b m h at).consistent.sound).config
       (once-after r.cluster r.turns action b m h actor at));
+  awaiting = each-step Awaits r action served.awaiting
+      (λ b m actor at p. awaiting-more r.cluster (turns_by b r.turns) action b m p (sends-at configs r.cluster r.turns action b m h served ranged at).makes (once-after r.cluster r.turns action b m h actor at));
   nobody = nobodys-step r action served.nobody;
   made = at_each_push (MadeAt configs) r.turns (step r.cluster action).turn served.made (made-by configs r.cluster r.turns action (actor_of action) h served ranged refl);
 }
@@ -132,6 +140,7 @@ served-start configs = record {
     shown = λ number h is. absurd (cc is);
     acked = record { within = All-nil _; once = λ i j d lt within. absurd (omega arith) };
   });
+  awaiting = each-start Awaits configs (λ a config at. awaiting-none);
   nobody = nobodys-start configs;
   made = at_each_nil (MadeAt configs);
 }
@@ -150,3 +159,16 @@ acked-once configs c turns h a = by (slice_get c.nodes a) refl
     by : (r : Option IdealNode) → slice_get c.nodes a ≡ r → AllPairs (λ x y. x ≢ y) (acked_by a turns)
     by None none = subst (AllPairs (λ x y. x ≢ y)) (sym (refused-acks (turns_by a turns) (h.nobody a none))) (λ i j d lt within. absurd (omega arith))
     by (Some m) at = (h.each a m at).acked.once
+
+refused-replies : (ts : List Turn) → All IsRefused ts → replied_in ts ≡ []
+refused-replies [] all = refl
+refused-replies (t ∷ ts) all =
+    let first = All-head IsRefused t ts all in
+    ap (λ ps. map query_answered (filter (λ r. not (is_ack r)) (answers_in ps ++ flat_map (λ t. answers_in t.packets) ts))) first.packets ∙ refused-replies ts (All-tail IsRefused t ts all)
+
+pub replied-once : (configs : List Config) (c : Cluster) (turns : List Turn) → IsServed configs c turns → RepliedOnce turns
+replied-once configs c turns h a = by (slice_get c.nodes a) refl
+  where
+    by : (r : Option IdealNode) → slice_get c.nodes a ≡ r → AllPairs (λ x y. x ≢ y) (replied_by a turns)
+    by None none = subst (AllPairs (λ x y. x ≢ y)) (sym (refused-replies (turns_by a turns) (h.nobody a none))) (λ i j d lt within. absurd (omega arith))
+    by (Some m) at = (h.awaiting a m at).replied.once

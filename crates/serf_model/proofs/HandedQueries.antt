@@ -30,14 +30,14 @@ use Rattle.serf_model.proofs.TurnLaws.{flat_map-push}
 -- ---- lists
 
 -- what stands in a list with one more
-pushed-at : {X : Type 0} (xs : List X) (y : X) (k : ℕ) (x : X) → slice_get (xs ++ y ∷ []) k ≡ Some x → (slice_get xs k ≡ Some x) ⊎ ((length xs ≡ k) × (y ≡ x))
+pub pushed-at : {X : Type 0} (xs : List X) (y : X) (k : ℕ) (x : X) → slice_get (xs ++ y ∷ []) k ≡ Some x → (slice_get xs k ≡ Some x) ⊎ ((length xs ≡ k) × (y ≡ x))
 pushed-at [] y zero x is = let same : y ≡ x = cc is in inr (refl, same)
 pushed-at [] y (suc k) x is = absurd (cc is)
 pushed-at (z ∷ zs) y zero x is = inl is
 pushed-at (z ∷ zs) y (suc k) x is = elim (pushed-at zs y k x is) [ inl h ↦ inl h | inr h ↦ inr (ap (λ n. suc n) h.0, h.1) ]
 
 -- what still stands where something was taken out
-left-at : {X : Type 0} (xs : List (Option X)) (j k : ℕ) (x : X) → slice_get (set xs j None) k ≡ Some (Some x) → slice_get xs k ≡ Some (Some x)
+pub left-at : {X : Type 0} (xs : List (Option X)) (j k : ℕ) (x : X) → slice_get (set xs j None) k ≡ Some (Some x) → slice_get xs k ≡ Some (Some x)
 left-at [] j k x is = absurd (cc is)
 left-at (y ∷ ys) zero zero x is = absurd (cc is)
 left-at (y ∷ ys) zero (suc k) x is = is
@@ -49,7 +49,7 @@ pub record IsWithin {X : Type 0} (all some : List X) : Type 0 where
   pub within : All (Contains all) some
   pub once : AllPairs (λ x y. x ≢ y) some
 
-within-more : {X : Type 0} (all some one new : List X) → IsWithin all some → AllPairs (λ x y. x ≢ y) (all ++ one) → (new ≡ []) ⊎ ((x : X) × (new ≡ x ∷ []) × (one ≡ x ∷ [])) → IsWithin (all ++ one) (some ++ new)
+pub within-more : {X : Type 0} (all some one new : List X) → IsWithin all some → AllPairs (λ x y. x ≢ y) (all ++ one) → (new ≡ []) ⊎ ((x : X) × (new ≡ x ∷ []) × (one ≡ x ∷ [])) → IsWithin (all ++ one) (some ++ new)
 within-more all some one new h once (inl none) =
     subst (IsWithin (all ++ one)) (sym (ap (λ l. some ++ l) none ∙ append-nil some))
     (record { within = All-weaker (Contains all) (Contains (all ++ one)) (λ x c. Contains-append_left all one x c) some h.within; once = h.once })
@@ -66,11 +66,11 @@ within-more {X} all some one new h once (inr adds) =
 -- ---- what an action leaves of the queries that can be answered
 
 -- this one stood there before, and no life begins
-record Stood (m : IdealNode) (done : Done) (number : ℕ) (h : Handed) : Type 0 where
-  at : slice_get m.handed number ≡ Some (Some h)
-  on : is_restarted done.answer ≡ false
+pub record Stood (m : IdealNode) (done : Done) (number : ℕ) (h : Handed) : Type 0 where
+  pub at : slice_get m.handed number ≡ Some (Some h)
+  pub on : is_restarted done.answer ≡ false
 
-stood : (m : IdealNode) (action : Action) (given : Option (List ℕ)) (o : Applied) → Effect m action given o → (k : ℕ) (h : Handed) → slice_get o.node.handed k ≡ Some (Some h) → Stood m o.done k h
+pub stood : (m : IdealNode) (action : Action) (given : Option (List ℕ)) (o : Applied) → Effect m action given o → (k : ℕ) (h : Handed) → slice_get o.node.handed k ≡ Some (Some h) → Stood m o.done k h
 stood m action given o (hears j outs answer heard idle) k h is = record { at = is; on = (idle-enters m.agent action given answer idle).1 }
 stood m action given o (counts to number now packet r q true reads at none kind) k h is = record { at = is; on = refl }
 stood m action given o (replies agent number now payload q at may) k h is = record { at = left-at m.handed number k h is; on = refl }

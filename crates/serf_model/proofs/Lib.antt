@@ -22,6 +22,7 @@ pub mod OpenQueryContents
 pub mod CountingPromises
 pub mod SendLaws
 pub mod HandedQueries
+pub mod ReplyLaws
 pub mod AnswerLaws
 pub mod AnswerPromiseLaws
 pub mod HandOutLaws

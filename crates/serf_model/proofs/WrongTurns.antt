@@ -1,7 +1,7 @@
 -- For each promise a small list of turns that breaks it, and the proof that the promise refuses this list. A definition
 -- that is changed so that it promises nothing doesn't pass here.
 use Rattle.std.proofs.Common.{◌≡◌, ◌≢◌, ℕ, ◌<◌, ◌≤◌, ◌⊎◌, inl, inr, Bool, true, false, List, [], ◌∷◌, ◌++◌, Option, Some, None, Ok, refl, sym, ap, subst, ◌∙◌, arith, cond, map}
-use Rattle.std.specs.Prelude.{All, AllPairs, Contains, Result, filter, slice_get}
+use Rattle.std.specs.Prelude.{ℤ, pos, All, AllPairs, Contains, Result, filter, not, slice_get}
 use Rattle.std.specs.List.{slice_index_or}
 use Rattle.std.specs.Option.{option_to_list}
 use Rattle.serf_wire.specs.declared.fault.WireFault.{WireFault}
@@ -13,7 +13,7 @@ use Rattle.serf_agent.specs.declared.config.Config.{Config}
 use Rattle.serf_agent.specs.declared.open_query.OpenQuery.{OpenQuery}
 use Rattle.serf_agent.specs.declared.outcome.QueryParams.{QueryParams}
 use Rattle.serf_agent.specs.declared.outcome.Reason.TheVariants as reasons
-use Rattle.serf_agent.specs.Queries.{is_ack, query_at}
+use Rattle.serf_agent.specs.Queries.{deadline_of, is_ack, query_at}
 use Rattle.serf_model.specs.declared.action.Action.{Action}
 use Rattle.serf_model.specs.declared.action.Action.TheVariants as actions
 use Rattle.serf_model.specs.declared.line.Answer.{Answer}
@@ -21,7 +21,7 @@ use Rattle.serf_model.specs.declared.line.Answer.TheVariants as answers
 use Rattle.serf_model.specs.declared.line.EventLine.{EventLine}
 use Rattle.serf_model.specs.declared.line.HandedLine.{HandedLine}
 use Rattle.serf_model.specs.declared.line.Line.{Line}
-use Rattle.serf_model.specs.AnswerPromises.{AckedOnce, AnswersMade, CountedInTime, CountedOnce, CountedSent, HoldsCounted, IsAwaited, IsMade, OpenQueriesHold, acked, answer_brought, injected, query_answered, replied}
+use Rattle.serf_model.specs.AnswerPromises.{AckedOnce, AnswersMade, CountedInTime, CountedOnce, CountedSent, HoldsCounted, IsAwaited, IsMade, OpenQueriesHold, RepliedOnce, acked, answer_brought, injected, life_of, query_answered, replied, reply_deadline}
 use Rattle.serf_model.specs.Bounds.{EventsBounded, QueriesBounded}
 use Rattle.serf_model.specs.Cluster.{IdealNode}
 use Rattle.serf_model.specs.HandOuts.{HandsOutEntered, HandsOutGiven, MessagesFired, NewIsHanded, OnlyToActor, messages_fired, query_message}
@@ -178,6 +178,10 @@ only_fired-refuses packet q reads h =
 
 -- ---- acks and responses
 
+-- agent 0 fires a query, and is handed it
+abbrev asked : QueryParams → Turn
+asked params = turn (actions.Query 0 0 7 [] [] params) (answers.Queried 1) [] (Some (handed_query 0 1 7 []))
+
 -- one agent's ack is counted twice
 counted_once-refuses : (packet : List ℕ) (r : QueryResponse) → decoded packet ≡ Ok (query_response r) → CountedOnce (delivery 0 packet answers.Ack None ∷ delivery 0 packet answers.Ack None ∷ []) → ⊥
 counted_once-refuses packet r reads h =
@@ -215,6 +219,38 @@ acked-refuses packet r reads ack h =
     subst (λ (m : Result Message WireFault). AllPairs (λ (x y : TimedEntry ℕ). x ≢ y) (map query_answered (filter is_ack ((answer_brought m ++ []) ++ ((answer_brought m ++ []) ++ []))))) reads (h 0) in
     let plain : AllPairs (λ (x y : TimedEntry ℕ). x ≢ y) (query_answered r ∷ query_answered r ∷ []) = subst (λ (b : Bool). AllPairs (λ (x y : TimedEntry ℕ). x ≢ y) (map query_answered (cond b (r ∷ cond b (r ∷ []) []) (cond b (r ∷ []) [])))) ack both in
     plain 0 1 (query_answered r) (omega arith) (omega arith) refl
+
+-- an agent answers one query twice
+replied-refuses : (packet : List ℕ) (r : QueryResponse) → decoded packet ≡ Ok (query_response r) → is_ack r ≡ false → (let t = sending (actions.Respond 0 0 5 []) answers.Replied packet in RepliedOnce (t ∷ t ∷ [])) → ⊥
+replied-refuses packet r reads reply h =
+    let both : AllPairs (λ (x y : TimedEntry ℕ). x ≢ y) (map query_answered (filter (λ r. not (is_ack r)) (r ∷ r ∷ []))) =
+    subst (λ (m : Result Message WireFault). AllPairs (λ (x y : TimedEntry ℕ). x ≢ y) (map query_answered (filter (λ r. not (is_ack r)) ((answer_brought m ++ []) ++ ((answer_brought m ++ []) ++ []))))) reads (h 0) in
+    let plain : AllPairs (λ (x y : TimedEntry ℕ). x ≢ y) (query_answered r ∷ query_answered r ∷ []) =
+    subst (λ (b : Bool). AllPairs (λ (x y : TimedEntry ℕ). x ≢ y) (map query_answered (cond (not b) (r ∷ cond (not b) (r ∷ []) []) (cond (not b) (r ∷ []) [])))) reply both in
+    plain 0 1 (query_answered r) (omega arith) (omega arith) refl
+
+-- an agent answers a query whose deadline is past
+late-refuses : (configs : List Config) (params : QueryParams) (packet : List ℕ) (r : QueryResponse) → params.timeout ≡ pos 10 → decoded packet ≡ Ok (query_response r) → r.payload ≡ []
+    → AnswersMade configs (asked params ∷ sending (actions.Respond 0 0 20 []) answers.Replied packet ∷ []) → ⊥
+late-refuses configs params packet r timeout reads empty h =
+    let turn : Turn = sending (actions.Respond 0 0 20 []) answers.Replied packet in
+    of (subst (λ (m : Result Message WireFault). All (IsMade configs (asked params ∷ []) turn) (answer_brought m ++ [])) reads (h (asked params ∷ []) turn [] refl) 0 r (omega arith))
+  where
+    of : IsMade configs (asked params ∷ []) (sending (actions.Respond 0 0 20 []) answers.Replied packet) r → ⊥
+    of (injected i) = let action = i.action in absurd (cc action)
+    of (acked a) = let hands = a.hands in absurd (cc hands)
+    of (replied a) =
+        let action = a.action in
+        let agent : 0 ≡ a.agent = cc action in
+        let now : 20 ≡ a.now = cc action in
+        let there : Contains (life_of 0 (asked params ∷ [])) a.handing = subst (λ (n : ℕ). Contains (life_of n (asked params ∷ [])) a.handing) (sym agent) a.there in
+        let at : there.0 ≡ 0 = (let lt = there.1 in omega arith) in
+        let same : asked params ≡ a.handing = subst (λ (k : ℕ). slice_index_or (asked params ∷ []) k a.handing ≡ a.handing) at there.2 in
+        let until : reply_deadline (asked params) ≡ a.deadline ∷ [] = ap reply_deadline same ∙ a.until in
+        let ten : deadline_of 0 (pos 10) ∷ [] ≡ a.deadline ∷ [] = ap (λ t. deadline_of 0 t ∷ []) (sym timeout) ∙ until in
+        let ends : 10 ≡ a.deadline = cc ten in
+        let in_time = a.in_time in
+        absurd (omega arith)
 
 -- ---- bounds
 

@@ -211,3 +211,11 @@ acked_by a turns = map query_answered (filter is_ack (flat_map (λ t. answers_in
 -- An agent acks a query at most once in all its lives.
 abbrev pub AckedOnce : List Turn → Type 0
 AckedOnce turns = (a : ℕ) → AllPairs (λ x y. x ≢ y) (acked_by a turns)
+
+-- the queries that an agent answered by responses in all its lives
+abbrev pub replied_by : ℕ → List Turn → List (TimedEntry ℕ)
+replied_by a turns = map query_answered (filter (λ r. not (is_ack r)) (flat_map (λ t. answers_in t.packets) (turns_by a turns)))
+
+-- An agent answers a query by a response at most once in all its lives.
+abbrev pub RepliedOnce : List Turn → Type 0
+RepliedOnce turns = (a : ℕ) → AllPairs (λ x y. x ≢ y) (replied_by a turns)

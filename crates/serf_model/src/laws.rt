@@ -4,7 +4,7 @@ ghost use Rattle.std.specs.Prelude.{◌≡◌, ◌++◌, ℕ, List, All};
 ghost use Rattle.serf_agent.specs.declared.config.Config.{Config};
 ghost use Rattle.serf_agent.specs.Restart.{IsInText};
 ghost use Rattle.serf_model.specs.declared.action.Action.{Action};
-ghost use Rattle.serf_model.specs.AnswerPromises.{AckedOnce, AnswersMade, CountedInTime, CountedOnce, CountedSent, OpenQueriesHold};
+ghost use Rattle.serf_model.specs.AnswerPromises.{AckedOnce, AnswersMade, CountedInTime, CountedOnce, CountedSent, OpenQueriesHold, RepliedOnce};
 ghost use Rattle.serf_model.specs.Bounds.{EventsBounded, QueriesBounded};
 ghost use Rattle.serf_model.specs.Cluster.{IdealNode, apply, run_of, start, text_after, trace_of};
 ghost use Rattle.serf_model.specs.HandOuts.{HandsOutEntered, HandsOutGiven, MessagesFired, NewIsHanded, OnlyToActor};
@@ -17,7 +17,7 @@ ghost use Rattle.serf_model.specs.Trace.{turns_of};
 
 /// Every run keeps every promise, whatever its settings and its actions are. Does nothing.
 ///
-/// Four promises on queries and answers rest on what the types say of an action's numbers (`HasSizes`).
+/// Five promises on queries and answers rest on what the types say of an action's numbers (`HasSizes`).
 pub fn run_promises()
     // What the turns of every run keep.
     ensures once { (configs : List Config) (actions : List Action) → AreConfigs configs → Once (run_of configs actions).turns }
@@ -42,6 +42,7 @@ pub fn run_promises()
     ensures counted_in_time { (configs : List Config) (actions : List Action) → AreConfigs configs → CountedInTime (run_of configs actions).turns }
     ensures counted_sent { (configs : List Config) (actions : List Action) → AreConfigs configs → CountedSent (run_of configs actions).turns }
     ensures answers_made { (configs : List Config) (actions : List Action) → All HasSizes actions → AreConfigs configs → AnswersMade configs (run_of configs actions).turns }
+    ensures replied_once { (configs : List Config) (actions : List Action) → All HasSizes actions → AreConfigs configs → RepliedOnce (run_of configs actions).turns }
     ensures acked_once { (configs : List Config) (actions : List Action) → All HasSizes actions → AreConfigs configs → AckedOnce (run_of configs actions).turns }
 
     // What each agent's windows hold, by its settings.

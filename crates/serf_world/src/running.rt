@@ -2,7 +2,7 @@
 
 ghost use Rattle.std.specs.Prelude.{◌≡◌, ◌≤◌, ◌++◌, ◌∷◌, ℕ, [], IfErr, IfOk, OnErr, OnOk, length, take};
 ghost use Rattle.std.specs.List.{fold};
-ghost use Rattle.serf_model.specs.AnswerPromises.{AckedOnce, AnswersMade, CountedInTime, CountedOnce, CountedSent, OpenQueriesHold};
+ghost use Rattle.serf_model.specs.AnswerPromises.{AckedOnce, AnswersMade, CountedInTime, CountedOnce, CountedSent, OpenQueriesHold, RepliedOnce};
 ghost use Rattle.serf_model.specs.Bounds.{EventsBounded, QueriesBounded};
 ghost use Rattle.serf_model.specs.Cluster.{Cluster, Run, after, run_of, step, trace_of};
 ghost use Rattle.serf_model.specs.HandOuts.{HandsOutEntered, HandsOutGiven, MessagesFired, NewIsHanded, OnlyToActor};
@@ -115,6 +115,7 @@ pub fn run(alloc: Global, configs: Vec<Config>, actions: &[Action]) -> Result<Tr
     ensures counted_in_time { OfTurns CountedInTime actions.now result }
     ensures counted_sent { OfTurns CountedSent actions.now result }
     ensures answers_made { OfTurns (AnswersMade configs.items) actions.now result }
+    ensures replied_once { OfTurns RepliedOnce actions.now result }
     ensures acked_once { OfTurns AckedOnce actions.now result }
 
     // What each agent's windows hold, by its settings.

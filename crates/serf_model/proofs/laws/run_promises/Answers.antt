@@ -1,5 +1,5 @@
 use Rattle.serf_model.specs.Cluster.{run_of}
-use Rattle.serf_model.proofs.AnswerLaws.{acked-once}
+use Rattle.serf_model.proofs.AnswerLaws.{acked-once, replied-once}
 use Rattle.serf_model.proofs.AnswerPromiseLaws.{counting-run, served-run}
 use Rattle.serf_model.proofs.BoundLaws.{events-bounded, queries-bounded}
 use Rattle.serf_model.proofs.CountingPromises.{counted-once, open-hold}
@@ -64,6 +64,9 @@ returns-clause-answers_made c = λ configs actions sized ok. (served-run configs
 
 pub returns-clause-acked_once : goal.returns-clause-acked_once
 returns-clause-acked_once c = λ configs actions sized ok. acked-once configs (run_of configs actions).cluster (run_of configs actions).turns (served-run configs actions sized ok)
+
+pub returns-clause-replied_once : goal.returns-clause-replied_once
+returns-clause-replied_once c = λ configs actions sized ok. replied-once configs (run_of configs actions).cluster (run_of configs actions).turns (served-run configs actions sized ok)
 
 pub returns-clause-events_bounded : goal.returns-clause-events_bounded
 returns-clause-events_bounded c = events-bounded

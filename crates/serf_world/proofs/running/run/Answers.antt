@@ -1,5 +1,5 @@
 use Rattle.std.proofs.Common.{arith, take}
-use Rattle.serf_model.specs.AnswerPromises.{AckedOnce, AnswersMade, CountedInTime, CountedOnce, CountedSent}
+use Rattle.serf_model.specs.AnswerPromises.{AckedOnce, AnswersMade, CountedInTime, CountedOnce, CountedSent, RepliedOnce}
 use Rattle.serf_model.specs.Bounds.{EventsBounded, QueriesBounded}
 use Rattle.serf_model.specs.HandOuts.{HandsOutEntered, HandsOutGiven, MessagesFired, NewIsHanded, OnlyToActor}
 use Rattle.serf_model.specs.Promises.{Held, Later, Once, OnlyFired, QueryFired, QueryHandedOnce, QueryLater, QueryOnce}
@@ -63,6 +63,9 @@ returns-clause-answers_made c = of-sized (AnswersMade c.args.configs.items) c.ar
 
 pub returns-clause-acked_once : goal.returns-clause-acked_once
 returns-clause-acked_once c = of-sized AckedOnce c.args.configs.items c.args.actions.now c.run_exactly.result c.turns_shown.ensures (λ a i j d lt within. absurd (omega arith)) (c.run_promises.ensures.acked_once c.args.configs.items) c.read_all_numbers.ensures c.run_exactly.ensures
+
+pub returns-clause-replied_once : goal.returns-clause-replied_once
+returns-clause-replied_once c = of-sized RepliedOnce c.args.configs.items c.args.actions.now c.run_exactly.result c.turns_shown.ensures (λ a i j d lt within. absurd (omega arith)) (c.run_promises.ensures.replied_once c.args.configs.items) c.read_all_numbers.ensures c.run_exactly.ensures
 
 pub returns-clause-events_bounded : goal.returns-clause-events_bounded
 returns-clause-events_bounded c = of-runs (EventsBounded c.args.configs.items) c.args.configs.items c.args.actions.now c.run_exactly.result c.turns_shown.ensures (at-none _) (λ done left front ok. c.run_promises.ensures.events_bounded c.args.configs.items done ok) c.run_exactly.ensures
