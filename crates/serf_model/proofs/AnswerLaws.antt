@@ -83,6 +83,7 @@ made-applied configs c turns action b m serving actor (makes_reply agent number 
       handing = shown.handing;
       there = subst (λ l. Contains l shown.handing) (sym (own_life b turns)) shown.there;
       handed = shown.handed;
+      to = shown.to;
       deadline = h.deadline;
       until = shown.until;
       in_time = in_time;

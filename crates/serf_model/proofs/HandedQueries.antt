@@ -89,21 +89,23 @@ life-push : (ts : List Turn) (t : Turn) → is_restarted t.line.answer ≡ false
 life-push ts t on = fold_push lives_on [] ts t ∙ ap (λ b. cond b [] (last_life ts ++ t ∷ [])) on
 
 -- a turn of this life handed out a query under its number
-pub record IsShown (ts : List Turn) (number : ℕ) (h : Handed) : Type 0 where
+pub record IsShown (a : ℕ) (ts : List Turn) (number : ℕ) (h : Handed) : Type 0 where
   pub line : HandedLine
   pub handing : Turn
   pub there : Contains (last_life ts) handing
   pub handed : handing.line.handed ≡ Some line
+  pub to : line.agent ≡ a
   pub until : reply_deadline handing ≡ h.deadline ∷ []
   pub index : line.index ≡ number
   pub query : handed_in line ≡ record { time = h.time; key = h.id }
 
-shown-more : (ts : List Turn) (t : Turn) (number : ℕ) (h : Handed) → is_restarted t.line.answer ≡ false → IsShown ts number h → IsShown (ts ++ t ∷ []) number h
-shown-more ts t number h on s = record {
+shown-more : (a : ℕ) (ts : List Turn) (t : Turn) (number : ℕ) (h : Handed) → is_restarted t.line.answer ≡ false → IsShown a ts number h → IsShown a (ts ++ t ∷ []) number h
+shown-more a ts t number h on s = record {
   line = s.line;
   handing = s.handing;
   there = subst (λ l. Contains l s.handing) (sym (life-push ts t on)) (Contains-append_left (last_life ts) (t ∷ []) s.handing s.there);
   handed = s.handed;
+  to = s.to;
   until = s.until;
   index = s.index;
   query = s.query;
@@ -133,7 +135,7 @@ acked-push ts t =
 pub record IsServing (configs : List Config) (a : ℕ) (ts : List Turn) (m : IdealNode) : Type 0 where
   pub settings : slice_get configs a ≡ Some m.agent.config
   pub handable : AreHandable m
-  pub shown : (number : ℕ) (h : Handed) → slice_get m.handed number ≡ Some (Some h) → IsShown ts number h
+  pub shown : (number : ℕ) (h : Handed) → slice_get m.handed number ≡ Some (Some h) → IsShown a ts number h
   pub acked : IsWithin (queries_in ts) (acked_in ts)
 
 -- ---- a turn
@@ -146,22 +148,22 @@ adds m sent action (makes_ack h handed packets) = inr (record { time = h.time; k
 adds m sent action (makes_reply agent number now payload h respond at replied packets in_time) = inl (ap (λ l. map query_answered (filter is_ack l)) packets)
 
 -- what can be answered after a turn
-record Slots (name : List ℕ) (ts : List Turn) (handed : List (Option Handed)) : Type 0 where
-  each : (number : ℕ) (h : Handed) → slice_get handed number ≡ Some (Some h) → IsHandable name h × IsShown ts number h
+record Slots (a : ℕ) (name : List ℕ) (ts : List Turn) (handed : List (Option Handed)) : Type 0 where
+  each : (number : ℕ) (h : Handed) → slice_get handed number ≡ Some (Some h) → IsHandable name h × IsShown a ts number h
 
 slots-more : (c : Cluster) (configs : List Config) (ts : List Turn) (action : Action) (b : ℕ) (m : IdealNode) → IsServing configs b ts m → Sends m action (apply m c.sent action).done
-    → (let o = apply m c.sent action in Slots m.agent.config.name (ts ++ (applied c action b o).turn ∷ []) (with_handed o.done.handed o.node).handed)
+    → (let o = apply m c.sent action in Slots b m.agent.config.name (ts ++ (applied c action b o).turn ∷ []) (with_handed o.done.handed o.node).handed)
 slots-more c configs ts action b m serving sends = by (apply m c.sent action).done.handed refl
   where
     turn : Turn
     turn = (applied c action b (apply m c.sent action)).turn
 
-    old : (number : ℕ) (h : Handed) → slice_get (apply m c.sent action).node.handed number ≡ Some (Some h) → IsHandable m.agent.config.name h × IsShown (ts ++ (applied c action b (apply m c.sent action)).turn ∷ []) number h
+    old : (number : ℕ) (h : Handed) → slice_get (apply m c.sent action).node.handed number ≡ Some (Some h) → IsHandable m.agent.config.name h × IsShown b (ts ++ (applied c action b (apply m c.sent action)).turn ∷ []) number h
     old number h is =
         let s = stood m action (packet_given c.sent action) (apply m c.sent action) (effect m c.sent action) number h is in
-        (serving.handable number h s.at, shown-more ts (applied c action b (apply m c.sent action)).turn number h s.on (serving.shown number h s.at))
+        (serving.handable number h s.at, shown-more b ts (applied c action b (apply m c.sent action)).turn number h s.on (serving.shown number h s.at))
 
-    new : (q : Handed) → (apply m c.sent action).done.handed ≡ Some q → IsShown (ts ++ (applied c action b (apply m c.sent action)).turn ∷ []) (length (apply m c.sent action).node.handed) q
+    new : (q : Handed) → (apply m c.sent action).done.handed ≡ Some q → IsShown b (ts ++ (applied c action b (apply m c.sent action)).turn ∷ []) (length (apply m c.sent action).node.handed) q
     new q some =
         let on = hands-on m action (packet_given c.sent action) (apply m c.sent action) (effect m c.sent action) q some in
         record {
@@ -169,22 +171,23 @@ slots-more c configs ts action b m serving sends = by (apply m c.sent action).do
           handing = (applied c action b (apply m c.sent action)).turn;
           there = subst (λ l. Contains l (applied c action b (apply m c.sent action)).turn) (sym (life-push ts (applied c action b (apply m c.sent action)).turn on)) (Contains-push (last_life ts) (applied c action b (apply m c.sent action)).turn);
           handed = ap (λ (h : Option Handed). option_map (handed_line b (length (apply m c.sent action).node.handed)) h) some;
+          to = refl;
           until = deadline-effect m action (packet_given c.sent action) (apply m c.sent action) (effect m c.sent action) q some;
           index = refl;
           query = refl;
         }
 
-    by : (d : Option Handed) → (apply m c.sent action).done.handed ≡ d → Slots m.agent.config.name (ts ++ (applied c action b (apply m c.sent action)).turn ∷ []) ((apply m c.sent action).node.handed ++ map (λ q. Some q) (option_to_list d))
+    by : (d : Option Handed) → (apply m c.sent action).done.handed ≡ d → Slots b m.agent.config.name (ts ++ (applied c action b (apply m c.sent action)).turn ∷ []) ((apply m c.sent action).node.handed ++ map (λ q. Some q) (option_to_list d))
     by None none = record { each = λ number h is. old number h (ap (λ l. slice_get l number) (sym (append-nil (apply m c.sent action).node.handed)) ∙ is) }
     by (Some q) some = record { each = λ number h is. one number h (pushed-at (apply m c.sent action).node.handed (Some q) number (Some h) is) }
       where
         one : (number : ℕ) (h : Handed) → (slice_get (apply m c.sent action).node.handed number ≡ Some (Some h)) ⊎ ((length (apply m c.sent action).node.handed ≡ number) × (Some q ≡ Some h))
-            → IsHandable m.agent.config.name h × IsShown (ts ++ (applied c action b (apply m c.sent action)).turn ∷ []) number h
+            → IsHandable m.agent.config.name h × IsShown b (ts ++ (applied c action b (apply m c.sent action)).turn ∷ []) number h
         one number h (inl before) = old number h before
         one number h (inr here) =
             let same : q ≡ h = cc here.1 in
-            subst (λ (h : Handed). IsHandable m.agent.config.name h × IsShown (ts ++ (applied c action b (apply m c.sent action)).turn ∷ []) number h) same
-            (sends.hands q some, subst (λ (n : ℕ). IsShown (ts ++ (applied c action b (apply m c.sent action)).turn ∷ []) n q) here.0 (new q some))
+            subst (λ (h : Handed). IsHandable m.agent.config.name h × IsShown b (ts ++ (applied c action b (apply m c.sent action)).turn ∷ []) number h) same
+            (sends.hands q some, subst (λ (n : ℕ). IsShown b (ts ++ (applied c action b (apply m c.sent action)).turn ∷ []) n q) here.0 (new q some))
 
 pub serving-more : (c : Cluster) (configs : List Config) (ts : List Turn) (action : Action) (b : ℕ) (m : IdealNode) → IsServing configs b ts m → Sends m action (apply m c.sent action).done → (apply m c.sent action).node.agent.config ≡ m.agent.config
     → AllPairs (λ x y. x ≢ y) (queries_in (ts ++ (applied c action b (apply m c.sent action)).turn ∷ []))

@@ -186,6 +186,7 @@ pub record IsReplyTo (configs : List Config) (before : List Turn) (turn : Turn) 
   pub handing : Turn
   pub there : Contains (life_of agent before) handing
   pub handed : handing.line.handed ≡ Some line
+  pub to : line.agent ≡ agent
   pub deadline : ℕ
   pub until : reply_deadline handing ≡ deadline ∷ []
   pub in_time : now ≤ deadline
