@@ -27,3 +27,4 @@ pub mod AnswerLaws
 pub mod AnswerPromiseLaws
 pub mod HandOutLaws
 pub mod WrongTurns
+pub mod AloneLaws

@@ -8,3 +8,4 @@ pub mod Queried
 pub mod AnswerPromises
 pub mod Bounds
 pub mod HandOuts
+pub mod Alone
