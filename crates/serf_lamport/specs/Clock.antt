@@ -1,5 +1,5 @@
 -- What a clock does with a time that comes from elsewhere: Serf's internals page, "Lamport Clocks".
-use Rattle.std.specs.Prelude.{ℕ, ◌+◌, max}
+use Rattle.std.specs.Prelude.{ℕ, ◌+◌, ◌-◌, ◌==◌, if◌then◌else◌, max}
 
 -- the clock after it has observed a time: above it, and no lower than before
 abbrev pub observed : ℕ → ℕ → ℕ
@@ -7,4 +7,4 @@ observed clock time = max clock (time + 1)
 
 -- the clock after it has observed the number before this one, and nothing at 0
 abbrev pub observed_before : ℕ → ℕ → ℕ
-observed_before clock value = max clock value
+observed_before clock value = if value == 0 then clock else observed clock (value - 1)

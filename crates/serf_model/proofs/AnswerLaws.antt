@@ -1,6 +1,6 @@
 -- Where the acks and responses of each run come from.
 use Rattle.std.proofs.Common.{◌≡◌, ◌≢◌, ℕ, List, [], ◌∷◌, ◌++◌, Option, Some, None, Result, Ok, Err, refl, sym, ap, subst, ◌∙◌, arith, map, length}
-use Rattle.std.specs.Prelude.{All, AllPairs, Contains, filter, slice_get}
+use Rattle.std.specs.Prelude.{All, AllPairs, Contains, filter, not, slice_get}
 use Rattle.std.specs.List.{flat_map}
 use Rattle.std.specs.Option.{option_map, option_to_list}
 use Rattle.std.proofs.lemmas.List.Elements.{All-nil, All-cons, All-head, All-tail}
@@ -12,7 +12,7 @@ use Rattle.serf_agent.specs.Handed.{Handed}
 use Rattle.serf_agent.specs.Queries.{is_ack}
 use Rattle.serf_model.specs.declared.action.Action.{Action}
 use Rattle.serf_model.specs.declared.action.Action.TheVariants as actions
-use Rattle.serf_model.specs.AnswerPromises.{AckedOnce, AnswersMade, IsMade, acked, injected, replied, acked_by, answer_brought, answers_in, query_answered}
+use Rattle.serf_model.specs.AnswerPromises.{AckedOnce, AnswersMade, IsMade, RepliedOnce, acked, injected, replied, acked_by, replied_by, answer_brought, answers_in, query_answered}
 use Rattle.serf_model.specs.Cluster.{IdealNode, Cluster, Run, applied, apply, after, handed_line, on_agent, start, step, step_by}
 use Rattle.serf_model.specs.Sizes.{HasSizes}
 use Rattle.serf_model.specs.Ready.{IsRepresentable}
@@ -24,12 +24,18 @@ use Rattle.serf_model.proofs.OnceLaws.{query-once}
 use Rattle.serf_model.proofs.RunLaws.{IsAfter, after-agent, all-at}
 use Rattle.serf_model.proofs.SendLaws.{Makes, Sends, makes_ack, makes_none, makes_reply, sends-apply}
 use Rattle.serf_model.proofs.HandedQueries.{IsServing, acked_in, serving-more}
+use Rattle.serf_model.proofs.ReplyLaws.{IsAwaiting, awaiting-more, awaiting-none, replied_in}
 use Rattle.serf_model.proofs.OpenQueryContents.{queries_in}
 use Rattle.serf_model.proofs.TurnLaws.{at_each_nil, at_each_push}
+
+-- what an agent can answer, and what it answered
+abbrev Awaits : ℕ → List Turn → IdealNode → Type 0
+Awaits a ts m = IsAwaiting ts m.handed
 
 -- what each agent has to answer, and where what was sent comes from
 pub record IsServed (configs : List Config) (c : Cluster) (turns : List Turn) : Type 0 where
   pub each : Each (IsServing configs) c turns
+  pub awaiting : Each Awaits c turns
   pub nobody : AreNobodys c turns
   pub made : AnswersMade configs turns
 
@@ -60,7 +66,7 @@ made-applied configs c turns action b m serving actor (makes_ack h handed packet
       ack = refl;
       empty = refl;
     }) (All-nil (IsMade configs turns (applied c action b (apply m c.sent action)).turn)))
-made-applied configs c turns action b m serving actor (makes_reply agent number now payload h respond at replies packets) =
+made-applied configs c turns action b m serving actor (makes_reply agent number now payload h respond at replies packets in_time) =
     let same : Some agent ≡ Some b = ap actor_of (sym respond) ∙ actor in
     let mine : agent ≡ b = cc same in
     let shown = serving.shown number h at in
@@ -74,7 +80,13 @@ made-applied configs c turns action b m serving actor (makes_reply agent number 
       replied = replies;
       from = record { config = m.agent.config; settings = serving.settings; name = handable.node_is };
       line = shown.line;
-      handed = subst (λ l. Contains (flat_map (λ t. option_to_list t.line.handed) l) shown.line) (sym (own_life b turns)) shown.there;
+      handing = shown.handing;
+      there = subst (λ l. Contains l shown.handing) (sym (own_life b turns)) shown.there;
+      handed = shown.handed;
+      to = shown.to;
+      deadline = h.deadline;
+      until = shown.until;
+      in_time = in_time;
       index = shown.index;
       query = shown.query;
       ack = refl;
@@ -96,17 +108,7 @@ made-injected configs turns turn bytes (Ok (foreign kind)) action is = All-nil (
 
 made-none : (configs : List Config) (c : Cluster) (turns : List Turn) (action : Action) → MadeAt configs turns (step_by c action None).turn
 made-none configs c turns (actions.Inject bytes) = made-injected configs turns (step_by c (actions.Inject bytes) None).turn bytes (decoded bytes) refl refl
-made-none configs c turns (actions.Fire agent name payload coalesce) = All-nil _
-made-none configs c turns (actions.Deliver to packet now) = All-nil _
-made-none configs c turns (actions.State agent) = All-nil _
-made-none configs c turns (actions.Merge to packet join) = All-nil _
-made-none configs c turns (actions.Query agent now id name payload params) = All-nil _
-made-none configs c turns (actions.Respond agent h now payload) = All-nil _
-made-none configs c turns (actions.Restart agent tail) = All-nil _
-made-none configs c turns (actions.Break agent call n) = All-nil _
-made-none configs c turns (actions.Close agent now) = All-nil _
-made-none configs c turns (actions.Save agent) = All-nil _
-made-none configs c turns (actions.Compact agent) = All-nil _
+made-none configs c turns _ = All-nil _
 
 made-by : (configs : List Config) (c : Cluster) (turns : List Turn) (action : Action) (o : Option ℕ) → IsAfter c turns → IsServed configs c turns → HasSizes action → actor_of action ≡ o → MadeAt configs turns (step_by c action o).turn
 made-by configs c turns action None h served ranged actor = made-none configs c turns action
@@ -122,8 +124,11 @@ once-after c turns action b m h actor at =
 pub served-step : (configs : List Config) (r : Run) (action : Action) → HasSizes action → IsAfter r.cluster r.turns → IsServed configs r.cluster r.turns → IsServed configs (after r action).cluster (after r action).turns
 served-step configs r action ranged h served = record {
   each = each-step (IsServing configs) r action served.each
-      (λ b m actor at p. serving-more r.cluster configs (turns_by b r.turns) action b m p (sends-at configs r.cluster r.turns action b m h served ranged at) (keeps-apply m r.cluster.sent action).config
+      (λ b m actor at p. serving-more r.cluster configs (turns_by b r.turns) action b m p (sends-at configs r.cluster r.turns action b m h served ranged at)
+      (keeps-apply m r.cluster.sent action (representable-at r.cluster r.turns b m h at).consistent.sound).config
       (once-after r.cluster r.turns action b m h actor at));
+  awaiting = each-step Awaits r action served.awaiting
+      (λ b m actor at p. awaiting-more r.cluster (turns_by b r.turns) action b m p (sends-at configs r.cluster r.turns action b m h served ranged at).makes (once-after r.cluster r.turns action b m h actor at));
   nobody = nobodys-step r action served.nobody;
   made = at_each_push (MadeAt configs) r.turns (step r.cluster action).turn served.made (made-by configs r.cluster r.turns action (actor_of action) h served ranged refl);
 }
@@ -136,6 +141,7 @@ served-start configs = record {
     shown = λ number h is. absurd (cc is);
     acked = record { within = All-nil _; once = λ i j d lt within. absurd (omega arith) };
   });
+  awaiting = each-start Awaits configs (λ a config at. awaiting-none);
   nobody = nobodys-start configs;
   made = at_each_nil (MadeAt configs);
 }
@@ -154,3 +160,16 @@ acked-once configs c turns h a = by (slice_get c.nodes a) refl
     by : (r : Option IdealNode) → slice_get c.nodes a ≡ r → AllPairs (λ x y. x ≢ y) (acked_by a turns)
     by None none = subst (AllPairs (λ x y. x ≢ y)) (sym (refused-acks (turns_by a turns) (h.nobody a none))) (λ i j d lt within. absurd (omega arith))
     by (Some m) at = (h.each a m at).acked.once
+
+refused-replies : (ts : List Turn) → All IsRefused ts → replied_in ts ≡ []
+refused-replies [] all = refl
+refused-replies (t ∷ ts) all =
+    let first = All-head IsRefused t ts all in
+    ap (λ ps. map query_answered (filter (λ r. not (is_ack r)) (answers_in ps ++ flat_map (λ t. answers_in t.packets) ts))) first.packets ∙ refused-replies ts (All-tail IsRefused t ts all)
+
+pub replied-once : (configs : List Config) (c : Cluster) (turns : List Turn) → IsServed configs c turns → RepliedOnce turns
+replied-once configs c turns h a = by (slice_get c.nodes a) refl
+  where
+    by : (r : Option IdealNode) → slice_get c.nodes a ≡ r → AllPairs (λ x y. x ≢ y) (replied_by a turns)
+    by None none = subst (AllPairs (λ x y. x ≢ y)) (sym (refused-replies (turns_by a turns) (h.nobody a none))) (λ i j d lt within. absurd (omega arith))
+    by (Some m) at = (h.awaiting a m at).replied.once

@@ -1,5 +1,5 @@
 -- What enters at an agent in one life is bounded by its settings, in every run.
-use Rattle.std.proofs.Common.{zero, suc, ◌≡◌, ℕ, ◌*◌, ◌≤◌, ◌==◌, ◌&&◌, inl, inr, Bool, true, false, cond, List, [], ◌∷◌, ◌++◌, Option, Some, None, refl, sym, ap, subst, ◌∙◌, arith, map, length, set, get_or, ◌%◌}
+use Rattle.std.proofs.Common.{zero, suc, ◌≡◌, ℕ, ◌+◌, ◌*◌, ◌≤◌, ◌==◌, ◌&&◌, inl, inr, Bool, true, false, cond, List, [], ◌∷◌, ◌++◌, Option, Some, None, refl, sym, ap, subst, ◌∙◌, arith, map, length, set, get_or, ◌%◌}
 use Rattle.std.specs.Prelude.{slice_get}
 use Rattle.std.specs.List.{filter, range_with_len}
 use Rattle.std.specs.Option.{option_map}
@@ -14,16 +14,14 @@ use Rattle.serf_agent.specs.declared.config.Config.{Config}
 use Rattle.serf_agent.specs.Ideal.{IdealAgent}
 use Rattle.serf_agent.specs.Tracks.{of_life}
 use Rattle.serf_model.specs.declared.action.Action.{Action}
-use Rattle.serf_model.specs.declared.action.Action.TheVariants as actions
 use Rattle.serf_model.specs.declared.line.EventLine.{EventLine}
 use Rattle.serf_model.specs.Bounds.{AtMostOfOneTime, EventsBounded, IsBounded, QueriesBounded, events_of_life, is_restarted, lived_on, present_life, queries_of_life, reopens}
 use Rattle.serf_model.specs.Cluster.{Applied, Cluster, IdealNode, Run, Stepped, applied, apply, after, first_node, on_agent, run_of, start, step, step_by, with_handed}
 use Rattle.serf_model.specs.Ready.{IsRepresentable}
 use Rattle.serf_model.specs.Runs.{AreConfigs}
 use Rattle.serf_model.specs.Trace.{Turn, actor_of, entered_by, event_in, events_to, is_agent, packet_given, queries_at}
-use Rattle.serf_model.proofs.HistoryGrowth.{entries, keeps-apply}
-use Rattle.serf_model.proofs.PerTimeBound.{GoesOn, enters-entries, goes-apply, none-of-next}
-use Rattle.serf_model.proofs.OpenLaws.{opening-restarts, opens-apply}
+use Rattle.serf_model.proofs.HistoryGrowth.{Keeps, keeps-apply}
+use Rattle.serf_model.proofs.PerTimeBound.{Enters, enters-life, enters-next}
 use Rattle.serf_model.proofs.RunLaws.{IsAfter, added, after-step, all-at, by-push, events_to-push, lines-other, lines-same, slice_get-set_other, slice_get-set_same}
 use Rattle.serf_model.proofs.StartLaws.{after-start}
 use Rattle.serf_model.proofs.TurnLaws.{at_each_nil, at_each_push, fold_keeps}
@@ -117,21 +115,20 @@ lived-other configs turns turn a r h goes none no_query = record {
 }
 
 -- a turn of this agent, in the same life
-lived-same : (configs : List Config) (turns : List Turn) (turn : Turn) (a : ℕ) (m n : IdealNode) → IsLivedAt configs turns a (Some m) → reopens a turn ≡ false → GoesOn m.agent n.agent
-    → entries n.agent.events.history ≡ entries m.agent.events.history ++ handed a turn → entries n.agent.queries.history ≡ entries m.agent.queries.history ++ added entered a turn → IsLivedAt configs (turns ++ turn ∷ []) a (Some n)
-lived-same configs turns turn a m n h same goes events queries =
+lived-same : (configs : List Config) (turns : List Turn) (turn : Turn) (a : ℕ) (m n : IdealNode) → IsLivedAt configs turns a (Some m) → reopens a turn ≡ false → n.agent.life ≡ m.agent.life → n.agent.config ≡ m.agent.config
+    → Enters m.agent.life m.agent.config.per_time m.agent.events.history n.agent.events.history (handed a turn) → Enters m.agent.life m.agent.config.per_time m.agent.queries.history n.agent.queries.history (added entered a turn)
+    → IsLivedAt configs (turns ++ turn ∷ []) a (Some n)
+lived-same configs turns turn a m n h same life config events queries =
     let i : IdealAgent = m.agent in
     let j : IdealAgent = n.agent in
     record {
-      config = ap (λ (c : Config). Some c) goes.config ∙ h.config;
-      events = ap (λ l. of_life l j.events.history) goes.life ∙ enters-entries i.life i.config.per_time i.events.history j.events.history (handed a turn) goes.events events
-          ∙ ap (λ l. l ++ handed a turn) h.events ∙ sym (events-on a turns turn same);
-      queries = ap (λ l. of_life l j.queries.history) goes.life ∙ enters-entries i.life i.config.per_time i.queries.history j.queries.history (added entered a turn) goes.queries queries
-          ∙ ap (λ l. l ++ added entered a turn) h.queries ∙ sym (queries-on a turns turn same);
-      few_events = subst (λ (c : Config). AtMostOfOneTime c.per_time (of_life j.life j.events.history)) (sym goes.config)
-          (subst (λ (l : ℕ). AtMostOfOneTime i.config.per_time (of_life l j.events.history)) (sym goes.life) (goes.events.bounded h.few_events));
-      few_queries = subst (λ (c : Config). AtMostOfOneTime c.per_time (of_life j.life j.queries.history)) (sym goes.config)
-          (subst (λ (l : ℕ). AtMostOfOneTime i.config.per_time (of_life l j.queries.history)) (sym goes.life) (goes.queries.bounded h.few_queries));
+      config = ap (λ (c : Config). Some c) config ∙ h.config;
+      events = ap (λ l. of_life l j.events.history) life ∙ enters-life events ∙ ap (λ l. l ++ handed a turn) h.events ∙ sym (events-on a turns turn same);
+      queries = ap (λ l. of_life l j.queries.history) life ∙ enters-life queries ∙ ap (λ l. l ++ added entered a turn) h.queries ∙ sym (queries-on a turns turn same);
+      few_events = subst (λ (c : Config). AtMostOfOneTime c.per_time (of_life j.life j.events.history)) (sym config)
+          (subst (λ (l : ℕ). AtMostOfOneTime i.config.per_time (of_life l j.events.history)) (sym life) (events.bounded h.few_events));
+      few_queries = subst (λ (c : Config). AtMostOfOneTime c.per_time (of_life j.life j.queries.history)) (sym config)
+          (subst (λ (l : ℕ). AtMostOfOneTime i.config.per_time (of_life l j.queries.history)) (sym life) (queries.bounded h.few_queries));
     }
 
 few-none : {K : Type 0} (k : ℕ) (es : List (TimedEntry K)) → es ≡ [] → AtMostOfOneTime k es
@@ -172,31 +169,33 @@ lived-still configs c turns s h nodes goes none no_query a =
     (ap (λ l. cond (is_agent a (actor_of s.turn.action)) l []) no_query ∙ none-either (is_agent a (actor_of s.turn.action))))
 
 -- the turn of the agent that acts
-abbrev OwnAct : List Config → Cluster → List Turn → ℕ → IdealNode → Action → Type 0
-OwnAct configs c turns b m action =
-    (let o = apply m c.sent action in IsLivedAt configs (turns ++ (applied c action b o).turn ∷ []) b (Some (with_handed o.done.handed o.node)))
-
-own-restart : (configs : List Config) (c : Cluster) (turns : List Turn) (b : ℕ) (m : IdealNode) (tail : List ℕ) → IsRepresentable m.agent → IsLivedAt configs turns b (Some m) → OwnAct configs c turns b m (actions.Restart b tail)
-own-restart configs c turns b m tail representable h =
-    let s = representable.consistent.sound in
-    lived-anew configs turns _ b m _ h (ap (λ x. x && true) (eq-eqb b b refl)) refl (none-of-next m.agent.life m.agent.events.history s.events.lives) (none-of-next m.agent.life m.agent.queries.history s.queries.lives)
-
-own-act : (configs : List Config) (c : Cluster) (turns : List Turn) (b : ℕ) (m : IdealNode) (action : Action) → IsRepresentable m.agent → actor_of action ≡ Some b → IsLivedAt configs turns b (Some m) → OwnAct configs c turns b m action
-own-act configs c turns b m action representable actor h = by (is_restarted (apply m c.sent action).done.answer) refl
+own-act : (configs : List Config) (c : Cluster) (turns : List Turn) (b : ℕ) (m : IdealNode) (action : Action) → IsRepresentable m.agent → actor_of action ≡ Some b → IsLivedAt configs turns b (Some m)
+    → (let o = apply m c.sent action in IsLivedAt configs (turns ++ (applied c action b o).turn ∷ []) b (Some (with_handed o.done.handed o.node)))
+own-act configs c turns b m action representable actor h = by (is_restarted o.done.answer) refl
   where
-    anew : (agent : ℕ) (tail : List ℕ) → action ≡ actions.Restart agent tail → OwnAct configs c turns b m action
-    anew agent tail is =
-        let same : agent ≡ b = let e : Some agent ≡ Some b = sym (ap actor_of is) ∙ actor in cc in
-        subst (OwnAct configs c turns b m) (sym (is ∙ ap (λ n. actions.Restart n tail) same)) (own-restart configs c turns b m tail representable h)
+    o : Applied
+    o = apply m c.sent action
 
-    by : (x : Bool) → is_restarted (apply m c.sent action).done.answer ≡ x → OwnAct configs c turns b m action
-    by true opening = opening-restarts (OwnAct configs c turns b m action) m.agent (apply m c.sent action).node.agent action (packet_given c.sent action) (apply m c.sent action).done.answer (opens-apply m c.sent action) opening anew
+    turn : Turn
+    turn = (applied c action b (apply m c.sent action)).turn
+
+    k : (let o = apply m c.sent action in Keeps m.agent o.node.agent o.done (entered_by action (packet_given c.sent action) o.done.answer))
+    k = keeps-apply m c.sent action representable.consistent.sound
+
+    mine : is_agent b (actor_of action) ≡ true
+    mine = ap (is_agent b) actor ∙ eq-eqb b b refl
+
+    by : (x : Bool) → is_restarted (apply m c.sent action).done.answer ≡ x
+        → (let o = apply m c.sent action in IsLivedAt configs (turns ++ (applied c action b o).turn ∷ []) b (Some (with_handed o.done.handed o.node)))
+    by true opening =
+        let life = k.life ∙ ap (λ x. cond x (m.agent.life + 1) m.agent.life) opening in
+        let s = representable.consistent.sound in
+        lived-anew configs turns turn b m _ h (ap (λ x. is_agent b (actor_of action) && x) opening ∙ ap (λ x. x && true) mine) k.config
+        (ap (λ l. of_life l o.node.agent.events.history) life ∙ enters-next s.events.lives k.events) (ap (λ l. of_life l o.node.agent.queries.history) life ∙ enters-next s.queries.lives k.queries)
     by false goes =
-        let k = keeps-apply m c.sent action in
-        let mine : (b == b) ≡ true = eq-eqb b b refl in
-        lived-same configs turns (applied c action b (apply m c.sent action)).turn b m _ h (ap (λ x. is_agent b (actor_of action) && x) goes ∙ and-false (is_agent b (actor_of action))) (goes-apply m c.sent action representable.consistent.sound goes)
-        (k.events ∙ ap (λ l. entries m.agent.events.history ++ l) (sym (lines-same b b (apply m c.sent action).done.events mine)))
-        (k.queries ∙ ap (λ x. entries m.agent.queries.history ++ cond x (entered_by action (packet_given c.sent action) (apply m c.sent action).done.answer) []) (sym (ap (is_agent b) actor ∙ mine)))
+        lived-same configs turns turn b m _ h (ap (λ x. is_agent b (actor_of action) && x) goes ∙ and-false (is_agent b (actor_of action))) (k.life ∙ ap (λ x. cond x (m.agent.life + 1) m.agent.life) goes) k.config
+        (subst (Enters m.agent.life m.agent.config.per_time m.agent.events.history o.node.agent.events.history) (sym (lines-same b b o.done.events (eq-eqb b b refl))) k.events)
+        (subst (Enters m.agent.life m.agent.config.per_time m.agent.queries.history o.node.agent.queries.history) (sym (ap (λ x. cond x (entered turn) []) mine)) k.queries)
 
 lived-applied : (configs : List Config) (c : Cluster) (turns : List Turn) (action : Action) (b : ℕ) (m : IdealNode) → IsAfter c turns → IsLived configs c turns → actor_of action ≡ Some b → slice_get c.nodes b ≡ Some m
     → (let s = applied c action b (apply m c.sent action) in IsLived configs s.cluster (turns ++ s.turn ∷ []))
@@ -213,8 +212,7 @@ lived-applied configs c turns action b m is h actor at a = by (b == a) refl
 
     by : (t : Bool) → (b == a) ≡ t → IsLivedAt configs (turns ++ (applied c action b (apply m c.sent action)).turn ∷ []) a (slice_get (set c.nodes b (with_handed (apply m c.sent action).done.handed (apply m c.sent action).node)) a)
     by true t =
-        let own : OwnAct configs c turns b m action =
-        own-act configs c turns b m action (all-at (λ m. IsRepresentable m.agent) c.nodes b m is.representable at) actor (subst (IsLivedAt configs turns b) at (h b)) in
+        let own = own-act configs c turns b m action (all-at (λ m. IsRepresentable m.agent) c.nodes b m is.representable at) actor (subst (IsLivedAt configs turns b) at (h b)) in
         subst (λ (n : ℕ). IsLivedAt configs (turns ++ turn ∷ []) n (slice_get (set c.nodes b new) n)) (eqb-true b a t)
         (subst (IsLivedAt configs (turns ++ turn ∷ []) b) (sym (slice_get-set_same c.nodes b m new at)) own)
     by false t =

@@ -9,14 +9,14 @@ use Rattle.serf_agent.specs.declared.config.Config.{Config}
 use Rattle.serf_model.specs.declared.action.Action.{Action}
 use Rattle.serf_model.specs.declared.action.Action.TheVariants as actions
 use Rattle.serf_model.specs.AnswerPromises.{CountedInTime, CountedOnce, CountedSent, HoldsCounted, IsAwaited, IsDelivered, OpenQueriesHold, answer_brought, answers_in, as_fired, counted_at, counted_by, is_counted, life_of, own_queries}
-use Rattle.serf_model.specs.Cluster.{IdealNode, Cluster, Run, applied, apply, after, on_agent, start, step, step_by}
+use Rattle.serf_model.specs.Cluster.{IdealNode, Cluster, Run, applied, apply, after, line_of, on_agent, start, step, step_by}
 use Rattle.serf_model.specs.Ready.{IsRepresentable}
 use Rattle.serf_model.specs.Trace.{Turn, actor_of, packet_given, turns_by}
 use Rattle.serf_model.proofs.PerAgent.{Each, AreNobodys, IsRefused, each-step, each-start, nobodys-step, nobodys-start}
 use Rattle.serf_model.proofs.PresentLife.{last_life, own_life}
-use Rattle.serf_model.proofs.OpenLaws.{opens-apply}
+use Rattle.serf_model.proofs.Effects.{effect}
 use Rattle.serf_model.proofs.RunLaws.{IsAfter, all-at, queries_of}
-use Rattle.serf_model.proofs.OpenQueryContents.{IsOpen, IsTallied, Tells, counted_in, tallied-step, tells}
+use Rattle.serf_model.proofs.OpenQueryContents.{IsOpen, IsTallied, Tells, counted_in, tallied-effect, tells-effect}
 use Rattle.serf_model.proofs.TurnLaws.{at_each_nil, at_each_push}
 
 -- what each agent's turns counted
@@ -46,7 +46,9 @@ representable-at : (c : Cluster) (turns : List Turn) (b : ℕ) (m : IdealNode) �
 representable-at c turns b m h at = all-at (λ m. IsRepresentable m.agent) c.nodes b m h.representable at
 
 tells-at : (c : Cluster) (turns : List Turn) (action : Action) (b : ℕ) (m : IdealNode) (ack : Bool) → IsCounting c turns → slice_get c.nodes b ≡ Some m → (let t = (applied c action b (apply m c.sent action)).turn in is_counted ack t.line.answer ≡ true → Tells (turns_by b turns) t ack)
-tells-at c turns action b m ack h at counted = tells (turns_by b turns) (applied c action b (apply m c.sent action)).turn m.agent (apply m c.sent action).node.agent ack (h.each b m at) (opens-apply m c.sent action) counted
+tells-at c turns action b m ack h at counted =
+    let o = apply m c.sent action in
+    tells-effect (turns_by b turns) m action (packet_given c.sent action) o (line_of c b o) o.done.packets ack (effect m c.sent action) refl (h.each b m at) counted
 
 sent-agent : (c : Cluster) (turns : List Turn) (action : Action) (b : ℕ) (r : Option IdealNode) → IsAfter c turns → IsCounting c turns → slice_get c.nodes b ≡ r → SentAt turns (on_agent c action b r).turn
 sent-agent c turns action b None after h at ack counted = absurd (cc counted)
@@ -95,8 +97,9 @@ in_time-by c turns action (Some b) h actor = in_time-agent c turns action b (sli
 pub counting-step : (r : Run) (action : Action) → IsAfter r.cluster r.turns → IsCounting r.cluster r.turns → IsCounting (after r action).cluster (after r action).turns
 counting-step r action h all = record {
   each = each-step (λ a ts m. IsTallied ts m.agent) r action all.each
-      (λ b m actor at p. tallied-step (turns_by b r.turns) (applied r.cluster action b (apply m r.cluster.sent action)).turn m.agent (apply m r.cluster.sent action).node.agent (representable-at r.cluster r.turns b m h at)
-      (ap queries_of (sym at) ∙ h.queries b) p (opens-apply m r.cluster.sent action));
+      (λ b m actor at p.
+      let o = apply m r.cluster.sent action in
+      tallied-effect (turns_by b r.turns) m action (packet_given r.cluster.sent action) o (line_of r.cluster b o) o.done.packets (effect m r.cluster.sent action) refl (representable-at r.cluster r.turns b m h at) (ap queries_of (sym at) ∙ h.queries b) p);
   nobody = nobodys-step r action all.nobody;
   sent = at_each_push SentAt r.turns (step r.cluster action).turn all.sent (sent-by r.cluster r.turns action (actor_of action) h all);
   in_time = at_each_push InTimeAt r.turns (step r.cluster action).turn all.in_time (in_time-by r.cluster r.turns action (actor_of action) all refl);

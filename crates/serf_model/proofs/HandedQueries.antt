@@ -1,5 +1,5 @@
 -- Which queries an agent can answer, and which it acked.
-use Rattle.std.proofs.Common.{zero, suc, ◌≡◌, ◌≢◌, ℕ, ◌⊎◌, inl, inr, Bool, true, false, cond, List, [], ◌∷◌, ◌++◌, length, Option, Some, None, refl, sym, ap, subst, ◌∙◌, map, set}
+use Rattle.std.proofs.Common.{zero, suc, ◌≡◌, ◌≢◌, ℕ, ◌⊎◌, inl, inr, true, false, cond, List, [], ◌∷◌, ◌++◌, length, Option, Some, None, refl, sym, ap, subst, ◌∙◌, map, set}
 use Rattle.std.specs.Prelude.{All, AllPairs, Contains, filter, slice_get}
 use Rattle.std.specs.List.{flat_map}
 use Rattle.std.specs.Option.{option_map, option_to_list}
@@ -7,23 +7,22 @@ use Rattle.std.proofs.lemmas.List.{append-nil, map-append}
 use Rattle.std.proofs.lemmas.List.Elements.{All-push, All-weaker, Contains-append_left, Contains-push, filter-append}
 use Rattle.std.proofs.lemmas.List.Quantifiers.{all_pairs_push}
 use Rattle.std.proofs.lemmas.List.Sums.{fold_push}
-use Rattle.serf_wire.specs.Message.{QueryResponse}
+use Rattle.serf_wire.specs.Message.{Query, QueryResponse}
 use Rattle.serf_window.specs.Window.{TimedEntry}
 use Rattle.serf_agent.specs.declared.config.Config.{Config}
-use Rattle.serf_agent.specs.declared.outcome.RespondFault.{RespondFault}
 use Rattle.serf_agent.specs.Handed.{Handed}
-use Rattle.serf_agent.specs.Queries.{is_ack, respond_fault}
+use Rattle.serf_agent.specs.Queries.{deadline_of, is_ack, query_at}
 use Rattle.serf_model.specs.declared.action.Action.{Action}
-use Rattle.serf_model.specs.declared.action.Action.TheVariants as actions
 use Rattle.serf_model.specs.declared.line.HandedLine.{HandedLine}
-use Rattle.serf_model.specs.AnswerPromises.{answers_in, query_answered}
+use Rattle.serf_model.specs.AnswerPromises.{answers_in, query_answered, reply_deadline}
 use Rattle.serf_model.specs.Bounds.{is_restarted}
-use Rattle.serf_model.specs.Cluster.{IdealNode, Cluster, applied, apply, handed_line, responds, responds_as, with_handed}
+use Rattle.serf_model.specs.Cluster.{Applied, Cluster, Done, IdealNode, applied, apply, handed_line, with_handed}
 use Rattle.serf_model.specs.Trace.{Turn, entered_by, handed_in, packet_given}
-use Rattle.serf_model.proofs.HistoryGrowth.{delivers-handed, merges-handed}
+use Rattle.serf_model.specs.HandOuts.{query_message}
 use Rattle.serf_model.proofs.HandedLaws.{fresh-last, hands-apply}
+use Rattle.serf_model.proofs.HandOutLaws.{passed-on}
 use Rattle.serf_model.proofs.PresentLife.{last_life, lives_on}
-use Rattle.serf_model.proofs.OpenLaws.{opening-restarts, opens-apply}
+use Rattle.serf_model.proofs.Effects.{Effect, asks, counts, effect, hears, idle-enters, is_asked, reopens, replies}
 use Rattle.serf_model.proofs.SendLaws.{AreHandable, IsHandable, Makes, Sends, makes_none, makes_ack, makes_reply}
 use Rattle.serf_model.proofs.OpenQueryContents.{queries_in}
 use Rattle.serf_model.proofs.TurnLaws.{flat_map-push}
@@ -31,14 +30,14 @@ use Rattle.serf_model.proofs.TurnLaws.{flat_map-push}
 -- ---- lists
 
 -- what stands in a list with one more
-pushed-at : {X : Type 0} (xs : List X) (y : X) (k : ℕ) (x : X) → slice_get (xs ++ y ∷ []) k ≡ Some x → (slice_get xs k ≡ Some x) ⊎ ((length xs ≡ k) × (y ≡ x))
+pub pushed-at : {X : Type 0} (xs : List X) (y : X) (k : ℕ) (x : X) → slice_get (xs ++ y ∷ []) k ≡ Some x → (slice_get xs k ≡ Some x) ⊎ ((length xs ≡ k) × (y ≡ x))
 pushed-at [] y zero x is = let same : y ≡ x = cc is in inr (refl, same)
 pushed-at [] y (suc k) x is = absurd (cc is)
 pushed-at (z ∷ zs) y zero x is = inl is
 pushed-at (z ∷ zs) y (suc k) x is = elim (pushed-at zs y k x is) [ inl h ↦ inl h | inr h ↦ inr (ap (λ n. suc n) h.0, h.1) ]
 
 -- what still stands where something was taken out
-left-at : {X : Type 0} (xs : List (Option X)) (j k : ℕ) (x : X) → slice_get (set xs j None) k ≡ Some (Some x) → slice_get xs k ≡ Some (Some x)
+pub left-at : {X : Type 0} (xs : List (Option X)) (j k : ℕ) (x : X) → slice_get (set xs j None) k ≡ Some (Some x) → slice_get xs k ≡ Some (Some x)
 left-at [] j k x is = absurd (cc is)
 left-at (y ∷ ys) zero zero x is = absurd (cc is)
 left-at (y ∷ ys) zero (suc k) x is = is
@@ -50,7 +49,7 @@ pub record IsWithin {X : Type 0} (all some : List X) : Type 0 where
   pub within : All (Contains all) some
   pub once : AllPairs (λ x y. x ≢ y) some
 
-within-more : {X : Type 0} (all some one new : List X) → IsWithin all some → AllPairs (λ x y. x ≢ y) (all ++ one) → (new ≡ []) ⊎ ((x : X) × (new ≡ x ∷ []) × (one ≡ x ∷ [])) → IsWithin (all ++ one) (some ++ new)
+pub within-more : {X : Type 0} (all some one new : List X) → IsWithin all some → AllPairs (λ x y. x ≢ y) (all ++ one) → (new ≡ []) ⊎ ((x : X) × (new ≡ x ∷ []) × (one ≡ x ∷ [])) → IsWithin (all ++ one) (some ++ new)
 within-more all some one new h once (inl none) =
     subst (IsWithin (all ++ one)) (sym (ap (λ l. some ++ l) none ∙ append-nil some))
     (record { within = All-weaker (Contains all) (Contains (all ++ one)) (λ x c. Contains-append_left all one x c) some h.within; once = h.once })
@@ -67,67 +66,60 @@ within-more {X} all some one new h once (inr adds) =
 -- ---- what an action leaves of the queries that can be answered
 
 -- this one stood there before, and no life begins
-record Stood (m : IdealNode) (action : Action) (number : ℕ) (h : Handed) : Type 0 where
-  at : slice_get m.handed number ≡ Some (Some h)
-  goes : (agent : ℕ) (tail : List ℕ) → action ≡ actions.Restart agent tail → ⊥
+pub record Stood (m : IdealNode) (done : Done) (number : ℕ) (h : Handed) : Type 0 where
+  pub at : slice_get m.handed number ≡ Some (Some h)
+  pub on : is_restarted done.answer ≡ false
 
-stood-responds : (m : IdealNode) (number now : ℕ) (payload : List ℕ) (q : Option (Option Handed)) (k : ℕ) (h : Handed) → slice_get (responds m number q now payload).node.handed k ≡ Some (Some h) → slice_get m.handed k ≡ Some (Some h)
-stood-responds m number now payload None k h is = is
-stood-responds m number now payload (Some None) k h is = is
-stood-responds m number now payload (Some (Some q)) k h is = by (respond_fault q now payload) is
-  where
-    by : (r : Option RespondFault) → slice_get (responds_as r m number q payload).node.handed k ≡ Some (Some h) → slice_get m.handed k ≡ Some (Some h)
-    by (Some fault) is = is
-    by None is = left-at m.handed number k h is
-
-stood : (m : IdealNode) (sent : List (List ℕ)) (action : Action) (k : ℕ) (h : Handed) → slice_get (apply m sent action).node.handed k ≡ Some (Some h) → Stood m action k h
-stood m sent (actions.Fire agent name payload coalesce) k h is = record { at = is; goes = λ a t e. cc }
-stood m sent (actions.Deliver to packet now) k h is = record { at = ap (λ l. slice_get l k) (sym (delivers-handed m now (slice_get sent packet))) ∙ is; goes = λ a t e. cc }
-stood m sent (actions.State agent) k h is = record { at = is; goes = λ a t e. cc }
-stood m sent (actions.Merge to packet join) k h is = record { at = ap (λ l. slice_get l k) (sym (merges-handed m join (slice_get sent packet))) ∙ is; goes = λ a t e. cc }
-stood m sent (actions.Query agent now id name payload params) k h is = record { at = is; goes = λ a t e. cc }
-stood m sent (actions.Respond agent number now payload) k h is = record { at = stood-responds m number now payload (slice_get m.handed number) k h is; goes = λ a t e. cc }
-stood m sent (actions.Restart agent tail) k h is = absurd (cc is)
-stood m sent (actions.Break agent call n) k h is = record { at = is; goes = λ a t e. cc }
-stood m sent (actions.Inject bytes) k h is = record { at = is; goes = λ a t e. cc }
-stood m sent (actions.Close agent now) k h is = record { at = is; goes = λ a t e. cc }
-stood m sent (actions.Save agent) k h is = record { at = is; goes = λ a t e. cc }
-stood m sent (actions.Compact agent) k h is = record { at = is; goes = λ a t e. cc }
-
--- a life that such an action doesn't begin goes on
-goes-on : (m : IdealNode) (sent : List (List ℕ)) (action : Action) → ((agent : ℕ) (tail : List ℕ) → action ≡ actions.Restart agent tail → ⊥) → is_restarted (apply m sent action).done.answer ≡ false
-goes-on m sent action goes = by (is_restarted (apply m sent action).done.answer) refl
-  where
-    by : (b : Bool) → is_restarted (apply m sent action).done.answer ≡ b → b ≡ false
-    by true opening = absurd (opening-restarts ⊥ m.agent (apply m sent action).node.agent action (packet_given sent action) (apply m sent action).done.answer (opens-apply m sent action) opening goes)
-    by false opening = refl
+pub stood : (m : IdealNode) (action : Action) (given : Option (List ℕ)) (o : Applied) → Effect m action given o → (k : ℕ) (h : Handed) → slice_get o.node.handed k ≡ Some (Some h) → Stood m o.done k h
+stood m action given o (hears j outs answer heard idle) k h is = record { at = is; on = (idle-enters m.agent action given answer idle).1 }
+stood m action given o (counts to number now packet r q true reads at none kind) k h is = record { at = is; on = refl }
+stood m action given o (replies agent number now payload q at may) k h is = record { at = left-at m.handed number k h is; on = refl }
+stood m action given o (reopens agent tail) k h is = absurd (cc is)
+stood m action given o _ k h is = record { at = is; on = refl }
 
 -- where a query is handed out no life begins
-hands-on : (m : IdealNode) (sent : List (List ℕ)) (action : Action) (h : Handed) → (apply m sent action).done.handed ≡ Some h → is_restarted (apply m sent action).done.answer ≡ false
-hands-on m sent action h is = goes-on m sent action (λ agent tail restart. let no : None ≡ Some h = ap (λ (a : Action). (apply m sent a).done.handed) (sym restart) ∙ is in cc)
+hands-on : (m : IdealNode) (action : Action) (given : Option (List ℕ)) (o : Applied) → Effect m action given o → (h : Handed) → o.done.handed ≡ Some h → is_restarted o.done.answer ≡ false
+hands-on m action given o (asks agent now id name payload params may) h is = refl
+hands-on m action given o (is_asked to number packet now q reads new) h is = refl
+hands-on m action given o _ h is = absurd (cc is)
 
 -- ---- an agent and its turns
 
-abbrev handed_lines : List Turn → List HandedLine
-handed_lines ts = flat_map (λ t. option_to_list t.line.handed) ts
+life-push : (ts : List Turn) (t : Turn) → is_restarted t.line.answer ≡ false → last_life (ts ++ t ∷ []) ≡ last_life ts ++ t ∷ []
+life-push ts t on = fold_push lives_on [] ts t ∙ ap (λ b. cond b [] (last_life ts ++ t ∷ [])) on
 
-handed-push : (ts : List Turn) (t : Turn) → is_restarted t.line.answer ≡ false → handed_lines (last_life (ts ++ t ∷ [])) ≡ handed_lines (last_life ts) ++ option_to_list t.line.handed
-handed-push ts t on = ap handed_lines (fold_push lives_on [] ts t ∙ ap (λ b. cond b [] (last_life ts ++ t ∷ [])) on) ∙ flat_map-push (λ t. option_to_list t.line.handed) (last_life ts) t
-
--- a line of this life showed a query under its number
-pub record IsShown (ts : List Turn) (number : ℕ) (h : Handed) : Type 0 where
+-- a turn of this life handed out a query under its number
+pub record IsShown (a : ℕ) (ts : List Turn) (number : ℕ) (h : Handed) : Type 0 where
   pub line : HandedLine
-  pub there : Contains (handed_lines (last_life ts)) line
+  pub handing : Turn
+  pub there : Contains (last_life ts) handing
+  pub handed : handing.line.handed ≡ Some line
+  pub to : line.agent ≡ a
+  pub until : reply_deadline handing ≡ h.deadline ∷ []
   pub index : line.index ≡ number
   pub query : handed_in line ≡ record { time = h.time; key = h.id }
 
-shown-more : (ts : List Turn) (t : Turn) (number : ℕ) (h : Handed) → is_restarted t.line.answer ≡ false → IsShown ts number h → IsShown (ts ++ t ∷ []) number h
-shown-more ts t number h on s = record {
+shown-more : (a : ℕ) (ts : List Turn) (t : Turn) (number : ℕ) (h : Handed) → is_restarted t.line.answer ≡ false → IsShown a ts number h → IsShown a (ts ++ t ∷ []) number h
+shown-more a ts t number h on s = record {
   line = s.line;
-  there = subst (λ l. Contains l s.line) (sym (handed-push ts t on)) (Contains-append_left (handed_lines (last_life ts)) (option_to_list t.line.handed) s.line s.there);
+  handing = s.handing;
+  there = subst (λ l. Contains l s.handing) (sym (life-push ts t on)) (Contains-append_left (last_life ts) (t ∷ []) s.handing s.there);
+  handed = s.handed;
+  to = s.to;
+  until = s.until;
   index = s.index;
   query = s.query;
 }
+
+-- until when a query can be answered that is handed out
+deadline-effect : (m : IdealNode) (action : Action) (given : Option (List ℕ)) (o : Applied) → Effect m action given o → (h : Handed) → o.done.handed ≡ Some h
+    → reply_deadline (record { action = action; line = record { answer = o.done.answer; sent = []; events = []; handed = None }; given = given; packets = [] }) ≡ h.deadline ∷ []
+deadline-effect m action given o (asks agent now id name payload params may) h is =
+    let q : Query = query_at m.agent.queries.clock m.agent.config.name id name payload params in
+    ap (λ (x : Handed). x.deadline ∷ []) (passed-on m.agent.config.name now q h is)
+deadline-effect m action given o (is_asked to number packet now q reads new) h is =
+    ap (λ r. map (λ (q : Query). deadline_of now q.timeout) (query_message r)) reads ∙ ap (λ (x : Handed). x.deadline ∷ []) (passed-on m.agent.config.name now q h is)
+deadline-effect m action given o _ h is = absurd (cc is)
 
 -- the queries that an agent acked
 abbrev pub acked_in : List Turn → List (TimedEntry ℕ)
@@ -143,7 +135,7 @@ acked-push ts t =
 pub record IsServing (configs : List Config) (a : ℕ) (ts : List Turn) (m : IdealNode) : Type 0 where
   pub settings : slice_get configs a ≡ Some m.agent.config
   pub handable : AreHandable m
-  pub shown : (number : ℕ) (h : Handed) → slice_get m.handed number ≡ Some (Some h) → IsShown ts number h
+  pub shown : (number : ℕ) (h : Handed) → slice_get m.handed number ≡ Some (Some h) → IsShown a ts number h
   pub acked : IsWithin (queries_in ts) (acked_in ts)
 
 -- ---- a turn
@@ -153,49 +145,49 @@ adds : (m : IdealNode) (sent : List (List ℕ)) (action : Action) → Makes m ac
     → (let o = apply m sent action in let new = map query_answered (filter is_ack (answers_in o.done.packets)) in (new ≡ []) ⊎ ((x : TimedEntry ℕ) × (new ≡ x ∷ []) × (entered_by action (packet_given sent action) o.done.answer ≡ x ∷ [])))
 adds m sent action (makes_none packets) = inl (ap (λ l. map query_answered (filter is_ack l)) packets)
 adds m sent action (makes_ack h handed packets) = inr (record { time = h.time; key = h.id }, ap (λ l. map query_answered (filter is_ack l)) packets, hands-apply m sent action h handed)
-adds m sent action (makes_reply agent number now payload h respond at replied packets) = inl (ap (λ l. map query_answered (filter is_ack l)) packets)
+adds m sent action (makes_reply agent number now payload h respond at replied packets in_time) = inl (ap (λ l. map query_answered (filter is_ack l)) packets)
 
 -- what can be answered after a turn
-record Slots (name : List ℕ) (ts : List Turn) (handed : List (Option Handed)) : Type 0 where
-  each : (number : ℕ) (h : Handed) → slice_get handed number ≡ Some (Some h) → IsHandable name h × IsShown ts number h
+record Slots (a : ℕ) (name : List ℕ) (ts : List Turn) (handed : List (Option Handed)) : Type 0 where
+  each : (number : ℕ) (h : Handed) → slice_get handed number ≡ Some (Some h) → IsHandable name h × IsShown a ts number h
 
 slots-more : (c : Cluster) (configs : List Config) (ts : List Turn) (action : Action) (b : ℕ) (m : IdealNode) → IsServing configs b ts m → Sends m action (apply m c.sent action).done
-    → (let o = apply m c.sent action in Slots m.agent.config.name (ts ++ (applied c action b o).turn ∷ []) (with_handed o.done.handed o.node).handed)
+    → (let o = apply m c.sent action in Slots b m.agent.config.name (ts ++ (applied c action b o).turn ∷ []) (with_handed o.done.handed o.node).handed)
 slots-more c configs ts action b m serving sends = by (apply m c.sent action).done.handed refl
   where
     turn : Turn
     turn = (applied c action b (apply m c.sent action)).turn
 
-    old : (number : ℕ) (h : Handed) → slice_get (apply m c.sent action).node.handed number ≡ Some (Some h) → IsHandable m.agent.config.name h × IsShown (ts ++ (applied c action b (apply m c.sent action)).turn ∷ []) number h
+    old : (number : ℕ) (h : Handed) → slice_get (apply m c.sent action).node.handed number ≡ Some (Some h) → IsHandable m.agent.config.name h × IsShown b (ts ++ (applied c action b (apply m c.sent action)).turn ∷ []) number h
     old number h is =
-        let s = stood m c.sent action number h is in
-        (serving.handable number h s.at, shown-more ts (applied c action b (apply m c.sent action)).turn number h (goes-on m c.sent action s.goes) (serving.shown number h s.at))
+        let s = stood m action (packet_given c.sent action) (apply m c.sent action) (effect m c.sent action) number h is in
+        (serving.handable number h s.at, shown-more b ts (applied c action b (apply m c.sent action)).turn number h s.on (serving.shown number h s.at))
 
-    new : (q : Handed) → (apply m c.sent action).done.handed ≡ Some q → IsShown (ts ++ (applied c action b (apply m c.sent action)).turn ∷ []) (length (apply m c.sent action).node.handed) q
+    new : (q : Handed) → (apply m c.sent action).done.handed ≡ Some q → IsShown b (ts ++ (applied c action b (apply m c.sent action)).turn ∷ []) (length (apply m c.sent action).node.handed) q
     new q some =
-        let line : HandedLine = handed_line b (length (apply m c.sent action).node.handed) q in
-        let lines : option_to_list (applied c action b (apply m c.sent action)).turn.line.handed ≡ handed_line b (length (apply m c.sent action).node.handed) q ∷ [] =
-        ap (λ (h : Option Handed). option_to_list (option_map (handed_line b (length (apply m c.sent action).node.handed)) h)) some in
+        let on = hands-on m action (packet_given c.sent action) (apply m c.sent action) (effect m c.sent action) q some in
         record {
           line = handed_line b (length (apply m c.sent action).node.handed) q;
-          there = subst (λ l. Contains l (handed_line b (length (apply m c.sent action).node.handed) q))
-              (sym (handed-push ts (applied c action b (apply m c.sent action)).turn (hands-on m c.sent action q some) ∙ ap (λ l. handed_lines (last_life ts) ++ l) lines))
-              (Contains-push (handed_lines (last_life ts)) (handed_line b (length (apply m c.sent action).node.handed) q));
+          handing = (applied c action b (apply m c.sent action)).turn;
+          there = subst (λ l. Contains l (applied c action b (apply m c.sent action)).turn) (sym (life-push ts (applied c action b (apply m c.sent action)).turn on)) (Contains-push (last_life ts) (applied c action b (apply m c.sent action)).turn);
+          handed = ap (λ (h : Option Handed). option_map (handed_line b (length (apply m c.sent action).node.handed)) h) some;
+          to = refl;
+          until = deadline-effect m action (packet_given c.sent action) (apply m c.sent action) (effect m c.sent action) q some;
           index = refl;
           query = refl;
         }
 
-    by : (d : Option Handed) → (apply m c.sent action).done.handed ≡ d → Slots m.agent.config.name (ts ++ (applied c action b (apply m c.sent action)).turn ∷ []) ((apply m c.sent action).node.handed ++ map (λ q. Some q) (option_to_list d))
+    by : (d : Option Handed) → (apply m c.sent action).done.handed ≡ d → Slots b m.agent.config.name (ts ++ (applied c action b (apply m c.sent action)).turn ∷ []) ((apply m c.sent action).node.handed ++ map (λ q. Some q) (option_to_list d))
     by None none = record { each = λ number h is. old number h (ap (λ l. slice_get l number) (sym (append-nil (apply m c.sent action).node.handed)) ∙ is) }
     by (Some q) some = record { each = λ number h is. one number h (pushed-at (apply m c.sent action).node.handed (Some q) number (Some h) is) }
       where
         one : (number : ℕ) (h : Handed) → (slice_get (apply m c.sent action).node.handed number ≡ Some (Some h)) ⊎ ((length (apply m c.sent action).node.handed ≡ number) × (Some q ≡ Some h))
-            → IsHandable m.agent.config.name h × IsShown (ts ++ (applied c action b (apply m c.sent action)).turn ∷ []) number h
+            → IsHandable m.agent.config.name h × IsShown b (ts ++ (applied c action b (apply m c.sent action)).turn ∷ []) number h
         one number h (inl before) = old number h before
         one number h (inr here) =
             let same : q ≡ h = cc here.1 in
-            subst (λ (h : Handed). IsHandable m.agent.config.name h × IsShown (ts ++ (applied c action b (apply m c.sent action)).turn ∷ []) number h) same
-            (sends.hands q some, subst (λ (n : ℕ). IsShown (ts ++ (applied c action b (apply m c.sent action)).turn ∷ []) n q) here.0 (new q some))
+            subst (λ (h : Handed). IsHandable m.agent.config.name h × IsShown b (ts ++ (applied c action b (apply m c.sent action)).turn ∷ []) number h) same
+            (sends.hands q some, subst (λ (n : ℕ). IsShown b (ts ++ (applied c action b (apply m c.sent action)).turn ∷ []) n q) here.0 (new q some))
 
 pub serving-more : (c : Cluster) (configs : List Config) (ts : List Turn) (action : Action) (b : ℕ) (m : IdealNode) → IsServing configs b ts m → Sends m action (apply m c.sent action).done → (apply m c.sent action).node.agent.config ≡ m.agent.config
     → AllPairs (λ x y. x ≢ y) (queries_in (ts ++ (applied c action b (apply m c.sent action)).turn ∷ []))

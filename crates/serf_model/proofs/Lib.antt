@@ -1,4 +1,6 @@
 pub mod TurnLaws
+pub mod PerTimeBound
+pub mod Effects
 pub mod HistoryGrowth
 pub mod InvariantKept
 pub mod RunLaws
@@ -11,8 +13,6 @@ pub mod SeenLaws
 pub mod HandedLaws
 pub mod QueryOrigins
 pub mod PromiseLaws
-pub mod PerTimeBound
-pub mod OpenLaws
 pub mod BoundLaws
 pub mod QueriesEntered
 pub mod PerAgent
@@ -22,5 +22,9 @@ pub mod OpenQueryContents
 pub mod CountingPromises
 pub mod SendLaws
 pub mod HandedQueries
+pub mod ReplyLaws
 pub mod AnswerLaws
 pub mod AnswerPromiseLaws
+pub mod HandOutLaws
+pub mod WrongTurns
+pub mod AloneLaws

@@ -11,7 +11,8 @@ use Rattle.serf_model.specs.Cluster.{IdealNode, Cluster, Run, on_agent, step_by,
 use Rattle.serf_model.specs.Promises.{Once, Later, QueryOnce, QueryLater}
 use Rattle.serf_model.specs.Trace.{Turn, actor_of, events_to, queries_at}
 use Rattle.serf_model.proofs.TurnLaws.{at_each_nil, at_each_push}
-use Rattle.serf_model.proofs.HistoryGrowth.{entries, keeps-apply}
+use Rattle.serf_model.proofs.HistoryGrowth.{keeps-apply}
+use Rattle.serf_model.proofs.PerTimeBound.{entries}
 use Rattle.serf_model.specs.Ready.{IsRepresentable}
 use Rattle.serf_model.proofs.RunLaws.{IsAfter, events_at, queries_of, all-at, turn-action}
 
@@ -56,7 +57,7 @@ later-agent : (c : Cluster) (turns : List Turn) (action : Action) (a : ℕ) (r :
 later-agent c turns action a None t h at fired = absurd (cc fired)
 later-agent c turns action a (Some m) t h at fired =
     let representable = all-at (λ m. IsRepresentable m.agent) c.nodes a m h.representable at in
-    let clock : t ≡ m.agent.events.clock = (keeps-apply m c.sent action).fires t fired in
+    let clock : t ≡ m.agent.events.clock = (keeps-apply m c.sent action representable.consistent.sound).fired t fired in
     subst (All (λ e. e.time < t)) (ap events_at (sym at) ∙ h.events a)
     (below-entries m.agent.events.history t (subst (λ (n : ℕ). All (λ p. p.entry.time < n) m.agent.events.history) (sym clock) representable.consistent.sound.events.below_clock))
 
@@ -74,7 +75,7 @@ query-later-agent : (c : Cluster) (turns : List Turn) (action : Action) (a : ℕ
 query-later-agent c turns action a None t h at fired = absurd (cc fired)
 query-later-agent c turns action a (Some m) t h at fired =
     let representable = all-at (λ m. IsRepresentable m.agent) c.nodes a m h.representable at in
-    let clock : t ≡ m.agent.queries.clock = (keeps-apply m c.sent action).asks t fired in
+    let clock : t ≡ m.agent.queries.clock = (keeps-apply m c.sent action representable.consistent.sound).asked t fired in
     subst (All (λ e. e.time < t)) (ap queries_of (sym at) ∙ h.queries a)
     (below-entries m.agent.queries.history t (subst (λ (n : ℕ). All (λ p. p.entry.time < n) m.agent.queries.history) (sym clock) representable.consistent.sound.queries.below_clock))
 

@@ -18,15 +18,19 @@ use Rattle.serf_agent.specs.declared.outcome.QueryParams.{QueryParams}
 use Rattle.serf_agent.specs.declared.outcome.Reason.TheVariants.{OtherId, Closed, AckNotAsked, AckTwice, ResponseTwice}
 use Rattle.serf_agent.specs.Ideal.{IdealAgent, Past}
 use Rattle.serf_agent.specs.Queries.{ack_flag, ack_ignore_reason, answer_ignore_reason, asked_at, counted, deadline_of, flags_of, has_acked, has_flag, has_responded, is_ack, is_due, opened_query, query_at, response_ignore_reason, with_asked_at}
+use Rattle.serf_model.specs.declared.action.Action.{Action}
 use Rattle.serf_model.specs.declared.action.Action.TheVariants as actions
+use Rattle.serf_model.specs.declared.line.Answer.{Answer}
 use Rattle.serf_model.specs.declared.line.Answer.TheVariants as lines
+use Rattle.serf_model.specs.declared.line.Line.{Line}
 use Rattle.serf_model.specs.AnswerPromises.{OwnQuery, IsAwaited, answer_brought, answers_in, as_fired, counted_at, is_counted, own_queries, own_query, query_answered, response_held, to_time}
 use Rattle.serf_model.specs.Bounds.{is_restarted}
+use Rattle.serf_model.specs.Cluster.{Applied, IdealNode}
 use Rattle.serf_model.specs.Ready.{IsRepresentable}
 use Rattle.serf_model.specs.Trace.{Turn, entered_by}
-use Rattle.serf_model.proofs.HistoryGrowth.{entries}
+use Rattle.serf_model.proofs.PerTimeBound.{entries}
 use Rattle.serf_model.proofs.PresentLife.{last_life, lives_on}
-use Rattle.serf_model.proofs.OpenLaws.{IsQuiet, Opens, stays, closes, restarts, asks, counts, opens-none, quiet-counts, quiet-opens}
+use Rattle.serf_model.proofs.Effects.{Effect, IsIdle, asks, closes_due, counts, hears, idle-enters, reopens}
 use Rattle.serf_model.proofs.InvariantKept.{fresh-name, fresh-response, none-if}
 use Rattle.serf_model.proofs.TurnLaws.{flat_map-push}
 use Rattle.serf_model.proofs.AnswersByTime.{asked-found, asked-replaced, none-to_time, passing, to_time-other, to_time-same}
@@ -103,9 +107,9 @@ tallied-still ts t i j h never all = record {
   once = λ ack. subst AreNamedOnce (sym (counted-still ack ts t (never ack))) (h.once ack);
 }
 
-open-still : (ts : List Turn) (t : Turn) (l : List (ℕ × OpenQuery)) → IsQuiet t.line.answer → All (IsOpen ts) l → All (IsOpen (ts ++ t ∷ [])) l
-open-still ts t l quiet all =
-    All-weaker (IsOpen ts) (IsOpen (ts ++ t ∷ [])) (λ q. open-more ts t q (quiet-opens t.line.answer quiet) (λ ack. ap (to_time q.0) (counted-still ack ts t (quiet-counts ack t.line.answer quiet)))) l all
+-- a turn that counts nothing to any, in the same life
+tallied-on : (ts : List Turn) (t : Turn) (i j : IdealAgent) → IsTallied ts i → is_restarted t.line.answer ≡ false → ((ack : Bool) → is_counted ack t.line.answer ≡ false) → All (IsOpen ts) j.asked → IsTallied (ts ++ t ∷ []) j
+tallied-on ts t i j h on never all = tallied-still ts t i j h never (All-weaker (IsOpen ts) (IsOpen (ts ++ t ∷ [])) (λ q. open-more ts t q on (λ ack. ap (to_time q.0) (counted-still ack ts t (never ack)))) j.asked all)
 
 -- ---- a query that is fired
 
@@ -229,7 +233,11 @@ tallied-counts ts t i j now packet r q representable h given says at none answer
 }
   where
     on : is_restarted t.line.answer ≡ false
-    on = opens-none t.line.answer (is_ack r) answer
+    on = ap is_restarted answer ∙ goes (is_ack r)
+      where
+        goes : (b : Bool) → is_restarted (cond b lines.Ack lines.Response) ≡ false
+        goes true = refl
+        goes false = refl
 
     more : (ack : Bool) → counted_in ack (ts ++ t ∷ []) ≡ counted_in ack ts ++ cond (is_counted ack (cond (is_ack r) lines.Ack lines.Response)) (r ∷ []) []
     more ack =
@@ -260,14 +268,27 @@ tallied-counts ts t i j now packet r q representable h given says at none answer
 
 -- ---- a turn
 
-pub tallied-step : (ts : List Turn) (t : Turn) (i j : IdealAgent) → IsRepresentable i → entries i.queries.history ≡ queries_in ts → IsTallied ts i → Opens i t.action t.given t.line.answer j → IsTallied (ts ++ t ∷ []) j
-tallied-step ts t i j representable same h (stays quiet is) = tallied-still ts t i j h (λ ack. quiet-counts ack t.line.answer quiet) (open-still ts t j.asked quiet (subst (All (IsOpen ts)) (sym is) h.asked))
-tallied-step ts t i j representable same h (closes now quiet is) =
-    tallied-still ts t i j h (λ ack. quiet-counts ack t.line.answer quiet) (open-still ts t j.asked quiet (subst (All (IsOpen ts)) (sym is) (All-filter (λ q. not (is_due now q)) (IsOpen ts) i.asked h.asked)))
-tallied-step ts t i j representable same h (restarts agent tail member_clock event_clock query_clock action answer is) =
-    tallied-still ts t i j h (λ ack. ap (is_counted ack) answer) (subst (All (IsOpen (ts ++ t ∷ []))) (sym is) (All-nil (IsOpen (ts ++ t ∷ []))))
-tallied-step ts t i j representable same h (asks agent now id name payload params action answer is) = tallied-asks ts t i j agent now id name payload params representable same h action answer is
-tallied-step ts t i j representable same h (counts to number now packet r q action given says at none answer is) = tallied-counts ts t i j now packet r q representable h given says at none answer is
+-- the turn of an action that gave this packet
+abbrev turn_of : Action → Option (List ℕ) → Line → List (List ℕ) → Turn
+turn_of action given line packets = record { action = action; line = line; given = given; packets = packets }
+
+idle-counts : (i : IdealAgent) (given : Option (List ℕ)) (answer : Answer) (ack : Bool) → IsIdle i given answer → is_counted ack answer ≡ false
+idle-counts i given lines.Ack ack idle = absurd idle
+idle-counts i given lines.Response ack idle = absurd idle
+idle-counts i given _ ack idle = refl
+
+pub tallied-effect : (ts : List Turn) (m : IdealNode) (action : Action) (given : Option (List ℕ)) (o : Applied) (line : Line) (packets : List (List ℕ)) → Effect m action given o → line.answer ≡ o.done.answer → IsRepresentable m.agent
+    → entries m.agent.queries.history ≡ queries_in ts → IsTallied ts m.agent → IsTallied (ts ++ turn_of action given line packets ∷ []) o.node.agent
+tallied-effect ts m action given o line packets (hears j outs answer heard idle) says representable same h =
+    tallied-on ts (turn_of action given line packets) m.agent j h (ap is_restarted says ∙ (idle-enters m.agent action given answer idle).1) (λ ack. ap (is_counted ack) says ∙ idle-counts m.agent given answer ack idle) (subst (All (IsOpen ts)) (sym heard.asked) h.asked)
+tallied-effect ts m action given o line packets (closes_due agent now) says representable same h =
+    tallied-on ts (turn_of _ given line packets) m.agent _ h (ap is_restarted says) (λ ack. ap (is_counted ack) says) (All-filter (λ q. not (is_due now q)) (IsOpen ts) m.agent.asked h.asked)
+tallied-effect ts m action given o line packets (reopens agent tail) says representable same h = tallied-still ts (turn_of _ given line packets) m.agent _ h (λ ack. ap (is_counted ack) says) (All-nil _)
+tallied-effect ts m action given o line packets (asks agent now id name payload params may) says representable same h =
+    tallied-asks ts (turn_of _ given line packets) m.agent _ agent now id name payload params representable same h refl says refl
+tallied-effect ts m action given o line packets (counts to number now packet r q b is at none kind) says representable same h =
+    tallied-counts ts (turn_of _ _ line packets) m.agent _ now packet r q representable h refl is at none (says ∙ ap (λ b. cond b lines.Ack lines.Response) (sym kind)) refl
+tallied-effect ts m action given o line packets _ says representable same h = tallied-on ts (turn_of _ _ line packets) m.agent _ h (ap is_restarted says) (λ ack. ap (is_counted ack) says) h.asked
 
 -- what a turn that counts tells
 pub record Tells (ts : List Turn) (t : Turn) (ack : Bool) : Type 0 where
@@ -282,13 +303,11 @@ pub record Tells (ts : List Turn) (t : Turn) (ack : Bool) : Type 0 where
   pub kind : is_ack answer ≡ ack
   pub awaited : IsAwaited (last_life ts) now answer
 
-pub tells : (ts : List Turn) (t : Turn) (i j : IdealAgent) (ack : Bool) → IsTallied ts i → Opens i t.action t.given t.line.answer j → is_counted ack t.line.answer ≡ true → Tells ts t ack
-tells ts t i j ack h (stays quiet is) counted = absurd (let no : false ≡ true = sym (quiet-counts ack t.line.answer quiet) ∙ counted in cc)
-tells ts t i j ack h (closes now quiet is) counted = absurd (let no : false ≡ true = sym (quiet-counts ack t.line.answer quiet) ∙ counted in cc)
-tells ts t i j ack h (restarts agent tail member_clock event_clock query_clock action answer is) counted = absurd (let no : false ≡ true = sym (ap (is_counted ack) answer) ∙ counted in cc)
-tells ts t i j ack h (asks agent now id name payload params action answer is) counted = absurd (let no : false ≡ true = sym (ap (is_counted ack) answer) ∙ counted in cc)
-tells ts t i j ack h (counts to number now packet r q action given says at none answer is) counted =
-    let here = asked-found (IsOpen ts) r.time i.asked q h.asked at in
+pub tells-effect : (ts : List Turn) (m : IdealNode) (action : Action) (given : Option (List ℕ)) (o : Applied) (line : Line) (packets : List (List ℕ)) (ack : Bool) → Effect m action given o → line.answer ≡ o.done.answer
+    → IsTallied ts m.agent → is_counted ack line.answer ≡ true → Tells ts (turn_of action given line packets) ack
+tells-effect ts m action given o line packets ack (hears j outs answer heard idle) says h counted = absurd (let no : false ≡ true = sym (ap (is_counted ack) says ∙ idle-counts m.agent given answer ack idle) ∙ counted in cc)
+tells-effect ts m action given o line packets ack (counts to number now packet r q b is at none kind) says h counted =
+    let here = asked-found (IsOpen ts) r.time m.agent.asked q h.asked at in
     let takes = taken now r q none in
     record {
       to = to;
@@ -296,9 +315,10 @@ tells ts t i j ack h (counts to number now packet r q action given says at none 
       now = now;
       packet = packet;
       answer = r;
-      action = action;
-      given = given;
-      says = says;
-      kind = kind-counted ack (is_ack r) (sym (ap (is_counted ack) answer) ∙ counted);
+      action = refl;
+      given = refl;
+      says = is;
+      kind = kind ∙ kind-counted ack b (sym (ap (is_counted ack) says) ∙ counted);
       awaited = record { query = as_fired (r.time, q); fired = here.fired; time = refl; id = sym takes.id; in_time = takes.in_time; asks = takes.asks };
     }
+tells-effect ts m action given o line packets ack _ says h counted = absurd (let no : false ≡ true = sym (ap (is_counted ack) says) ∙ counted in cc)

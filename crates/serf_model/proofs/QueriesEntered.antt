@@ -1,54 +1,35 @@
 -- Each query that enters was fired, or is forged.
-use Rattle.std.proofs.Common.{◌≡◌, ℕ, ◌<◌, ◌≤◌, ◌^◌, inl, inr, Bool, true, false, cond, List, [], ◌∷◌, ◌++◌, Option, Some, None, Result, Ok, Err, refl, sym, ap, subst, ◌∙◌, arith, length}
+use Rattle.std.proofs.Common.{Ok, ◌≡◌, ℕ, ◌<◌, ◌≤◌, ◌^◌, inl, inr, Bool, true, false, List, [], ◌∷◌, ◌++◌, Option, Some, None, refl, sym, ap, subst, ◌∙◌, arith, length}
 use Rattle.std.specs.Prelude.{All, Contains, slice_get}
 use Rattle.std.specs.List.{fold, flat_map}
 use Rattle.std.proofs.lemmas.Bool.{ltb-false}
 use Rattle.std.proofs.lemmas.List.Concat.{flat_map-append}
 use Rattle.std.proofs.lemmas.List.Elements.{All-nil, All-cons, All-head, All-tail, All-append, All-contains, All-contains_itself, All-weaker, Contains-append_left, Contains-append_right}
-use Rattle.serf_wire.specs.declared.fault.WireFault.{WireFault}
 use Rattle.serf_wire.specs.Canonical.{canonical}
 use Rattle.serf_wire.specs.Decoded.{decoded}
-use Rattle.serf_wire.specs.Message.{Message, Query, user_event, query, query_response, push_pull, foreign}
+use Rattle.serf_wire.specs.Message.{Query, query}
 use Rattle.serf_wire.specs.Ranges.{IsRangedQuery}
 use Rattle.serf_wire.proofs.CanonicalPackets.{canonical_spells}
 use Rattle.serf_wire.proofs.Packets.{spelled_decoded}
-use Rattle.serf_window.specs.Texts.{event_of}
 use Rattle.serf_window.specs.Window.{TimedEntry}
-use Rattle.serf_snap.specs.Notes.{Writing, Kept, Failed}
-use Rattle.serf_snap.specs.declared.snapshot.NoteFault.{NoteFault}
 use Rattle.serf_agent.specs.declared.config.Config.{Config}
-use Rattle.serf_agent.specs.declared.outcome.Fired.{Fired}
-use Rattle.serf_agent.specs.declared.outcome.FireFault.{FireFault}
-use Rattle.serf_agent.specs.declared.outcome.MergeFault.{MergeFault}
-use Rattle.serf_agent.specs.declared.outcome.Outcome.{Outcome}
-use Rattle.serf_agent.specs.declared.outcome.Outcome.TheVariants as outcomes
-use Rattle.serf_agent.specs.declared.outcome.PushPullFault.{PushPullFault}
-use Rattle.serf_agent.specs.declared.outcome.QueryFault.{QueryFault}
 use Rattle.serf_agent.specs.declared.outcome.QueryFault.TheVariants as asks
 use Rattle.serf_agent.specs.declared.outcome.QueryParams.{QueryParams}
-use Rattle.serf_agent.specs.declared.outcome.ReceiveFault.{ReceiveFault}
-use Rattle.serf_agent.specs.declared.outcome.RespondFault.{RespondFault}
-use Rattle.serf_agent.specs.Calls.{ended, planned, will}
-use Rattle.serf_agent.specs.Events.{drawn, fire}
-use Rattle.serf_agent.specs.Handed.{Handed}
+use Rattle.serf_agent.specs.Events.{drawn}
 use Rattle.serf_agent.specs.Ideal.{IdealAgent}
-use Rattle.serf_agent.specs.Queries.{flags_of, is_too_large_query, query_at, query_fault, query_fired_as, respond_fault}
-use Rattle.serf_agent.specs.Receive.{receive}
-use Rattle.serf_agent.specs.States.{compact, events_of, joined, merge_refusal, save, send_state}
-use Rattle.serf_agent.specs.View.{view_of}
+use Rattle.serf_agent.specs.Queries.{flags_of, is_too_large_query, query_at, query_fault}
 use Rattle.serf_agent.proofs.WireLaws.{query-not_long}
 use Rattle.serf_model.specs.declared.action.Action.{Action}
-use Rattle.serf_model.specs.declared.action.Action.TheVariants as actions
 use Rattle.serf_model.specs.declared.line.Answer.{Answer}
 use Rattle.serf_model.specs.declared.line.Answer.TheVariants as answers
-use Rattle.serf_model.specs.declared.line.Refusal.TheVariants.{SinkFault}
-use Rattle.serf_model.specs.Cluster.{Cluster, Done, IdealNode, Run, apply, after, delivers, fire_gives, merges_as, merges_events, merges_given, note_gives, on_agent, query_gives, receive_gives, responds, responds_as, run_of, start, state_gives, step, step_by}
+use Rattle.serf_model.specs.Cluster.{Applied, Cluster, Done, IdealNode, Run, apply, after, on_agent, run_of, start, step, step_by}
 use Rattle.serf_model.specs.Sizes.{HasSizes, IsSized}
 use Rattle.serf_model.specs.Queried.{QueryOnlyFired, WasQueried, queried_by, queries_fired, queries_forged}
-use Rattle.serf_model.specs.Trace.{Turn, actor_of, entered_by, injected_in, injects_of, queried_in, query_brought, query_packets}
+use Rattle.serf_model.specs.Trace.{Turn, actor_of, entered_by, injected_in, injects_of, packet_given, queried_in, query_brought, query_packets}
 use Rattle.serf_model.proofs.QueryOrigins.{IsAsked, WasAsked, asked-start, asked-step}
 use Rattle.serf_model.proofs.FiredLaws.{all-parts}
 use Rattle.serf_model.proofs.InvariantKept.{may-ask, none-if}
+use Rattle.serf_model.proofs.Effects.{Effect, asks, counts, effect, hears}
 use Rattle.serf_model.proofs.TurnLaws.{at_each_nil, at_each_push, flat_map-push}
 
 -- ---- what a query's packet brings
@@ -75,13 +56,18 @@ asked-short i id name payload params is =
     let same : drawn i.queries.clock ≡ i.queries.clock = omega (arith, may.clock) in
     subst (λ (t : ℕ). length (canonical (query (query_at t i.config.name id name payload params))) ≤ 1024) same (ltb-false 1024 _ large.0)
 
-brings-own : (i : IdealAgent) (id : ℕ) (name payload : List ℕ) (params : QueryParams) → IsSized id params.port params.relay_factor params.timeout → query_fault i id name payload params ≡ None
-    → query_brought (decoded (canonical (query (query_at i.queries.clock i.config.name id name payload params)))) ≡ only_query i.queries.clock id
-brings-own i id name payload params sized is =
+-- the packet of a fired query spells it
+pub own-decoded : (i : IdealAgent) (id : ℕ) (name payload : List ℕ) (params : QueryParams) → IsSized id params.port params.relay_factor params.timeout → query_fault i id name payload params ≡ None
+    → (let q = query_at i.queries.clock i.config.name id name payload params in decoded (canonical (query q)) ≡ Ok (query q))
+own-decoded i id name payload params sized is =
     let may = may-ask i id name payload params is in
     let q : Query = query_at i.queries.clock i.config.name id name payload params in
     let ranged : IsRangedQuery q = record { time = omega (arith, may.clock); id = sized.id_fits; port = sized.port_fits; flags = flags-fit params.want_ack params.no_broadcast; relay_factor = sized.relay_factor_fits; timeout = sized.timeout_fits } in
-    ap query_brought (spelled_decoded (canonical (query q)) (query q) (canonical_spells (query q) ranged (query-not_long q (asked-short i id name payload params is))))
+    spelled_decoded (canonical (query q)) (query q) (canonical_spells (query q) ranged (query-not_long q (asked-short i id name payload params is)))
+
+brings-own : (i : IdealAgent) (id : ℕ) (name payload : List ℕ) (params : QueryParams) → IsSized id params.port params.relay_factor params.timeout → query_fault i id name payload params ≡ None
+    → query_brought (decoded (canonical (query (query_at i.queries.clock i.config.name id name payload params)))) ≡ only_query i.queries.clock id
+brings-own i id name payload params sized is = ap query_brought (own-decoded i id name payload params sized is)
 
 -- ---- what an action sends as a fired query's own
 
@@ -89,85 +75,21 @@ brings-own i id name payload params sized is =
 abbrev BringsOwn : Action → Done → Type 0
 BringsOwn action done = All (Brings (Contains (queried_by action done.answer))) (query_packets done.answer done.packets)
 
-own-fire : (action : Action) (r : Result Fired FireFault) → BringsOwn action (fire_gives r)
-own-fire action (Ok f) = All-nil (Brings (Contains []))
-own-fire action (Err fault) = All-nil (Brings (Contains []))
+own-nothing : (P : List ℕ → Type 0) (answer : Answer) → All P (query_packets answer [])
+own-nothing P (answers.Queried t) = All-nil P
+own-nothing P _ = All-nil P
 
-own-receive : (action : Action) (packet : List ℕ) (r : Result Outcome ReceiveFault) → BringsOwn action (receive_gives packet r)
-own-receive action packet (Ok (outcomes.Event out)) = All-nil (Brings (Contains []))
-own-receive action packet (Ok (outcomes.Query handed ack rebroadcast)) = All-nil (Brings (Contains []))
-own-receive action packet (Ok outcomes.Ack) = All-nil (Brings (Contains []))
-own-receive action packet (Ok outcomes.Response) = All-nil (Brings (Contains []))
-own-receive action packet (Ok (outcomes.Ignored reason)) = All-nil (Brings (Contains []))
-own-receive action packet (Ok (outcomes.Foreign kind)) = All-nil (Brings (Contains []))
-own-receive action packet (Ok outcomes.PushPull) = All-nil (Brings (Contains []))
-own-receive action packet (Err fault) = All-nil (Brings (Contains []))
-
-own-delivers : (m : IdealNode) (action : Action) (now : ℕ) (given : Option (List ℕ)) → BringsOwn action (delivers m now given).done
-own-delivers m action now None = All-nil (Brings (Contains []))
-own-delivers m action now (Some packet) = own-receive action packet (planned m.agent (receive m.agent now packet)).answer
-
-own-state : (action : Action) (r : Result (List ℕ) PushPullFault) → BringsOwn action (state_gives r)
-own-state action (Ok packet) = All-nil (Brings (Contains []))
-own-state action (Err fault) = All-nil (Brings (Contains []))
-
-own-merge : (m : IdealNode) (action : Action) (join : Bool) (f : Option MergeFault) (r : Result Message WireFault) → BringsOwn action (merges_as f m join r).done
-own-merge m action join (Some fault) r = All-nil (Brings (Contains []))
-own-merge m action join None (Err fault) = All-nil (Brings (Contains []))
-own-merge m action join None (Ok (user_event x)) = All-nil (Brings (Contains []))
-own-merge m action join None (Ok (query x)) = All-nil (Brings (Contains []))
-own-merge m action join None (Ok (query_response x)) = All-nil (Brings (Contains []))
-own-merge m action join None (Ok (foreign x)) = All-nil (Brings (Contains []))
-own-merge m action join None (Ok (push_pull s)) = by (merges_events (events_of s.slots) (joined s join m.agent)).failed
-  where
-    by : (b : Bool) → (let answer = cond b (answers.Refused SinkFault) answers.Merged in All (Brings (Contains (queried_by action answer))) (query_packets answer []))
-    by true = All-nil (Brings (Contains []))
-    by false = All-nil (Brings (Contains []))
-
-own-given : (m : IdealNode) (action : Action) (join : Bool) (given : Option (List ℕ)) → BringsOwn action (merges_given m join given).done
-own-given m action join None = All-nil (Brings (Contains []))
-own-given m action join (Some packet) = own-merge m action join (merge_refusal (view_of m.agent) (decoded packet)) (decoded packet)
-
-own-query : (i : IdealAgent) (agent now id : ℕ) (name payload : List ℕ) (params : QueryParams) (r : Option QueryFault) → IsSized id params.port params.relay_factor params.timeout → query_fault i id name payload params ≡ r
-    → BringsOwn (actions.Query agent now id name payload params) (query_gives (planned i (query_fired_as r i now (query_at i.queries.clock i.config.name id name payload params))).answer)
-own-query i agent now id name payload params (Some fault) sized is = All-nil (Brings (Contains []))
-own-query i agent now id name payload params None sized is = by (will i (query_fired_as None i now q))
-  where
-    q : Query
-    q = query_at i.queries.clock i.config.name id name payload params
-
-    by : (w : Writing) → BringsOwn (actions.Query agent now id name payload params) (query_gives (ended i (query_fired_as None i now (query_at i.queries.clock i.config.name id name payload params)) w).answer)
-    by Kept =
-        let own : List (TimedEntry ℕ) = only_query i.queries.clock id in
-        All-cons (Brings (Contains own)) (canonical (query q)) [] (subst (All (Contains own)) (sym (brings-own i id name payload params sized is)) (All-contains_itself own)) (All-nil (Brings (Contains own)))
-    by (Failed durable) = All-nil (Brings (Contains []))
-
-own-respond : (m : IdealNode) (action : Action) (h : ℕ) (q : Option (Option Handed)) (now : ℕ) (payload : List ℕ) → BringsOwn action (responds m h q now payload).done
-own-respond m action h None now payload = All-nil (Brings (Contains []))
-own-respond m action h (Some None) now payload = All-nil (Brings (Contains []))
-own-respond m action h (Some (Some q)) now payload = by (respond_fault q now payload)
-  where
-    by : (r : Option RespondFault) → BringsOwn action (responds_as r m h q payload).done
-    by (Some fault) = All-nil (Brings (Contains []))
-    by None = All-nil (Brings (Contains []))
-
-own-note : (action : Action) (r : Result (Unit {0}) NoteFault) → BringsOwn action (note_gives answers.Saved r) × BringsOwn action (note_gives answers.Compacted r)
-own-note action (Ok done) = (All-nil (Brings (Contains [])), All-nil (Brings (Contains [])))
-own-note action (Err fault) = (All-nil (Brings (Contains [])), All-nil (Brings (Contains [])))
+own-effect : (m : IdealNode) (action : Action) (given : Option (List ℕ)) (o : Applied) → Effect m action given o → HasSizes action → BringsOwn action o.done
+own-effect m action given o (hears j outs answer heard idle) sized = own-nothing (Brings (Contains (queried_by action answer))) answer
+own-effect m action given o (asks agent now id name payload params may) sized =
+    let q : Query = query_at m.agent.queries.clock m.agent.config.name id name payload params in
+    let own : List (TimedEntry ℕ) = only_query m.agent.queries.clock id in
+    All-cons (Brings (Contains own)) (canonical (query q)) [] (subst (All (Contains own)) (sym (brings-own m.agent id name payload params sized may)) (All-contains_itself own)) (All-nil (Brings (Contains own)))
+own-effect m action given o (counts to number now packet r q true is at none kind) sized = All-nil (Brings (Contains []))
+own-effect m action given o _ sized = All-nil (Brings (Contains []))
 
 own-apply : (m : IdealNode) (sent : List (List ℕ)) (action : Action) → HasSizes action → BringsOwn action (apply m sent action).done
-own-apply m sent (actions.Fire agent name payload coalesce) sized = own-fire (actions.Fire agent name payload coalesce) (planned m.agent (fire m.agent (event_of name payload) coalesce)).answer
-own-apply m sent (actions.Deliver to packet now) sized = own-delivers m (actions.Deliver to packet now) now (slice_get sent packet)
-own-apply m sent (actions.State agent) sized = own-state (actions.State agent) (send_state (view_of m.agent) [] [])
-own-apply m sent (actions.Merge to packet join) sized = own-given m (actions.Merge to packet join) join (slice_get sent packet)
-own-apply m sent (actions.Query agent now id name payload params) sized = own-query m.agent agent now id name payload params (query_fault m.agent id name payload params) sized refl
-own-apply m sent (actions.Respond agent h now payload) sized = own-respond m (actions.Respond agent h now payload) h (slice_get m.handed h) now payload
-own-apply m sent (actions.Restart agent tail) sized = All-nil (Brings (Contains []))
-own-apply m sent (actions.Break agent call n) sized = All-nil (Brings (Contains []))
-own-apply m sent (actions.Inject bytes) sized = All-nil (Brings (Contains []))
-own-apply m sent (actions.Close agent now) sized = All-nil (Brings (Contains []))
-own-apply m sent (actions.Save agent) sized = (own-note (actions.Save agent) (planned m.agent (save m.agent)).answer).0
-own-apply m sent (actions.Compact agent) sized = (own-note (actions.Compact agent) (planned m.agent (compact m.agent)).answer).1
+own-apply m sent action sized = own-effect m action (packet_given sent action) (apply m sent action) (effect m sent action) sized
 
 -- ---- a turn
 
@@ -188,23 +110,7 @@ entered-from : (P : TimedEntry ℕ → Type 0) (action : Action) (given : Option
 entered-from P action given (answers.Queried t) fired brought = fired
 entered-from P action None answers.Query fired brought = All-nil P
 entered-from P action (Some packet) answers.Query fired brought = brought packet refl refl
-entered-from P action given (answers.Fired t) fired brought = All-nil P
-entered-from P action given answers.New fired brought = All-nil P
-entered-from P action given answers.Ack fired brought = All-nil P
-entered-from P action given answers.Response fired brought = All-nil P
-entered-from P action given (answers.Ignored reason) fired brought = All-nil P
-entered-from P action given (answers.Foreign kind) fired brought = All-nil P
-entered-from P action given answers.PushPull fired brought = All-nil P
-entered-from P action given answers.State fired brought = All-nil P
-entered-from P action given answers.Merged fired brought = All-nil P
-entered-from P action given answers.Replied fired brought = All-nil P
-entered-from P action given answers.Broken fired brought = All-nil P
-entered-from P action given answers.Injected fired brought = All-nil P
-entered-from P action given answers.Saved fired brought = All-nil P
-entered-from P action given answers.Compacted fired brought = All-nil P
-entered-from P action given (answers.Restarted member_clock event_clock query_clock) fired brought = All-nil P
-entered-from P action given (answers.Closed n) fired brought = All-nil P
-entered-from P action given (answers.Refused refusal) fired brought = All-nil P
+entered-from P action given _ fired brought = All-nil P
 
 -- ---- a run
 

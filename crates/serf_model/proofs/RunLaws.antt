@@ -13,7 +13,8 @@ use Rattle.serf_model.specs.declared.line.EventLine.{EventLine}
 use Rattle.serf_model.specs.Cluster.{IdealNode, Cluster, Applied, Stepped, Run, apply, applied, on_agent, step_by, step, after, event_line, with_handed}
 use Rattle.serf_model.specs.Trace.{Turn, actor_of, is_agent, turns_by, event_in, events_to, queries_at, entered_by, sent_in, packet_given}
 use Rattle.serf_model.proofs.TurnLaws.{flat_map-push}
-use Rattle.serf_model.proofs.HistoryGrowth.{Keeps, entries, out_in, keeps-apply}
+use Rattle.serf_model.proofs.HistoryGrowth.{Keeps, keeps-apply}
+use Rattle.serf_model.proofs.PerTimeBound.{enters-entries, entries, out_in}
 use Rattle.serf_model.specs.Ready.{IsRepresentable}
 use Rattle.serf_model.proofs.InvariantKept.{representable-apply}
 
@@ -125,7 +126,7 @@ after-applied c turns action b m o h actor at representable keeps = record {
         let same : b ≡ a = eqb-true b a t in
         ap (λ j. events_at (slice_get (set c.nodes b (with_handed o.done.handed o.node)) j)) (sym same)
         ∙ ap events_at (slice_get-set_same c.nodes b m (with_handed o.done.handed o.node) at)
-        ∙ keeps.events
+        ∙ enters-entries keeps.events
         ∙ ap (λ l. l ++ map out_in o.done.events) (ap events_at (sym at) ∙ ap (λ j. events_at (slice_get c.nodes j)) same ∙ h.events a)
         ∙ ap (λ l. events_to a turns ++ l) (sym (lines-same a b o.done.events t))
         ∙ sym (events_to-push a turns (applied c action b o).turn)
@@ -138,7 +139,7 @@ after-applied c turns action b m o h actor at representable keeps = record {
         let same : b ≡ a = eqb-true b a t in
         ap (λ j. queries_of (slice_get (set c.nodes b (with_handed o.done.handed o.node)) j)) (sym same)
         ∙ ap queries_of (slice_get-set_same c.nodes b m (with_handed o.done.handed o.node) at)
-        ∙ keeps.queries
+        ∙ enters-entries keeps.queries
         ∙ ap (λ l. l ++ entered_by action (packet_given c.sent action) o.done.answer) (ap queries_of (sym at) ∙ ap (λ j. queries_of (slice_get c.nodes j)) same ∙ h.queries a)
         ∙ ap (λ b. queries_at a turns ++ cond b (entered_by action (packet_given c.sent action) o.done.answer) []) (sym (ap (is_agent a) actor ∙ t))
         ∙ sym (by-push entered a turns (applied c action b o).turn)
@@ -151,7 +152,8 @@ after-applied c turns action b m o h actor at representable keeps = record {
 pub after-agent : (c : Cluster) (turns : List Turn) (action : Action) (b : ℕ) (r : Option IdealNode) → IsAfter c turns → actor_of action ≡ Some b → slice_get c.nodes b ≡ r → IsAfter (on_agent c action b r).cluster (turns ++ (on_agent c action b r).turn ∷ [])
 after-agent c turns action b None h actor at = after-still c turns (on_agent c action b None) h refl (sym (append-nil c.sent)) refl refl
 after-agent c turns action b (Some m) h actor at =
-    after-applied c turns action b m (apply m c.sent action) h actor at (representable-apply m c.sent action (all-at (λ m. IsRepresentable m.agent) c.nodes b m h.representable at)) (keeps-apply m c.sent action)
+    let representable = all-at (λ m. IsRepresentable m.agent) c.nodes b m h.representable at in
+    after-applied c turns action b m (apply m c.sent action) h actor at (representable-apply m c.sent action representable) (keeps-apply m c.sent action representable.consistent.sound)
 
 after-by : (c : Cluster) (turns : List Turn) (action : Action) (o : Option ℕ) → IsAfter c turns → actor_of action ≡ o → IsAfter (step_by c action o).cluster (turns ++ (step_by c action o).turn ∷ [])
 after-by c turns action None h actor = after-still c turns (step_by c action None) h refl refl refl refl

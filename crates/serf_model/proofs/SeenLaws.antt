@@ -1,37 +1,28 @@
 -- What is ignored as seen was handed to the agent before.
-use Rattle.std.proofs.Common.{suc, ◌≡◌, ℕ, ◌==◌, ◌&&◌, ◌||◌, ◌+◌, nat_lt, nat_le, Bool, true, false, cond, List, [], ◌∷◌, Option, Some, None, Result, Ok, Err, refl, sym, ap, subst, ◌∙◌, arith}
+use Rattle.std.proofs.Common.{suc, ◌≡◌, ℕ, ◌==◌, ◌&&◌, ◌||◌, ◌+◌, nat_lt, nat_le, Bool, true, false, cond, List, [], ◌∷◌, Option, Some, None, Ok, refl, sym, ap, subst, ◌∙◌, arith}
 use Rattle.std.specs.Prelude.{Contains, slice_get}
 use Rattle.std.specs.List.{list_any}
 use Rattle.std.proofs.lemmas.Bool.{and_parts, eqb-true}
 use Rattle.std.proofs.lemmas.Slice.Eq.{bytes_eq-Decides}
-use Rattle.serf_wire.specs.declared.fault.WireFault.{WireFault}
 use Rattle.serf_wire.specs.declared.texts.EventBody.{EventBody}
 use Rattle.serf_wire.specs.Decoded.{decoded}
-use Rattle.serf_wire.specs.Message.{Message, UserEvent, user_event, query, query_response, push_pull, foreign}
+use Rattle.serf_wire.specs.Message.{UserEvent, user_event}
 use Rattle.serf_window.specs.Texts.{event_of, same_texts}
 use Rattle.serf_window.specs.Window.{count_at}
-use Rattle.serf_snap.specs.Notes.{Writing, Kept, Failed}
-use Rattle.serf_agent.specs.declared.outcome.MergeFault.{MergeFault}
 use Rattle.serf_agent.specs.declared.outcome.Reason.{Reason}
 use Rattle.serf_agent.specs.declared.outcome.Reason.TheVariants.{Oversize, BelowMinimum, TooOld, Seen, TimeFull}
-use Rattle.serf_agent.specs.declared.outcome.ReceiveFault.TheVariants as receives
-use Rattle.serf_agent.specs.Calls.{planned, ended, will, answers}
-use Rattle.serf_agent.specs.Events.{admission, received_as, texts_len}
+use Rattle.serf_agent.specs.Events.{admission, texts_len}
 use Rattle.serf_agent.specs.Ideal.{IdealAgent, Past}
-use Rattle.serf_agent.specs.Receive.{receive_read}
-use Rattle.serf_agent.specs.States.{events_of, joined, merge_refusal}
 use Rattle.serf_agent.specs.Tracks.{of_life, was_ever_entered}
-use Rattle.serf_agent.specs.View.{view_of}
 use Rattle.serf_lamport.specs.Clock.{observed}
 use Rattle.serf_model.specs.declared.action.Action.{Action}
-use Rattle.serf_model.specs.declared.action.Action.TheVariants as actions
 use Rattle.serf_model.specs.declared.line.Answer.TheVariants as lines
-use Rattle.serf_model.specs.declared.line.Refusal.TheVariants.{SinkFault}
-use Rattle.serf_model.specs.Cluster.{IdealNode, Cluster, Run, apply, after, delivers, merges_as, merges_events, merges_given, on_agent, receive_gives, step, step_by}
+use Rattle.serf_model.specs.Cluster.{Applied, IdealNode, Cluster, Run, apply, after, on_agent, step, step_by}
 use Rattle.serf_model.specs.Promises.{SeenWasHanded}
 use Rattle.serf_model.specs.Trace.{Turn, actor_of, events_to, packet_given}
+use Rattle.serf_model.proofs.Effects.{Effect, IsIdle, counts, effect, hears}
 use Rattle.serf_model.proofs.TurnLaws.{at_each_nil, at_each_push}
-use Rattle.serf_model.proofs.HistoryGrowth.{entries}
+use Rattle.serf_model.proofs.PerTimeBound.{entries}
 use Rattle.serf_model.proofs.RunLaws.{IsAfter, events_at, turn-action, turn-given}
 
 -- ---- what was entered
@@ -82,60 +73,17 @@ seen-entered i t what e =
 
 -- ---- which actions ignore something as seen
 
-seen-received : (i : IdealAgent) (packet : List ℕ) (t : ℕ) (what : EventBody) (coalesce : Bool) (r : Option Reason) → (receive_gives packet (planned i (received_as r i t what coalesce)).answer).answer ≡ lines.Ignored Seen → r ≡ Some Seen
-seen-received i packet t what coalesce (Some reason) e = let same : reason ≡ Seen = cc e in ap Some same
-seen-received i packet t what coalesce None e = by (will i (received_as None i t what coalesce)) e
-  where
-    by : (w : Writing) → (receive_gives packet (ended i (received_as None i t what coalesce) w).answer).answer ≡ lines.Ignored Seen → None ≡ Some Seen
-    by Kept e = absurd (cc e)
-    by (Failed durable) e = absurd (cc e)
-
-seen-delivers : (m : IdealNode) (now : ℕ) (given : Option (List ℕ)) (packet : List ℕ) (e : UserEvent) → (delivers m now given).done.answer ≡ lines.Ignored Seen → given ≡ Some packet → decoded packet ≡ Ok (user_event e)
-    → Contains (entries m.agent.events.history) (record { time = e.time; key = event_of e.name e.payload })
-seen-delivers m now None packet e says given reads = absurd (cc given)
-seen-delivers m now (Some p) packet e says given reads =
-    let same : p ≡ packet = cc given in
-    entered-contains m.agent.events.history e.time (event_of e.name e.payload)
-    (seen-entered m.agent e.time (event_of e.name e.payload) (by m.agent.snapshot.stopped (decoded p) (ap decoded same ∙ reads) says))
-  where
-    by : (b : Bool) (r : Result Message WireFault) → r ≡ Ok (user_event e) → (receive_gives p (planned m.agent (cond b (answers m.agent (Err receives.Stopped)) (receive_read m.agent now r))).answer).answer ≡ lines.Ignored Seen
-        → admission m.agent e.time (event_of e.name e.payload) ≡ Some Seen
-    by true r is says = absurd (cc says)
-    by false r is says =
-        seen-received m.agent p e.time (event_of e.name e.payload) e.coalesce (admission m.agent e.time (event_of e.name e.payload))
-        (subst (λ (r : Result Message WireFault). (receive_gives p (planned m.agent (receive_read m.agent now r)).answer).answer ≡ lines.Ignored Seen) is says)
-
-not-seen-merge : (m : IdealNode) (join : Bool) (f : Option MergeFault) (r : Result Message WireFault) → (merges_as f m join r).done.answer ≡ lines.Ignored Seen → ⊥
-not-seen-merge m join (Some fault) r e = cc
-not-seen-merge m join None (Err fault) e = cc
-not-seen-merge m join None (Ok (user_event x)) e = cc
-not-seen-merge m join None (Ok (query x)) e = cc
-not-seen-merge m join None (Ok (query_response x)) e = cc
-not-seen-merge m join None (Ok (foreign x)) e = cc
-not-seen-merge m join None (Ok (push_pull s)) e = by (merges_events (events_of s.slots) (joined s join m.agent)).failed e
-  where
-    by : (b : Bool) → cond b (lines.Refused SinkFault) lines.Merged ≡ lines.Ignored Seen → ⊥
-    by true e = cc
-    by false e = cc
-
-not-seen-given : (m : IdealNode) (join : Bool) (given : Option (List ℕ)) → (merges_given m join given).done.answer ≡ lines.Ignored Seen → ⊥
-not-seen-given m join None e = cc
-not-seen-given m join (Some packet) e = not-seen-merge m join (merge_refusal (view_of m.agent) (decoded packet)) (decoded packet) e
+seen-effect : (m : IdealNode) (action : Action) (given : Option (List ℕ)) (o : Applied) → Effect m action given o → (packet : List ℕ) (e : UserEvent) → o.done.answer ≡ lines.Ignored Seen → given ≡ Some packet → decoded packet ≡ Ok (user_event e)
+    → admission m.agent e.time (event_of e.name e.payload) ≡ Some Seen
+seen-effect m action given o (hears j outs answer heard idle) packet e says is reads = (subst (IsIdle m.agent given) says idle) packet e is reads
+seen-effect m action given o (counts to number now p r q true at same none kind) packet e says is reads = absurd (cc says)
+seen-effect m action given o _ packet e says is reads = absurd (cc says)
 
 seen-apply : (m : IdealNode) (sent : List (List ℕ)) (action : Action) (packet : List ℕ) (e : UserEvent) → (apply m sent action).done.answer ≡ lines.Ignored Seen → packet_given sent action ≡ Some packet → decoded packet ≡ Ok (user_event e)
     → Contains (entries m.agent.events.history) (record { time = e.time; key = event_of e.name e.payload })
-seen-apply m sent (actions.Deliver to k now) packet e says given reads = seen-delivers m now (slice_get sent k) packet e says given reads
-seen-apply m sent (actions.Merge to k join) packet e says given reads = absurd (not-seen-given m join (slice_get sent k) says)
-seen-apply m sent (actions.Fire agent name payload coalesce) packet e says given reads = absurd (cc given)
-seen-apply m sent (actions.State agent) packet e says given reads = absurd (cc given)
-seen-apply m sent (actions.Query agent now id name payload params) packet e says given reads = absurd (cc given)
-seen-apply m sent (actions.Respond agent h now payload) packet e says given reads = absurd (cc given)
-seen-apply m sent (actions.Restart agent tail) packet e says given reads = absurd (cc given)
-seen-apply m sent (actions.Break agent call n) packet e says given reads = absurd (cc given)
-seen-apply m sent (actions.Inject bytes) packet e says given reads = absurd (cc given)
-seen-apply m sent (actions.Close agent now) packet e says given reads = absurd (cc given)
-seen-apply m sent (actions.Save agent) packet e says given reads = absurd (cc given)
-seen-apply m sent (actions.Compact agent) packet e says given reads = absurd (cc given)
+seen-apply m sent action packet e says is reads =
+    entered-contains m.agent.events.history e.time (event_of e.name e.payload)
+    (seen-entered m.agent e.time (event_of e.name e.payload) (seen-effect m action (packet_given sent action) (apply m sent action) (effect m sent action) packet e says is reads))
 
 -- ---- a step
 

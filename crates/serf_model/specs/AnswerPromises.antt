@@ -18,6 +18,7 @@ use Rattle.serf_model.specs.declared.line.Answer.TheVariants as answers
 use Rattle.serf_model.specs.declared.line.HandedLine.{HandedLine}
 use Rattle.serf_model.specs.Cluster.{IdealNode, Run}
 use Rattle.serf_model.specs.Bounds.{present_life}
+use Rattle.serf_model.specs.HandOuts.{message_given}
 use Rattle.serf_model.specs.Trace.{Turn, AtEach, actor_of, handed_in, sent_in, turns_by}
 
 -- Lives
@@ -163,7 +164,17 @@ pub record IsAckOf (configs : List Config) (turn : Turn) (r : QueryResponse) : T
   pub ack : is_ack r ≡ true
   pub empty : r.payload ≡ []
 
--- An agent of the answer's name answered the query, which was handed to it in this life, and this is its response.
+-- until when the query can be answered that a turn hands out: the last moment, by what its agent asked or its packet says
+abbrev pub reply_deadline : Turn → List ℕ
+reply_deadline turn = by turn.action turn.line.answer
+  where
+    by : Action → Answer → List ℕ
+    by (actions.Query agent now id name payload params) (answers.Queried t) = deadline_of now params.timeout ∷ []
+    by (actions.Deliver to packet now) answers.Query = map (λ q. deadline_of now q.timeout) (message_given turn.given)
+    by _ _ = []
+
+-- An agent of the answer's name answered the query, which was handed to it in this life, before its deadline was past,
+-- and this is its response.
 pub record IsReplyTo (configs : List Config) (before : List Turn) (turn : Turn) (r : QueryResponse) : Type 0 where
   pub agent : ℕ
   pub number : ℕ
@@ -172,7 +183,13 @@ pub record IsReplyTo (configs : List Config) (before : List Turn) (turn : Turn) 
   pub replied : turn.line.answer ≡ answers.Replied
   pub from : IsFrom configs agent r
   pub line : HandedLine
-  pub handed : Contains (flat_map (λ t. option_to_list t.line.handed) (life_of agent before)) line
+  pub handing : Turn
+  pub there : Contains (life_of agent before) handing
+  pub handed : handing.line.handed ≡ Some line
+  pub to : line.agent ≡ agent
+  pub deadline : ℕ
+  pub until : reply_deadline handing ≡ deadline ∷ []
+  pub in_time : now ≤ deadline
   pub index : line.index ≡ number
   pub query : handed_in line ≡ query_answered r
   pub ack : is_ack r ≡ false
@@ -195,3 +212,11 @@ acked_by a turns = map query_answered (filter is_ack (flat_map (λ t. answers_in
 -- An agent acks a query at most once in all its lives.
 abbrev pub AckedOnce : List Turn → Type 0
 AckedOnce turns = (a : ℕ) → AllPairs (λ x y. x ≢ y) (acked_by a turns)
+
+-- the queries that an agent answered by responses in all its lives
+abbrev pub replied_by : ℕ → List Turn → List (TimedEntry ℕ)
+replied_by a turns = map query_answered (filter (λ r. not (is_ack r)) (flat_map (λ t. answers_in t.packets) (turns_by a turns)))
+
+-- An agent answers a query by a response at most once in all its lives.
+abbrev pub RepliedOnce : List Turn → Type 0
+RepliedOnce turns = (a : ℕ) → AllPairs (λ x y. x ≢ y) (replied_by a turns)

@@ -7,3 +7,5 @@ pub mod Promises
 pub mod Queried
 pub mod AnswerPromises
 pub mod Bounds
+pub mod HandOuts
+pub mod Alone

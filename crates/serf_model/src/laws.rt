@@ -1,22 +1,24 @@
 //! What holds of every run of the model, as clauses of functions that do nothing.
 
-ghost use Rattle.std.specs.Prelude.{◌≡◌, ◌++◌, ℕ, List, All};
+ghost use Rattle.std.specs.Prelude.{◌≡◌, ◌++◌, ℕ, List, Some, All, slice_get};
 ghost use Rattle.serf_agent.specs.declared.config.Config.{Config};
 ghost use Rattle.serf_agent.specs.Restart.{IsInText};
 ghost use Rattle.serf_model.specs.declared.action.Action.{Action};
-ghost use Rattle.serf_model.specs.AnswerPromises.{AckedOnce, AnswersMade, CountedInTime, CountedOnce, CountedSent, OpenQueriesHold};
+ghost use Rattle.serf_model.specs.Alone.{IsAlone};
+ghost use Rattle.serf_model.specs.AnswerPromises.{AckedOnce, AnswersMade, CountedInTime, CountedOnce, CountedSent, OpenQueriesHold, RepliedOnce};
 ghost use Rattle.serf_model.specs.Bounds.{EventsBounded, QueriesBounded};
 ghost use Rattle.serf_model.specs.Cluster.{IdealNode, apply, run_of, start, text_after, trace_of};
+ghost use Rattle.serf_model.specs.HandOuts.{HandsOutEntered, HandsOutGiven, MessagesFired, NewIsHanded, OnlyToActor};
 ghost use Rattle.serf_model.specs.Promises.{Held, Later, Once, OnlyFired, QueryFired, QueryHandedOnce, QueryLater, QueryOnce};
 ghost use Rattle.serf_model.specs.Queried.{QueryOnlyFired};
 ghost use Rattle.serf_model.specs.Ready.{AreRepresentable, IsRepresentable};
 ghost use Rattle.serf_model.specs.Runs.{AreConfigs};
 ghost use Rattle.serf_model.specs.Sizes.{HasSizes};
-ghost use Rattle.serf_model.specs.Trace.{turns_of};
+ghost use Rattle.serf_model.specs.Trace.{turns_by, turns_of};
 
 /// Every run keeps every promise, whatever its settings and its actions are. Does nothing.
 ///
-/// Three promises on queries and answers rest on what the types say of an action's numbers (`HasSizes`).
+/// Five promises on queries and answers rest on what the types say of an action's numbers (`HasSizes`).
 pub fn run_promises()
     // What the turns of every run keep.
     ensures once { (configs : List Config) (actions : List Action) → AreConfigs configs → Once (run_of configs actions).turns }
@@ -29,11 +31,19 @@ pub fn run_promises()
     ensures query_fired { (configs : List Config) (actions : List Action) → QueryFired (run_of configs actions).turns }
     ensures query_only_fired { (configs : List Config) (actions : List Action) → All HasSizes actions → QueryOnlyFired (run_of configs actions).turns }
 
+    // What they keep of what is handed out, and of queries as messages.
+    ensures only_to_actor { (configs : List Config) (actions : List Action) → OnlyToActor (run_of configs actions).turns }
+    ensures hands_out_given { (configs : List Config) (actions : List Action) → HandsOutGiven (run_of configs actions).turns }
+    ensures new_is_handed { (configs : List Config) (actions : List Action) → NewIsHanded (run_of configs actions).turns }
+    ensures hands_out_entered { (configs : List Config) (actions : List Action) → HandsOutEntered configs (run_of configs actions).turns }
+    ensures messages_fired { (configs : List Config) (actions : List Action) → All HasSizes actions → MessagesFired configs (run_of configs actions).turns }
+
     // What they keep of acks and responses.
     ensures counted_once { (configs : List Config) (actions : List Action) → AreConfigs configs → CountedOnce (run_of configs actions).turns }
     ensures counted_in_time { (configs : List Config) (actions : List Action) → AreConfigs configs → CountedInTime (run_of configs actions).turns }
     ensures counted_sent { (configs : List Config) (actions : List Action) → AreConfigs configs → CountedSent (run_of configs actions).turns }
     ensures answers_made { (configs : List Config) (actions : List Action) → All HasSizes actions → AreConfigs configs → AnswersMade configs (run_of configs actions).turns }
+    ensures replied_once { (configs : List Config) (actions : List Action) → All HasSizes actions → AreConfigs configs → RepliedOnce (run_of configs actions).turns }
     ensures acked_once { (configs : List Config) (actions : List Action) → All HasSizes actions → AreConfigs configs → AckedOnce (run_of configs actions).turns }
 
     // What each agent's windows hold, by its settings.
@@ -47,6 +57,12 @@ pub fn run_promises()
 /// The turns of a run are what its actions and its trace show, whatever actions come behind. Does nothing.
 pub fn turns_shown()
     ensures { (configs : List Config) (done left : List Action) → AreConfigs configs → turns_of (done ++ left) (trace_of (run_of configs done)) ≡ (run_of configs done).turns }
+{}
+
+/// The turns of one agent in a run show what comes of its calls where it is alone, each call with its packet by its
+/// bytes; and the run leaves it as it is then. So an agent can be held against the model by itself. Does nothing.
+pub fn agents_alone()
+    ensures { (configs : List Config) (actions : List Action) (a : ℕ) (config : Config) (m : IdealNode) → slice_get configs a ≡ Some config → slice_get (run_of configs actions).cluster.nodes a ≡ Some m → IsAlone config a (turns_by a (run_of configs actions).turns) m }
 {}
 
 /// The agents of a cluster that has done nothing are representable, and an action leaves its agent representable. What

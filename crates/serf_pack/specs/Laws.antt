@@ -1,5 +1,5 @@
 -- Laws of spellings and faults.
-use Rattle.std.specs.Prelude.{FitsSigned, ◌≡◌, ◌<◌, ◌+◌, ◌^◌, ℕ, ℤ, pos, negsuc, Bool, List, ◌++◌, length}
+use Rattle.std.specs.Prelude.{FitsSigned, ◌≡◌, ◌<◌, ◌+◌, ◌^◌, ◌↔◌, ℕ, ℤ, pos, negsuc, Bool, List, ◌++◌, Ok, Err, length}
 use Rattle.std.specs.Int.{w64}
 use Rattle.serf_pack.specs.declared.head.Head.TheVariants as heads
 use Rattle.serf_pack.specs.Canonical.{map_head, array_head, raw_head, raw_bytes, uint_bytes, negative_bytes, int_bytes, flag_bytes, nil_bytes}
@@ -8,6 +8,7 @@ use Rattle.serf_pack.specs.Tree.{Tree, Items, Pairs}
 use Rattle.serf_pack.specs.Tree as trees
 use Rattle.serf_pack.specs.Packs.{IsHead, Packs, PackItems, PackPairs, item_count, pair_count}
 use Rattle.serf_pack.specs.Breaks.{IsFaulty}
+use Rattle.serf_pack.specs.Reading.{whole_at}
 
 -- a byte list spells at most one value
 abbrev pub OneTree : Type 0
@@ -20,6 +21,11 @@ OneFault = (bytes : List ℕ) (f g : PackFault) → IsFaulty bytes f → IsFault
 -- and never both
 abbrev pub NeverBoth : Type 0
 NeverBoth = (bytes : List ℕ) (v : Tree) (f : PackFault) → Packs v 0 0 bytes → IsFaulty bytes f → ⊥
+
+-- the reading gives just the value that the bytes spell, inside at most eight containers, and just the first fault
+pub record ReadsExactly : Type 0 where
+  pub value : (bytes : List ℕ) (v : Tree) → (whole_at 8 bytes ≡ Ok v) ↔ Packs v 0 0 bytes
+  pub fault : (bytes : List ℕ) (f : PackFault) → (whole_at 8 bytes ≡ Err f) ↔ IsFaulty bytes f
 
 -- what the appenders write is a head, and of integers the whole spelling
 pub record CanonicalHeads : Type 0 where

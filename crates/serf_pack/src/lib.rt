@@ -26,7 +26,7 @@ mod walk;
 mod whole;
 
 pub use fault::PackFault;
-pub use laws::{appenders_pack, canonical_heads, one_reading};
+pub use laws::{appenders_pack, canonical_heads, exact_reading, one_reading};
 pub use put::{put_array, put_bool, put_int, put_map, put_nil, put_raw, put_uint};
 pub use view::{Kind, View};
 pub use walk::{Items, Pairs};

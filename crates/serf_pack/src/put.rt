@@ -1,6 +1,7 @@
 //! Canonical spellings, at the end of a vector: the shortest format of each number, length and count
 //! (byte strings are str, and str 8 is not used). Each function answers `AllocError` only where the
-//! vector's capacity is too small and its growth was refused, and then the vector holds what it held.
+//! vector's capacity is too small and its growth was refused, and then the vector holds what it held. The capacity
+//! never falls.
 //! MessagePack specification, "Formats" and "Serialization: type to format conversion".
 
 ghost use Rattle.std.specs.Prelude.{◌≡◌, ◌≤◌, ◌<◌, ◌+◌, ◌^◌, ◌++◌, ◌∷◌, [], length, is_ok, OnOk, OnErr, vec_len, vec_capacity, if◌then◌else◌};
@@ -45,6 +46,7 @@ pub fn put_map(out: &mut Vec<u8>, count: u32) -> Result<(), AllocError>
     ensures ok { OnOk result (out.new.items ≡ out.old.items ++ map_head count) }
     ensures err { OnErr result (out.new.items ≡ out.old.items) }
     ensures full { OnErr result (vec_capacity out.old < vec_len out.old + length (map_head count)) }
+    ensures grows { vec_capacity out.old ≤ vec_capacity out.new }
 {
     if count < 16 {
         put_byte(out, 0x80 + count as u8)
@@ -63,6 +65,7 @@ pub fn put_array(out: &mut Vec<u8>, count: u32) -> Result<(), AllocError>
     ensures ok { OnOk result (out.new.items ≡ out.old.items ++ array_head count) }
     ensures err { OnErr result (out.new.items ≡ out.old.items) }
     ensures full { OnErr result (vec_capacity out.old < vec_len out.old + length (array_head count)) }
+    ensures grows { vec_capacity out.old ≤ vec_capacity out.new }
 {
     if count < 16 {
         put_byte(out, 0x90 + count as u8)
@@ -99,6 +102,7 @@ pub fn put_raw(out: &mut Vec<u8>, bytes: &[u8]) -> Result<(), AllocError>
     ensures ok { OnOk result (out.new.items ≡ out.old.items ++ raw_bytes bytes.now) }
     ensures err { OnErr result (out.new.items ≡ out.old.items) }
     ensures full { OnErr result (vec_capacity out.old < vec_len out.old + length (raw_bytes bytes.now)) }
+    ensures grows { vec_capacity out.old ≤ vec_capacity out.new }
 {
     let len = out.len();
     put_raw_head(out, bytes.len() as u32)?;
@@ -117,6 +121,7 @@ pub fn put_uint(out: &mut Vec<u8>, n: u64) -> Result<(), AllocError>
     ensures ok { OnOk result (out.new.items ≡ out.old.items ++ uint_bytes n) }
     ensures err { OnErr result (out.new.items ≡ out.old.items) }
     ensures full { OnErr result (vec_capacity out.old < vec_len out.old + length (uint_bytes n)) }
+    ensures grows { vec_capacity out.old ≤ vec_capacity out.new }
 {
     if n < 128 {
         put_byte(out, n as u8)
@@ -138,6 +143,7 @@ pub fn put_bool(out: &mut Vec<u8>, value: bool) -> Result<(), AllocError>
     ensures ok { OnOk result (out.new.items ≡ out.old.items ++ flag_bytes value) }
     ensures err { OnErr result (out.new.items ≡ out.old.items) }
     ensures full { OnErr result (vec_capacity out.old < vec_len out.old + 1) }
+    ensures grows { vec_capacity out.old ≤ vec_capacity out.new }
 {
     put_byte(out, if value { 0xc3 } else { 0xc2 })
 }
@@ -149,6 +155,7 @@ pub fn put_nil(out: &mut Vec<u8>) -> Result<(), AllocError>
     ensures ok { OnOk result (out.new.items ≡ out.old.items ++ nil_bytes) }
     ensures err { OnErr result (out.new.items ≡ out.old.items) }
     ensures full { OnErr result (vec_capacity out.old < vec_len out.old + 1) }
+    ensures grows { vec_capacity out.old ≤ vec_capacity out.new }
 {
     put_byte(out, 0xc0)
 }
@@ -160,6 +167,7 @@ fn put_signed(out: &mut Vec<u8>, format: u8, number: i64, width: usize) -> Resul
     ensures ok { OnOk result (out.new.items ≡ out.old.items ++ format ∷ big_bytes width (low_bytes w64 width number)) }
     ensures err { OnErr result (out.new.items ≡ out.old.items) }
     ensures full { OnErr result (vec_capacity out.old < vec_len out.old + (1 + width)) }
+    ensures grows { vec_capacity out.old ≤ vec_capacity out.new }
 {
     let mut bytes = [0u8; 9];
     bytes[0] = format;
@@ -176,6 +184,7 @@ pub fn put_int(out: &mut Vec<u8>, n: i64) -> Result<(), AllocError>
     ensures ok { OnOk result (out.new.items ≡ out.old.items ++ int_bytes n) }
     ensures err { OnErr result (out.new.items ≡ out.old.items) }
     ensures full { OnErr result (vec_capacity out.old < vec_len out.old + length (int_bytes n)) }
+    ensures grows { vec_capacity out.old ≤ vec_capacity out.new }
 {
     if n >= 0 {
         put_uint(out, n as u64)

@@ -1,10 +1,11 @@
 -- Laws of packets.
-use Rattle.std.specs.Prelude.{◌≡◌, ◌↔◌, ℕ, List, false, Ok, Err}
+use Rattle.std.specs.Prelude.{◌≡◌, ◌↔◌, ℕ, List, true, false, Ok, Err}
 use Rattle.serf_wire.specs.declared.fault.WireFault.{WireFault}
 use Rattle.serf_wire.specs.Message.{Message}
 use Rattle.serf_wire.specs.Spells.{Spells, IsFirstFault}
 use Rattle.serf_wire.specs.Decoded.{decoded}
 use Rattle.serf_wire.specs.Canonical.{canonical, without_empty_slots, has_long}
+use Rattle.serf_wire.specs.Passes.{Passes, passes_of}
 use Rattle.serf_wire.specs.Ranges.{InRange}
 
 -- bytes decode to a message just where they spell it
@@ -22,3 +23,7 @@ OneMessage = (packet : List ℕ) (m n : Message) → Spells m packet → Spells 
 -- the canonical packet of a message of which nothing is too long spells the message, whose slots without events are empty
 abbrev pub CanonicalSpells : Type 0
 CanonicalSpells = (m : Message) → InRange m → has_long m ≡ false → Spells (without_empty_slots m) (canonical m)
+
+-- a filter's reading lets a node pass just where the filter does
+abbrev pub PassesExactly : Type 0
+PassesExactly = (filter node : List ℕ) → (passes_of filter node ≡ true) ↔ Passes filter node

@@ -1,6 +1,6 @@
 //! What holds of packets, whichever they are.
 
-ghost use Rattle.serf_wire.specs.Laws.{DecodesSpelled, DecodesFaulty, OneMessage, CanonicalSpells};
+ghost use Rattle.serf_wire.specs.Laws.{DecodesSpelled, DecodesFaulty, OneMessage, CanonicalSpells, PassesExactly};
 
 /// Decoding, as a function of a byte list, is exact: it gives just the message that the bytes spell, and just
 /// the first fault of bytes that spell none. So a byte list spells at most one message.
@@ -13,4 +13,9 @@ pub fn exact_decoding()
 /// The canonical packet of a message spells it, but that slots without events are empty.
 pub fn canonical_packets()
     ensures { CanonicalSpells }
+{}
+
+/// The reading of a filter, by which contracts above say whom a query asks, is the relation `Passes`.
+pub fn exact_filters()
+    ensures { PassesExactly }
 {}

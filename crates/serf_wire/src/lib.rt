@@ -28,7 +28,7 @@ mod texts;
 pub use encode::{EncodeFault, encode_push_pull, encode_query, encode_response, encode_user_event};
 pub use fault::WireFault;
 pub use filter::{node_filter, passes};
-pub use laws::{canonical_packets, exact_decoding};
+pub use laws::{canonical_packets, exact_decoding, exact_filters};
 pub use length::{query_len, response_len, user_event_len};
 pub use lists::{EventView, EventViews, SlotView, SlotViews, StatusTime, StatusTimes, Texts};
 pub use message::Message;

@@ -2,9 +2,10 @@
 
 ghost use Rattle.std.specs.Prelude.{◌≡◌, ◌≤◌, ◌++◌, ◌∷◌, ℕ, [], IfErr, IfOk, OnErr, OnOk, length, take};
 ghost use Rattle.std.specs.List.{fold};
-ghost use Rattle.serf_model.specs.AnswerPromises.{AckedOnce, AnswersMade, CountedInTime, CountedOnce, CountedSent, OpenQueriesHold};
+ghost use Rattle.serf_model.specs.AnswerPromises.{AckedOnce, AnswersMade, CountedInTime, CountedOnce, CountedSent, OpenQueriesHold, RepliedOnce};
 ghost use Rattle.serf_model.specs.Bounds.{EventsBounded, QueriesBounded};
 ghost use Rattle.serf_model.specs.Cluster.{Cluster, Run, after, run_of, step, trace_of};
+ghost use Rattle.serf_model.specs.HandOuts.{HandsOutEntered, HandsOutGiven, MessagesFired, NewIsHanded, OnlyToActor};
 ghost use Rattle.serf_model.specs.Promises.{Held, Later, Once, OnlyFired, QueryFired, QueryHandedOnce, QueryLater, QueryOnce};
 ghost use Rattle.serf_model.specs.Queried.{QueryOnlyFired};
 ghost use Rattle.serf_model.specs.Ready.{AreRepresentable};
@@ -102,11 +103,19 @@ pub fn run(alloc: Global, configs: Vec<Config>, actions: &[Action]) -> Result<Tr
     ensures query_fired { OfTurns QueryFired actions.now result }
     ensures query_only_fired { OfTurns QueryOnlyFired actions.now result }
 
+    // What they keep of what is handed out, and of queries as messages.
+    ensures only_to_actor { OfTurns OnlyToActor actions.now result }
+    ensures hands_out_given { OfTurns HandsOutGiven actions.now result }
+    ensures new_is_handed { OfTurns NewIsHanded actions.now result }
+    ensures hands_out_entered { OfTurns (HandsOutEntered configs.items) actions.now result }
+    ensures messages_fired { OfTurns (MessagesFired configs.items) actions.now result }
+
     // What they keep of acks and responses.
     ensures counted_once { OfTurns CountedOnce actions.now result }
     ensures counted_in_time { OfTurns CountedInTime actions.now result }
     ensures counted_sent { OfTurns CountedSent actions.now result }
     ensures answers_made { OfTurns (AnswersMade configs.items) actions.now result }
+    ensures replied_once { OfTurns RepliedOnce actions.now result }
     ensures acked_once { OfTurns AckedOnce actions.now result }
 
     // What each agent's windows hold, by its settings.

@@ -137,10 +137,13 @@ impl World {
 
     /// Does an action. A refused action is a line too.
     ///
-    /// `OutOfMemory` where it found no memory: the cluster is poisoned then, and answers `Spent` from then on.
+    /// `OutOfMemory` where it found no memory: the cluster is poisoned then, and answers `Spent` from then on, which
+    /// changes nothing. The agent may have done the action, with no line of it; what [`World::agent`] lends of a poisoned
+    /// cluster is of no run.
     pub fn step(&mut self, alloc: Global, action: &Action) -> Result<Line, StepFault>
         ensures step { (c : Cluster) → IsViewed c self.old → AreRepresentable c → IfOk result (TakesStep (step c action.now) self.new) }
         ensures spent { IsErrOf result StepFault.Spent ↔ IsTrue self.old.poisoned }
+        ensures spent_same { IsErrOf result StepFault.Spent → self.new ≡ self.old }
         ensures ok { OnOk result (self.new.poisoned ≡ false) }
         ensures err { OnErr result (self.new.poisoned ≡ true) }
         ensures kept { OnErr result (self.new.sent ≡ self.old.sent) }

@@ -1,8 +1,9 @@
 use Rattle.serf_model.specs.Cluster.{run_of}
-use Rattle.serf_model.proofs.AnswerLaws.{acked-once}
+use Rattle.serf_model.proofs.AnswerLaws.{acked-once, replied-once}
 use Rattle.serf_model.proofs.AnswerPromiseLaws.{counting-run, served-run}
 use Rattle.serf_model.proofs.BoundLaws.{events-bounded, queries-bounded}
 use Rattle.serf_model.proofs.CountingPromises.{counted-once, open-hold}
+use Rattle.serf_model.proofs.HandOutLaws.{entering-run, handing-out, messaging-run}
 use Rattle.serf_model.proofs.PromiseLaws.{promised, query-fired}
 use Rattle.serf_model.proofs.QueriesEntered.{query-only-fired}
 use Rattle.serf_model.proofs.laws.run_promises.Goals as goal
@@ -34,6 +35,21 @@ returns-clause-query_fired c = query-fired
 pub returns-clause-query_only_fired : goal.returns-clause-query_only_fired
 returns-clause-query_only_fired c = query-only-fired
 
+pub returns-clause-only_to_actor : goal.returns-clause-only_to_actor
+returns-clause-only_to_actor c = λ configs actions. (handing-out configs actions).to_actor
+
+pub returns-clause-hands_out_given : goal.returns-clause-hands_out_given
+returns-clause-hands_out_given c = λ configs actions. (handing-out configs actions).given
+
+pub returns-clause-new_is_handed : goal.returns-clause-new_is_handed
+returns-clause-new_is_handed c = λ configs actions. (handing-out configs actions).new
+
+pub returns-clause-hands_out_entered : goal.returns-clause-hands_out_entered
+returns-clause-hands_out_entered c = λ configs actions. (entering-run configs actions).entered
+
+pub returns-clause-messages_fired : goal.returns-clause-messages_fired
+returns-clause-messages_fired c = λ configs actions sized. (messaging-run configs actions sized).fired
+
 pub returns-clause-counted_once : goal.returns-clause-counted_once
 returns-clause-counted_once c = λ configs actions ok. counted-once (run_of configs actions).cluster (run_of configs actions).turns (counting-run configs actions ok)
 
@@ -48,6 +64,9 @@ returns-clause-answers_made c = λ configs actions sized ok. (served-run configs
 
 pub returns-clause-acked_once : goal.returns-clause-acked_once
 returns-clause-acked_once c = λ configs actions sized ok. acked-once configs (run_of configs actions).cluster (run_of configs actions).turns (served-run configs actions sized ok)
+
+pub returns-clause-replied_once : goal.returns-clause-replied_once
+returns-clause-replied_once c = λ configs actions sized ok. replied-once configs (run_of configs actions).cluster (run_of configs actions).turns (served-run configs actions sized ok)
 
 pub returns-clause-events_bounded : goal.returns-clause-events_bounded
 returns-clause-events_bounded c = events-bounded

@@ -1,6 +1,7 @@
 use Rattle.std.proofs.Common.{arith, take}
-use Rattle.serf_model.specs.AnswerPromises.{AckedOnce, AnswersMade, CountedInTime, CountedOnce, CountedSent}
+use Rattle.serf_model.specs.AnswerPromises.{AckedOnce, AnswersMade, CountedInTime, CountedOnce, CountedSent, RepliedOnce}
 use Rattle.serf_model.specs.Bounds.{EventsBounded, QueriesBounded}
+use Rattle.serf_model.specs.HandOuts.{HandsOutEntered, HandsOutGiven, MessagesFired, NewIsHanded, OnlyToActor}
 use Rattle.serf_model.specs.Promises.{Held, Later, Once, OnlyFired, QueryFired, QueryHandedOnce, QueryLater, QueryOnce}
 use Rattle.serf_model.specs.Queried.{QueryOnlyFired}
 use Rattle.serf_world.proofs.ResultLaws.{at-none, of-every, of-runs, of-sized}
@@ -33,6 +34,21 @@ returns-clause-query_fired c = of-every QueryFired c.args.configs.items c.args.a
 pub returns-clause-query_only_fired : goal.returns-clause-query_only_fired
 returns-clause-query_only_fired c = of-sized QueryOnlyFired c.args.configs.items c.args.actions.now c.run_exactly.result c.turns_shown.ensures (at-none _) (λ done sized ok. c.run_promises.ensures.query_only_fired c.args.configs.items done sized) c.read_all_numbers.ensures c.run_exactly.ensures
 
+pub returns-clause-only_to_actor : goal.returns-clause-only_to_actor
+returns-clause-only_to_actor c = of-every OnlyToActor c.args.configs.items c.args.actions.now c.run_exactly.result c.turns_shown.ensures (λ configs actions ok. c.run_promises.ensures.only_to_actor configs actions) c.run_exactly.ensures
+
+pub returns-clause-hands_out_given : goal.returns-clause-hands_out_given
+returns-clause-hands_out_given c = of-every HandsOutGiven c.args.configs.items c.args.actions.now c.run_exactly.result c.turns_shown.ensures (λ configs actions ok. c.run_promises.ensures.hands_out_given configs actions) c.run_exactly.ensures
+
+pub returns-clause-new_is_handed : goal.returns-clause-new_is_handed
+returns-clause-new_is_handed c = of-every NewIsHanded c.args.configs.items c.args.actions.now c.run_exactly.result c.turns_shown.ensures (λ configs actions ok. c.run_promises.ensures.new_is_handed configs actions) c.run_exactly.ensures
+
+pub returns-clause-hands_out_entered : goal.returns-clause-hands_out_entered
+returns-clause-hands_out_entered c = of-runs (HandsOutEntered c.args.configs.items) c.args.configs.items c.args.actions.now c.run_exactly.result c.turns_shown.ensures (at-none _) (λ done left front ok. c.run_promises.ensures.hands_out_entered c.args.configs.items done) c.run_exactly.ensures
+
+pub returns-clause-messages_fired : goal.returns-clause-messages_fired
+returns-clause-messages_fired c = of-sized (MessagesFired c.args.configs.items) c.args.configs.items c.args.actions.now c.run_exactly.result c.turns_shown.ensures (at-none _) (λ done sized ok. c.run_promises.ensures.messages_fired c.args.configs.items done sized) c.read_all_numbers.ensures c.run_exactly.ensures
+
 pub returns-clause-counted_once : goal.returns-clause-counted_once
 returns-clause-counted_once c = of-every CountedOnce c.args.configs.items c.args.actions.now c.run_exactly.result c.turns_shown.ensures c.run_promises.ensures.counted_once c.run_exactly.ensures
 
@@ -47,6 +63,9 @@ returns-clause-answers_made c = of-sized (AnswersMade c.args.configs.items) c.ar
 
 pub returns-clause-acked_once : goal.returns-clause-acked_once
 returns-clause-acked_once c = of-sized AckedOnce c.args.configs.items c.args.actions.now c.run_exactly.result c.turns_shown.ensures (λ a i j d lt within. absurd (omega arith)) (c.run_promises.ensures.acked_once c.args.configs.items) c.read_all_numbers.ensures c.run_exactly.ensures
+
+pub returns-clause-replied_once : goal.returns-clause-replied_once
+returns-clause-replied_once c = of-sized RepliedOnce c.args.configs.items c.args.actions.now c.run_exactly.result c.turns_shown.ensures (λ a i j d lt within. absurd (omega arith)) (c.run_promises.ensures.replied_once c.args.configs.items) c.read_all_numbers.ensures c.run_exactly.ensures
 
 pub returns-clause-events_bounded : goal.returns-clause-events_bounded
 returns-clause-events_bounded c = of-runs (EventsBounded c.args.configs.items) c.args.configs.items c.args.actions.now c.run_exactly.result c.turns_shown.ensures (at-none _) (λ done left front ok. c.run_promises.ensures.events_bounded c.args.configs.items done ok) c.run_exactly.ensures

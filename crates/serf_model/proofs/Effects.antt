@@ -1,0 +1,333 @@
+-- What each action does to the node that acts.
+use Rattle.std.proofs.Common.{◌≡◌, ℕ, ◌-◌, Bool, true, false, cond, List, [], ◌∷◌, ◌++◌, Option, Some, None, Result, Ok, Err, refl, sym, ap, subst, ◌∙◌, map}
+use Rattle.std.specs.Prelude.{All, Contains, slice_get}
+use Rattle.std.proofs.lemmas.List.{map-append}
+use Rattle.std.proofs.lemmas.List.Elements.{All-nil, All-cons, All-append, All-weaker, All-contains_itself, All-head, Contains-append_right}
+use Rattle.serf_wire.specs.declared.fault.WireFault.{WireFault}
+use Rattle.serf_wire.specs.declared.texts.EventBody.{EventBody}
+use Rattle.serf_wire.specs.Canonical.{canonical, has_long}
+use Rattle.serf_wire.specs.Decoded.{decoded}
+use Rattle.serf_wire.specs.Message.{Message, UserEvent, Query, QueryResponse, user_event, query, query_response, push_pull}
+use Rattle.serf_window.specs.Texts.{event_of}
+use Rattle.serf_window.specs.Window.{TimedEntry}
+use Rattle.serf_snap.specs.Notes.{Writing, Kept, Failed}
+use Rattle.serf_snap.specs.declared.kind.ClockKind.TheVariants as kinds
+use Rattle.serf_snap.specs.declared.snapshot.NoteFault.{NoteFault}
+use Rattle.serf_snap.specs.declared.snapshot.NoteFault.TheVariants as notes
+use Rattle.serf_agent.specs.declared.config.Config.{Config}
+use Rattle.serf_agent.specs.declared.open_query.OpenQuery.{OpenQuery}
+use Rattle.serf_agent.specs.declared.outcome.EventOut.{EventOut}
+use Rattle.serf_agent.specs.declared.outcome.FireFault.{FireFault}
+use Rattle.serf_agent.specs.declared.outcome.MergeFault.{MergeFault}
+use Rattle.serf_agent.specs.declared.outcome.Outcome.{Outcome}
+use Rattle.serf_agent.specs.declared.outcome.Outcome.TheVariants as outcomes
+use Rattle.serf_agent.specs.declared.outcome.PushPullFault.TheVariants as states
+use Rattle.serf_agent.specs.declared.outcome.QueryFault.{QueryFault}
+use Rattle.serf_agent.specs.declared.outcome.QueryParams.{QueryParams}
+use Rattle.serf_agent.specs.declared.outcome.Reason.{Reason}
+use Rattle.serf_agent.specs.declared.outcome.ReceiveFault.{ReceiveFault}
+use Rattle.serf_agent.specs.declared.outcome.ReceiveFault.TheVariants as receives
+use Rattle.serf_agent.specs.declared.outcome.RespondFault.{RespondFault}
+use Rattle.serf_agent.specs.Calls.{Call, Ends, Notes, Replaces, Step, answers, ended, planned, will}
+use Rattle.serf_agent.specs.Events.{admission, fire_fault, fired_as, received_as}
+use Rattle.serf_agent.specs.Handed.{Handed}
+use Rattle.serf_agent.specs.Ideal.{IdealAgent, with_asked}
+use Rattle.serf_agent.specs.Queries.{answer_ignore_reason, asked_at, counted, is_ack, is_full, query_admission, query_at, query_fault, query_fired_as, query_received_as, respond_fault, response_received_as, response_received_at, with_asked_at}
+use Rattle.serf_agent.specs.Receive.{receive_read}
+use Rattle.serf_agent.specs.States.{events_of, handed_by, joined, merge_refusal, receive_one, state_of}
+use Rattle.serf_agent.specs.View.{view_of}
+use Rattle.serf_model.specs.declared.action.Action.{Action}
+use Rattle.serf_model.specs.declared.action.Action.TheVariants as actions
+use Rattle.serf_model.specs.declared.line.Answer.{Answer}
+use Rattle.serf_model.specs.declared.line.Answer.TheVariants as lines
+use Rattle.serf_model.specs.declared.line.Refusal.TheVariants.{SinkFault}
+use Rattle.serf_model.specs.Bounds.{is_restarted}
+use Rattle.serf_model.specs.Cluster.{Applied, IdealNode, Merged, apply, called, closes, compacts, delivers, does_nothing, fire_gives, merges_as, merges_events, merges_given, merges_on, note_gives, only, query_gives, receive_gives, responds, responds_as, restarts, saves, sends_state, state_gives}
+use Rattle.serf_model.specs.HandOuts.{events_given}
+use Rattle.serf_model.specs.Trace.{entered_by, events_brought, events_in_packet, packet_given}
+use Rattle.serf_model.proofs.PerTimeBound.{Enters, enters-none, enters-one, enters-then, event-room, out_in}
+
+-- ---- the definition
+
+-- What an answer that is idle says: no event is fired or new, no query enters, nothing is counted, no life begins. Where it
+-- ignores an event, the agent has this reason.
+abbrev pub IsIdle : IdealAgent → Option (List ℕ) → Answer → Type 0
+IsIdle i given (lines.Fired t) = ⊥
+IsIdle i given lines.New = ⊥
+IsIdle i given lines.Query = ⊥
+IsIdle i given (lines.Queried t) = ⊥
+IsIdle i given lines.Ack = ⊥
+IsIdle i given lines.Response = ⊥
+IsIdle i given (lines.Restarted member_clock event_clock query_clock) = ⊥
+IsIdle i given (lines.Ignored reason) = (packet : List ℕ) (e : UserEvent) → given ≡ Some packet → decoded packet ≡ Ok (user_event e) → admission i e.time (event_of e.name e.payload) ≡ Some reason
+IsIdle i given _ = Unit {0}
+
+-- what an answer that is idle says
+pub idle-enters : (i : IdealAgent) (action : Action) (given : Option (List ℕ)) (answer : Answer) → IsIdle i given answer → (entered_by action given answer ≡ []) × (is_restarted answer ≡ false)
+idle-enters i action given lines.Query idle = absurd idle
+idle-enters i action given (lines.Queried t) idle = absurd idle
+idle-enters i action given (lines.Restarted member_clock event_clock query_clock) idle = absurd idle
+idle-enters i action given _ idle = (refl, refl)
+
+-- An agent's life goes on. It enters just the events that it hands out, each of them one of these.
+pub record Hears (i j : IdealAgent) (brought : List (TimedEntry EventBody)) (outs : List EventOut) : Type 0 where
+  pub config : j.config ≡ i.config
+  pub life : j.life ≡ i.life
+  pub events : Enters i.life i.config.per_time i.events.history j.events.history (map out_in outs)
+  pub queries : j.queries.history ≡ i.queries.history
+  pub asked : j.asked ≡ i.asked
+  pub among : All (Contains brought) (map out_in outs)
+
+-- What an action does to the node that acts, where it gives this packet: what the node becomes, and what that gives.
+pub data Effect (m : IdealNode) : Action → Option (List ℕ) → Applied → Type 0 where
+  -- it hears of clocks and of events, at most, and sends nothing
+  hears : {action : Action} {given : Option (List ℕ)} (j : IdealAgent) (outs : List EventOut) (answer : Answer) → Hears m.agent j (events_given given) outs → IsIdle m.agent given answer
+      → Effect m action given (record { node = record { agent = j; handed = m.handed }; done = record { answer = answer; packets = []; events = outs; handed = None } })
+  -- an event is fired
+  fires : {given : Option (List ℕ)} (agent : ℕ) (name payload : List ℕ) (coalesce : Bool) → fire_fault m.agent (event_of name payload) coalesce ≡ None
+      → Effect m (actions.Fire agent name payload coalesce) given (called m (ended m.agent (fired_as None m.agent (event_of name payload) coalesce) Kept) fire_gives)
+  -- an event is new, and is sent on
+  passes_on : {action : Action} (packet : List ℕ) (e : UserEvent) → decoded packet ≡ Ok (user_event e) → admission m.agent e.time (event_of e.name e.payload) ≡ None
+      → Effect m action (Some packet) (called m (ended m.agent (received_as None m.agent e.time (event_of e.name e.payload) e.coalesce) Kept) (receive_gives packet))
+  -- a query is fired
+  asks : {given : Option (List ℕ)} (agent now id : ℕ) (name payload : List ℕ) (params : QueryParams) → query_fault m.agent id name payload params ≡ None
+      → Effect m (actions.Query agent now id name payload params) given
+      (called m (ended m.agent (query_fired_as None m.agent now (query_at m.agent.queries.clock m.agent.config.name id name payload params)) Kept) query_gives)
+  -- a query is new
+  is_asked : (to number : ℕ) (packet : List ℕ) (now : ℕ) (q : Query) → decoded packet ≡ Ok (query q) → query_admission m.agent q.time q.id ≡ None
+      → Effect m (actions.Deliver to number now) (Some packet) (called m (ended m.agent (query_received_as None m.agent now q) Kept) (receive_gives packet))
+  -- an answer to an open query is counted
+  counts : (to number now : ℕ) (packet : List ℕ) (r : QueryResponse) (q : OpenQuery) (ack : Bool) → decoded packet ≡ Ok (query_response r) → asked_at r.time m.agent.asked ≡ Some q → answer_ignore_reason now r q ≡ None → is_ack r ≡ ack
+      → Effect m (actions.Deliver to number now) (Some packet)
+      (record { node = record { agent = with_asked (with_asked_at r.time (counted r q) m.agent.asked) m.agent; handed = m.handed }; done = only (cond ack lines.Ack lines.Response) })
+  -- the open queries whose deadline is past are taken out
+  closes_due : {given : Option (List ℕ)} (agent now : ℕ) → Effect m (actions.Close agent now) given (closes m now)
+  -- a whole state is sent
+  tells : {action : Action} {given : Option (List ℕ)} → has_long (push_pull (state_of (view_of m.agent) [] [])) ≡ false → Effect m action given (does_nothing m (state_gives (Ok (canonical (push_pull (state_of (view_of m.agent) [] []))))))
+  -- a query that was handed out is answered
+  replies : {given : Option (List ℕ)} (agent number now : ℕ) (payload : List ℕ) (h : Handed) → slice_get m.handed number ≡ Some (Some h) → respond_fault h now payload ≡ None
+      → Effect m (actions.Respond agent number now payload) given (responds_as None m number h payload)
+  -- a life begins
+  reopens : {given : Option (List ℕ)} (agent : ℕ) (tail : List ℕ) → Effect m (actions.Restart agent tail) given (restarts m tail)
+
+-- ---- nothing is entered
+
+rests : (i j : IdealAgent) (brought : List (TimedEntry EventBody)) → j.config ≡ i.config → j.life ≡ i.life → j.events.history ≡ i.events.history → j.queries.history ≡ i.queries.history → j.asked ≡ i.asked → Hears i j brought []
+rests i j brought config life events queries asked = record {
+  config = config;
+  life = life;
+  events = enters-none i.life i.config.per_time i.events.history j.events.history events;
+  queries = queries;
+  asked = asked;
+  among = All-nil (Contains brought);
+}
+
+idles : (m : IdealNode) (action : Action) (given : Option (List ℕ)) (j : IdealAgent) (answer : Answer) → j.config ≡ m.agent.config → j.life ≡ m.agent.life → j.events.history ≡ m.agent.events.history → j.queries.history ≡ m.agent.queries.history → j.asked ≡ m.agent.asked
+    → IsIdle m.agent given answer → Effect m action given (record { node = record { agent = j; handed = m.handed }; done = only answer })
+idles m action given j answer config life events queries asked idle = hears j [] answer (rests m.agent j (events_given given) config life events queries asked) idle
+
+-- a call ends as its line is kept, or as the sink fails
+kept-or-failed : {R : Type 0} (Goal : Step R → Type 0) (i : IdealAgent) (call : Call R) → Goal (ended i call Kept) → ((durable : Option (List ℕ)) → Goal (ended i call (Failed durable))) → Goal (planned i call)
+kept-or-failed {R} Goal i call kept failed = by (will i call)
+  where
+    by : (w : Writing) → Goal (ended i call w)
+    by Kept = kept
+    by (Failed durable) = failed durable
+
+-- ---- events
+
+effect-fire : (m : IdealNode) (given : Option (List ℕ)) (agent : ℕ) (name payload : List ℕ) (coalesce : Bool) (r : Option FireFault) → fire_fault m.agent (event_of name payload) coalesce ≡ r
+    → Effect m (actions.Fire agent name payload coalesce) given (called m (planned m.agent (fired_as r m.agent (event_of name payload) coalesce)) fire_gives)
+effect-fire m given agent name payload coalesce (Some fault) is = idles m _ given _ _ refl refl refl refl refl tt
+effect-fire m given agent name payload coalesce None is =
+    kept-or-failed (λ o. Effect m (actions.Fire agent name payload coalesce) given (called m o fire_gives)) m.agent (fired_as None m.agent (event_of name payload) coalesce)
+    (fires agent name payload coalesce is) (λ s. idles m _ given _ _ refl refl refl refl refl tt)
+
+-- what a delivery does
+abbrev Delivered : IdealNode → ℕ → ℕ → ℕ → List ℕ → Step (Result Outcome ReceiveFault) → Type 0
+Delivered m to number now packet o = Effect m (actions.Deliver to number now) (Some packet) (called m o (receive_gives packet))
+
+-- why what came was ignored, where it is an event
+abbrev IgnoredAs : IdealAgent → Reason → Result Message WireFault → Type 0
+IgnoredAs i reason (Ok (user_event e)) = admission i e.time (event_of e.name e.payload) ≡ Some reason
+IgnoredAs i reason _ = Unit {0}
+
+ignored : (i : IdealAgent) (packet : List ℕ) (r : Result Message WireFault) (reason : Reason) → decoded packet ≡ r → IgnoredAs i reason r → IsIdle i (Some packet) (lines.Ignored reason)
+ignored i packet r reason is why p e given reads =
+    let same : packet ≡ p = cc given in
+    subst (IgnoredAs i reason) (sym is ∙ ap decoded same ∙ reads) why
+
+effect-event : (m : IdealNode) (to number now : ℕ) (packet : List ℕ) (e : UserEvent) (r : Option Reason) → decoded packet ≡ Ok (user_event e) → admission m.agent e.time (event_of e.name e.payload) ≡ r
+    → Delivered m to number now packet (planned m.agent (received_as r m.agent e.time (event_of e.name e.payload) e.coalesce))
+effect-event m to number now packet e (Some reason) is why = idles m _ _ _ _ refl refl refl refl refl (ignored m.agent packet (Ok (user_event e)) reason is why)
+effect-event m to number now packet e None is new = kept-or-failed (Delivered m to number now packet) m.agent (received_as None m.agent e.time (event_of e.name e.payload) e.coalesce) (passes_on packet e is new) (λ s. idles m _ _ _ _ refl refl refl refl refl tt)
+
+-- ---- queries
+
+effect-query : (m : IdealNode) (to number now : ℕ) (packet : List ℕ) (q : Query) (r : Option Reason) → decoded packet ≡ Ok (query q) → query_admission m.agent q.time q.id ≡ r
+    → Delivered m to number now packet (planned m.agent (query_received_as r m.agent now q))
+effect-query m to number now packet q (Some reason) is why = idles m _ _ _ _ refl refl refl refl refl (ignored m.agent packet (Ok (query q)) reason is tt)
+effect-query m to number now packet q None is new = kept-or-failed (Delivered m to number now packet) m.agent (query_received_as None m.agent now q) (is_asked to number packet now q is new) (λ s. idles m _ _ _ _ refl refl refl refl refl tt)
+
+effect-response : (m : IdealNode) (to number now : ℕ) (packet : List ℕ) (r : QueryResponse) (o : Option OpenQuery) → decoded packet ≡ Ok (query_response r) → asked_at r.time m.agent.asked ≡ o
+    → Delivered m to number now packet (planned m.agent (response_received_at o m.agent now r))
+effect-response m to number now packet r None is at = idles m _ _ _ _ refl refl refl refl refl (ignored m.agent packet (Ok (query_response r)) _ is tt)
+effect-response m to number now packet r (Some q) is at = by (answer_ignore_reason now r q) refl
+  where
+    by-room : (full ack : Bool) → answer_ignore_reason now r q ≡ None → is_ack r ≡ ack → Delivered m to number now packet (planned m.agent (cond full (answers m.agent (Err receives.RespondersFull))
+        (Ends (record { agent = with_asked (with_asked_at r.time (counted r q) m.agent.asked) m.agent; answer = Ok (cond ack outcomes.Ack outcomes.Response) }))))
+    by-room true ack none kind = idles m _ _ _ _ refl refl refl refl refl tt
+    by-room false true none kind = counts to number now packet r q true is at none kind
+    by-room false false none kind = counts to number now packet r q false is at none kind
+
+    by : (s : Option Reason) → answer_ignore_reason now r q ≡ s → Delivered m to number now packet (planned m.agent (response_received_as s m.agent r q))
+    by (Some reason) none = idles m _ _ _ _ refl refl refl refl refl (ignored m.agent packet (Ok (query_response r)) reason is tt)
+    by None none = by-room (is_full m.agent.config.responders r q) (is_ack r) none refl
+
+effect-asks : (m : IdealNode) (given : Option (List ℕ)) (agent now id : ℕ) (name payload : List ℕ) (params : QueryParams) (r : Option QueryFault) → query_fault m.agent id name payload params ≡ r
+    → Effect m (actions.Query agent now id name payload params) given (called m (planned m.agent (query_fired_as r m.agent now (query_at m.agent.queries.clock m.agent.config.name id name payload params))) query_gives)
+effect-asks m given agent now id name payload params (Some fault) is = idles m _ given _ _ refl refl refl refl refl tt
+effect-asks m given agent now id name payload params None is =
+    kept-or-failed (λ o. Effect m (actions.Query agent now id name payload params) given (called m o query_gives)) m.agent
+    (query_fired_as None m.agent now (query_at m.agent.queries.clock m.agent.config.name id name payload params)) (asks agent now id name payload params is) (λ s. idles m _ given _ _ refl refl refl refl refl tt)
+
+effect-responds : (m : IdealNode) (given : Option (List ℕ)) (agent number now : ℕ) (payload : List ℕ) (q : Option (Option Handed)) → slice_get m.handed number ≡ q
+    → Effect m (actions.Respond agent number now payload) given (responds m number q now payload)
+effect-responds m given agent number now payload None at = idles m _ given _ _ refl refl refl refl refl tt
+effect-responds m given agent number now payload (Some None) at = idles m _ given _ _ refl refl refl refl refl tt
+effect-responds m given agent number now payload (Some (Some h)) at = by (respond_fault h now payload) refl
+  where
+    by : (r : Option RespondFault) → respond_fault h now payload ≡ r → Effect m (actions.Respond agent number now payload) given (responds_as r m number h payload)
+    by (Some fault) is = idles m _ given _ _ refl refl refl refl refl tt
+    by None is = replies agent number now payload h at is
+
+-- ---- deliveries
+
+effect-read : (m : IdealNode) (to number now : ℕ) (packet : List ℕ) (r : Result Message WireFault) → decoded packet ≡ r → Delivered m to number now packet (planned m.agent (receive_read m.agent now r))
+effect-read m to number now packet (Ok (user_event e)) is = effect-event m to number now packet e (admission m.agent e.time (event_of e.name e.payload)) is refl
+effect-read m to number now packet (Ok (query q)) is = effect-query m to number now packet q (query_admission m.agent q.time q.id) is refl
+effect-read m to number now packet (Ok (query_response r)) is = effect-response m to number now packet r (asked_at r.time m.agent.asked) is refl
+effect-read m to number now packet _ is = idles m _ _ _ _ refl refl refl refl refl tt
+
+effect-delivers : (m : IdealNode) (to number now : ℕ) (given : Option (List ℕ)) → Effect m (actions.Deliver to number now) given (delivers m now given)
+effect-delivers m to number now None = idles m _ _ _ _ refl refl refl refl refl tt
+effect-delivers m to number now (Some packet) = by m.agent.snapshot.stopped
+  where
+    by : (b : Bool) → Delivered m to number now packet (planned m.agent (cond b (answers m.agent (Err receives.Stopped)) (receive_read m.agent now (decoded packet))))
+    by true = idles m _ _ _ _ refl refl refl refl refl tt
+    by false = effect-read m to number now packet (decoded packet) refl
+
+-- ---- merges
+
+heard-one : (i : IdealAgent) (e : TimedEntry EventBody) (es : List (TimedEntry EventBody)) (r : Option Reason) → admission i e.time e.key ≡ r
+    → (let o = planned i (received_as r i e.time e.key false) in Hears i o.agent (e ∷ es) (handed_by o.answer))
+heard-one i e es (Some reason) is = rests i _ (e ∷ es) refl refl refl refl refl
+heard-one i e es None is =
+    kept-or-failed {R = Result Outcome ReceiveFault} (λ o. Hears i o.agent (e ∷ es) (handed_by o.answer)) i (received_as None i e.time e.key false) (record {
+      config = refl;
+      life = refl;
+      events = enters-one i.life i.config.per_time e.time e.key i.events.history (event-room i e.time e.key is);
+      queries = refl;
+      asked = refl;
+      among = All-cons (Contains (e ∷ es)) e [] (All-head (Contains (e ∷ es)) e es (All-contains_itself (e ∷ es))) (All-nil (Contains (e ∷ es)));
+    }) (λ s. rests i _ (e ∷ es) refl refl refl refl refl)
+
+heard-then : (i j k : IdealAgent) (e : TimedEntry EventBody) (es : List (TimedEntry EventBody)) (some more : List EventOut) → Hears i j (e ∷ es) some → Hears j k es more → Hears i k (e ∷ es) (some ++ more)
+heard-then i j k e es some more first next = record {
+  config = next.config ∙ first.config;
+  life = next.life ∙ first.life;
+  events = subst (Enters i.life i.config.per_time i.events.history k.events.history) (sym (map-append out_in some more))
+      (enters-then i.life i.config.per_time i.events.history j.events.history k.events.history (map out_in some) (map out_in more) first.events
+      (subst (λ (l : ℕ). Enters l i.config.per_time j.events.history k.events.history (map out_in more)) first.life
+      (subst (λ (c : Config). Enters j.life c.per_time j.events.history k.events.history (map out_in more)) first.config next.events)));
+  queries = next.queries ∙ first.queries;
+  asked = next.asked ∙ first.asked;
+  among = subst (All (Contains (e ∷ es))) (sym (map-append out_in some more))
+      (All-append (Contains (e ∷ es)) (map out_in some) (map out_in more) first.among (All-weaker (Contains es) (Contains (e ∷ es)) (λ x c. Contains-append_right (e ∷ []) es x c) (map out_in more) next.among));
+}
+
+heard-on : (i : IdealAgent) (e : TimedEntry EventBody) (es : List (TimedEntry EventBody)) (o : Step (Result Outcome ReceiveFault)) (rest : IdealAgent → Merged) → Hears i o.agent (e ∷ es) (handed_by o.answer)
+    → (let n = rest o.agent in Hears o.agent n.agent es n.events) → (let n = merges_on o rest in Hears i n.agent (e ∷ es) n.events)
+heard-on i e es o rest first next = by o.answer first
+  where
+    by : (r : Result Outcome ReceiveFault) → Hears i o.agent (e ∷ es) (handed_by r) → (let n = merges_on (record { agent = o.agent; answer = r }) rest in Hears i n.agent (e ∷ es) n.events)
+    by (Ok outcome) first = heard-then i o.agent (rest o.agent).agent e es (handed_by (Ok outcome)) (rest o.agent).events first next
+    by (Err fault) first = first
+
+heard : (es : List (TimedEntry EventBody)) (i : IdealAgent) → (let o = merges_events es i in Hears i o.agent es o.events)
+heard [] i = rests i i [] refl refl refl refl refl
+heard (e ∷ es) i = let o = planned i (receive_one i e) in heard-on i e es o (merges_events es) (heard-one i e es (admission i e.time e.key) refl) (heard es o.agent)
+
+effect-merge : (m : IdealNode) (to number : ℕ) (join : Bool) (packet : List ℕ) (f : Option MergeFault) (r : Result Message WireFault) → decoded packet ≡ r → Effect m (actions.Merge to number join) (Some packet) (merges_as f m join r)
+effect-merge m to number join packet None (Ok (push_pull s)) is = by (merges_events (events_of s.slots) (joined s join m.agent)).failed
+  where
+    h : (let o = merges_events (events_of s.slots) (joined s join m.agent) in Hears m.agent o.agent (events_given (Some packet)) o.events)
+    h =
+        let g = heard (events_of s.slots) (joined s join m.agent) in
+        let same : events_of s.slots ≡ events_in_packet packet = ap events_brought (sym is) in
+        record {
+          config = g.config;
+          life = g.life;
+          events = g.events;
+          queries = g.queries;
+          asked = g.asked;
+          among = subst (λ es. All (Contains es) (map out_in (merges_events (events_of s.slots) (joined s join m.agent)).events)) same g.among;
+        }
+
+    by : (failed : Bool) → (let o = merges_events (events_of s.slots) (joined s join m.agent) in Effect m (actions.Merge to number join) (Some packet)
+        (record { node = record { agent = o.agent; handed = m.handed }; done = record { answer = cond failed (lines.Refused SinkFault) lines.Merged; packets = []; events = o.events; handed = None } }))
+    by true = hears _ _ _ h tt
+    by false = hears _ _ _ h tt
+effect-merge m to number join packet (Some fault) r is = idles m _ _ _ _ refl refl refl refl refl tt
+effect-merge m to number join packet None _ is = idles m _ _ _ _ refl refl refl refl refl tt
+
+effect-merges : (m : IdealNode) (to number : ℕ) (join : Bool) (given : Option (List ℕ)) → Effect m (actions.Merge to number join) given (merges_given m join given)
+effect-merges m to number join None = idles m _ _ _ _ refl refl refl refl refl tt
+effect-merges m to number join (Some packet) = effect-merge m to number join packet (merge_refusal (view_of m.agent) (decoded packet)) (decoded packet) refl
+
+-- ---- states and snapshots
+
+effect-state : (m : IdealNode) (action : Action) (given : Option (List ℕ)) → Effect m action given (sends_state m)
+effect-state m action given = by m.agent.snapshot.stopped (has_long (push_pull (state_of (view_of m.agent) [] []))) refl
+  where
+    by : (stopped long : Bool) → has_long (push_pull (state_of (view_of m.agent) [] [])) ≡ long
+        → Effect m action given (does_nothing m (state_gives (cond stopped (Err states.Stopped) (cond long (Err states.TooLong) (Ok (canonical (push_pull (state_of (view_of m.agent) [] []))))))))
+    by true long is = idles m _ given _ _ refl refl refl refl refl tt
+    by false true is = idles m _ given _ _ refl refl refl refl refl tt
+    by false false is = tells is
+
+effect-saves : (m : IdealNode) (action : Action) (given : Option (List ℕ)) → Effect m action given (saves m)
+effect-saves m action given = by m.agent.snapshot.stopped
+  where
+    call : Call (Result (Unit {0}) NoteFault)
+    call = Notes kinds.Member (m.agent.member_clock - 1) (record { agent = m.agent; answer = Ok tt }) (Err notes.SinkFault)
+
+    by : (b : Bool) → Effect m action given (called m (planned m.agent (cond b (answers m.agent (Err notes.Stopped)) (Notes kinds.Member (m.agent.member_clock - 1) (record { agent = m.agent; answer = Ok tt }) (Err notes.SinkFault)))) (note_gives lines.Saved))
+    by true = idles m _ given _ _ refl refl refl refl refl tt
+    by false = kept-or-failed (λ o. Effect m action given (called m o (note_gives lines.Saved))) m.agent call (idles m _ given _ _ refl refl refl refl refl tt) (λ d. idles m _ given _ _ refl refl refl refl refl tt)
+
+effect-compacts : (m : IdealNode) (action : Action) (given : Option (List ℕ)) → Effect m action given (compacts m)
+effect-compacts m action given = by m.agent.snapshot.stopped
+  where
+    call : Call (Result (Unit {0}) NoteFault)
+    call = Replaces (record { agent = m.agent; answer = Ok tt }) (Err notes.SinkFault)
+
+    by : (b : Bool) → Effect m action given (called m (planned m.agent (cond b (answers m.agent (Err notes.Stopped)) (Replaces (record { agent = m.agent; answer = Ok tt }) (Err notes.SinkFault)))) (note_gives lines.Compacted))
+    by true = idles m _ given _ _ refl refl refl refl refl tt
+    by false = kept-or-failed (λ o. Effect m action given (called m o (note_gives lines.Compacted))) m.agent call (idles m _ given _ _ refl refl refl refl refl tt) (λ d. idles m _ given _ _ refl refl refl refl refl tt)
+
+-- ---- each action
+
+pub effect : (m : IdealNode) (sent : List (List ℕ)) (action : Action) → Effect m action (packet_given sent action) (apply m sent action)
+effect m sent (actions.Fire agent name payload coalesce) = effect-fire m None agent name payload coalesce (fire_fault m.agent (event_of name payload) coalesce) refl
+effect m sent (actions.Deliver to number now) = effect-delivers m to number now (slice_get sent number)
+effect m sent (actions.State agent) = effect-state m (actions.State agent) None
+effect m sent (actions.Merge to number join) = effect-merges m to number join (slice_get sent number)
+effect m sent (actions.Query agent now id name payload params) = effect-asks m None agent now id name payload params (query_fault m.agent id name payload params) refl
+effect m sent (actions.Respond agent number now payload) = effect-responds m None agent number now payload (slice_get m.handed number) refl
+effect m sent (actions.Restart agent tail) = reopens agent tail
+effect m sent (actions.Break agent call n) = idles m _ None _ _ refl refl refl refl refl tt
+effect m sent (actions.Inject bytes) = idles m _ None _ _ refl refl refl refl refl tt
+effect m sent (actions.Close agent now) = closes_due agent now
+effect m sent (actions.Save agent) = effect-saves m (actions.Save agent) None
+effect m sent (actions.Compact agent) = effect-compacts m (actions.Compact agent) None

@@ -1,0 +1,325 @@
+-- What a turn hands out, and which queries enter.
+use Rattle.std.proofs.Common.{length, ◌≡◌, ℕ, ◌⊎◌, inl, inr, Bool, true, false, cond, List, [], ◌∷◌, ◌++◌, Option, Some, None, Ok, refl, sym, ap, subst, ◌∙◌, map}
+use Rattle.std.specs.Prelude.{All, Contains, slice_get}
+use Rattle.std.specs.List.{fold}
+use Rattle.std.specs.Option.{option_map, option_to_list}
+use Rattle.std.proofs.lemmas.List.Elements.{All-nil, All-cons, All-head, All-tail, All-append, All-weaker, All-contains, All-contains_itself, Contains-append_left, Contains-append_right}
+use Rattle.serf_wire.specs.declared.texts.EventBody.{EventBody}
+use Rattle.serf_wire.specs.Canonical.{canonical}
+use Rattle.serf_wire.specs.Decoded.{decoded}
+use Rattle.serf_wire.specs.Message.{Message, Query, query}
+use Rattle.serf_window.specs.Texts.{event_of}
+use Rattle.serf_window.specs.Window.{TimedEntry}
+use Rattle.serf_agent.specs.declared.config.Config.{Config}
+use Rattle.serf_agent.specs.declared.outcome.EventOut.{EventOut}
+use Rattle.serf_agent.specs.Handed.{Handed}
+use Rattle.serf_agent.specs.Ideal.{IdealAgent}
+use Rattle.serf_agent.specs.Queries.{all_pass, handed_if_passed, handed_query, query_at}
+use Rattle.serf_model.specs.declared.action.Action.{Action}
+use Rattle.serf_model.specs.declared.action.Action.TheVariants as actions
+use Rattle.serf_model.specs.declared.line.Answer.{Answer}
+use Rattle.serf_model.specs.declared.line.Answer.TheVariants as answers
+use Rattle.serf_model.specs.declared.line.EventLine.{EventLine}
+use Rattle.serf_model.specs.declared.line.HandedLine.{HandedLine}
+use Rattle.serf_model.specs.declared.line.Refusal.TheVariants.{NoAgent}
+use Rattle.serf_model.specs.Cluster.{Applied, Cluster, IdealNode, Run, after, applied, apply, event_line, handed_line, injects, line_only, on_agent, run_of, start, step, step_by, with_handed}
+use Rattle.serf_model.specs.HandOuts.{HandsOutEntered, HandsOutGiven, IsHandedOf, MessagesFired, NewIsHanded, OnlyToActor, events_given, message_at, message_entered, message_fired, messages_fired, new_in, query_message, says_new}
+use Rattle.serf_model.specs.Sizes.{HasSizes}
+use Rattle.serf_model.specs.Trace.{Turn, AtEach, actor_of, event_in, events_brought, events_in_packet, fired_by, injected_in, injects_of, packet_given, queried_in, query_packets}
+use Rattle.serf_model.proofs.Effects.{Effect, IsIdle, asks, closes_due, counts, effect, fires, hears, is_asked, passes_on, reopens, replies, tells}
+use Rattle.serf_model.proofs.PerAgent.{Each, each-start, each-step}
+use Rattle.serf_model.proofs.PerTimeBound.{out_in}
+use Rattle.serf_model.proofs.QueriesEntered.{own-decoded}
+use Rattle.serf_model.proofs.QueryOrigins.{IsAsked, WasAsked, asked-start, asked-step}
+use Rattle.serf_model.proofs.TurnLaws.{at_each_nil, at_each_push, flat_map-push, fold_keeps}
+
+-- ---- a turn
+
+-- the turn of an action that no agent takes
+abbrev refused_turn : Cluster → Action → Turn
+refused_turn c action = record { action = action; line = line_only (answers.Refused NoAgent); given = packet_given c.sent action; packets = [] }
+
+turn-agent : (P : Turn → Type 0) (c : Cluster) (action : Action) (b : ℕ) (r : Option IdealNode) → slice_get c.nodes b ≡ r → P (refused_turn c action) → ((m : IdealNode) → slice_get c.nodes b ≡ Some m → P (applied c action b (apply m c.sent action)).turn)
+    → P (on_agent c action b r).turn
+turn-agent P c action b None at refused acts = refused
+turn-agent P c action b (Some m) at refused acts = acts m at
+
+-- a turn is injected, or refused, or an agent takes it
+turn-by : (P : Turn → Type 0) (c : Cluster) (action : Action) (o : Option ℕ) → actor_of action ≡ o → P (injects c action (injects_of action)).turn → P (refused_turn c action)
+    → ((b : ℕ) (m : IdealNode) → actor_of action ≡ Some b → slice_get c.nodes b ≡ Some m → P (applied c action b (apply m c.sent action)).turn) → P (step_by c action o).turn
+turn-by P c action None actor injected refused acts = injected
+turn-by P c action (Some b) actor injected refused acts = turn-agent P c action b (slice_get c.nodes b) refl refused (λ m at. acts b m actor at)
+
+-- ---- to whom
+
+abbrev ToActorAt : List Turn → Turn → Type 0
+ToActorAt before turn = All (λ (e : EventLine). actor_of turn.action ≡ Some e.agent) turn.line.events × All (λ (h : HandedLine). actor_of turn.action ≡ Some h.agent) (option_to_list turn.line.handed)
+
+events-to-actor : (action : Action) (b : ℕ) (outs : List EventOut) → actor_of action ≡ Some b → All (λ (e : EventLine). actor_of action ≡ Some e.agent) (map (event_line b) outs)
+events-to-actor action b [] actor = All-nil (λ (e : EventLine). actor_of action ≡ Some e.agent)
+events-to-actor action b (out ∷ outs) actor = All-cons (λ (e : EventLine). actor_of action ≡ Some e.agent) (event_line b out) (map (event_line b) outs) actor (events-to-actor action b outs actor)
+
+handed-to-actor : (action : Action) (b n : ℕ) (h : Option Handed) → actor_of action ≡ Some b → All (λ (h : HandedLine). actor_of action ≡ Some h.agent) (option_to_list (option_map (handed_line b n) h))
+handed-to-actor action b n None actor = All-nil (λ (h : HandedLine). actor_of action ≡ Some h.agent)
+handed-to-actor action b n (Some q) actor = All-cons (λ (h : HandedLine). actor_of action ≡ Some h.agent) (handed_line b n q) [] actor (All-nil (λ (h : HandedLine). actor_of action ≡ Some h.agent))
+
+to-actor : (before : List Turn) (c : Cluster) (action : Action) → ToActorAt before (step c action).turn
+to-actor before c action =
+    let none : All (λ (e : EventLine). actor_of action ≡ Some e.agent) [] × All (λ (h : HandedLine). actor_of action ≡ Some h.agent) [] =
+    (All-nil (λ (e : EventLine). actor_of action ≡ Some e.agent), All-nil (λ (h : HandedLine). actor_of action ≡ Some h.agent)) in
+    turn-by (ToActorAt before) c action (actor_of action) refl none none
+    (λ b m actor at. (events-to-actor action b (apply m c.sent action).done.events actor, handed-to-actor action b _ (apply m c.sent action).done.handed actor))
+
+-- ---- which events
+
+lines-all : (Q : TimedEntry EventBody → Type 0) (b : ℕ) (outs : List EventOut) → All Q (map out_in outs) → All (λ e. Q (event_in e)) (map (event_line b) outs)
+lines-all Q b [] all = All-nil (λ e. Q (event_in e))
+lines-all Q b (out ∷ outs) all = All-cons (λ e. Q (event_in e)) (event_line b out) (map (event_line b) outs) (All-head Q (out_in out) (map out_in outs) all) (lines-all Q b outs (All-tail Q (out_in out) (map out_in outs) all))
+
+lines-in : (b : ℕ) (outs : List EventOut) → map event_in (map (event_line b) outs) ≡ map out_in outs
+lines-in b [] = refl
+lines-in b (out ∷ outs) = ap (λ l. out_in out ∷ l) (lines-in b outs)
+
+-- the event was fired, or the given packet carries it
+abbrev IsGiven : Action → Option (List ℕ) → Answer → TimedEntry EventBody → Type 0
+IsGiven action given answer e = Contains (fired_by action answer) e ⊎ Contains (events_given given) e
+
+one-fired : (e : TimedEntry EventBody) (given : List (TimedEntry EventBody)) → All (λ x. Contains (e ∷ []) x ⊎ Contains given x) (e ∷ [])
+one-fired e given = All-weaker (Contains (e ∷ [])) (λ x. Contains (e ∷ []) x ⊎ Contains given x) (λ x h. inl h) (e ∷ []) (All-contains_itself (e ∷ []))
+
+one-given : (fired given : List (TimedEntry EventBody)) (e : TimedEntry EventBody) → given ≡ e ∷ [] → All (λ x. Contains fired x ⊎ Contains given x) (e ∷ [])
+one-given fired given e is = All-weaker (Contains given) (λ x. Contains fired x ⊎ Contains given x) (λ x h. inr h) (e ∷ []) (subst (λ l. All (Contains given) l) is (All-contains_itself given))
+
+given-effect : (m : IdealNode) (action : Action) (given : Option (List ℕ)) (o : Applied) → Effect m action given o → All (IsGiven action given o.done.answer) (map out_in o.done.events)
+given-effect m action given _ (hears j outs answer h idle) = All-weaker (Contains (events_given given)) (IsGiven action given answer) (λ e c. inr c) (map out_in outs) h.among
+given-effect m _ given _ (fires agent name payload coalesce is) = one-fired _ (events_given given)
+given-effect m action _ _ (passes_on packet e is new) = one-given [] (events_in_packet packet) (record { time = e.time; key = event_of e.name e.payload }) (ap events_brought is)
+given-effect m action given o _ = All-nil (IsGiven action given o.done.answer)
+
+abbrev GivenAt : List Turn → Turn → Type 0
+GivenAt before turn = All (λ (e : EventLine). IsGiven turn.action turn.given turn.line.answer (event_in e)) turn.line.events
+
+given-out : (before : List Turn) (c : Cluster) (action : Action) → GivenAt before (step c action).turn
+given-out before c action =
+    turn-by (GivenAt before) c action (actor_of action) refl (All-nil (λ (e : EventLine). IsGiven action (packet_given c.sent action) answers.Injected (event_in e)))
+    (All-nil (λ (e : EventLine). IsGiven action (packet_given c.sent action) (answers.Refused NoAgent) (event_in e)))
+    (λ b m actor at. lines-all (IsGiven action (packet_given c.sent action) (apply m c.sent action).done.answer) b (apply m c.sent action).done.events
+    (given-effect m action (packet_given c.sent action) (apply m c.sent action) (effect m c.sent action)))
+
+-- ---- what is new
+
+not-new : (i : IdealAgent) (given : Option (List ℕ)) (answer : Answer) → IsIdle i given answer → says_new answer ≡ true → ⊥
+not-new i given (answers.Fired t) idle is = idle
+not-new i given answers.New idle is = idle
+not-new i given _ idle is = cc
+
+-- what is new is handed out, and nothing else is
+abbrev NewIn : Action → Option (List ℕ) → Applied → Type 0
+NewIn action given o = says_new o.done.answer ≡ true
+    → (e : TimedEntry EventBody) × (map out_in o.done.events ≡ e ∷ []) × (new_in (record { action = action; line = record { answer = o.done.answer; sent = []; events = []; handed = None }; given = given; packets = [] }) ≡ e ∷ [])
+
+new-effect : (m : IdealNode) (action : Action) (given : Option (List ℕ)) (o : Applied) → Effect m action given o → NewIn action given o
+new-effect m action given _ (hears j outs answer h idle) = λ is. absurd (not-new m.agent given answer idle is)
+new-effect m _ given _ (fires agent name payload coalesce is) = λ says. (_, refl, refl)
+new-effect m action _ _ (passes_on packet e is new) = λ says. (_, refl, ap events_brought is)
+new-effect m _ given _ (asks agent now id name payload params is) = λ says. absurd (cc says)
+new-effect m action _ _ (is_asked to number packet now q is new) = λ says. absurd (cc says)
+new-effect m _ _ _ (counts to number now packet r q true is at none kind) = λ says. absurd (cc says)
+new-effect m _ _ _ (counts to number now packet r q false is at none kind) = λ says. absurd (cc says)
+new-effect m action given o _ = λ says. absurd (cc says)
+
+abbrev NewAt : List Turn → Turn → Type 0
+NewAt before turn = says_new turn.line.answer ≡ true → (e : TimedEntry EventBody) × (map event_in turn.line.events ≡ e ∷ []) × (new_in turn ≡ e ∷ [])
+
+new-out : (before : List Turn) (c : Cluster) (action : Action) → NewAt before (step c action).turn
+new-out before c action =
+    turn-by (NewAt before) c action (actor_of action) refl (λ is. absurd (cc is)) (λ is. absurd (cc is))
+    (λ b m actor at is. let h = new-effect m action (packet_given c.sent action) (apply m c.sent action) (effect m c.sent action) is in (h.0, lines-in b (apply m c.sent action).done.events ∙ h.1, h.2))
+
+-- ---- settings
+
+settings-kept : (m : IdealNode) (action : Action) (given : Option (List ℕ)) (o : Applied) → Effect m action given o → o.node.agent.config ≡ m.agent.config
+settings-kept m action given _ (hears j outs answer h idle) = h.config
+settings-kept m action given _ _ = refl
+
+-- each agent has its settings
+abbrev HasSettings : List Config → ℕ → List Turn → IdealNode → Type 0
+HasSettings configs a turns m = slice_get configs a ≡ Some m.agent.config
+
+settings-step : (configs : List Config) (r : Run) (action : Action) → Each (HasSettings configs) r.cluster r.turns → Each (HasSettings configs) (after r action).cluster (after r action).turns
+settings-step configs r action all =
+    each-step (HasSettings configs) r action all
+    (λ b m actor at is. is ∙ ap (λ (c : Config). Some c) (sym (settings-kept m action (packet_given r.cluster.sent action) (apply m r.cluster.sent action) (effect m r.cluster.sent action))))
+
+settings-start : (configs : List Config) → Each (HasSettings configs) (start configs).cluster []
+settings-start configs = each-start (HasSettings configs) configs (λ a config is. is)
+
+-- ---- which queries
+
+pub passed-on : (node : List ℕ) (now : ℕ) (q : Query) (h : Handed) → handed_if_passed node now q ≡ Some h → handed_query node now q ≡ h
+passed-on node now q h e = by (all_pass q.filters node) e
+  where
+    by : (b : Bool) → cond b (Some (handed_query node now q)) None ≡ Some h → handed_query node now q ≡ h
+    by true e = cc e
+    by false e = absurd (cc e)
+
+-- what it hands out of a query is what the message says that entered
+abbrev HandsEntered : List Config → Action → Option (List ℕ) → Applied → Type 0
+HandsEntered configs action given o = (a n : ℕ) (h : Handed) → o.done.handed ≡ Some h
+    → (q : Query) × (message_entered configs (record { action = action; line = record { answer = o.done.answer; sent = []; events = []; handed = None }; given = given; packets = [] }) ≡ q ∷ []) × IsHandedOf (handed_line a n h) q
+
+handed-of : (a n : ℕ) (node : List ℕ) (now : ℕ) (q : Query) (h : Handed) → handed_query node now q ≡ h → IsHandedOf (handed_line a n h) q
+handed-of a n node now q h same = record { time = ap (λ (x : Handed). x.time) (sym same); id = ap (λ (x : Handed). x.id) (sym same); name = ap (λ (x : Handed). x.name) (sym same); payload = ap (λ (x : Handed). x.payload) (sym same) }
+
+hands-effect : (configs : List Config) (m : IdealNode) (action : Action) (given : Option (List ℕ)) (o : Applied) (b : ℕ) → actor_of action ≡ Some b → slice_get configs b ≡ Some m.agent.config → Effect m action given o → HandsEntered configs action given o
+hands-effect configs m _ given _ b actor settings (asks agent now id name payload params is) = λ a n h e.
+    let q : Query = query_at m.agent.queries.clock m.agent.config.name id name payload params in
+    let me : agent ≡ b = cc actor in (
+      q,
+      ap (λ (c : Option Config). map (λ c. query_at m.agent.queries.clock c.name id name payload params) (option_to_list c)) (ap (slice_get configs) me ∙ settings),
+      handed-of a n m.agent.config.name now q h (passed-on m.agent.config.name now q h e),
+    )
+hands-effect configs m action _ _ b actor settings (is_asked to number packet now q is new) = λ a n h e. (q, ap query_message is, handed-of a n m.agent.config.name now q h (passed-on m.agent.config.name now q h e))
+hands-effect configs m action given _ b actor settings _ = λ a n h e. absurd (cc e)
+
+abbrev EnteredAt : List Config → List Turn → Turn → Type 0
+EnteredAt configs before turn = (h : HandedLine) → turn.line.handed ≡ Some h → (q : Query) × (message_entered configs turn ≡ q ∷ []) × IsHandedOf h q
+
+entered-applied : (configs : List Config) (before : List Turn) (c : Cluster) (action : Action) (b : ℕ) (m : IdealNode) → actor_of action ≡ Some b → slice_get configs b ≡ Some m.agent.config → EnteredAt configs before (applied c action b (apply m c.sent action)).turn
+entered-applied configs before c action b m actor settings = by (apply m c.sent action).done.handed refl
+  where
+    by : (r : Option Handed) → (apply m c.sent action).done.handed ≡ r → (h : HandedLine) → option_map (handed_line b (length (apply m c.sent action).node.handed)) r ≡ Some h
+        → (q : Query) × (message_entered configs (applied c action b (apply m c.sent action)).turn ≡ q ∷ []) × IsHandedOf h q
+    by None is h e = absurd (cc e)
+    by (Some x) is h e =
+        let same : handed_line b (length (apply m c.sent action).node.handed) x ≡ h = cc e in
+        let found = hands-effect configs m action (packet_given c.sent action) (apply m c.sent action) b actor settings (effect m c.sent action) b (length (apply m c.sent action).node.handed) x is in
+        (found.0, found.1, subst (λ (l : HandedLine). IsHandedOf l found.0) same found.2)
+
+entered-out : (configs : List Config) (before : List Turn) (c : Cluster) (action : Action) (turns : List Turn) → Each (HasSettings configs) c turns → EnteredAt configs before (step c action).turn
+entered-out configs before c action turns all =
+    turn-by (EnteredAt configs before) c action (actor_of action) refl (λ h e. absurd (cc e)) (λ h e. absurd (cc e)) (λ b m actor at. entered-applied configs before c action b m actor (all b m at))
+
+-- ---- the messages that were fired
+
+-- the packet brings only queries of these
+abbrev Speaks : List Query → List ℕ → Type 0
+Speaks messages packet = All (Contains messages) (query_message (decoded packet))
+
+speaks-nothing : (i : IdealAgent) (given : Option (List ℕ)) (answer : Answer) (packets : List (List ℕ)) → IsIdle i given answer → query_packets answer packets ≡ []
+speaks-nothing i given (answers.Queried t) packets idle = absurd idle
+speaks-nothing i given _ packets idle = refl
+
+-- what it sends as a fired query's own is the message that was fired
+abbrev SpeaksOwn : List Config → Action → Option (List ℕ) → Applied → Type 0
+SpeaksOwn configs action given o =
+    All (Speaks (message_fired configs (record { action = action; line = record { answer = o.done.answer; sent = []; events = []; handed = None }; given = given; packets = [] }))) (query_packets o.done.answer o.done.packets)
+
+speaks-effect : (configs : List Config) (m : IdealNode) (action : Action) (given : Option (List ℕ)) (o : Applied) (b : ℕ) → HasSizes action → actor_of action ≡ Some b → slice_get configs b ≡ Some m.agent.config → Effect m action given o → SpeaksOwn configs action given o
+speaks-effect configs m action given _ b sized actor settings (hears j outs answer h idle) =
+    let own : List Query = message_fired configs (record { action = action; line = record { answer = answer; sent = []; events = []; handed = None }; given = given; packets = [] }) in
+    subst (All (Speaks own)) (sym (speaks-nothing m.agent given answer [] idle)) (All-nil (Speaks own))
+speaks-effect configs m _ given _ b sized actor settings (asks agent now id name payload params is) =
+    let q : Query = query_at m.agent.queries.clock m.agent.config.name id name payload params in
+    let me : agent ≡ b = cc actor in
+    let fired : map (λ c. query_at m.agent.queries.clock c.name id name payload params) (option_to_list (slice_get configs agent)) ≡ q ∷ [] =
+    ap (λ (c : Option Config). map (λ c. query_at m.agent.queries.clock c.name id name payload params) (option_to_list c)) (ap (slice_get configs) me ∙ settings) in
+    let own : List Query = map (λ (c : Config). query_at m.agent.queries.clock c.name id name payload params) (option_to_list (slice_get configs agent)) in
+    All-cons (Speaks own) (canonical (query q)) []
+    (subst (All (Contains own)) (sym (ap query_message (own-decoded m.agent id name payload params sized is))) (subst (λ l. All (Contains l) (q ∷ [])) (sym fired) (All-contains_itself (q ∷ []))))
+    (All-nil (Speaks own))
+speaks-effect configs m action _ _ b sized actor settings (counts to number now packet r q true is at none kind) = All-nil (Speaks [])
+speaks-effect configs m action _ _ b sized actor settings (counts to number now packet r q false is at none kind) = All-nil (Speaks [])
+speaks-effect configs m action given _ b sized actor settings _ = All-nil (Speaks [])
+
+abbrev SpeaksAt : List Config → Turn → Type 0
+SpeaksAt configs turn = All (Speaks (message_fired configs turn)) (query_packets turn.line.answer turn.packets)
+
+speaks-turn : (configs : List Config) (c : Cluster) (action : Action) (turns : List Turn) → HasSizes action → Each (HasSettings configs) c turns → SpeaksAt configs (step c action).turn
+speaks-turn configs c action turns sized all =
+    turn-by (SpeaksAt configs) c action (actor_of action) refl (All-nil (Speaks [])) (All-nil (Speaks []))
+    (λ b m actor at. speaks-effect configs m action (packet_given c.sent action) (apply m c.sent action) b sized actor (all b m at) (effect m c.sent action))
+
+-- ---- a run
+
+abbrev MessageAt : List Config → List Turn → Turn → Type 0
+MessageAt configs before turn = (packet : List ℕ) → turn.line.answer ≡ answers.Query → turn.given ≡ Some packet
+    → All (Contains (messages_fired configs before)) (query_message (decoded packet)) ⊎ Contains (injected_in before) packet
+
+-- each agent has its settings, and what is handed out entered
+pub record IsEntering (configs : List Config) (r : Run) : Type 0 where
+  pub settings : Each (HasSettings configs) r.cluster r.turns
+  pub entered : HandsOutEntered configs r.turns
+
+entering-step : (configs : List Config) (r : Run) (action : Action) → IsEntering configs r → IsEntering configs (after r action)
+entering-step configs r action h = record {
+  settings = settings-step configs r action h.settings;
+  entered = at_each_push (EnteredAt configs) r.turns (step r.cluster action).turn h.entered (entered-out configs r.turns r.cluster action r.turns h.settings);
+}
+
+entering-start : (configs : List Config) → IsEntering configs (start configs)
+entering-start configs = record { settings = settings-start configs; entered = at_each_nil (EnteredAt configs) }
+
+pub entering-run : (configs : List Config) (actions : List Action) → IsEntering configs (run_of configs actions)
+entering-run configs actions = fold_keeps (IsEntering configs) after (start configs) actions (entering-start configs) (entering-step configs)
+
+-- what is sent as a fired query's own is the message that was fired
+pub record IsMessaging (configs : List Config) (r : Run) : Type 0 where
+  pub entering : IsEntering configs r
+  pub asked : IsAsked r.cluster r.turns
+  pub own : All (Speaks (messages_fired configs r.turns)) (queried_in r.turns)
+  pub fired : MessagesFired configs r.turns
+
+own-more : (configs : List Config) (turns : List Turn) (turn : Turn) → All (Speaks (messages_fired configs turns)) (queried_in turns) → SpeaksAt configs turn
+    → All (Speaks (messages_fired configs (turns ++ turn ∷ []))) (queried_in (turns ++ turn ∷ []))
+own-more configs turns turn all now =
+    let before : List Query = messages_fired configs turns in
+    let own : List Query = message_fired configs turn in
+    let both : messages_fired configs (turns ++ turn ∷ []) ≡ before ++ own = flat_map-push (message_fired configs) turns turn in
+    let ps = query_packets turn.line.answer turn.packets in
+    subst (λ l. All (Speaks l) (queried_in (turns ++ turn ∷ []))) (sym both)
+    (subst (All (Speaks (before ++ own))) (sym (flat_map-push (λ t. query_packets t.line.answer t.packets) turns turn))
+    (All-append (Speaks (before ++ own)) (queried_in turns) ps
+    (All-weaker (Speaks before) (Speaks (before ++ own)) (λ p h. All-weaker (Contains before) (Contains (before ++ own)) (λ q c. Contains-append_left before own q c) (query_message (decoded p)) h) (queried_in turns) all)
+    (All-weaker (Speaks own) (Speaks (before ++ own)) (λ p h. All-weaker (Contains own) (Contains (before ++ own)) (λ q c. Contains-append_right before own q c) (query_message (decoded p)) h) ps now)))
+
+message-of : (configs : List Config) (turns : List Turn) (packet : List ℕ) → All (Speaks (messages_fired configs turns)) (queried_in turns) → WasAsked turns packet
+    → All (Contains (messages_fired configs turns)) (query_message (decoded packet)) ⊎ Contains (injected_in turns) packet
+message-of configs turns packet own (inl h) = inl (All-contains (Speaks (messages_fired configs turns)) (queried_in turns) packet own h)
+message-of configs turns packet own (inr h) = inr h
+
+messaging-step : (configs : List Config) (r : Run) (action : Action) → HasSizes action → IsMessaging configs r → IsMessaging configs (after r action)
+messaging-step configs r action sized h =
+    let turn : Turn = (step r.cluster action).turn in
+    let asked = asked-step r action h.asked in
+    record {
+      entering = entering-step configs r action h.entering;
+      asked = asked;
+      own = own-more configs r.turns turn h.own (speaks-turn configs r.cluster action r.turns sized h.entering.settings);
+      fired = at_each_push (MessageAt configs) r.turns turn h.fired (λ packet says given. message-of configs r.turns packet h.own (asked.fired r.turns turn [] refl packet says given));
+    }
+
+messaging-start : (configs : List Config) → IsMessaging configs (start configs)
+messaging-start configs = record { entering = entering-start configs; asked = asked-start configs; own = All-nil (Speaks []); fired = at_each_nil (MessageAt configs) }
+
+pub messaging-run : (configs : List Config) (actions : List Action) → All HasSizes actions → IsMessaging configs (run_of configs actions)
+messaging-run configs actions sized = by (start configs) actions sized (messaging-start configs)
+  where
+    by : (r : Run) (actions : List Action) → All HasSizes actions → IsMessaging configs r → IsMessaging configs (fold after r actions)
+    by r [] sized h = h
+    by r (action ∷ actions) sized h = by (after r action) actions (All-tail HasSizes action actions sized) (messaging-step configs r action (All-head HasSizes action actions sized) h)
+
+-- what needs nothing of the settings, and nothing of the numbers
+pub record IsHandingOut (turns : List Turn) : Type 0 where
+  pub to_actor : OnlyToActor turns
+  pub given : HandsOutGiven turns
+  pub new : NewIsHanded turns
+
+pub handing-out : (configs : List Config) (actions : List Action) → IsHandingOut (run_of configs actions).turns
+handing-out configs actions =
+    fold_keeps (λ (r : Run). IsHandingOut r.turns) after (start configs) actions (record { to_actor = at_each_nil ToActorAt; given = at_each_nil GivenAt; new = at_each_nil NewAt })
+    (λ r action h. record {
+      to_actor = at_each_push ToActorAt r.turns (step r.cluster action).turn h.to_actor (to-actor r.turns r.cluster action);
+      given = at_each_push GivenAt r.turns (step r.cluster action).turn h.given (given-out r.turns r.cluster action);
+      new = at_each_push NewAt r.turns (step r.cluster action).turn h.new (new-out r.turns r.cluster action);
+    })

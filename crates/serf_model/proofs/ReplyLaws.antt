@@ -1,0 +1,180 @@
+-- Which queries an agent answered: each of them is taken out of those that it can answer.
+use Rattle.std.proofs.Common.{zero, suc, ◌≡◌, ◌≢◌, ℕ, ◌⊎◌, inl, inr, true, false, List, [], ◌∷◌, ◌++◌, length, Option, Some, None, refl, sym, ap, subst, ◌∙◌, arith, map, set}
+use Rattle.std.specs.Prelude.{All, AllPairs, Contains, filter, not, slice_get}
+use Rattle.std.specs.List.{flat_map}
+use Rattle.std.specs.Option.{option_to_list}
+use Rattle.std.proofs.lemmas.List.{append-nil, map-append}
+use Rattle.std.proofs.lemmas.List.Elements.{All-nil, All-push, All-weaker, All-contains, Contains-append_left, Contains-push, filter-append}
+use Rattle.std.proofs.lemmas.List.Quantifiers.{all_pairs_push}
+use Rattle.serf_wire.specs.Message.{QueryResponse}
+use Rattle.serf_window.specs.Window.{TimedEntry}
+use Rattle.serf_agent.specs.Handed.{Handed}
+use Rattle.serf_agent.specs.Queries.{is_ack}
+use Rattle.serf_model.specs.declared.action.Action.{Action}
+use Rattle.serf_model.specs.declared.action.Action.TheVariants as actions
+use Rattle.serf_model.specs.AnswerPromises.{answers_in, query_answered}
+use Rattle.serf_model.specs.Cluster.{Applied, Cluster, IdealNode, applied, apply, with_handed}
+use Rattle.serf_model.specs.Trace.{Turn, entered_by, packet_given}
+use Rattle.serf_model.proofs.Effects.{Effect, asks, closes_due, counts, effect, fires, hears, is_asked, passes_on, reopens, replies, tells}
+use Rattle.serf_model.proofs.HandedLaws.{fresh-last, hands-apply}
+use Rattle.serf_model.proofs.HandedQueries.{IsWithin, left-at, pushed-at, stood, within-more}
+use Rattle.serf_model.proofs.OpenQueryContents.{queries_in}
+use Rattle.serf_model.proofs.SendLaws.{Makes, makes_ack, makes_none, makes_reply}
+use Rattle.serf_model.proofs.TurnLaws.{flat_map-push}
+
+-- ---- an agent and its turns
+
+abbrev key_of : Handed → TimedEntry ℕ
+key_of h = record { time = h.time; key = h.id }
+
+-- the queries to which packets bring a response
+abbrev replies_in : List (List ℕ) → List (TimedEntry ℕ)
+replies_in packets = map query_answered (filter (λ r. not (is_ack r)) (answers_in packets))
+
+-- the queries that an agent answered by a response
+abbrev pub replied_in : List Turn → List (TimedEntry ℕ)
+replied_in ts = map query_answered (filter (λ r. not (is_ack r)) (flat_map (λ t. answers_in t.packets) ts))
+
+replied-push : (ts : List Turn) (t : Turn) → replied_in (ts ++ t ∷ []) ≡ replied_in ts ++ replies_in t.packets
+replied-push ts t =
+    let sent : List QueryResponse = flat_map (λ t. answers_in t.packets) ts in
+    ap (λ l. map query_answered (filter (λ r. not (is_ack r)) l)) (flat_map-push (λ t. answers_in t.packets) ts t) ∙ ap (map query_answered) (filter-append (λ r. not (is_ack r)) sent (answers_in t.packets))
+    ∙ map-append query_answered (filter (λ r. not (is_ack r)) sent) (filter (λ r. not (is_ack r)) (answers_in t.packets))
+
+-- this query can be answered under this number
+abbrev Waits : List (Option Handed) → ℕ → Handed → Type 0
+Waits handed number h = slice_get handed number ≡ Some (Some h)
+
+-- What can be answered entered, and was not answered, and stands there once; what was answered entered, and once.
+pub record IsAwaiting (ts : List Turn) (handed : List (Option Handed)) : Type 0 where
+  pub entered : (number : ℕ) (h : Handed) → Waits handed number h → Contains (queries_in ts) (key_of h)
+  pub unanswered : (number : ℕ) (h : Handed) → Waits handed number h → All (λ x. x ≢ key_of h) (replied_in ts)
+  pub apart : (j k : ℕ) (g h : Handed) → Waits handed j g → Waits handed k h → key_of g ≡ key_of h → j ≡ k
+  pub replied : IsWithin (queries_in ts) (replied_in ts)
+
+-- ---- what an action answers
+
+-- it sends no response, or the one to a query that it takes out
+data Replies (m : IdealNode) (o : Applied) : Type 0 where
+  none : replies_in o.done.packets ≡ [] → Replies m o
+  one : (number : ℕ) (h : Handed) → Waits m.handed number h → o.done.handed ≡ None → o.node.handed ≡ set m.handed number None → replies_in o.done.packets ≡ key_of h ∷ [] → Replies m o
+
+replies-effect : (m : IdealNode) (action : Action) (given : Option (List ℕ)) (o : Applied) → Effect m action given o → Makes m action o.done → Replies m o
+replies-effect m action given o e (makes_none packets) = none (ap (λ l. map query_answered (filter (λ r. not (is_ack r)) l)) packets)
+replies-effect m action given o e (makes_ack h handed packets) = none (ap (λ l. map query_answered (filter (λ r. not (is_ack r)) l)) packets)
+replies-effect m action given o (replies agent number now payload h at may) (makes_reply agent' number' now' payload' h' respond at' replied packets in_time) =
+    let same : number ≡ number' = cc respond in
+    let both : Some (Some h) ≡ Some (Some h') = sym at ∙ ap (slice_get m.handed) same ∙ at' in
+    let queries : h ≡ h' = cc both in
+    one number h at refl refl (ap (λ l. map query_answered (filter (λ r. not (is_ack r)) l)) packets ∙ ap (λ (x : Handed). key_of x ∷ []) (sym queries))
+replies-effect m action given o (hears j outs answer h idle) (makes_reply agent number now payload q respond at replied packets in_time) = absurd (cc packets)
+replies-effect m action given o (counts to number now packet r q true reads at ignored kind) (makes_reply agent number' now' payload h respond at' replied packets in_time) = absurd (cc replied)
+replies-effect m action given o (counts to number now packet r q false reads at ignored kind) (makes_reply agent number' now' payload h respond at' replied packets in_time) = absurd (cc replied)
+replies-effect m action given o _ (makes_reply agent number now payload h respond at replied packets in_time) = absurd (cc replied)
+
+gone-at : {X : Type 0} (xs : List (Option X)) (k : ℕ) (x : X) → slice_get (set xs k None) k ≡ Some (Some x) → ⊥
+gone-at [] k x is = cc
+gone-at (y ∷ ys) zero x is = cc
+gone-at (y ∷ ys) (suc k) x is = gone-at ys k x is
+
+-- ---- a turn
+
+-- the queries that can still be answered, after an action that hands none out
+awaiting-old : (ts : List Turn) (t : Turn) (m : IdealNode) (action : Action) (given : Option (List ℕ)) (o : Applied) → Effect m action given o → IsAwaiting ts m.handed → Replies m o → t.packets ≡ o.done.packets
+    → (new : List (TimedEntry ℕ)) → queries_in (ts ++ t ∷ []) ≡ queries_in ts ++ new → IsAwaiting (ts ++ t ∷ []) o.node.handed
+awaiting-old ts t m action given o e h r packets new queries = record {
+  entered = λ number q is. subst (λ l. Contains l (key_of q)) (sym queries) (Contains-append_left (queries_in ts) new (key_of q) (h.entered number q (stood m action given o e number q is).at));
+  unanswered = λ number q is. subst (All (λ x. x ≢ key_of q)) (sym grown) (still r number q is (h.unanswered number q (stood m action given o e number q is).at));
+  apart = λ j k g q is_j is_k same. h.apart j k g q (stood m action given o e j g is_j).at (stood m action given o e k q is_k).at same;
+  replied = subst (λ l. IsWithin l (replied_in (ts ++ t ∷ []))) (sym queries) (subst (IsWithin (queries_in ts ++ new)) (sym grown) (within r));
+}
+  where
+    grown : replied_in (ts ++ t ∷ []) ≡ replied_in ts ++ replies_in o.done.packets
+    grown = replied-push ts t ∙ ap (λ ps. replied_in ts ++ replies_in ps) packets
+
+    still : Replies m o → (number : ℕ) (q : Handed) → Waits o.node.handed number q → All (λ x. x ≢ key_of q) (replied_in ts) → All (λ x. x ≢ key_of q) (replied_in ts ++ replies_in o.done.packets)
+    still (none empty) number q is all = subst (All (λ x. x ≢ key_of q)) (sym (ap (λ l. replied_in ts ++ l) empty ∙ append-nil (replied_in ts))) all
+    still (one j g at nothing left answered) number q is all =
+        subst (λ l. All (λ x. x ≢ key_of q) (replied_in ts ++ l)) (sym answered)
+        (All-push (λ x. x ≢ key_of q) (replied_in ts) (key_of g) all (λ same.
+        let number_same : j ≡ number = h.apart j number g q at (stood m action given o e number q is).at same in
+        gone-at m.handed j q (subst (λ (k : ℕ). slice_get (set m.handed j None) k ≡ Some (Some q)) (sym number_same) (ap (λ l. slice_get l number) (sym left) ∙ is))))
+
+    within : Replies m o → IsWithin (queries_in ts ++ new) (replied_in ts ++ replies_in o.done.packets)
+    within (none empty) = subst (λ l. IsWithin (queries_in ts ++ new) (replied_in ts ++ l)) (sym empty) (subst (IsWithin (queries_in ts ++ new)) (sym (append-nil (replied_in ts))) (record {
+      within = All-weaker (Contains (queries_in ts)) (Contains (queries_in ts ++ new)) (λ x c. Contains-append_left (queries_in ts) new x c) (replied_in ts) h.replied.within;
+      once = h.replied.once;
+    }))
+    within (one j g at nothing left answered) = subst (λ l. IsWithin (queries_in ts ++ new) (replied_in ts ++ l)) (sym answered) (record {
+      within = All-push (Contains (queries_in ts ++ new)) (replied_in ts) (key_of g)
+          (All-weaker (Contains (queries_in ts)) (Contains (queries_in ts ++ new)) (λ x c. Contains-append_left (queries_in ts) new x c) (replied_in ts) h.replied.within)
+          (Contains-append_left (queries_in ts) new (key_of g) (h.entered j g at));
+      once = all_pairs_push (λ x y. x ≢ y) (replied_in ts) (key_of g) h.replied.once (h.unanswered j g at);
+    })
+
+-- where a query is handed out, no response is sent
+none-handed : (m : IdealNode) (o : Applied) (q : Handed) → Replies m o → o.done.handed ≡ Some q → replies_in o.done.packets ≡ []
+none-handed m o q (none empty) handed = empty
+none-handed m o q (one number h at nothing left answered) handed = absurd (let no : None ≡ Some q = sym nothing ∙ handed in cc)
+
+-- and one more, which entered in this turn
+awaiting-new : (ts us : List Turn) (handed : List (Option Handed)) (q : Handed) → IsAwaiting us handed → replied_in us ≡ replied_in ts → queries_in us ≡ queries_in ts ++ key_of q ∷ [] → IsWithin (queries_in ts) (replied_in ts)
+    → ((number : ℕ) (h : Handed) → Waits handed number h → Contains (queries_in ts) (key_of h)) → AllPairs (λ x y. x ≢ y) (queries_in us) → IsAwaiting us (handed ++ Some q ∷ [])
+awaiting-new ts us handed q h same queries before old once = record {
+  entered = λ number g is. elim (pushed-at handed (Some q) number (Some g) is) [
+    | inl there ↦ h.entered number g there
+    | inr here ↦ (let eq : q ≡ g = cc here.1 in subst (λ (x : Handed). Contains (queries_in us) (key_of x)) eq (subst (λ l. Contains l (key_of q)) (sym queries) (Contains-push (queries_in ts) (key_of q))))
+  ];
+  unanswered = λ number g is. elim (pushed-at handed (Some q) number (Some g) is) [
+    | inl there ↦ h.unanswered number g there
+    | inr here ↦ (let eq : q ≡ g = cc here.1 in subst (λ (x : Handed). All (λ y. y ≢ key_of x) (replied_in us)) eq (subst (All (λ y. y ≢ key_of q)) (sym same)
+        (All-weaker (Contains (queries_in ts)) (λ y. y ≢ key_of q) (λ y c. fresh-last (queries_in ts) (key_of q) y (subst (AllPairs (λ x y. x ≢ y)) queries once) c) (replied_in ts) before.within)))
+  ];
+  apart = λ j k f g is_j is_k keys. elim (pushed-at handed (Some q) j (Some f) is_j) [
+    | inl first ↦ elim (pushed-at handed (Some q) k (Some g) is_k) [
+      | inl second ↦ h.apart j k f g first second keys
+      | inr second ↦ (let eq : q ≡ g = cc second.1 in absurd (fresh f (old j f first) (keys ∙ ap (λ (x : Handed). key_of x) (sym eq))))
+    ]
+    | inr first ↦ elim (pushed-at handed (Some q) k (Some g) is_k) [
+      | inl second ↦ (let eq : q ≡ f = cc first.1 in absurd (fresh g (old k g second) (sym keys ∙ ap (λ (x : Handed). key_of x) (sym eq))))
+      | inr second ↦ sym first.0 ∙ second.0
+    ]
+  ];
+  replied = h.replied;
+}
+  where
+    fresh : (f : Handed) → Contains (queries_in ts) (key_of f) → key_of f ≡ key_of q → ⊥
+    fresh f c = fresh-last (queries_in ts) (key_of q) (key_of f) (subst (AllPairs (λ x y. x ≢ y)) queries once) c
+
+-- ---- the turn of an agent
+
+pub awaiting-more : (c : Cluster) (ts : List Turn) (action : Action) (b : ℕ) (m : IdealNode) → IsAwaiting ts m.handed → Makes m action (apply m c.sent action).done
+    → (let o = apply m c.sent action in AllPairs (λ x y. x ≢ y) (queries_in (ts ++ (applied c action b o).turn ∷ [])) → IsAwaiting (ts ++ (applied c action b o).turn ∷ []) (with_handed o.done.handed o.node).handed)
+awaiting-more c ts action b m h makes once = by (apply m c.sent action).done.handed refl
+  where
+    turn : Turn
+    turn = (applied c action b (apply m c.sent action)).turn
+
+    new : List (TimedEntry ℕ)
+    new = entered_by action (packet_given c.sent action) (apply m c.sent action).done.answer
+
+    r : Replies m (apply m c.sent action)
+    r = replies-effect m action (packet_given c.sent action) (apply m c.sent action) (effect m c.sent action) makes
+
+    queries : queries_in (ts ++ (applied c action b (apply m c.sent action)).turn ∷ []) ≡ queries_in ts ++ entered_by action (packet_given c.sent action) (apply m c.sent action).done.answer
+    queries = flat_map-push (λ t. entered_by t.action t.given t.line.answer) ts (applied c action b (apply m c.sent action)).turn
+
+    old : IsAwaiting (ts ++ (applied c action b (apply m c.sent action)).turn ∷ []) (apply m c.sent action).node.handed
+    old = awaiting-old ts (applied c action b (apply m c.sent action)).turn m action (packet_given c.sent action) (apply m c.sent action) (effect m c.sent action) h r refl
+        (entered_by action (packet_given c.sent action) (apply m c.sent action).done.answer) queries
+
+    by : (d : Option Handed) → (apply m c.sent action).done.handed ≡ d → IsAwaiting (ts ++ (applied c action b (apply m c.sent action)).turn ∷ []) ((apply m c.sent action).node.handed ++ map (λ q. Some q) (option_to_list d))
+    by None is = subst (IsAwaiting (ts ++ (applied c action b (apply m c.sent action)).turn ∷ [])) (sym (append-nil (apply m c.sent action).node.handed)) old
+    by (Some q) is =
+        awaiting-new ts (ts ++ (applied c action b (apply m c.sent action)).turn ∷ []) (apply m c.sent action).node.handed q old
+        (replied-push ts (applied c action b (apply m c.sent action)).turn ∙ ap (λ l. replied_in ts ++ l) (none-handed m (apply m c.sent action) q r is) ∙ append-nil (replied_in ts))
+        (queries ∙ ap (λ l. queries_in ts ++ l) (hands-apply m c.sent action q is)) h.replied
+        (λ number g waits. h.entered number g (stood m action (packet_given c.sent action) (apply m c.sent action) (effect m c.sent action) number g waits).at) once
+
+pub awaiting-none : IsAwaiting [] []
+awaiting-none = record { entered = λ number h is. absurd (cc is); unanswered = λ number h is. absurd (cc is); apart = λ j k g h is. absurd (cc is); replied = record { within = All-nil _; once = λ i j d lt within. absurd (omega arith) } }

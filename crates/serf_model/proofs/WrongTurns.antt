@@ -1,0 +1,271 @@
+-- For each promise a small list of turns that breaks it, and the proof that the promise refuses this list. A definition
+-- that is changed so that it promises nothing doesn't pass here.
+use Rattle.std.proofs.Common.{◌≡◌, ◌≢◌, ℕ, ◌<◌, ◌≤◌, ◌⊎◌, inl, inr, Bool, true, false, List, [], ◌∷◌, ◌++◌, Option, Some, None, Ok, refl, sym, ap, subst, ◌∙◌, arith, cond, map}
+use Rattle.std.specs.Prelude.{ℤ, pos, All, AllPairs, Contains, Result, filter, not, slice_get}
+use Rattle.std.specs.List.{slice_index_or}
+use Rattle.std.specs.Option.{option_to_list}
+use Rattle.serf_wire.specs.declared.fault.WireFault.{WireFault}
+use Rattle.serf_wire.specs.Decoded.{decoded}
+use Rattle.serf_wire.specs.Message.{Message, Query, QueryResponse, UserEvent, query, query_response, user_event}
+use Rattle.serf_window.specs.Texts.{event_of}
+use Rattle.serf_window.specs.Window.{TimedEntry}
+use Rattle.serf_agent.specs.declared.config.Config.{Config}
+use Rattle.serf_agent.specs.declared.open_query.OpenQuery.{OpenQuery}
+use Rattle.serf_agent.specs.declared.outcome.QueryParams.{QueryParams}
+use Rattle.serf_agent.specs.declared.outcome.Reason.TheVariants as reasons
+use Rattle.serf_agent.specs.Queries.{deadline_of, is_ack, query_at}
+use Rattle.serf_model.specs.declared.action.Action.{Action}
+use Rattle.serf_model.specs.declared.action.Action.TheVariants as actions
+use Rattle.serf_model.specs.declared.line.Answer.{Answer}
+use Rattle.serf_model.specs.declared.line.Answer.TheVariants as answers
+use Rattle.serf_model.specs.declared.line.EventLine.{EventLine}
+use Rattle.serf_model.specs.declared.line.HandedLine.{HandedLine}
+use Rattle.serf_model.specs.declared.line.Line.{Line}
+use Rattle.serf_model.specs.AnswerPromises.{AckedOnce, AnswersMade, CountedInTime, CountedOnce, CountedSent, HoldsCounted, IsAwaited, IsMade, OpenQueriesHold, RepliedOnce, acked, answer_brought, injected, life_of, query_answered, replied, reply_deadline}
+use Rattle.serf_model.specs.Bounds.{EventsBounded, QueriesBounded}
+use Rattle.serf_model.specs.Cluster.{IdealNode}
+use Rattle.serf_model.specs.HandOuts.{HandsOutEntered, HandsOutGiven, MessagesFired, NewIsHanded, OnlyToActor, messages_fired, query_message}
+use Rattle.serf_model.specs.Promises.{Held, Later, Once, OnlyFired, QueryFired, QueryHandedOnce, QueryLater, QueryOnce, WasFired}
+use Rattle.serf_model.specs.Queried.{QueryOnlyFired, WasQueried}
+use Rattle.serf_model.specs.Trace.{Turn, events_brought, query_brought}
+
+-- ---- turns
+
+-- a turn that is given no packet and sends none
+abbrev turn : Action → Answer → List EventLine → Option HandedLine → Turn
+turn action answer events handed = record { action = action; line = record { answer = answer; sent = []; events = events; handed = handed }; given = None; packets = [] }
+
+-- a packet is delivered to an agent
+abbrev delivery : ℕ → List ℕ → Answer → Option HandedLine → Turn
+delivery a packet answer handed = record { action = actions.Deliver a 0 0; line = record { answer = answer; sent = []; events = []; handed = handed }; given = Some packet; packets = [] }
+
+-- agent 0 sends a packet, whatever it does
+abbrev sending : Action → Answer → List ℕ → Turn
+sending action answer packet = record { action = action; line = record { answer = answer; sent = 0 ∷ []; events = []; handed = None }; given = None; packets = packet ∷ [] }
+
+-- an agent is handed an event of this time, with no texts
+abbrev handed_event : ℕ → ℕ → EventLine
+handed_event a t = record { agent = a; time = t; name = []; payload = []; coalesce = false }
+
+abbrev handed_query : ℕ → ℕ → ℕ → List ℕ → HandedLine
+handed_query a t id name = record { agent = a; index = 0; time = t; id = id; name = name; payload = [] }
+
+-- agent 0 fires a query
+abbrev firing : QueryParams → ℕ → ℕ → Turn
+firing params id t = turn (actions.Query 0 0 id [] [] params) (answers.Queried t) [] None
+
+in-none : {X : Type 0} (x : X) → Contains [] x → ⊥
+in-none x h = absurd (let lt = h.1 in omega arith)
+
+-- ---- events
+
+-- an agent is handed one event by two turns
+once-refuses : (let t = turn (actions.Close 0 0) (answers.Closed 0) (handed_event 0 1 ∷ []) None in Once (t ∷ t ∷ [])) → ⊥
+once-refuses h = h 0 0 1 (record { time = 1; key = event_of [] [] }) (omega arith) (omega arith) refl
+
+-- an event is handed out that nobody fired
+fired-refuses : OnlyFired (turn (actions.Close 0 0) (answers.Closed 0) (handed_event 0 1 ∷ []) None ∷ []) → ⊥
+fired-refuses h = elim (h [] (turn (actions.Close 0 0) (answers.Closed 0) (handed_event 0 1 ∷ []) None) [] refl 0 (handed_event 0 1) (omega arith)) [
+  | inl fired ↦ in-none _ fired
+  | inr forged ↦ in-none _ forged
+]
+
+-- an agent that was handed an event of time 5 fires one of time 3
+later-refuses : Later (turn (actions.Close 0 0) (answers.Closed 0) (handed_event 0 5 ∷ []) None ∷ turn (actions.Fire 0 [] [] false) (answers.Fired 3) [] None ∷ []) → ⊥
+later-refuses h =
+    let before : Turn = turn (actions.Close 0 0) (answers.Closed 0) (handed_event 0 5 ∷ []) None in
+    let less : 5 < 3 = h (before ∷ []) (turn (actions.Fire 0 [] [] false) (answers.Fired 3) [] None) [] refl 0 3 refl refl 0 (record { time = 5; key = event_of [] [] }) (omega arith) in
+    absurd (omega arith)
+
+-- an event is ignored as seen that the agent was never handed
+seen-refuses : (packet : List ℕ) (e : UserEvent) → decoded packet ≡ Ok (user_event e) → Held (delivery 0 packet (answers.Ignored reasons.Seen) None ∷ []) → ⊥
+seen-refuses packet e reads h = in-none _ (h.1 [] (delivery 0 packet (answers.Ignored reasons.Seen) None) [] refl 0 packet e refl refl refl reads)
+
+-- a packet carries an event that nobody fired
+carries-refuses : (packet : List ℕ) (e : UserEvent) → decoded packet ≡ Ok (user_event e) → Held (sending (actions.State 0) answers.State packet ∷ []) → ⊥
+carries-refuses packet e reads h =
+    let turn : Turn = sending (actions.State 0) answers.State packet in
+    let all : All (WasFired (turn ∷ [])) (events_brought (decoded packet)) = h.0 [] turn [] refl 0 packet (omega arith) in
+    let found : WasFired (turn ∷ []) (record { time = e.time; key = event_of e.name e.payload }) = subst (λ r. All (WasFired (turn ∷ [])) (events_brought r)) reads all 0 (record { time = e.time; key = event_of e.name e.payload }) (omega arith) in
+    elim found [
+      | inl fired ↦ in-none _ fired
+      | inr forged ↦ in-none _ forged
+    ]
+
+-- a turn hands out to an agent that doesn't act
+to_actor-refuses : OnlyToActor (turn (actions.Fire 0 [] [] false) (answers.Fired 1) (handed_event 0 1 ∷ handed_event 1 1 ∷ []) None ∷ []) → ⊥
+to_actor-refuses h =
+    let same : Some 0 ≡ Some 1 = (h [] (turn (actions.Fire 0 [] [] false) (answers.Fired 1) (handed_event 0 1 ∷ handed_event 1 1 ∷ []) None) [] refl).0 1 (handed_event 0 1) (omega arith) in
+    absurd (cc same)
+
+-- a turn that is given nothing hands out an event that an earlier turn fired
+given-refuses : HandsOutGiven (turn (actions.Fire 0 [] [] false) (answers.Fired 1) (handed_event 0 1 ∷ []) None ∷ turn (actions.Close 1 0) (answers.Closed 0) (handed_event 1 1 ∷ []) None ∷ []) → ⊥
+given-refuses h = elim (h (turn (actions.Fire 0 [] [] false) (answers.Fired 1) (handed_event 0 1 ∷ []) None ∷ []) (turn (actions.Close 1 0) (answers.Closed 0) (handed_event 1 1 ∷ []) None) [] refl 0 (handed_event 1 1) (omega arith)) [
+  | inl fired ↦ in-none _ fired
+  | inr given ↦ in-none _ given
+]
+
+-- an event is new and isn't handed out
+new-refuses : (packet : List ℕ) → NewIsHanded (delivery 0 packet answers.New None ∷ []) → ⊥
+new-refuses packet h = let found = h [] (delivery 0 packet answers.New None) [] refl refl in let empty = found.1 in absurd (cc empty)
+
+-- ---- queries
+
+-- one query enters by two turns
+query_once-refuses : (params : QueryParams) → QueryOnce (firing params 7 1 ∷ firing params 7 1 ∷ []) → ⊥
+query_once-refuses params h = h 0 0 1 (record { time = 1; key = 7 }) (omega arith) (omega arith) refl
+
+-- an agent is handed one query by two turns
+query_handed-refuses : (let t = turn (actions.Close 0 0) (answers.Closed 0) [] (Some (handed_query 0 1 7 [])) in QueryHandedOnce (t ∷ t ∷ [])) → ⊥
+query_handed-refuses h = h 0 0 1 (record { time = 1; key = 7 }) (omega arith) (omega arith) refl
+
+-- an agent that fired a query of time 5 fires one of time 3
+query_later-refuses : (params : QueryParams) → QueryLater (firing params 7 5 ∷ firing params 7 3 ∷ []) → ⊥
+query_later-refuses params h =
+    let less : 5 < 3 = h (firing params 7 5 ∷ []) (firing params 7 3) [] refl 0 3 refl refl 0 (record { time = 5; key = 7 }) (omega arith) in
+    absurd (omega arith)
+
+-- a query enters whose packet nobody sent
+query_fired-refuses : (packet : List ℕ) → QueryFired (delivery 0 packet answers.Query None ∷ []) → ⊥
+query_fired-refuses packet h = elim (h [] (delivery 0 packet answers.Query None) [] refl packet refl refl) [
+  | inl fired ↦ in-none _ fired
+  | inr forged ↦ in-none _ forged
+]
+
+-- a query is handed out that didn't enter: no packet came, and none was fired
+entered-refuses : (configs : List Config) → HandsOutEntered configs (turn (actions.Close 1 0) (answers.Closed 0) [] (Some (handed_query 1 5 9 [])) ∷ []) → ⊥
+entered-refuses configs h =
+    let found = h [] (turn (actions.Close 1 0) (answers.Closed 0) [] (Some (handed_query 1 5 9 []))) [] refl (handed_query 1 5 9 []) refl in
+    let empty = found.1 in
+    absurd (cc empty)
+
+-- a query of another name is handed out than the one that came
+entered-refuses_name : (configs : List Config) (packet : List ℕ) (q : Query) → decoded packet ≡ Ok (query q) → q.name ≡ 1 ∷ [] → HandsOutEntered configs (delivery 1 packet answers.Query (Some (handed_query 1 q.time q.id (2 ∷ []))) ∷ []) → ⊥
+entered-refuses_name configs packet q reads name h =
+    let turn : Turn = delivery 1 packet answers.Query (Some (handed_query 1 q.time q.id (2 ∷ []))) in
+    let found = h [] turn [] refl (handed_query 1 q.time q.id (2 ∷ [])) refl in
+    let brought : q ∷ [] ≡ found.0 ∷ [] = sym (ap query_message reads) ∙ found.1 in
+    let same : q ≡ found.0 = cc brought in
+    let names : 2 ∷ [] ≡ 1 ∷ [] = found.2.name ∙ ap (λ (x : Query). x.name) (sym same) ∙ name in
+    absurd (cc names)
+
+-- a query enters at another agent under another name than the one under which it was fired
+messages-refuses : (configs : List Config) (params : QueryParams) (packet : List ℕ) (q : Query) → decoded packet ≡ Ok (query q) → q.name ≡ 2 ∷ []
+    → MessagesFired configs (turn (actions.Query 0 0 7 (1 ∷ []) [] params) (answers.Queried 1) [] None ∷ delivery 1 packet answers.Query None ∷ []) → ⊥
+messages-refuses configs params packet q reads name h =
+    let first : Turn = turn (actions.Query 0 0 7 (1 ∷ []) [] params) (answers.Queried 1) [] None in
+    elim (h (first ∷ []) (delivery 1 packet answers.Query None) [] refl packet refl refl) [
+      | inl all ↦ of (slice_get configs 0) (subst (λ l. All (Contains (messages_fired configs (first ∷ []))) l) (ap query_message reads) all 0 q (omega arith))
+      | inr forged ↦ in-none _ forged
+    ]
+  where
+    of : (r : Option Config) → Contains (map (λ (c : Config). query_at 1 c.name 7 (1 ∷ []) [] params) (option_to_list r) ++ []) q → ⊥
+    of None found = in-none _ found
+    of (Some c) found =
+        let at : found.0 ≡ 0 = (let lt = found.1 in omega arith) in
+        let same : query_at 1 c.name 7 (1 ∷ []) [] params ≡ q = subst (λ (k : ℕ). slice_index_or (query_at 1 c.name 7 (1 ∷ []) [] params ∷ []) k q ≡ q) at found.2 in
+        let names : 1 ∷ [] ≡ 2 ∷ [] = ap (λ (x : Query). x.name) same ∙ name in
+        absurd (cc names)
+
+-- a query enters that nobody fired
+only_fired-refuses : (packet : List ℕ) (q : Query) → decoded packet ≡ Ok (query q) → QueryOnlyFired (delivery 0 packet answers.Query None ∷ []) → ⊥
+only_fired-refuses packet q reads h =
+    let turn : Turn = delivery 0 packet answers.Query None in
+    elim (subst (λ r. All (WasQueried (turn ∷ [])) (query_brought r)) reads (h [] turn [] refl) 0 (record { time = q.time; key = q.id }) (omega arith)) [
+      | inl fired ↦ in-none _ fired
+      | inr forged ↦ in-none _ forged
+    ]
+
+-- ---- acks and responses
+
+-- agent 0 fires a query, and is handed it
+abbrev asked : QueryParams → Turn
+asked params = turn (actions.Query 0 0 7 [] [] params) (answers.Queried 1) [] (Some (handed_query 0 1 7 []))
+
+-- one agent's ack is counted twice
+counted_once-refuses : (packet : List ℕ) (r : QueryResponse) → decoded packet ≡ Ok (query_response r) → CountedOnce (delivery 0 packet answers.Ack None ∷ delivery 0 packet answers.Ack None ∷ []) → ⊥
+counted_once-refuses packet r reads h =
+    subst (λ (m : Result Message WireFault). AllPairs (λ (x y : QueryResponse). x.time ≡ y.time → x.from ≢ y.from) ((answer_brought m ++ []) ++ ((answer_brought m ++ []) ++ []))) reads (h 0 true) 0 1 r (omega arith) (omega arith) refl refl
+
+-- an ack is counted to a query that the agent never fired
+in_time-refuses : (packet : List ℕ) (r : QueryResponse) → decoded packet ≡ Ok (query_response r) → CountedInTime (delivery 0 packet answers.Ack None ∷ []) → ⊥
+in_time-refuses packet r reads h =
+    let turn : Turn = delivery 0 packet answers.Ack None in
+    let awaited : IsAwaited [] 0 r = subst (λ (m : Result Message WireFault). All (IsAwaited [] 0) (answer_brought m ++ [])) reads (h [] turn [] refl 0 0 0 true refl) 0 r (omega arith) in
+    in-none awaited.query awaited.fired
+
+-- an ack is counted and no packet came
+sent-refuses : CountedSent (turn (actions.Deliver 0 0 0) answers.Ack [] None ∷ []) → ⊥
+sent-refuses h =
+    let found = h [] (turn (actions.Deliver 0 0 0) answers.Ack [] None) [] refl true refl in
+    let given = found.given in
+    absurd (cc given)
+
+-- an agent answers a query that it was never handed
+made-refuses : (configs : List Config) (packet : List ℕ) (r : QueryResponse) → decoded packet ≡ Ok (query_response r) → AnswersMade configs (sending (actions.Close 0 0) (answers.Closed 0) packet ∷ []) → ⊥
+made-refuses configs packet r reads h =
+    let turn : Turn = sending (actions.Close 0 0) (answers.Closed 0) packet in
+    of (subst (λ (m : Result Message WireFault). All (IsMade configs [] turn) (answer_brought m ++ [])) reads (h [] turn [] refl) 0 r (omega arith))
+  where
+    of : IsMade configs [] (sending (actions.Close 0 0) (answers.Closed 0) packet) r → ⊥
+    of (injected i) = let action = i.action in absurd (cc action)
+    of (acked a) = let hands = a.hands in absurd (cc hands)
+    of (replied a) = let action = a.action in absurd (cc action)
+
+-- an agent acks one query twice
+acked-refuses : (packet : List ℕ) (r : QueryResponse) → decoded packet ≡ Ok (query_response r) → is_ack r ≡ true → (let t = sending (actions.Close 0 0) (answers.Closed 0) packet in AckedOnce (t ∷ t ∷ [])) → ⊥
+acked-refuses packet r reads ack h =
+    let both : AllPairs (λ (x y : TimedEntry ℕ). x ≢ y) (map query_answered (filter is_ack (r ∷ r ∷ []))) =
+    subst (λ (m : Result Message WireFault). AllPairs (λ (x y : TimedEntry ℕ). x ≢ y) (map query_answered (filter is_ack ((answer_brought m ++ []) ++ ((answer_brought m ++ []) ++ []))))) reads (h 0) in
+    let plain : AllPairs (λ (x y : TimedEntry ℕ). x ≢ y) (query_answered r ∷ query_answered r ∷ []) = subst (λ (b : Bool). AllPairs (λ (x y : TimedEntry ℕ). x ≢ y) (map query_answered (cond b (r ∷ cond b (r ∷ []) []) (cond b (r ∷ []) [])))) ack both in
+    plain 0 1 (query_answered r) (omega arith) (omega arith) refl
+
+-- an agent answers one query twice
+replied-refuses : (packet : List ℕ) (r : QueryResponse) → decoded packet ≡ Ok (query_response r) → is_ack r ≡ false → (let t = sending (actions.Respond 0 0 5 []) answers.Replied packet in RepliedOnce (t ∷ t ∷ [])) → ⊥
+replied-refuses packet r reads reply h =
+    let both : AllPairs (λ (x y : TimedEntry ℕ). x ≢ y) (map query_answered (filter (λ r. not (is_ack r)) (r ∷ r ∷ []))) =
+    subst (λ (m : Result Message WireFault). AllPairs (λ (x y : TimedEntry ℕ). x ≢ y) (map query_answered (filter (λ r. not (is_ack r)) ((answer_brought m ++ []) ++ ((answer_brought m ++ []) ++ []))))) reads (h 0) in
+    let plain : AllPairs (λ (x y : TimedEntry ℕ). x ≢ y) (query_answered r ∷ query_answered r ∷ []) =
+    subst (λ (b : Bool). AllPairs (λ (x y : TimedEntry ℕ). x ≢ y) (map query_answered (cond (not b) (r ∷ cond (not b) (r ∷ []) []) (cond (not b) (r ∷ []) [])))) reply both in
+    plain 0 1 (query_answered r) (omega arith) (omega arith) refl
+
+-- an agent answers a query whose deadline is past
+late-refuses : (configs : List Config) (params : QueryParams) (packet : List ℕ) (r : QueryResponse) → params.timeout ≡ pos 10 → decoded packet ≡ Ok (query_response r) → r.payload ≡ []
+    → AnswersMade configs (asked params ∷ sending (actions.Respond 0 0 20 []) answers.Replied packet ∷ []) → ⊥
+late-refuses configs params packet r timeout reads empty h =
+    let turn : Turn = sending (actions.Respond 0 0 20 []) answers.Replied packet in
+    of (subst (λ (m : Result Message WireFault). All (IsMade configs (asked params ∷ []) turn) (answer_brought m ++ [])) reads (h (asked params ∷ []) turn [] refl) 0 r (omega arith))
+  where
+    of : IsMade configs (asked params ∷ []) (sending (actions.Respond 0 0 20 []) answers.Replied packet) r → ⊥
+    of (injected i) = let action = i.action in absurd (cc action)
+    of (acked a) = let hands = a.hands in absurd (cc hands)
+    of (replied a) =
+        let action = a.action in
+        let agent : 0 ≡ a.agent = cc action in
+        let now : 20 ≡ a.now = cc action in
+        let there : Contains (life_of 0 (asked params ∷ [])) a.handing = subst (λ (n : ℕ). Contains (life_of n (asked params ∷ [])) a.handing) (sym agent) a.there in
+        let at : there.0 ≡ 0 = (let lt = there.1 in omega arith) in
+        let same : asked params ≡ a.handing = subst (λ (k : ℕ). slice_index_or (asked params ∷ []) k a.handing ≡ a.handing) at there.2 in
+        let until : reply_deadline (asked params) ≡ a.deadline ∷ [] = ap reply_deadline same ∙ a.until in
+        let ten : deadline_of 0 (pos 10) ∷ [] ≡ a.deadline ∷ [] = ap (λ t. deadline_of 0 t ∷ []) (sym timeout) ∙ until in
+        let ends : 10 ≡ a.deadline = cc ten in
+        let in_time = a.in_time in
+        absurd (omega arith)
+
+-- ---- bounds
+
+-- an agent that takes one event of one time is handed two
+events-refuses : (c : Config) → c.per_time ≡ 1 → EventsBounded (c ∷ []) (turn (actions.Close 0 0) (answers.Closed 0) (handed_event 0 1 ∷ handed_event 0 1 ∷ []) None ∷ []) → ⊥
+events-refuses c one h =
+    let most : 2 ≤ c.per_time = (h [] (turn (actions.Close 0 0) (answers.Closed 0) (handed_event 0 1 ∷ handed_event 0 1 ∷ []) None) [] refl 0 c refl).of_one_time 1 in
+    absurd (omega arith)
+
+-- and so with queries
+queries-refuses : (c : Config) (params : QueryParams) → c.per_time ≡ 1 → QueriesBounded (c ∷ []) (firing params 7 1 ∷ firing params 8 1 ∷ []) → ⊥
+queries-refuses c params one h =
+    let most : 2 ≤ c.per_time = (h (firing params 7 1 ∷ []) (firing params 8 1) [] refl 0 c refl).of_one_time 1 in
+    absurd (omega arith)
+
+-- an open query that was never fired
+open-refuses : (m : IdealNode) (q : ℕ × OpenQuery) → m.agent.asked ≡ q ∷ [] → OpenQueriesHold (record { cluster = record { nodes = m ∷ []; sent = [] }; turns = [] }) → ⊥
+open-refuses m q asked h = let held = subst (λ l. All (HoldsCounted 0 []) l) asked (h 0 m refl) 0 q (omega arith) in in-none _ held.fired
