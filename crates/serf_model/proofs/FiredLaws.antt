@@ -29,7 +29,7 @@ use Rattle.serf_model.proofs.TurnLaws.{at_each_nil, at_each_push, flat_map-push}
 use Rattle.serf_model.proofs.HistoryGrowth.{keeps-apply}
 use Rattle.serf_model.proofs.PerTimeBound.{enters-entries, entries, out_in}
 use Rattle.serf_model.specs.Ready.{IsRepresentable}
-use Rattle.serf_model.proofs.InvariantKept.{may-fire}
+use Rattle.serf_model.proofs.CallsKept.{may-fire}
 use Rattle.serf_model.proofs.PacketEvents.{events_in_packet-event, events_in_packet-query, events_in_packet-response, state-carries}
 use Rattle.serf_model.proofs.RunLaws.{IsAfter, all-at, all-put}
 

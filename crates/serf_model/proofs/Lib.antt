@@ -2,6 +2,9 @@ pub mod TurnLaws
 pub mod PerTimeBound
 pub mod Effects
 pub mod HistoryGrowth
+pub mod AnswersByTime
+pub mod CallsKept
+pub mod OpenQueriesKept
 pub mod InvariantKept
 pub mod RunLaws
 pub mod StartLaws
@@ -17,7 +20,6 @@ pub mod BoundLaws
 pub mod QueriesEntered
 pub mod PerAgent
 pub mod PresentLife
-pub mod AnswersByTime
 pub mod OpenQueryContents
 pub mod CountingPromises
 pub mod SendLaws
