@@ -1,66 +1,39 @@
--- Each action leaves its agent sound, with clocks that are 64 bits, over a sink that tells and has a plan.
-use Rattle.std.proofs.Common.{◌≡◌, ℕ, ◌-◌, ◌^◌, ◌<◌, ◌≤◌, Bool, true, false, cond, List, [], ◌∷◌, ◌++◌, Option, Some, None, IsSome, unwrap_or, Result, Ok, Err, refl, ◌∙◌, arith}
-use Rattle.std.specs.Prelude.{slice_get}
+-- A merge, a snapshot and a restart leave their agent sound, with clocks that are 64 bits, over a sink that tells and has a plan.
+use Rattle.std.proofs.Common.{◌≡◌, ℕ, ◌-◌, ◌^◌, ◌<◌, ◌≤◌, Bool, true, false, List, [], ◌∷◌, ◌++◌, Option, Some, None, IsSome, unwrap_or, Result, Ok, Err, refl, ◌∙◌, arith}
 use Rattle.std.specs.List.{AllByRecursion}
 use Rattle.std.specs.Option.{option_map}
 use Rattle.std.proofs.lemmas.List.Elements.{All-nil, All-weaker}
-use Rattle.serf_wire.specs.declared.fault.WireFault.{WireFault}
 use Rattle.serf_wire.specs.declared.texts.EventBody.{EventBody}
 use Rattle.serf_wire.specs.Decoded.{decoded}
-use Rattle.serf_wire.specs.Message.{Message, PushPull, user_event, query, query_response, push_pull}
+use Rattle.serf_wire.specs.Message.{PushPull, push_pull}
 use Rattle.serf_wire.specs.Ranges.{IsRangedPushPull, IsTimed}
 use Rattle.serf_wire.proofs.SpelledRanges.{decoded_ranged}
-use Rattle.serf_window.specs.Texts.{event_of}
 use Rattle.serf_window.specs.Window.{TimedEntry}
 use Rattle.serf_snap.specs.declared.kind.ClockKind.TheVariants as kinds
 use Rattle.serf_snap.specs.Clocks.{is_whole, last_clock}
 use Rattle.serf_snap.specs.Device.{FailurePlan, fresh_device}
 use Rattle.serf_snap.specs.Notes.{Writing, Kept, Failed, IsObservable, will_replace, opened}
 use Rattle.serf_snap.proofs.ClockLaws.{last_clock_grows, last_clock-below}
-use Rattle.serf_agent.specs.Calls.{Call, Notes, Replaces, Step, planned, ended, will, answers}
+use Rattle.serf_agent.specs.Calls.{Call, Notes, Replaces, Step, planned, ended, will}
 use Rattle.serf_agent.specs.Ideal.{IdealAgent}
 use Rattle.serf_agent.specs.Sound.{IsSound}
 use Rattle.serf_agent.specs.declared.config.Config.{Config}
 use Rattle.serf_agent.specs.declared.outcome.Outcome.{Outcome}
 use Rattle.serf_agent.specs.declared.outcome.ReceiveFault.{ReceiveFault}
-use Rattle.serf_agent.specs.declared.outcome.ReceiveFault.TheVariants as receives
 use Rattle.serf_agent.specs.declared.outcome.Reason.{Reason}
 use Rattle.serf_agent.specs.Config.{is_sound}
-use Rattle.serf_agent.specs.Receive.{receive, receive_read}
 use Rattle.serf_agent.specs.Restart.{unopened, IsInText}
 use Rattle.serf_agent.specs.States.{events_of, events_of_slot, receive_one, joined, merge_refusal}
 use Rattle.serf_agent.specs.View.{view_of}
-use Rattle.serf_agent.specs.Queries.{respond_fault, query_fault, query_at, query_admission, asked_at}
-use Rattle.serf_agent.specs.Events.{admission, received_as, fire_fault}
+use Rattle.serf_agent.specs.Events.{admission, received_as}
 use Rattle.serf_agent.proofs.SoundLaws.{sound-joined, sound-saved, sound-compact, sound-restarted, sound-unopened, stopped-noted}
 use Rattle.serf_wire.specs.Slots.{SlotContent, empty, held}
 use Rattle.serf_snap.specs.declared.snapshot.NoteFault.{NoteFault}
 use Rattle.serf_snap.specs.declared.snapshot.NoteFault.TheVariants as notes
-use Rattle.serf_agent.specs.declared.outcome.RespondFault.{RespondFault}
-use Rattle.serf_agent.specs.Handed.{Handed}
-use Rattle.serf_agent.specs.declared.outcome.MergeFault.{MergeFault}
 use Rattle.serf_agent.specs.declared.outcome.MergeFault.TheVariants as merges
-use Rattle.serf_model.specs.declared.action.Action.{Action}
-use Rattle.serf_model.specs.declared.action.Action.TheVariants as actions
 use Rattle.serf_model.specs.Ready.{IsConsistent, IsRepresentable}
-use Rattle.serf_model.specs.Cluster.{IdealNode, Merged, apply, merges_events, merges_on, merges_as, merges_given, delivers, responds, responds_as, reopened, text_after, opened_first, with_plan, plan_with}
-use Rattle.serf_model.proofs.CallsKept.{does-replace, representable-notes, representable-received, none-if, representable-fired, representable-query_received, may-ask, representable-query_fired, DoesReplace}
-use Rattle.serf_model.proofs.OpenQueriesKept.{representable-response, representable-closed}
-
--- ---- deliveries
-
-representable-read : (i : IdealAgent) (packet : List ℕ) (now : ℕ) (r : Result Message WireFault) → IsRepresentable i → i.snapshot.stopped ≡ false → decoded packet ≡ r → IsRepresentable (planned i (receive_read i now r)).agent
-representable-read i packet now (Ok (user_event e)) g runs is = representable-received i e.time (event_of e.name e.payload) e.coalesce (admission i e.time (event_of e.name e.payload)) g runs (decoded_ranged packet (user_event e) is) refl
-representable-read i packet now (Ok (query q)) g runs is = representable-query_received i now q (query_admission i q.time q.id) g runs (decoded_ranged packet (query q) is).time refl
-representable-read i packet now (Ok (query_response r)) g runs is = representable-response i now r (asked_at r.time i.asked) g refl
-representable-read i packet now _ g runs is = g
-
-representable-receive : (i : IdealAgent) (packet : List ℕ) (now : ℕ) → IsRepresentable i → IsRepresentable (planned i (receive i now packet)).agent
-representable-receive i packet now g = by i.snapshot.stopped refl
-  where
-    by : (b : Bool) → i.snapshot.stopped ≡ b → IsRepresentable (planned i (cond b (answers i (Err receives.Stopped)) (receive_read i now (decoded packet)))).agent
-    by true is = g
-    by false is = representable-read i packet now (decoded packet) g is refl
+use Rattle.serf_model.specs.Cluster.{Merged, merges_events, merges_on, reopened, text_after, opened_first, with_plan}
+use Rattle.serf_model.proofs.CallsKept.{DoesReplace, does-replace, none-if, representable-notes, representable-received}
 
 -- ---- merges
 
@@ -109,33 +82,31 @@ times-of [] times = tt
 times-of (empty ∷ ss) times = times-of ss times.1
 times-of (held t es ∷ ss) times = all-append (λ (e : TimedEntry EventBody). e.time < 2 ^ 64 - 1) (events_of_slot (held t es)) (events_of ss) (times-slot t es times.0) (times-of ss times.1)
 
-representable-merge : (m : IdealNode) (join : Bool) (packet : List ℕ) (f : Option MergeFault) (r : Result Message WireFault) → IsRepresentable m.agent → decoded packet ≡ r → merge_refusal (view_of m.agent) r ≡ f → IsRepresentable (merges_as f m join r).node.agent
-representable-merge m join packet (Some fault) r g is refuses = g
-representable-merge m join packet None (Ok (push_pull s)) g is refuses =
+pub representable-merged : (i : IdealAgent) (join : Bool) (packet : List ℕ) (s : PushPull) → IsRepresentable i → decoded packet ≡ Ok (push_pull s) → merge_refusal (view_of i) (Ok (push_pull s)) ≡ None
+    → IsRepresentable (merges_events (events_of s.slots) (joined s join i)).agent
+representable-merged i join packet s g is refuses =
     let ranged = decoded_ranged packet (push_pull s) is in
-    let runs = none-if m.agent.snapshot.stopped merges.Stopped None refuses in
-    representable-merges (events_of s.slots) (joined s join m.agent) (representable-joined s join m.agent g ranged) runs.0 (times-of s.slots ranged.slots)
-representable-merge m join packet None _ g is refuses = g
+    let runs = none-if i.snapshot.stopped merges.Stopped None refuses in
+    representable-merges (events_of s.slots) (joined s join i) (representable-joined s join i g ranged) runs.0 (times-of s.slots ranged.slots)
 
 -- ---- snapshots
 
-abbrev saving : IdealAgent → Bool → Call (Result (Unit {0}) NoteFault)
-saving i stopped = cond stopped (answers i (Err notes.Stopped)) (Notes kinds.Member (i.member_clock - 1) (record { agent = i; answer = Ok tt }) (Err notes.SinkFault))
+-- what an agent does that saves, and that compacts
+abbrev pub saving : IdealAgent → Call (Result (Unit {0}) NoteFault)
+saving i = Notes kinds.Member (i.member_clock - 1) (record { agent = i; answer = Ok tt }) (Err notes.SinkFault)
 
-representable-saved : (i : IdealAgent) (b : Bool) → IsRepresentable i → i.snapshot.stopped ≡ b → IsRepresentable (planned i (saving i b)).agent
-representable-saved i true g is = g
-representable-saved i false g is =
+abbrev pub compacting : IdealAgent → Call (Result (Unit {0}) NoteFault)
+compacting i = Replaces (record { agent = i; answer = Ok tt }) (Err notes.SinkFault)
+
+pub representable-saved : (i : IdealAgent) → IsRepresentable i → i.snapshot.stopped ≡ false → IsRepresentable (planned i (saving i)).agent
+representable-saved i g is =
     representable-notes {R = Result (Unit {0}) NoteFault} i kinds.Member (i.member_clock - 1) (record { agent = i; answer = Ok tt }) (Err notes.SinkFault) g
     (λ observable. record { consistent = record { sound = sound-saved (i.member_clock - 1) i g.consistent.sound is (omega (arith, g.consistent.sound.member_clock)); observable = observable }; events = g.events; queries = g.queries })
 
-abbrev compacting : IdealAgent → Bool → Call (Result (Unit {0}) NoteFault)
-compacting i stopped = cond stopped (answers i (Err notes.Stopped)) (Replaces (record { agent = i; answer = Ok tt }) (Err notes.SinkFault))
-
-representable-compacted : (i : IdealAgent) (b : Bool) → IsRepresentable i → IsRepresentable (planned i (compacting i b)).agent
-representable-compacted i true g = g
-representable-compacted i false g = by (will_replace i.snapshot) (does-replace i.snapshot g.consistent.observable)
+pub representable-compacted : (i : IdealAgent) → IsRepresentable i → IsRepresentable (planned i (compacting i)).agent
+representable-compacted i g = by (will_replace i.snapshot) (does-replace i.snapshot g.consistent.observable)
   where
-    by : (w : Writing) → DoesReplace i.snapshot w → IsRepresentable (ended i (compacting i false) w).agent
+    by : (w : Writing) → DoesReplace i.snapshot w → IsRepresentable (ended i (compacting i) w).agent
     by Kept d = record { consistent = record { sound = sound-compact Kept i g.consistent.sound d.may; observable = d.observable }; events = g.events; queries = g.queries }
     by (Failed k) d = record { consistent = record { sound = sound-compact (Failed k) i g.consistent.sound d.may; observable = d.observable }; events = g.events; queries = g.queries }
 
@@ -164,7 +135,7 @@ text-has i tail consistent = by i.snapshot.durable refl consistent.observable.du
           queries = All-weaker (λ p. p.entry.time ≤ i.snapshot.query_clock) (λ p. p.entry.time ≤ last_clock kinds.Query (durable ++ tail)) (λ p h. omega arith) i.queries.history s.queries.noted;
         }
 
-representable-opened : (i : IdealAgent) (text : List ℕ) → IsSound i → IsInText i text → IsRepresentable (reopened i text)
+pub representable-opened : (i : IdealAgent) (text : List ℕ) → IsSound i → IsInText i text → IsRepresentable (reopened i text)
 representable-opened i text sound within =
     let member_clock : last_clock kinds.Member text < 2 ^ 64 - 1 = last_clock-below kinds.Member text in
     let event_clock = last_clock-below kinds.Event text in
@@ -175,7 +146,7 @@ pub representable-opened_first : (config : Config) → is_sound config ≡ true 
 representable-opened_first config ok =
     representable-opened (unopened config (opened [] (fresh_device []))) [] (sound-unopened config [] (fresh_device []) ok (omega arith)) (record { events = All-nil (λ p. p.entry.time ≤ 0); queries = All-nil (λ p. p.entry.time ≤ 0) })
 
-representable-planned : (i : IdealAgent) (change : FailurePlan → FailurePlan) → IsRepresentable i → IsRepresentable (with_plan change i)
+pub representable-planned : (i : IdealAgent) (change : FailurePlan → FailurePlan) → IsRepresentable i → IsRepresentable (with_plan change i)
 representable-planned i change g =
     let s = g.consistent.sound in
     record {
@@ -200,37 +171,3 @@ representable-planned i change g =
     mapped : (p : Option FailurePlan) → IsSome p → IsSome (option_map change p)
     mapped None h = absurd (cc h)
     mapped (Some p) h = refl
-
--- ---- each action
-
-representable-responds : (m : IdealNode) (h : ℕ) (q : Option (Option Handed)) (now : ℕ) (payload : List ℕ) → IsRepresentable m.agent → IsRepresentable (responds m h q now payload).node.agent
-representable-responds m h None now payload g = g
-representable-responds m h (Some None) now payload g = g
-representable-responds m h (Some (Some q)) now payload g = by (respond_fault q now payload)
-  where
-    by : (r : Option RespondFault) → IsRepresentable (responds_as r m h q payload).node.agent
-    by (Some fault) = g
-    by None = g
-
-representable-delivers : (m : IdealNode) (now : ℕ) (given : Option (List ℕ)) → IsRepresentable m.agent → IsRepresentable (delivers m now given).node.agent
-representable-delivers m now None g = g
-representable-delivers m now (Some packet) g = representable-receive m.agent packet now g
-
-representable-merges-given : (m : IdealNode) (join : Bool) (given : Option (List ℕ)) → IsRepresentable m.agent → IsRepresentable (merges_given m join given).node.agent
-representable-merges-given m join None g = g
-representable-merges-given m join (Some packet) g = representable-merge m join packet (merge_refusal (view_of m.agent) (decoded packet)) (decoded packet) g refl refl
-
-pub representable-apply : (m : IdealNode) (sent : List (List ℕ)) (action : Action) → IsRepresentable m.agent → IsRepresentable (apply m sent action).node.agent
-representable-apply m sent (actions.Fire agent name payload coalesce) g = representable-fired m.agent (event_of name payload) coalesce (fire_fault m.agent (event_of name payload) coalesce) g refl
-representable-apply m sent (actions.Deliver to packet now) g = representable-delivers m now (slice_get sent packet) g
-representable-apply m sent (actions.State agent) g = g
-representable-apply m sent (actions.Merge to packet join) g = representable-merges-given m join (slice_get sent packet) g
-representable-apply m sent (actions.Query agent now id name payload params) g =
-    representable-query_fired m.agent now (query_at m.agent.queries.clock m.agent.config.name id name payload params) (query_fault m.agent id name payload params) g refl (may-ask m.agent id name payload params)
-representable-apply m sent (actions.Respond agent h now payload) g = representable-responds m h (slice_get m.handed h) now payload g
-representable-apply m sent (actions.Restart agent tail) g = representable-opened m.agent (text_after m.agent tail) g.consistent.sound (text-has m.agent tail g.consistent)
-representable-apply m sent (actions.Break agent call n) g = representable-planned m.agent (plan_with call n) g
-representable-apply m sent (actions.Inject bytes) g = g
-representable-apply m sent (actions.Close agent now) g = representable-closed m.agent now g
-representable-apply m sent (actions.Save agent) g = representable-saved m.agent m.agent.snapshot.stopped g refl
-representable-apply m sent (actions.Compact agent) g = representable-compacted m.agent m.agent.snapshot.stopped g

@@ -1,11 +1,11 @@
 pub mod TurnLaws
 pub mod PerTimeBound
-pub mod Effects
-pub mod HistoryGrowth
 pub mod AnswersByTime
 pub mod CallsKept
 pub mod OpenQueriesKept
 pub mod InvariantKept
+pub mod Effects
+pub mod HistoryGrowth
 pub mod RunLaws
 pub mod StartLaws
 pub mod OnceLaws

@@ -1,5 +1,5 @@
 -- What an answer to an open query, and a deadline, leave sound.
-use Rattle.std.proofs.Common.{zero, suc, ◌≡◌, ◌≢◌, ℕ, ◌<◌, ◌==◌, nat_lt, Bool, true, false, cond, List, [], ◌∷◌, ◌++◌, Option, Some, None, Ok, Err, refl, sym, ap, subst, ◌∙◌, arith, map, length}
+use Rattle.std.proofs.Common.{zero, suc, ◌≡◌, ◌≢◌, ℕ, ◌<◌, ◌==◌, nat_lt, Bool, true, false, cond, List, [], ◌∷◌, ◌++◌, Some, None, refl, sym, ap, subst, ◌∙◌, arith, map, length}
 use Rattle.std.specs.Prelude.{All, AllPairs, not}
 use Rattle.std.specs.List.{list_any, filter}
 use Rattle.std.proofs.lemmas.List.Quantifiers.{all_pairs_push}
@@ -9,16 +9,12 @@ use Rattle.std.proofs.lemmas.List.{length-map, get_or-map}
 use Rattle.std.proofs.lemmas.Bool.{or_parts, true≢false}
 use Rattle.std.proofs.lemmas.List.Elements.{All-nil, All-map, All-cons, All-head, All-tail, All-filter}
 use Rattle.serf_wire.specs.Message.{QueryResponse}
-use Rattle.serf_agent.specs.Calls.{Ends, planned, answers}
 use Rattle.serf_agent.specs.Ideal.{IdealAgent, with_asked}
 use Rattle.serf_agent.specs.Sound.{IsOpenQuerySound}
-use Rattle.serf_agent.specs.declared.outcome.Outcome.TheVariants as outcomes
-use Rattle.serf_agent.specs.declared.outcome.ReceiveFault.TheVariants as receives
-use Rattle.serf_agent.specs.declared.outcome.Reason.{Reason}
 use Rattle.serf_agent.specs.declared.outcome.Reason.TheVariants.{OtherId, Closed, AckNotAsked, AckTwice, ResponseTwice}
 use Rattle.serf_agent.specs.declared.open_query.OpenQuery.{OpenQuery}
 use Rattle.serf_agent.specs.declared.lists.Response.{Response}
-use Rattle.serf_agent.specs.Queries.{asked_at, with_asked_at, counted, is_full, is_ack, has_acked, has_responded, answer_ignore_reason, ack_ignore_reason, response_ignore_reason, response_received_as, response_received_at, is_due, close_due}
+use Rattle.serf_agent.specs.Queries.{asked_at, with_asked_at, counted, is_ack, has_acked, has_responded, answer_ignore_reason, ack_ignore_reason, response_ignore_reason, is_due, close_due}
 use Rattle.serf_model.specs.Ready.{IsRepresentable}
 use Rattle.serf_model.proofs.AnswersByTime.{asked-found, pairs-rest}
 use Rattle.serf_model.proofs.CallsKept.{none-if}
@@ -100,7 +96,7 @@ sound-counted i now r q s is =
         let fresh = none-if (has_responded q r.from) ResponseTwice None e in
         record { acks = s.acks; responses = all_pairs_push (λ (a b : Response). a.from ≢ b.from) q.responses (record { from = r.from; payload = r.payload }) s.responses (fresh-name (λ (a : Response). a.from) q.responses r.from fresh.0) }
 
-representable-counted : (i : IdealAgent) (now : ℕ) (r : QueryResponse) (q : OpenQuery) → IsRepresentable i → asked_at r.time i.asked ≡ Some q → answer_ignore_reason now r q ≡ None → IsRepresentable (with_asked (with_asked_at r.time (counted r q) i.asked) i)
+pub representable-counted : (i : IdealAgent) (now : ℕ) (r : QueryResponse) (q : OpenQuery) → IsRepresentable i → asked_at r.time i.asked ≡ Some q → answer_ignore_reason now r q ≡ None → IsRepresentable (with_asked (with_asked_at r.time (counted r q) i.asked) i)
 representable-counted i now r q g at is =
     let s = g.consistent.sound in
     let same = keys-asked_at r.time (counted r q) i.asked in
@@ -109,19 +105,6 @@ representable-counted i now r q g at is =
     (all-keys (λ t. t < i.queries.clock) l (subst (All (λ t. t < i.queries.clock)) (sym same) (keys-all (λ t. t < i.queries.clock) i.asked s.asked_below)))
     (pairs-keys l (subst (AllPairs (λ s t. s ≢ t)) (sym same) (keys-pairs i.asked s.asked_distinct)))
     (sound-asked_at IsOpenQuerySound r.time (counted r q) i.asked (sound-counted i now r q (asked-found (λ p. IsOpenQuerySound p.1) r.time i.asked q s.asked_sound at) is) s.asked_sound)
-
-pub representable-response : (i : IdealAgent) (now : ℕ) (r : QueryResponse) (o : Option OpenQuery) → IsRepresentable i → asked_at r.time i.asked ≡ o → IsRepresentable (planned i (response_received_at o i now r)).agent
-representable-response i now r None g at = g
-representable-response i now r (Some q) g at = by (answer_ignore_reason now r q) refl
-  where
-    by-room : (full : Bool) → answer_ignore_reason now r q ≡ None → IsRepresentable (planned i (cond full (answers i (Err receives.RespondersFull))
-        (Ends (record { agent = with_asked (with_asked_at r.time (counted r q) i.asked) i; answer = Ok (cond (is_ack r) outcomes.Ack outcomes.Response) })))).agent
-    by-room true is = g
-    by-room false is = representable-counted i now r q g at is
-
-    by : (s : Option Reason) → answer_ignore_reason now r q ≡ s → IsRepresentable (planned i (response_received_as s i r q)).agent
-    by (Some reason) is = g
-    by None is = by-room (is_full i.config.responders r q) is
 
 pairs-cons : {X : Type 0} (R : X → X → Type 0) (x : X) (xs : List X) → All (λ y. R x y) xs → AllPairs R xs → AllPairs R (x ∷ xs)
 pairs-cons R x xs first rest zero zero d lt within = absurd (omega arith)

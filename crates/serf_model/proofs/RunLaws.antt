@@ -16,7 +16,7 @@ use Rattle.serf_model.proofs.TurnLaws.{flat_map-push}
 use Rattle.serf_model.proofs.HistoryGrowth.{Keeps, keeps-apply}
 use Rattle.serf_model.proofs.PerTimeBound.{enters-entries, entries, out_in}
 use Rattle.serf_model.specs.Ready.{IsRepresentable}
-use Rattle.serf_model.proofs.InvariantKept.{representable-apply}
+use Rattle.serf_model.proofs.Effects.{representable-apply}
 
 -- ---- places of lists
 
