@@ -11,7 +11,7 @@ use Rattle.serf_wire.specs.Message.{Message, UserEvent, Query, QueryResponse, us
 use Rattle.serf_wire.proofs.SpelledRanges.{decoded_ranged}
 use Rattle.serf_window.specs.Texts.{event_of}
 use Rattle.serf_window.specs.Window.{TimedEntry}
-use Rattle.serf_snap.specs.Notes.{Writing, Kept, Failed}
+use Rattle.serf_snap.specs.Notes.{SnapshotView, Writing, Kept, Failed}
 use Rattle.serf_snap.specs.declared.snapshot.NoteFault.TheVariants as notes
 use Rattle.serf_agent.specs.declared.config.Config.{Config}
 use Rattle.serf_agent.specs.declared.open_query.OpenQuery.{OpenQuery}
@@ -30,7 +30,7 @@ use Rattle.serf_agent.specs.declared.outcome.RespondFault.{RespondFault}
 use Rattle.serf_agent.specs.Calls.{Call, Ends, Step, answers, ended, planned, will}
 use Rattle.serf_agent.specs.Events.{admission, fire_fault, fired_as, received_as}
 use Rattle.serf_agent.specs.Handed.{Handed}
-use Rattle.serf_agent.specs.Ideal.{IdealAgent, with_asked}
+use Rattle.serf_agent.specs.Ideal.{IdealAgent, with_asked, with_snapshot}
 use Rattle.serf_agent.specs.Queries.{answer_ignore_reason, asked_at, counted, is_ack, is_full, query_admission, query_at, query_fault, query_fired_as, query_received_as, respond_fault, response_received_as, response_received_at, with_asked_at}
 use Rattle.serf_agent.specs.Receive.{receive_read}
 use Rattle.serf_agent.specs.States.{events_of, handed_by, joined, merge_refusal, receive_one, state_of}
@@ -141,6 +141,10 @@ idles m action given j answer config life events queries asked idle = hears j []
 stays : {action : Action} {given : Option (List ℕ)} {answer : Answer} (m : IdealNode) → IsIdle m.agent given answer → Acts m action given (does_nothing m (only answer))
 stays {action} {given} {answer} m idle = record { effect = idles m action given m.agent answer refl refl refl refl refl idle; sound = λ g. g }
 
+-- only its snapshot differs
+snaps : {action : Action} {given : Option (List ℕ)} {answer : Answer} {s : SnapshotView} (m : IdealNode) → IsIdle m.agent given answer → Effect m action given (record { node = record { agent = with_snapshot s m.agent; handed = m.handed }; done = only answer })
+snaps {action} {given} {answer} {s} m idle = idles m action given (with_snapshot s m.agent) answer refl refl refl refl refl idle
+
 -- a call ends as its line is kept, or as the sink fails
 kept-or-failed : {R : Type 0} (Goal : Step R → Type 0) (i : IdealAgent) (call : Call R) → Goal (ended i call Kept) → ((durable : Option (List ℕ)) → Goal (ended i call (Failed durable))) → Goal (planned i call)
 kept-or-failed {R} Goal i call kept failed = by (will i call)
@@ -156,7 +160,7 @@ acts-fire : (m : IdealNode) (given : Option (List ℕ)) (agent : ℕ) (name payl
 acts-fire m given agent name payload coalesce (Some fault) is = stays m tt
 acts-fire m given agent name payload coalesce None is = record {
   effect = kept-or-failed (λ o. Effect m (actions.Fire agent name payload coalesce) given (called m o fire_gives)) m.agent (fired_as None m.agent (event_of name payload) coalesce)
-      (fires agent name payload coalesce is) (λ d. idles m _ given _ _ refl refl refl refl refl tt);
+      (fires agent name payload coalesce is) (λ d. snaps m tt);
   sound = λ g. representable-fired m.agent (event_of name payload) coalesce None g is;
 }
 
@@ -186,7 +190,7 @@ acts-event m to number now packet e r is runs why = record {
   where
     by : (r : Option Reason) → admission m.agent e.time (event_of e.name e.payload) ≡ r → Delivers m to number now packet (planned m.agent (received_as r m.agent e.time (event_of e.name e.payload) e.coalesce))
     by (Some reason) why = idles m _ _ _ _ refl refl refl refl refl (ignored m.agent packet (Ok (user_event e)) reason is why)
-    by None new = kept-or-failed (Delivers m to number now packet) m.agent (received_as None m.agent e.time (event_of e.name e.payload) e.coalesce) (passes_on packet e is new) (λ d. idles m _ _ _ _ refl refl refl refl refl tt)
+    by None new = kept-or-failed (Delivers m to number now packet) m.agent (received_as None m.agent e.time (event_of e.name e.payload) e.coalesce) (passes_on packet e is new) (λ d. snaps m tt)
 
 -- ---- queries
 
@@ -196,7 +200,7 @@ acts-query m to number now packet q r is runs why = record { effect = by r why; 
   where
     by : (r : Option Reason) → query_admission m.agent q.time q.id ≡ r → Delivers m to number now packet (planned m.agent (query_received_as r m.agent now q))
     by (Some reason) why = idles m _ _ _ _ refl refl refl refl refl (ignored m.agent packet (Ok (query q)) reason is tt)
-    by None new = kept-or-failed (Delivers m to number now packet) m.agent (query_received_as None m.agent now q) (is_asked packet now q is new) (λ d. idles m _ _ _ _ refl refl refl refl refl tt)
+    by None new = kept-or-failed (Delivers m to number now packet) m.agent (query_received_as None m.agent now q) (is_asked packet now q is new) (λ d. snaps m tt)
 
 acts-response : (m : IdealNode) (to number now : ℕ) (packet : List ℕ) (r : QueryResponse) (o : Option OpenQuery) → decoded packet ≡ Ok (query_response r) → asked_at r.time m.agent.asked ≡ o
     → Delivered m to number now packet (planned m.agent (response_received_at o m.agent now r))
@@ -220,7 +224,7 @@ acts-asks m given agent now id name payload params None is =
     let q : Query = query_at m.agent.queries.clock m.agent.config.name id name payload params in
     record {
       effect = kept-or-failed (λ o. Effect m (actions.Query agent now id name payload params) given (called m o query_gives)) m.agent (query_fired_as None m.agent now q)
-          (asks agent now id name payload params is) (λ d. idles m _ given _ _ refl refl refl refl refl tt);
+          (asks agent now id name payload params is) (λ d. snaps m tt);
       sound = λ g. representable-query_fired m.agent now q None g refl (λ e. may-ask m.agent id name payload params is);
     }
 
@@ -335,7 +339,7 @@ acts-saves m action given = by m.agent.snapshot.stopped refl
     by : (b : Bool) → m.agent.snapshot.stopped ≡ b → Acts m action given (called m (planned m.agent (cond b (answers m.agent (Err notes.Stopped)) (saving m.agent))) (note_gives lines.Saved))
     by true is = stays m tt
     by false is = record {
-      effect = kept-or-failed (λ o. Effect m action given (called m o (note_gives lines.Saved))) m.agent (saving m.agent) (idles m _ given _ _ refl refl refl refl refl tt) (λ d. idles m _ given _ _ refl refl refl refl refl tt);
+      effect = kept-or-failed (λ o. Effect m action given (called m o (note_gives lines.Saved))) m.agent (saving m.agent) (snaps m tt) (λ d. snaps m tt);
       sound = λ g. representable-saved m.agent g is;
     }
 
@@ -345,7 +349,7 @@ acts-compacts m action given = by m.agent.snapshot.stopped
     by : (b : Bool) → Acts m action given (called m (planned m.agent (cond b (answers m.agent (Err notes.Stopped)) (compacting m.agent))) (note_gives lines.Compacted))
     by true = stays m tt
     by false = record {
-      effect = kept-or-failed (λ o. Effect m action given (called m o (note_gives lines.Compacted))) m.agent (compacting m.agent) (idles m _ given _ _ refl refl refl refl refl tt) (λ d. idles m _ given _ _ refl refl refl refl refl tt);
+      effect = kept-or-failed (λ o. Effect m action given (called m o (note_gives lines.Compacted))) m.agent (compacting m.agent) (snaps m tt) (λ d. snaps m tt);
       sound = λ g. representable-compacted m.agent g;
     }
 
@@ -359,7 +363,7 @@ acts m sent (actions.Merge to number join) = acts-merges m to number join (slice
 acts m sent (actions.Query agent now id name payload params) = acts-asks m None agent now id name payload params (query_fault m.agent id name payload params) refl
 acts m sent (actions.Respond agent number now payload) = acts-responds m None agent number now payload (slice_get m.handed number) refl
 acts m sent (actions.Restart agent tail) = record { effect = reopens agent tail; sound = λ g. representable-opened m.agent (text_after m.agent tail) g.consistent.sound (text-has m.agent tail g.consistent) }
-acts m sent (actions.Break agent call n) = record { effect = idles m _ None _ _ refl refl refl refl refl tt; sound = representable-planned m.agent (plan_with call n) }
+acts m sent (actions.Break agent call n) = record { effect = snaps m tt; sound = representable-planned m.agent (plan_with call n) }
 acts m sent (actions.Inject bytes) = stays m tt
 acts m sent (actions.Close agent now) = record { effect = closes_due agent now; sound = representable-closed m.agent now }
 acts m sent (actions.Save agent) = acts-saves m (actions.Save agent) None
