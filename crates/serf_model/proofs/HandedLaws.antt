@@ -1,6 +1,6 @@
 -- A query is handed to an agent once, where it enters.
 use Rattle.std.proofs.Common.{zero, suc, ◌≡◌, ◌≢◌, ℕ, ◌<◌, ◌==◌, ◌+◌, ◌⊎◌, inl, inr, Bool, true, false, cond, List, [], ◌∷◌, ◌++◌, Option, Some, None, refl, sym, ap, subst, ◌∙◌, arith, map, length, get_or}
-use Rattle.std.specs.Prelude.{All, AllPairs, Contains, slice_get}
+use Rattle.std.specs.Prelude.{All, AllPairs, Contains}
 use Rattle.std.specs.List.{filter, flat_map}
 use Rattle.std.specs.Option.{option_map, option_to_list}
 use Rattle.std.proofs.lemmas.List.{append-nil, map-append}
@@ -12,9 +12,10 @@ use Rattle.serf_agent.specs.Handed.{Handed}
 use Rattle.serf_agent.specs.Queries.{query_at, handed_query, handed_if_passed, all_pass}
 use Rattle.serf_model.specs.declared.action.Action.{Action}
 use Rattle.serf_model.specs.declared.line.HandedLine.{HandedLine}
-use Rattle.serf_model.specs.Cluster.{Applied, IdealNode, Cluster, Done, Run, apply, applied, after, handed_line, on_agent, step, step_by}
+use Rattle.serf_model.specs.Cluster.{Applied, IdealNode, Cluster, Done, Run, apply, applied, after, handed_line, step}
 use Rattle.serf_model.specs.Trace.{Turn, actor_of, entered_by, handed_in, is_agent, packet_given, queries_at, queries_to, query_brought}
 use Rattle.serf_model.proofs.Effects.{Effect, asks, effect, is_asked}
+use Rattle.serf_model.proofs.StepCases.{step-cases}
 use Rattle.serf_model.proofs.TurnLaws.{flat_map-push}
 use Rattle.serf_model.proofs.OnceLaws.{query-once}
 use Rattle.serf_model.proofs.RunLaws.{IsAfter, added, after-step, by-push}
@@ -116,13 +117,8 @@ adds-applied c action b m a actor = by (apply m c.sent action).done.handed refl 
         inl (ap (λ (h : Option Handed). map handed_in (filter (mine a) (option_to_list (option_map (handed_line b (length (apply m c.sent action).node.handed)) h)))) some
         ∙ ap (λ (t : Bool). map handed_in (cond t (handed_line b (length (apply m c.sent action).node.handed) q ∷ []) [])) is)
 
-adds-agent : (c : Cluster) (action : Action) (b : ℕ) (r : Option IdealNode) (a : ℕ) → actor_of action ≡ Some b → Adds a (on_agent c action b r).turn
-adds-agent c action b None a actor = inl refl
-adds-agent c action b (Some m) a actor = adds-applied c action b m a actor
-
-adds-by : (c : Cluster) (action : Action) (o : Option ℕ) (a : ℕ) → actor_of action ≡ o → Adds a (step_by c action o).turn
-adds-by c action None a actor = inl refl
-adds-by c action (Some b) a actor = adds-agent c action b (slice_get c.nodes b) a actor
+adds-step : (c : Cluster) (action : Action) (a : ℕ) → Adds a (step c action).turn
+adds-step c action a = step-cases (λ s. Adds a s.turn) c action (λ actor. inl refl) (λ b actor at. inl refl) (λ b m actor at. adds-applied c action b m a actor)
 
 pub handed-step : (r : Run) (action : Action) → IsAfter r.cluster r.turns → IsHanded r.turns → IsHanded (after r action).turns
 handed-step r action h all a =
@@ -132,7 +128,7 @@ handed-step r action h all a =
     let entered_now = by-push entered a r.turns turn in
     subst (λ l. IsWithin l (queries_to a (r.turns ++ turn ∷ []))) (sym entered_now)
     (subst (IsWithin (queries_at a r.turns ++ added entered a turn)) (sym (queries_to-push a r.turns turn))
-    (within-more (queries_at a r.turns) (queries_to a r.turns) (added entered a turn) new (all a) (subst (AllPairs (λ x y. x ≢ y)) entered_now (once a)) (adds-by r.cluster action (actor_of action) a refl)))
+    (within-more (queries_at a r.turns) (queries_to a r.turns) (added entered a turn) new (all a) (subst (AllPairs (λ x y. x ≢ y)) entered_now (once a)) (adds-step r.cluster action a)))
 
 pub handed-start : IsHanded []
 handed-start a = record { within = All-nil (Contains (queries_at a [])); once = λ i j d lt within. absurd (omega arith) }

@@ -1,4 +1,5 @@
 pub mod TurnLaws
+pub mod StepCases
 pub mod PerTimeBound
 pub mod AnswersByTime
 pub mod CallsKept
