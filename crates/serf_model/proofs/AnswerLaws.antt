@@ -13,19 +13,20 @@ use Rattle.serf_agent.specs.Queries.{is_ack}
 use Rattle.serf_model.specs.declared.action.Action.{Action}
 use Rattle.serf_model.specs.declared.action.Action.TheVariants as actions
 use Rattle.serf_model.specs.AnswerPromises.{AckedOnce, AnswersMade, IsMade, RepliedOnce, acked, injected, replied, acked_by, replied_by, answer_brought, answers_in, query_answered}
-use Rattle.serf_model.specs.Cluster.{IdealNode, Cluster, Run, applied, apply, after, handed_line, on_agent, start, step, step_by}
+use Rattle.serf_model.specs.Cluster.{IdealNode, Cluster, Run, applied, apply, after, handed_line, injects, start, step}
 use Rattle.serf_model.specs.Sizes.{HasSizes}
 use Rattle.serf_model.specs.Ready.{IsRepresentable}
-use Rattle.serf_model.specs.Trace.{Turn, actor_of, turns_by}
+use Rattle.serf_model.specs.Trace.{Turn, actor_of, injects_of, turns_by}
 use Rattle.serf_model.proofs.HistoryGrowth.{keeps-apply}
 use Rattle.serf_model.proofs.PerAgent.{AreNobodys, Each, IsRefused, each-step, each-start, is-mine, nobodys-step, nobodys-start, turns-mine}
 use Rattle.serf_model.proofs.PresentLife.{own_life}
 use Rattle.serf_model.proofs.OnceLaws.{query-once}
-use Rattle.serf_model.proofs.RunLaws.{IsAfter, after-agent, all-at}
+use Rattle.serf_model.proofs.RunLaws.{IsAfter, after-acts, all-at}
 use Rattle.serf_model.proofs.SendLaws.{Makes, Sends, makes_ack, makes_none, makes_reply, sends-apply}
 use Rattle.serf_model.proofs.HandedQueries.{IsServing, acked_in, serving-more}
 use Rattle.serf_model.proofs.ReplyLaws.{IsAwaiting, awaiting-more, awaiting-none, replied_in}
 use Rattle.serf_model.proofs.OpenQueryContents.{queries_in}
+use Rattle.serf_model.proofs.StepCases.{step-cases}
 use Rattle.serf_model.proofs.TurnLaws.{at_each_nil, at_each_push}
 
 -- what an agent can answer, and what it answered
@@ -92,11 +93,6 @@ made-applied configs c turns action b m serving actor (makes_reply agent number 
       ack = refl;
     }) (All-nil (IsMade configs turns (applied c action b (apply m c.sent action)).turn)))
 
-made-agent : (configs : List Config) (c : Cluster) (turns : List Turn) (action : Action) (b : ℕ) (r : Option IdealNode) → IsAfter c turns → IsServed configs c turns → HasSizes action → actor_of action ≡ Some b → slice_get c.nodes b ≡ r
-    → MadeAt configs turns (on_agent c action b r).turn
-made-agent configs c turns action b None h served ranged actor at = All-nil (IsMade configs turns (on_agent c action b None).turn)
-made-agent configs c turns action b (Some m) h served ranged actor at = made-applied configs c turns action b m (served.each b m at) actor (sends-at configs c turns action b m h served ranged at).makes
-
 -- what an injected packet brings
 made-injected : (configs : List Config) (turns : List Turn) (turn : Turn) (bytes : List ℕ) (r : Result Message WireFault) → turn.action ≡ actions.Inject bytes → decoded bytes ≡ r → All (IsMade configs turns turn) (answer_brought r ++ [])
 made-injected configs turns turn bytes (Err fault) action is = All-nil (IsMade configs turns turn)
@@ -106,20 +102,21 @@ made-injected configs turns turn bytes (Ok (query_response r)) action is = All-c
 made-injected configs turns turn bytes (Ok (push_pull m)) action is = All-nil (IsMade configs turns turn)
 made-injected configs turns turn bytes (Ok (foreign kind)) action is = All-nil (IsMade configs turns turn)
 
-made-none : (configs : List Config) (c : Cluster) (turns : List Turn) (action : Action) → MadeAt configs turns (step_by c action None).turn
-made-none configs c turns (actions.Inject bytes) = made-injected configs turns (step_by c (actions.Inject bytes) None).turn bytes (decoded bytes) refl refl
-made-none configs c turns _ = All-nil _
+made-injects : (configs : List Config) (c : Cluster) (turns : List Turn) (action : Action) → MadeAt configs turns (injects c action (injects_of action)).turn
+made-injects configs c turns (actions.Inject bytes) = made-injected configs turns (injects c (actions.Inject bytes) (bytes ∷ [])).turn bytes (decoded bytes) refl refl
+made-injects configs c turns _ = All-nil _
 
-made-by : (configs : List Config) (c : Cluster) (turns : List Turn) (action : Action) (o : Option ℕ) → IsAfter c turns → IsServed configs c turns → HasSizes action → actor_of action ≡ o → MadeAt configs turns (step_by c action o).turn
-made-by configs c turns action None h served ranged actor = made-none configs c turns action
-made-by configs c turns action (Some b) h served ranged actor = made-agent configs c turns action b (slice_get c.nodes b) h served ranged actor refl
+made-step : (configs : List Config) (c : Cluster) (turns : List Turn) (action : Action) → IsAfter c turns → IsServed configs c turns → HasSizes action → MadeAt configs turns (step c action).turn
+made-step configs c turns action h served ranged =
+    step-cases (λ s. MadeAt configs turns s.turn) c action (λ actor. made-injects configs c turns action) (λ b actor at. All-nil _)
+    (λ b m actor at. made-applied configs c turns action b m (served.each b m at) actor (sends-at configs c turns action b m h served ranged at).makes)
 
 -- the queries of an agent's turns, with one more
 once-after : (c : Cluster) (turns : List Turn) (action : Action) (b : ℕ) (m : IdealNode) → IsAfter c turns → actor_of action ≡ Some b → slice_get c.nodes b ≡ Some m
     → AllPairs (λ x y. x ≢ y) (queries_in (turns_by b turns ++ (applied c action b (apply m c.sent action)).turn ∷ []))
 once-after c turns action b m h actor at =
     subst (λ ts. AllPairs (λ x y. x ≢ y) (queries_in ts)) (turns-mine b turns (applied c action b (apply m c.sent action)).turn (is-mine b action actor))
-    (query-once (applied c action b (apply m c.sent action)).cluster (turns ++ (applied c action b (apply m c.sent action)).turn ∷ []) (after-agent c turns action b (Some m) h actor at) b)
+    (query-once (applied c action b (apply m c.sent action)).cluster (turns ++ (applied c action b (apply m c.sent action)).turn ∷ []) (after-acts c turns action b m h actor at) b)
 
 pub served-step : (configs : List Config) (r : Run) (action : Action) → HasSizes action → IsAfter r.cluster r.turns → IsServed configs r.cluster r.turns → IsServed configs (after r action).cluster (after r action).turns
 served-step configs r action ranged h served = record {
@@ -130,7 +127,7 @@ served-step configs r action ranged h served = record {
   awaiting = each-step Awaits r action served.awaiting
       (λ b m actor at p. awaiting-more r.cluster (turns_by b r.turns) action b m p (sends-at configs r.cluster r.turns action b m h served ranged at).makes (once-after r.cluster r.turns action b m h actor at));
   nobody = nobodys-step r action served.nobody;
-  made = at_each_push (MadeAt configs) r.turns (step r.cluster action).turn served.made (made-by configs r.cluster r.turns action (actor_of action) h served ranged refl);
+  made = at_each_push (MadeAt configs) r.turns (step r.cluster action).turn served.made (made-step configs r.cluster r.turns action h served ranged);
 }
 
 pub served-start : (configs : List Config) → IsServed configs (start configs).cluster []

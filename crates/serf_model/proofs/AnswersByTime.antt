@@ -52,7 +52,7 @@ asked-found P t (p ∷ ps) q all is = by (nat_eq t p.0) refl is (asked-found P t
 pairs-first : {X : Type 0} (R : X → X → Type 0) (x : X) (xs : List X) → AllPairs R (x ∷ xs) → All (λ y. R x y) xs
 pairs-first R x xs all k d h = all 0 (suc k) d (omega arith) (omega arith)
 
-pairs-rest : {X : Type 0} (R : X → X → Type 0) (x : X) (xs : List X) → AllPairs R (x ∷ xs) → AllPairs R xs
+pub pairs-rest : {X : Type 0} (R : X → X → Type 0) (x : X) (xs : List X) → AllPairs R (x ∷ xs) → AllPairs R xs
 pairs-rest R x xs all i j d lt within = all (suc i) (suc j) d (omega arith) (omega arith)
 
 -- of those that are to other times

@@ -16,13 +16,14 @@ use Rattle.serf_agent.specs.Tracks.{of_life}
 use Rattle.serf_model.specs.declared.action.Action.{Action}
 use Rattle.serf_model.specs.declared.line.EventLine.{EventLine}
 use Rattle.serf_model.specs.Bounds.{AtMostOfOneTime, EventsBounded, IsBounded, QueriesBounded, events_of_life, is_restarted, lived_on, present_life, queries_of_life, reopens}
-use Rattle.serf_model.specs.Cluster.{Applied, Cluster, IdealNode, Run, Stepped, applied, apply, after, first_node, on_agent, run_of, start, step, step_by, with_handed}
+use Rattle.serf_model.specs.Cluster.{Applied, Cluster, IdealNode, Run, Stepped, applied, apply, after, first_node, injects, on_agent, run_of, start, step, with_handed}
 use Rattle.serf_model.specs.Ready.{IsRepresentable}
 use Rattle.serf_model.specs.Runs.{AreConfigs}
-use Rattle.serf_model.specs.Trace.{Turn, actor_of, entered_by, event_in, events_to, is_agent, packet_given, queries_at}
+use Rattle.serf_model.specs.Trace.{Turn, actor_of, entered_by, event_in, events_to, is_agent, packet_given, queries_at, injects_of}
 use Rattle.serf_model.proofs.HistoryGrowth.{Keeps, keeps-apply}
 use Rattle.serf_model.proofs.PerTimeBound.{Enters, enters-life, enters-next}
 use Rattle.serf_model.proofs.RunLaws.{IsAfter, added, after-step, all-at, by-push, events_to-push, lines-other, lines-same, slice_get-set_other, slice_get-set_same}
+use Rattle.serf_model.proofs.StepCases.{step-cases}
 use Rattle.serf_model.proofs.StartLaws.{after-start}
 use Rattle.serf_model.proofs.TurnLaws.{at_each_nil, at_each_push, fold_keeps}
 
@@ -222,17 +223,10 @@ lived-applied configs c turns action b m is h actor at a = by (b == a) refl
         (lines-other a b o.done.events t)
         (ap (λ x. cond x (entered turn) []) (ap (is_agent a) actor ∙ t)))
 
-lived-agent : (configs : List Config) (c : Cluster) (turns : List Turn) (action : Action) (b : ℕ) (r : Option IdealNode) → IsAfter c turns → IsLived configs c turns → actor_of action ≡ Some b → slice_get c.nodes b ≡ r
-    → IsLived configs (on_agent c action b r).cluster (turns ++ (on_agent c action b r).turn ∷ [])
-lived-agent configs c turns action b None is h actor at = lived-still configs c turns (on_agent c action b None) h refl refl refl refl
-lived-agent configs c turns action b (Some m) is h actor at = lived-applied configs c turns action b m is h actor at
-
-lived-by : (configs : List Config) (c : Cluster) (turns : List Turn) (action : Action) (o : Option ℕ) → IsAfter c turns → IsLived configs c turns → actor_of action ≡ o → IsLived configs (step_by c action o).cluster (turns ++ (step_by c action o).turn ∷ [])
-lived-by configs c turns action None is h actor = lived-still configs c turns (step_by c action None) h refl refl refl refl
-lived-by configs c turns action (Some b) is h actor = lived-agent configs c turns action b (slice_get c.nodes b) is h actor refl
-
 lived-step : (configs : List Config) (r : Run) (action : Action) → IsAfter r.cluster r.turns → IsLived configs r.cluster r.turns → IsLived configs (after r action).cluster (after r action).turns
-lived-step configs r action is h = lived-by configs r.cluster r.turns action (actor_of action) is h refl
+lived-step configs r action is h =
+    step-cases (λ s. IsLived configs s.cluster (r.turns ++ s.turn ∷ [])) r.cluster action (λ actor. lived-still configs r.cluster r.turns (injects r.cluster action (injects_of action)) h refl refl refl refl)
+    (λ b actor at. lived-still configs r.cluster r.turns (on_agent r.cluster action b None) h refl refl refl refl) (λ b m actor at. lived-applied configs r.cluster r.turns action b m is h actor at)
 
 -- ---- the start
 

@@ -9,7 +9,7 @@ use Rattle.serf_agent.specs.declared.config.Config.{Config}
 use Rattle.serf_model.specs.declared.action.Action.{Action}
 use Rattle.serf_model.specs.declared.action.Action.TheVariants as actions
 use Rattle.serf_model.specs.AnswerPromises.{CountedInTime, CountedOnce, CountedSent, HoldsCounted, IsAwaited, IsDelivered, OpenQueriesHold, answer_brought, answers_in, as_fired, counted_at, counted_by, is_counted, life_of, own_queries}
-use Rattle.serf_model.specs.Cluster.{IdealNode, Cluster, Run, applied, apply, after, line_of, on_agent, start, step, step_by}
+use Rattle.serf_model.specs.Cluster.{IdealNode, Cluster, Run, applied, apply, after, line_of, start, step}
 use Rattle.serf_model.specs.Ready.{IsRepresentable}
 use Rattle.serf_model.specs.Trace.{Turn, actor_of, packet_given, turns_by}
 use Rattle.serf_model.proofs.PerAgent.{Each, AreNobodys, IsRefused, each-step, each-start, nobodys-step, nobodys-start}
@@ -17,6 +17,7 @@ use Rattle.serf_model.proofs.PresentLife.{last_life, own_life}
 use Rattle.serf_model.proofs.Effects.{effect}
 use Rattle.serf_model.proofs.RunLaws.{IsAfter, all-at, queries_of}
 use Rattle.serf_model.proofs.OpenQueryContents.{IsOpen, IsTallied, Tells, counted_in, tallied-effect, tells-effect}
+use Rattle.serf_model.proofs.StepCases.{step-cases}
 use Rattle.serf_model.proofs.TurnLaws.{at_each_nil, at_each_push}
 
 -- what each agent's turns counted
@@ -50,9 +51,8 @@ tells-at c turns action b m ack h at counted =
     let o = apply m c.sent action in
     tells-effect (turns_by b turns) m action (packet_given c.sent action) o (line_of c b o) o.done.packets ack (effect m c.sent action) refl (h.each b m at) counted
 
-sent-agent : (c : Cluster) (turns : List Turn) (action : Action) (b : ℕ) (r : Option IdealNode) → IsAfter c turns → IsCounting c turns → slice_get c.nodes b ≡ r → SentAt turns (on_agent c action b r).turn
-sent-agent c turns action b None after h at ack counted = absurd (cc counted)
-sent-agent c turns action b (Some m) after h at ack counted =
+sent-acts : (c : Cluster) (turns : List Turn) (action : Action) (b : ℕ) (m : IdealNode) → IsAfter c turns → IsCounting c turns → slice_get c.nodes b ≡ Some m → SentAt turns (applied c action b (apply m c.sent action)).turn
+sent-acts c turns action b m after h at ack counted =
     let t = tells-at c turns action b m ack h at counted in
     let place : slice_get c.sent t.number ≡ Some t.packet = ap (packet_given c.sent) (sym t.action) ∙ t.given in
     record {
@@ -68,13 +68,11 @@ sent-agent c turns action b (Some m) after h at ack counted =
       kind = t.kind;
     }
 
-sent-by : (c : Cluster) (turns : List Turn) (action : Action) (o : Option ℕ) → IsAfter c turns → IsCounting c turns → SentAt turns (step_by c action o).turn
-sent-by c turns action None after h = λ ack counted. absurd (cc counted)
-sent-by c turns action (Some b) after h = sent-agent c turns action b (slice_get c.nodes b) after h refl
+sent-step : (c : Cluster) (turns : List Turn) (action : Action) → IsAfter c turns → IsCounting c turns → SentAt turns (step c action).turn
+sent-step c turns action after h = step-cases (λ s. SentAt turns s.turn) c action (λ actor ack counted. absurd (cc counted)) (λ b actor at ack counted. absurd (cc counted)) (λ b m actor at. sent-acts c turns action b m after h at)
 
-in_time-agent : (c : Cluster) (turns : List Turn) (action : Action) (b : ℕ) (r : Option IdealNode) → IsCounting c turns → actor_of action ≡ Some b → slice_get c.nodes b ≡ r → InTimeAt turns (on_agent c action b r).turn
-in_time-agent c turns action b None h actor at a packet now ack is = All-nil (IsAwaited (life_of a turns) now)
-in_time-agent c turns action b (Some m) h actor at a packet now ack is = by (is_counted ack (apply m c.sent action).done.answer) refl
+in_time-acts : (c : Cluster) (turns : List Turn) (action : Action) (b : ℕ) (m : IdealNode) → IsCounting c turns → actor_of action ≡ Some b → slice_get c.nodes b ≡ Some m → InTimeAt turns (applied c action b (apply m c.sent action)).turn
+in_time-acts c turns action b m h actor at a packet now ack is = by (is_counted ack (apply m c.sent action).done.answer) refl
   where
     by : (x : Bool) → is_counted ack (apply m c.sent action).done.answer ≡ x → All (IsAwaited (life_of a turns) now) (cond x (answers_in (option_to_list (packet_given c.sent action))) [])
     by false never = All-nil (IsAwaited (life_of a turns) now)
@@ -90,9 +88,10 @@ in_time-agent c turns action b (Some m) h actor at a packet now ack is = by (is_
         let here : IsAwaited (life_of a turns) now t.answer = subst (λ (l : List Turn). IsAwaited l now t.answer) (sym (own_life a turns)) own in
         subst (All (IsAwaited (life_of a turns) now)) (sym one) (All-cons (IsAwaited (life_of a turns) now) t.answer [] here (All-nil (IsAwaited (life_of a turns) now)))
 
-in_time-by : (c : Cluster) (turns : List Turn) (action : Action) (o : Option ℕ) → IsCounting c turns → actor_of action ≡ o → InTimeAt turns (step_by c action o).turn
-in_time-by c turns action None h actor = λ a packet now ack is. absurd (let never : None ≡ Some a = sym actor ∙ ap actor_of is in cc)
-in_time-by c turns action (Some b) h actor = in_time-agent c turns action b (slice_get c.nodes b) h actor refl
+in_time-step : (c : Cluster) (turns : List Turn) (action : Action) → IsCounting c turns → InTimeAt turns (step c action).turn
+in_time-step c turns action h =
+    step-cases (λ s. InTimeAt turns s.turn) c action (λ actor a packet now ack is. All-nil (IsAwaited (life_of a turns) now)) (λ b actor at a packet now ack is. All-nil (IsAwaited (life_of a turns) now))
+    (λ b m actor at. in_time-acts c turns action b m h actor at)
 
 pub counting-step : (r : Run) (action : Action) → IsAfter r.cluster r.turns → IsCounting r.cluster r.turns → IsCounting (after r action).cluster (after r action).turns
 counting-step r action h all = record {
@@ -101,8 +100,8 @@ counting-step r action h all = record {
       let o = apply m r.cluster.sent action in
       tallied-effect (turns_by b r.turns) m action (packet_given r.cluster.sent action) o (line_of r.cluster b o) o.done.packets (effect m r.cluster.sent action) refl (representable-at r.cluster r.turns b m h at) (ap queries_of (sym at) ∙ h.queries b) p);
   nobody = nobodys-step r action all.nobody;
-  sent = at_each_push SentAt r.turns (step r.cluster action).turn all.sent (sent-by r.cluster r.turns action (actor_of action) h all);
-  in_time = at_each_push InTimeAt r.turns (step r.cluster action).turn all.in_time (in_time-by r.cluster r.turns action (actor_of action) all refl);
+  sent = at_each_push SentAt r.turns (step r.cluster action).turn all.sent (sent-step r.cluster r.turns action h all);
+  in_time = at_each_push InTimeAt r.turns (step r.cluster action).turn all.in_time (in_time-step r.cluster r.turns action all);
 }
 
 pub counting-start : (configs : List Config) → IsCounting (start configs).cluster []

@@ -1,5 +1,5 @@
--- What each action does to the node that acts.
-use Rattle.std.proofs.Common.{◌≡◌, ℕ, ◌-◌, Bool, true, false, cond, List, [], ◌∷◌, ◌++◌, Option, Some, None, Result, Ok, Err, refl, sym, ap, subst, ◌∙◌, map}
+-- What each action does to the node that acts, said once: its effect, and that its agent stays sound.
+use Rattle.std.proofs.Common.{◌≡◌, ℕ, Bool, true, false, cond, List, [], ◌∷◌, ◌++◌, Option, Some, None, Result, Ok, Err, refl, sym, ap, subst, ◌∙◌, map}
 use Rattle.std.specs.Prelude.{All, Contains, slice_get}
 use Rattle.std.proofs.lemmas.List.{map-append}
 use Rattle.std.proofs.lemmas.List.Elements.{All-nil, All-cons, All-append, All-weaker, All-contains_itself, All-head, Contains-append_right}
@@ -8,11 +8,10 @@ use Rattle.serf_wire.specs.declared.texts.EventBody.{EventBody}
 use Rattle.serf_wire.specs.Canonical.{canonical, has_long}
 use Rattle.serf_wire.specs.Decoded.{decoded}
 use Rattle.serf_wire.specs.Message.{Message, UserEvent, Query, QueryResponse, user_event, query, query_response, push_pull}
+use Rattle.serf_wire.proofs.SpelledRanges.{decoded_ranged}
 use Rattle.serf_window.specs.Texts.{event_of}
 use Rattle.serf_window.specs.Window.{TimedEntry}
-use Rattle.serf_snap.specs.Notes.{Writing, Kept, Failed}
-use Rattle.serf_snap.specs.declared.kind.ClockKind.TheVariants as kinds
-use Rattle.serf_snap.specs.declared.snapshot.NoteFault.{NoteFault}
+use Rattle.serf_snap.specs.Notes.{SnapshotView, Writing, Kept, Failed}
 use Rattle.serf_snap.specs.declared.snapshot.NoteFault.TheVariants as notes
 use Rattle.serf_agent.specs.declared.config.Config.{Config}
 use Rattle.serf_agent.specs.declared.open_query.OpenQuery.{OpenQuery}
@@ -28,10 +27,10 @@ use Rattle.serf_agent.specs.declared.outcome.Reason.{Reason}
 use Rattle.serf_agent.specs.declared.outcome.ReceiveFault.{ReceiveFault}
 use Rattle.serf_agent.specs.declared.outcome.ReceiveFault.TheVariants as receives
 use Rattle.serf_agent.specs.declared.outcome.RespondFault.{RespondFault}
-use Rattle.serf_agent.specs.Calls.{Call, Ends, Notes, Replaces, Step, answers, ended, planned, will}
+use Rattle.serf_agent.specs.Calls.{Call, Ends, Step, answers, ended, planned, will}
 use Rattle.serf_agent.specs.Events.{admission, fire_fault, fired_as, received_as}
 use Rattle.serf_agent.specs.Handed.{Handed}
-use Rattle.serf_agent.specs.Ideal.{IdealAgent, with_asked}
+use Rattle.serf_agent.specs.Ideal.{IdealAgent, with_asked, with_snapshot}
 use Rattle.serf_agent.specs.Queries.{answer_ignore_reason, asked_at, counted, is_ack, is_full, query_admission, query_at, query_fault, query_fired_as, query_received_as, respond_fault, response_received_as, response_received_at, with_asked_at}
 use Rattle.serf_agent.specs.Receive.{receive_read}
 use Rattle.serf_agent.specs.States.{events_of, handed_by, joined, merge_refusal, receive_one, state_of}
@@ -42,9 +41,13 @@ use Rattle.serf_model.specs.declared.line.Answer.{Answer}
 use Rattle.serf_model.specs.declared.line.Answer.TheVariants as lines
 use Rattle.serf_model.specs.declared.line.Refusal.TheVariants.{SinkFault}
 use Rattle.serf_model.specs.Bounds.{is_restarted}
-use Rattle.serf_model.specs.Cluster.{Applied, IdealNode, Merged, apply, called, closes, compacts, delivers, does_nothing, fire_gives, merges_as, merges_events, merges_given, merges_on, note_gives, only, query_gives, receive_gives, responds, responds_as, restarts, saves, sends_state, state_gives}
+use Rattle.serf_model.specs.Cluster.{Applied, IdealNode, Merged, apply, called, closes, compacts, delivers, does_nothing, fire_gives, merges_as, merges_events, merges_given, merges_on, note_gives, only, plan_with, query_gives, receive_gives, responds, responds_as, restarts, saves, sends_state, state_gives, text_after}
 use Rattle.serf_model.specs.HandOuts.{events_given}
+use Rattle.serf_model.specs.Ready.{IsRepresentable}
 use Rattle.serf_model.specs.Trace.{entered_by, events_brought, events_in_packet, packet_given}
+use Rattle.serf_model.proofs.CallsKept.{may-ask, representable-fired, representable-query_fired, representable-query_received, representable-received}
+use Rattle.serf_model.proofs.InvariantKept.{compacting, representable-compacted, representable-merged, representable-opened, representable-planned, representable-saved, saving, text-has}
+use Rattle.serf_model.proofs.OpenQueriesKept.{representable-closed, representable-counted}
 use Rattle.serf_model.proofs.PerTimeBound.{Enters, enters-none, enters-one, enters-then, event-room, out_in}
 
 -- ---- the definition
@@ -110,6 +113,11 @@ pub data Effect (m : IdealNode) : Action → Option (List ℕ) → Applied → T
   -- a life begins
   reopens : {given : Option (List ℕ)} (agent : ℕ) (tail : List ℕ) → Effect m (actions.Restart agent tail) given (restarts m tail)
 
+-- an action has this effect, and leaves its agent sound
+pub record Acts (m : IdealNode) (action : Action) (given : Option (List ℕ)) (o : Applied) : Type 0 where
+  pub effect : Effect m action given o
+  pub sound : IsRepresentable m.agent → IsRepresentable o.node.agent
+
 -- ---- nothing is entered
 
 rests : (i j : IdealAgent) (brought : List (TimedEntry EventBody)) → j.config ≡ i.config → j.life ≡ i.life → j.events.history ≡ i.events.history → j.queries.history ≡ i.queries.history → j.asked ≡ i.asked → Hears i j brought []
@@ -126,6 +134,14 @@ idles : (m : IdealNode) (action : Action) (given : Option (List ℕ)) (j : Ideal
     → IsIdle m.agent given answer → Effect m action given (record { node = record { agent = j; handed = m.handed }; done = only answer })
 idles m action given j answer config life events queries asked idle = hears j [] answer (rests m.agent j (events_given given) config life events queries asked) idle
 
+-- the agent stays as it is
+stays : {action : Action} {given : Option (List ℕ)} {answer : Answer} (m : IdealNode) → IsIdle m.agent given answer → Acts m action given (does_nothing m (only answer))
+stays {action} {given} {answer} m idle = record { effect = idles m action given m.agent answer refl refl refl refl refl idle; sound = λ g. g }
+
+-- only its snapshot differs
+snaps : {action : Action} {given : Option (List ℕ)} {answer : Answer} {s : SnapshotView} (m : IdealNode) → IsIdle m.agent given answer → Effect m action given (record { node = record { agent = with_snapshot s m.agent; handed = m.handed }; done = only answer })
+snaps {action} {given} {answer} {s} m idle = idles m action given (with_snapshot s m.agent) answer refl refl refl refl refl idle
+
 -- a call ends as its line is kept, or as the sink fails
 kept-or-failed : {R : Type 0} (Goal : Step R → Type 0) (i : IdealAgent) (call : Call R) → Goal (ended i call Kept) → ((durable : Option (List ℕ)) → Goal (ended i call (Failed durable))) → Goal (planned i call)
 kept-or-failed {R} Goal i call kept failed = by (will i call)
@@ -136,16 +152,21 @@ kept-or-failed {R} Goal i call kept failed = by (will i call)
 
 -- ---- events
 
-effect-fire : (m : IdealNode) (given : Option (List ℕ)) (agent : ℕ) (name payload : List ℕ) (coalesce : Bool) (r : Option FireFault) → fire_fault m.agent (event_of name payload) coalesce ≡ r
-    → Effect m (actions.Fire agent name payload coalesce) given (called m (planned m.agent (fired_as r m.agent (event_of name payload) coalesce)) fire_gives)
-effect-fire m given agent name payload coalesce (Some fault) is = idles m _ given _ _ refl refl refl refl refl tt
-effect-fire m given agent name payload coalesce None is =
-    kept-or-failed (λ o. Effect m (actions.Fire agent name payload coalesce) given (called m o fire_gives)) m.agent (fired_as None m.agent (event_of name payload) coalesce)
-    (fires agent name payload coalesce is) (λ s. idles m _ given _ _ refl refl refl refl refl tt)
+acts-fire : (m : IdealNode) (given : Option (List ℕ)) (agent : ℕ) (name payload : List ℕ) (coalesce : Bool) (r : Option FireFault) → fire_fault m.agent (event_of name payload) coalesce ≡ r
+    → Acts m (actions.Fire agent name payload coalesce) given (called m (planned m.agent (fired_as r m.agent (event_of name payload) coalesce)) fire_gives)
+acts-fire m given agent name payload coalesce (Some fault) is = stays m tt
+acts-fire m given agent name payload coalesce None is = record {
+  effect = kept-or-failed (λ o. Effect m (actions.Fire agent name payload coalesce) given (called m o fire_gives)) m.agent (fired_as None m.agent (event_of name payload) coalesce)
+      (fires agent name payload coalesce is) (λ d. snaps m tt);
+  sound = λ g. representable-fired m.agent (event_of name payload) coalesce None g is;
+}
 
 -- what a delivery does
+abbrev Delivers : IdealNode → ℕ → ℕ → ℕ → List ℕ → Step (Result Outcome ReceiveFault) → Type 0
+Delivers m to number now packet o = Effect m (actions.Deliver to number now) (Some packet) (called m o (receive_gives packet))
+
 abbrev Delivered : IdealNode → ℕ → ℕ → ℕ → List ℕ → Step (Result Outcome ReceiveFault) → Type 0
-Delivered m to number now packet o = Effect m (actions.Deliver to number now) (Some packet) (called m o (receive_gives packet))
+Delivered m to number now packet o = Acts m (actions.Deliver to number now) (Some packet) (called m o (receive_gives packet))
 
 -- why what came was ignored, where it is an event
 abbrev IgnoredAs : IdealAgent → Reason → Result Message WireFault → Type 0
@@ -157,65 +178,78 @@ ignored i packet r reason is why p e given reads =
     let same : packet ≡ p = cc given in
     subst (IgnoredAs i reason) (sym is ∙ ap decoded same ∙ reads) why
 
-effect-event : (m : IdealNode) (to number now : ℕ) (packet : List ℕ) (e : UserEvent) (r : Option Reason) → decoded packet ≡ Ok (user_event e) → admission m.agent e.time (event_of e.name e.payload) ≡ r
+acts-event : (m : IdealNode) (to number now : ℕ) (packet : List ℕ) (e : UserEvent) (r : Option Reason) → decoded packet ≡ Ok (user_event e) → m.agent.snapshot.stopped ≡ false → admission m.agent e.time (event_of e.name e.payload) ≡ r
     → Delivered m to number now packet (planned m.agent (received_as r m.agent e.time (event_of e.name e.payload) e.coalesce))
-effect-event m to number now packet e (Some reason) is why = idles m _ _ _ _ refl refl refl refl refl (ignored m.agent packet (Ok (user_event e)) reason is why)
-effect-event m to number now packet e None is new = kept-or-failed (Delivered m to number now packet) m.agent (received_as None m.agent e.time (event_of e.name e.payload) e.coalesce) (passes_on packet e is new) (λ s. idles m _ _ _ _ refl refl refl refl refl tt)
+acts-event m to number now packet e r is runs why = record {
+  effect = by r why;
+  sound = λ g. representable-received m.agent e.time (event_of e.name e.payload) e.coalesce r g runs (decoded_ranged packet (user_event e) is) why;
+}
+  where
+    by : (r : Option Reason) → admission m.agent e.time (event_of e.name e.payload) ≡ r → Delivers m to number now packet (planned m.agent (received_as r m.agent e.time (event_of e.name e.payload) e.coalesce))
+    by (Some reason) why = idles m _ _ _ _ refl refl refl refl refl (ignored m.agent packet (Ok (user_event e)) reason is why)
+    by None new = kept-or-failed (Delivers m to number now packet) m.agent (received_as None m.agent e.time (event_of e.name e.payload) e.coalesce) (passes_on packet e is new) (λ d. snaps m tt)
 
 -- ---- queries
 
-effect-query : (m : IdealNode) (to number now : ℕ) (packet : List ℕ) (q : Query) (r : Option Reason) → decoded packet ≡ Ok (query q) → query_admission m.agent q.time q.id ≡ r
+acts-query : (m : IdealNode) (to number now : ℕ) (packet : List ℕ) (q : Query) (r : Option Reason) → decoded packet ≡ Ok (query q) → m.agent.snapshot.stopped ≡ false → query_admission m.agent q.time q.id ≡ r
     → Delivered m to number now packet (planned m.agent (query_received_as r m.agent now q))
-effect-query m to number now packet q (Some reason) is why = idles m _ _ _ _ refl refl refl refl refl (ignored m.agent packet (Ok (query q)) reason is tt)
-effect-query m to number now packet q None is new = kept-or-failed (Delivered m to number now packet) m.agent (query_received_as None m.agent now q) (is_asked to number packet now q is new) (λ s. idles m _ _ _ _ refl refl refl refl refl tt)
+acts-query m to number now packet q r is runs why = record { effect = by r why; sound = λ g. representable-query_received m.agent now q r g runs (decoded_ranged packet (query q) is).time why }
+  where
+    by : (r : Option Reason) → query_admission m.agent q.time q.id ≡ r → Delivers m to number now packet (planned m.agent (query_received_as r m.agent now q))
+    by (Some reason) why = idles m _ _ _ _ refl refl refl refl refl (ignored m.agent packet (Ok (query q)) reason is tt)
+    by None new = kept-or-failed (Delivers m to number now packet) m.agent (query_received_as None m.agent now q) (is_asked to number packet now q is new) (λ d. snaps m tt)
 
-effect-response : (m : IdealNode) (to number now : ℕ) (packet : List ℕ) (r : QueryResponse) (o : Option OpenQuery) → decoded packet ≡ Ok (query_response r) → asked_at r.time m.agent.asked ≡ o
+acts-response : (m : IdealNode) (to number now : ℕ) (packet : List ℕ) (r : QueryResponse) (o : Option OpenQuery) → decoded packet ≡ Ok (query_response r) → asked_at r.time m.agent.asked ≡ o
     → Delivered m to number now packet (planned m.agent (response_received_at o m.agent now r))
-effect-response m to number now packet r None is at = idles m _ _ _ _ refl refl refl refl refl (ignored m.agent packet (Ok (query_response r)) _ is tt)
-effect-response m to number now packet r (Some q) is at = by (answer_ignore_reason now r q) refl
+acts-response m to number now packet r None is at = stays m (ignored m.agent packet (Ok (query_response r)) _ is tt)
+acts-response m to number now packet r (Some q) is at = by (answer_ignore_reason now r q) refl
   where
     by-room : (full ack : Bool) → answer_ignore_reason now r q ≡ None → is_ack r ≡ ack → Delivered m to number now packet (planned m.agent (cond full (answers m.agent (Err receives.RespondersFull))
         (Ends (record { agent = with_asked (with_asked_at r.time (counted r q) m.agent.asked) m.agent; answer = Ok (cond ack outcomes.Ack outcomes.Response) }))))
-    by-room true ack none kind = idles m _ _ _ _ refl refl refl refl refl tt
-    by-room false true none kind = counts to number now packet r q true is at none kind
-    by-room false false none kind = counts to number now packet r q false is at none kind
+    by-room true ack none kind = stays m tt
+    by-room false true none kind = record { effect = counts to number now packet r q true is at none kind; sound = λ g. representable-counted m.agent now r q g at none }
+    by-room false false none kind = record { effect = counts to number now packet r q false is at none kind; sound = λ g. representable-counted m.agent now r q g at none }
 
     by : (s : Option Reason) → answer_ignore_reason now r q ≡ s → Delivered m to number now packet (planned m.agent (response_received_as s m.agent r q))
-    by (Some reason) none = idles m _ _ _ _ refl refl refl refl refl (ignored m.agent packet (Ok (query_response r)) reason is tt)
+    by (Some reason) none = stays m (ignored m.agent packet (Ok (query_response r)) reason is tt)
     by None none = by-room (is_full m.agent.config.responders r q) (is_ack r) none refl
 
-effect-asks : (m : IdealNode) (given : Option (List ℕ)) (agent now id : ℕ) (name payload : List ℕ) (params : QueryParams) (r : Option QueryFault) → query_fault m.agent id name payload params ≡ r
-    → Effect m (actions.Query agent now id name payload params) given (called m (planned m.agent (query_fired_as r m.agent now (query_at m.agent.queries.clock m.agent.config.name id name payload params))) query_gives)
-effect-asks m given agent now id name payload params (Some fault) is = idles m _ given _ _ refl refl refl refl refl tt
-effect-asks m given agent now id name payload params None is =
-    kept-or-failed (λ o. Effect m (actions.Query agent now id name payload params) given (called m o query_gives)) m.agent
-    (query_fired_as None m.agent now (query_at m.agent.queries.clock m.agent.config.name id name payload params)) (asks agent now id name payload params is) (λ s. idles m _ given _ _ refl refl refl refl refl tt)
+acts-asks : (m : IdealNode) (given : Option (List ℕ)) (agent now id : ℕ) (name payload : List ℕ) (params : QueryParams) (r : Option QueryFault) → query_fault m.agent id name payload params ≡ r
+    → Acts m (actions.Query agent now id name payload params) given (called m (planned m.agent (query_fired_as r m.agent now (query_at m.agent.queries.clock m.agent.config.name id name payload params))) query_gives)
+acts-asks m given agent now id name payload params (Some fault) is = stays m tt
+acts-asks m given agent now id name payload params None is =
+    let q : Query = query_at m.agent.queries.clock m.agent.config.name id name payload params in
+    record {
+      effect = kept-or-failed (λ o. Effect m (actions.Query agent now id name payload params) given (called m o query_gives)) m.agent (query_fired_as None m.agent now q)
+          (asks agent now id name payload params is) (λ d. snaps m tt);
+      sound = λ g. representable-query_fired m.agent now q None g refl (λ e. may-ask m.agent id name payload params is);
+    }
 
-effect-responds : (m : IdealNode) (given : Option (List ℕ)) (agent number now : ℕ) (payload : List ℕ) (q : Option (Option Handed)) → slice_get m.handed number ≡ q
-    → Effect m (actions.Respond agent number now payload) given (responds m number q now payload)
-effect-responds m given agent number now payload None at = idles m _ given _ _ refl refl refl refl refl tt
-effect-responds m given agent number now payload (Some None) at = idles m _ given _ _ refl refl refl refl refl tt
-effect-responds m given agent number now payload (Some (Some h)) at = by (respond_fault h now payload) refl
+acts-responds : (m : IdealNode) (given : Option (List ℕ)) (agent number now : ℕ) (payload : List ℕ) (q : Option (Option Handed)) → slice_get m.handed number ≡ q
+    → Acts m (actions.Respond agent number now payload) given (responds m number q now payload)
+acts-responds m given agent number now payload None at = stays m tt
+acts-responds m given agent number now payload (Some None) at = stays m tt
+acts-responds m given agent number now payload (Some (Some h)) at = by (respond_fault h now payload) refl
   where
-    by : (r : Option RespondFault) → respond_fault h now payload ≡ r → Effect m (actions.Respond agent number now payload) given (responds_as r m number h payload)
-    by (Some fault) is = idles m _ given _ _ refl refl refl refl refl tt
-    by None is = replies agent number now payload h at is
+    by : (r : Option RespondFault) → respond_fault h now payload ≡ r → Acts m (actions.Respond agent number now payload) given (responds_as r m number h payload)
+    by (Some fault) is = stays m tt
+    by None is = record { effect = replies agent number now payload h at is; sound = λ g. g }
 
 -- ---- deliveries
 
-effect-read : (m : IdealNode) (to number now : ℕ) (packet : List ℕ) (r : Result Message WireFault) → decoded packet ≡ r → Delivered m to number now packet (planned m.agent (receive_read m.agent now r))
-effect-read m to number now packet (Ok (user_event e)) is = effect-event m to number now packet e (admission m.agent e.time (event_of e.name e.payload)) is refl
-effect-read m to number now packet (Ok (query q)) is = effect-query m to number now packet q (query_admission m.agent q.time q.id) is refl
-effect-read m to number now packet (Ok (query_response r)) is = effect-response m to number now packet r (asked_at r.time m.agent.asked) is refl
-effect-read m to number now packet _ is = idles m _ _ _ _ refl refl refl refl refl tt
+acts-read : (m : IdealNode) (to number now : ℕ) (packet : List ℕ) (r : Result Message WireFault) → decoded packet ≡ r → m.agent.snapshot.stopped ≡ false → Delivered m to number now packet (planned m.agent (receive_read m.agent now r))
+acts-read m to number now packet (Ok (user_event e)) is runs = acts-event m to number now packet e (admission m.agent e.time (event_of e.name e.payload)) is runs refl
+acts-read m to number now packet (Ok (query q)) is runs = acts-query m to number now packet q (query_admission m.agent q.time q.id) is runs refl
+acts-read m to number now packet (Ok (query_response r)) is runs = acts-response m to number now packet r (asked_at r.time m.agent.asked) is refl
+acts-read m to number now packet _ is runs = stays m tt
 
-effect-delivers : (m : IdealNode) (to number now : ℕ) (given : Option (List ℕ)) → Effect m (actions.Deliver to number now) given (delivers m now given)
-effect-delivers m to number now None = idles m _ _ _ _ refl refl refl refl refl tt
-effect-delivers m to number now (Some packet) = by m.agent.snapshot.stopped
+acts-delivers : (m : IdealNode) (to number now : ℕ) (given : Option (List ℕ)) → Acts m (actions.Deliver to number now) given (delivers m now given)
+acts-delivers m to number now None = stays m tt
+acts-delivers m to number now (Some packet) = by m.agent.snapshot.stopped refl
   where
-    by : (b : Bool) → Delivered m to number now packet (planned m.agent (cond b (answers m.agent (Err receives.Stopped)) (receive_read m.agent now (decoded packet))))
-    by true = idles m _ _ _ _ refl refl refl refl refl tt
-    by false = effect-read m to number now packet (decoded packet) refl
+    by : (b : Bool) → m.agent.snapshot.stopped ≡ b → Delivered m to number now packet (planned m.agent (cond b (answers m.agent (Err receives.Stopped)) (receive_read m.agent now (decoded packet))))
+    by true is = stays m tt
+    by false runs = acts-read m to number now packet (decoded packet) refl runs
 
 -- ---- merges
 
@@ -258,76 +292,82 @@ heard : (es : List (TimedEntry EventBody)) (i : IdealAgent) → (let o = merges_
 heard [] i = rests i i [] refl refl refl refl refl
 heard (e ∷ es) i = let o = planned i (receive_one i e) in heard-on i e es o (merges_events es) (heard-one i e es (admission i e.time e.key) refl) (heard es o.agent)
 
-effect-merge : (m : IdealNode) (to number : ℕ) (join : Bool) (packet : List ℕ) (f : Option MergeFault) (r : Result Message WireFault) → decoded packet ≡ r → Effect m (actions.Merge to number join) (Some packet) (merges_as f m join r)
-effect-merge m to number join packet None (Ok (push_pull s)) is = by (merges_events (events_of s.slots) (joined s join m.agent)).failed
+acts-merge : (m : IdealNode) (to number : ℕ) (join : Bool) (packet : List ℕ) (f : Option MergeFault) (r : Result Message WireFault) → decoded packet ≡ r → merge_refusal (view_of m.agent) r ≡ f
+    → Acts m (actions.Merge to number join) (Some packet) (merges_as f m join r)
+acts-merge m to number join packet None (Ok (push_pull s)) is refuses = record { effect = by (merges_events (events_of s.slots) (joined s join m.agent)).failed; sound = λ g. representable-merged m.agent join packet s g is refuses }
   where
     h : (let o = merges_events (events_of s.slots) (joined s join m.agent) in Hears m.agent o.agent (events_given (Some packet)) o.events)
     h =
         let g = heard (events_of s.slots) (joined s join m.agent) in
-        let same : events_of s.slots ≡ events_in_packet packet = ap events_brought (sym is) in
         record {
           config = g.config;
           life = g.life;
           events = g.events;
           queries = g.queries;
           asked = g.asked;
-          among = subst (λ es. All (Contains es) (map out_in (merges_events (events_of s.slots) (joined s join m.agent)).events)) same g.among;
+          among = subst (λ es. All (Contains es) (map out_in (merges_events (events_of s.slots) (joined s join m.agent)).events)) (ap events_brought (sym is)) g.among;
         }
 
     by : (failed : Bool) → (let o = merges_events (events_of s.slots) (joined s join m.agent) in Effect m (actions.Merge to number join) (Some packet)
         (record { node = record { agent = o.agent; handed = m.handed }; done = record { answer = cond failed (lines.Refused SinkFault) lines.Merged; packets = []; events = o.events; handed = None } }))
     by true = hears _ _ _ h tt
     by false = hears _ _ _ h tt
-effect-merge m to number join packet (Some fault) r is = idles m _ _ _ _ refl refl refl refl refl tt
-effect-merge m to number join packet None _ is = idles m _ _ _ _ refl refl refl refl refl tt
+acts-merge m to number join packet (Some fault) r is refuses = stays m tt
+acts-merge m to number join packet None _ is refuses = stays m tt
 
-effect-merges : (m : IdealNode) (to number : ℕ) (join : Bool) (given : Option (List ℕ)) → Effect m (actions.Merge to number join) given (merges_given m join given)
-effect-merges m to number join None = idles m _ _ _ _ refl refl refl refl refl tt
-effect-merges m to number join (Some packet) = effect-merge m to number join packet (merge_refusal (view_of m.agent) (decoded packet)) (decoded packet) refl
+acts-merges : (m : IdealNode) (to number : ℕ) (join : Bool) (given : Option (List ℕ)) → Acts m (actions.Merge to number join) given (merges_given m join given)
+acts-merges m to number join None = stays m tt
+acts-merges m to number join (Some packet) = acts-merge m to number join packet (merge_refusal (view_of m.agent) (decoded packet)) (decoded packet) refl refl
 
 -- ---- states and snapshots
 
-effect-state : (m : IdealNode) (action : Action) (given : Option (List ℕ)) → Effect m action given (sends_state m)
-effect-state m action given = by m.agent.snapshot.stopped (has_long (push_pull (state_of (view_of m.agent) [] []))) refl
+acts-state : (m : IdealNode) (action : Action) (given : Option (List ℕ)) → Acts m action given (sends_state m)
+acts-state m action given = by m.agent.snapshot.stopped (has_long (push_pull (state_of (view_of m.agent) [] []))) refl
   where
     by : (stopped long : Bool) → has_long (push_pull (state_of (view_of m.agent) [] [])) ≡ long
-        → Effect m action given (does_nothing m (state_gives (cond stopped (Err states.Stopped) (cond long (Err states.TooLong) (Ok (canonical (push_pull (state_of (view_of m.agent) [] []))))))))
-    by true long is = idles m _ given _ _ refl refl refl refl refl tt
-    by false true is = idles m _ given _ _ refl refl refl refl refl tt
-    by false false is = tells is
+        → Acts m action given (does_nothing m (state_gives (cond stopped (Err states.Stopped) (cond long (Err states.TooLong) (Ok (canonical (push_pull (state_of (view_of m.agent) [] []))))))))
+    by true long is = stays m tt
+    by false true is = stays m tt
+    by false false is = record { effect = tells is; sound = λ g. g }
 
-effect-saves : (m : IdealNode) (action : Action) (given : Option (List ℕ)) → Effect m action given (saves m)
-effect-saves m action given = by m.agent.snapshot.stopped
+acts-saves : (m : IdealNode) (action : Action) (given : Option (List ℕ)) → Acts m action given (saves m)
+acts-saves m action given = by m.agent.snapshot.stopped refl
   where
-    call : Call (Result (Unit {0}) NoteFault)
-    call = Notes kinds.Member (m.agent.member_clock - 1) (record { agent = m.agent; answer = Ok tt }) (Err notes.SinkFault)
+    by : (b : Bool) → m.agent.snapshot.stopped ≡ b → Acts m action given (called m (planned m.agent (cond b (answers m.agent (Err notes.Stopped)) (saving m.agent))) (note_gives lines.Saved))
+    by true is = stays m tt
+    by false is = record {
+      effect = kept-or-failed (λ o. Effect m action given (called m o (note_gives lines.Saved))) m.agent (saving m.agent) (snaps m tt) (λ d. snaps m tt);
+      sound = λ g. representable-saved m.agent g is;
+    }
 
-    by : (b : Bool) → Effect m action given (called m (planned m.agent (cond b (answers m.agent (Err notes.Stopped)) (Notes kinds.Member (m.agent.member_clock - 1) (record { agent = m.agent; answer = Ok tt }) (Err notes.SinkFault)))) (note_gives lines.Saved))
-    by true = idles m _ given _ _ refl refl refl refl refl tt
-    by false = kept-or-failed (λ o. Effect m action given (called m o (note_gives lines.Saved))) m.agent call (idles m _ given _ _ refl refl refl refl refl tt) (λ d. idles m _ given _ _ refl refl refl refl refl tt)
-
-effect-compacts : (m : IdealNode) (action : Action) (given : Option (List ℕ)) → Effect m action given (compacts m)
-effect-compacts m action given = by m.agent.snapshot.stopped
+acts-compacts : (m : IdealNode) (action : Action) (given : Option (List ℕ)) → Acts m action given (compacts m)
+acts-compacts m action given = by m.agent.snapshot.stopped
   where
-    call : Call (Result (Unit {0}) NoteFault)
-    call = Replaces (record { agent = m.agent; answer = Ok tt }) (Err notes.SinkFault)
-
-    by : (b : Bool) → Effect m action given (called m (planned m.agent (cond b (answers m.agent (Err notes.Stopped)) (Replaces (record { agent = m.agent; answer = Ok tt }) (Err notes.SinkFault)))) (note_gives lines.Compacted))
-    by true = idles m _ given _ _ refl refl refl refl refl tt
-    by false = kept-or-failed (λ o. Effect m action given (called m o (note_gives lines.Compacted))) m.agent call (idles m _ given _ _ refl refl refl refl refl tt) (λ d. idles m _ given _ _ refl refl refl refl refl tt)
+    by : (b : Bool) → Acts m action given (called m (planned m.agent (cond b (answers m.agent (Err notes.Stopped)) (compacting m.agent))) (note_gives lines.Compacted))
+    by true = stays m tt
+    by false = record {
+      effect = kept-or-failed (λ o. Effect m action given (called m o (note_gives lines.Compacted))) m.agent (compacting m.agent) (snaps m tt) (λ d. snaps m tt);
+      sound = λ g. representable-compacted m.agent g;
+    }
 
 -- ---- each action
 
+acts : (m : IdealNode) (sent : List (List ℕ)) (action : Action) → Acts m action (packet_given sent action) (apply m sent action)
+acts m sent (actions.Fire agent name payload coalesce) = acts-fire m None agent name payload coalesce (fire_fault m.agent (event_of name payload) coalesce) refl
+acts m sent (actions.Deliver to number now) = acts-delivers m to number now (slice_get sent number)
+acts m sent (actions.State agent) = acts-state m (actions.State agent) None
+acts m sent (actions.Merge to number join) = acts-merges m to number join (slice_get sent number)
+acts m sent (actions.Query agent now id name payload params) = acts-asks m None agent now id name payload params (query_fault m.agent id name payload params) refl
+acts m sent (actions.Respond agent number now payload) = acts-responds m None agent number now payload (slice_get m.handed number) refl
+acts m sent (actions.Restart agent tail) = record { effect = reopens agent tail; sound = λ g. representable-opened m.agent (text_after m.agent tail) g.consistent.sound (text-has m.agent tail g.consistent) }
+acts m sent (actions.Break agent call n) = record { effect = snaps m tt; sound = representable-planned m.agent (plan_with call n) }
+acts m sent (actions.Inject bytes) = stays m tt
+acts m sent (actions.Close agent now) = record { effect = closes_due agent now; sound = representable-closed m.agent now }
+acts m sent (actions.Save agent) = acts-saves m (actions.Save agent) None
+acts m sent (actions.Compact agent) = acts-compacts m (actions.Compact agent) None
+
 pub effect : (m : IdealNode) (sent : List (List ℕ)) (action : Action) → Effect m action (packet_given sent action) (apply m sent action)
-effect m sent (actions.Fire agent name payload coalesce) = effect-fire m None agent name payload coalesce (fire_fault m.agent (event_of name payload) coalesce) refl
-effect m sent (actions.Deliver to number now) = effect-delivers m to number now (slice_get sent number)
-effect m sent (actions.State agent) = effect-state m (actions.State agent) None
-effect m sent (actions.Merge to number join) = effect-merges m to number join (slice_get sent number)
-effect m sent (actions.Query agent now id name payload params) = effect-asks m None agent now id name payload params (query_fault m.agent id name payload params) refl
-effect m sent (actions.Respond agent number now payload) = effect-responds m None agent number now payload (slice_get m.handed number) refl
-effect m sent (actions.Restart agent tail) = reopens agent tail
-effect m sent (actions.Break agent call n) = idles m _ None _ _ refl refl refl refl refl tt
-effect m sent (actions.Inject bytes) = idles m _ None _ _ refl refl refl refl refl tt
-effect m sent (actions.Close agent now) = closes_due agent now
-effect m sent (actions.Save agent) = effect-saves m (actions.Save agent) None
-effect m sent (actions.Compact agent) = effect-compacts m (actions.Compact agent) None
+effect m sent action = (acts m sent action).effect
+
+pub representable-apply : (m : IdealNode) (sent : List (List ℕ)) (action : Action) → IsRepresentable m.agent → IsRepresentable (apply m sent action).node.agent
+representable-apply m sent action = (acts m sent action).sound

@@ -21,16 +21,17 @@ use Rattle.serf_agent.specs.States.{state_of}
 use Rattle.serf_agent.specs.View.{view_of}
 use Rattle.serf_model.specs.declared.action.Action.{Action}
 use Rattle.serf_model.specs.declared.action.Action.TheVariants as actions
-use Rattle.serf_model.specs.Cluster.{IdealNode, Cluster, Applied, Done, Run, Stepped, apply, applied, on_agent, step_by, after, start, first_node, with_handed, event_line}
+use Rattle.serf_model.specs.Cluster.{IdealNode, Cluster, Applied, Done, Run, Stepped, apply, applied, injects, on_agent, after, start, first_node, with_handed, event_line}
 use Rattle.serf_model.specs.Promises.{WasFired, OnlyFired, CarriesOnlyFired}
-use Rattle.serf_model.specs.Trace.{Turn, actor_of, fired_by, fired_in, injected_events, injected_in, injects_of, events_in_packet, events_brought, event_in, packet_given}
+use Rattle.serf_model.specs.Trace.{Turn, fired_by, fired_in, injected_events, injected_in, injects_of, events_in_packet, events_brought, event_in, packet_given}
 use Rattle.serf_model.specs.HandOuts.{events_given}
 use Rattle.serf_model.proofs.Effects.{Effect, asks, effect, fires, hears, is_asked, passes_on, replies, tells}
+use Rattle.serf_model.proofs.StepCases.{step-cases}
 use Rattle.serf_model.proofs.TurnLaws.{at_each_nil, at_each_push, flat_map-push}
 use Rattle.serf_model.proofs.HistoryGrowth.{keeps-apply}
 use Rattle.serf_model.proofs.PerTimeBound.{enters-entries, entries, out_in}
 use Rattle.serf_model.specs.Ready.{IsRepresentable}
-use Rattle.serf_model.proofs.InvariantKept.{may-fire}
+use Rattle.serf_model.proofs.CallsKept.{may-fire}
 use Rattle.serf_model.proofs.PacketEvents.{events_in_packet-event, events_in_packet-query, events_in_packet-response, state-carries}
 use Rattle.serf_model.proofs.RunLaws.{IsAfter, all-at, all-put}
 
@@ -219,21 +220,18 @@ fired-still c turns s h nodes sent no_events carry =
       carries = at_each_push CarriesAt turns s.turn h.carries carry;
     }
 
-fired-agent : (c : Cluster) (turns : List Turn) (action : Action) (b : ℕ) (r : Option IdealNode) → IsAfter c turns → IsFired c turns → slice_get c.nodes b ≡ r → IsFired (on_agent c action b r).cluster (turns ++ (on_agent c action b r).turn ∷ [])
-fired-agent c turns action b None h f at = fired-still c turns (on_agent c action b None) f refl (sym (append-nil c.sent)) refl (All-nil (Carries (WasFired (turns ++ (on_agent c action b None).turn ∷ []))))
-fired-agent c turns action b (Some m) h f at =
+fired-acts : (c : Cluster) (turns : List Turn) (action : Action) (b : ℕ) (m : IdealNode) → IsAfter c turns → IsFired c turns → slice_get c.nodes b ≡ Some m → (let s = applied c action b (apply m c.sent action) in IsFired s.cluster (turns ++ s.turn ∷ []))
+fired-acts c turns action b m h f at =
     let representable = all-at (λ m. IsRepresentable m.agent) c.nodes b m h.representable at in
     fired-applied c turns action b m (apply m c.sent action) f at (enters-entries (keeps-apply m c.sent action representable.consistent.sound).events)
     (λ P old carries fired. have-effect P m action (packet_given c.sent action) (apply m c.sent action) (effect m c.sent action) representable old carries fired)
 
-fired-by : (c : Cluster) (turns : List Turn) (action : Action) (o : Option ℕ) → IsAfter c turns → IsFired c turns → IsFired (step_by c action o).cluster (turns ++ (step_by c action o).turn ∷ [])
-fired-by c turns action None h f =
-    let turn : Turn = (step_by c action None).turn in
-    fired-still c turns (step_by c action None) f refl refl refl (all-parts (WasFired (turns ++ turn ∷ [])) events_in_packet (injects_of action) (forges-now turns turn))
-fired-by c turns action (Some b) h f = fired-agent c turns action b (slice_get c.nodes b) h f refl
-
 pub fired-step : (r : Run) (action : Action) → IsAfter r.cluster r.turns → IsFired r.cluster r.turns → IsFired (after r action).cluster (after r action).turns
-fired-step r action h f = fired-by r.cluster r.turns action (actor_of action) h f
+fired-step r action h f =
+    let now : Stepped = injects r.cluster action (injects_of action) in
+    step-cases (λ s. IsFired s.cluster (r.turns ++ s.turn ∷ [])) r.cluster action
+    (λ actor. fired-still r.cluster r.turns now f refl refl refl (all-parts (WasFired (r.turns ++ now.turn ∷ [])) events_in_packet (injects_of action) (forges-now r.turns now.turn)))
+    (λ b actor at. fired-still r.cluster r.turns (on_agent r.cluster action b None) f refl (sym (append-nil r.cluster.sent)) refl (All-nil (Carries (WasFired (r.turns ++ (on_agent r.cluster action b None).turn ∷ []))))) (λ b m actor at. fired-acts r.cluster r.turns action b m h f at)
 
 none-entered : (configs : List Config) → AllByRecursion (λ m. All (λ p. WasFired [] p.entry) m.agent.events.history) (map first_node configs)
 none-entered [] = tt

@@ -22,7 +22,7 @@ use Rattle.serf_model.specs.declared.line.Answer.TheVariants as answers
 use Rattle.serf_model.specs.declared.line.EventLine.{EventLine}
 use Rattle.serf_model.specs.declared.line.HandedLine.{HandedLine}
 use Rattle.serf_model.specs.declared.line.Refusal.TheVariants.{NoAgent}
-use Rattle.serf_model.specs.Cluster.{Applied, Cluster, IdealNode, Run, after, applied, apply, event_line, handed_line, injects, line_only, on_agent, run_of, start, step, step_by, with_handed}
+use Rattle.serf_model.specs.Cluster.{Applied, Cluster, IdealNode, Run, after, applied, apply, event_line, handed_line, injects, line_only, run_of, start, step}
 use Rattle.serf_model.specs.HandOuts.{HandsOutEntered, HandsOutGiven, IsHandedOf, MessagesFired, NewIsHanded, OnlyToActor, events_given, message_at, message_entered, message_fired, messages_fired, new_in, query_message, says_new}
 use Rattle.serf_model.specs.Sizes.{HasSizes}
 use Rattle.serf_model.specs.Trace.{Turn, AtEach, actor_of, event_in, events_brought, events_in_packet, fired_by, injected_in, injects_of, packet_given, queried_in, query_packets}
@@ -31,6 +31,7 @@ use Rattle.serf_model.proofs.PerAgent.{Each, each-start, each-step}
 use Rattle.serf_model.proofs.PerTimeBound.{out_in}
 use Rattle.serf_model.proofs.QueriesEntered.{own-decoded}
 use Rattle.serf_model.proofs.QueryOrigins.{IsAsked, WasAsked, asked-start, asked-step}
+use Rattle.serf_model.proofs.StepCases.{step-cases}
 use Rattle.serf_model.proofs.TurnLaws.{at_each_nil, at_each_push, flat_map-push, fold_keeps}
 
 -- ---- a turn
@@ -39,16 +40,10 @@ use Rattle.serf_model.proofs.TurnLaws.{at_each_nil, at_each_push, flat_map-push,
 abbrev refused_turn : Cluster → Action → Turn
 refused_turn c action = record { action = action; line = line_only (answers.Refused NoAgent); given = packet_given c.sent action; packets = [] }
 
-turn-agent : (P : Turn → Type 0) (c : Cluster) (action : Action) (b : ℕ) (r : Option IdealNode) → slice_get c.nodes b ≡ r → P (refused_turn c action) → ((m : IdealNode) → slice_get c.nodes b ≡ Some m → P (applied c action b (apply m c.sent action)).turn)
-    → P (on_agent c action b r).turn
-turn-agent P c action b None at refused acts = refused
-turn-agent P c action b (Some m) at refused acts = acts m at
-
 -- a turn is injected, or refused, or an agent takes it
-turn-by : (P : Turn → Type 0) (c : Cluster) (action : Action) (o : Option ℕ) → actor_of action ≡ o → P (injects c action (injects_of action)).turn → P (refused_turn c action)
-    → ((b : ℕ) (m : IdealNode) → actor_of action ≡ Some b → slice_get c.nodes b ≡ Some m → P (applied c action b (apply m c.sent action)).turn) → P (step_by c action o).turn
-turn-by P c action None actor injected refused acts = injected
-turn-by P c action (Some b) actor injected refused acts = turn-agent P c action b (slice_get c.nodes b) refl refused (λ m at. acts b m actor at)
+turn-of : (P : Turn → Type 0) (c : Cluster) (action : Action) → P (injects c action (injects_of action)).turn → P (refused_turn c action)
+    → ((b : ℕ) (m : IdealNode) → actor_of action ≡ Some b → slice_get c.nodes b ≡ Some m → P (applied c action b (apply m c.sent action)).turn) → P (step c action).turn
+turn-of P c action injected refused acts = step-cases (λ s. P s.turn) c action (λ nobody. injected) (λ b actor missing. refused) acts
 
 -- ---- to whom
 
@@ -67,7 +62,7 @@ to-actor : (before : List Turn) (c : Cluster) (action : Action) → ToActorAt be
 to-actor before c action =
     let none : All (λ (e : EventLine). actor_of action ≡ Some e.agent) [] × All (λ (h : HandedLine). actor_of action ≡ Some h.agent) [] =
     (All-nil (λ (e : EventLine). actor_of action ≡ Some e.agent), All-nil (λ (h : HandedLine). actor_of action ≡ Some h.agent)) in
-    turn-by (ToActorAt before) c action (actor_of action) refl none none
+    turn-of (ToActorAt before) c action none none
     (λ b m actor at. (events-to-actor action b (apply m c.sent action).done.events actor, handed-to-actor action b _ (apply m c.sent action).done.handed actor))
 
 -- ---- which events
@@ -101,7 +96,7 @@ GivenAt before turn = All (λ (e : EventLine). IsGiven turn.action turn.given tu
 
 given-out : (before : List Turn) (c : Cluster) (action : Action) → GivenAt before (step c action).turn
 given-out before c action =
-    turn-by (GivenAt before) c action (actor_of action) refl (All-nil (λ (e : EventLine). IsGiven action (packet_given c.sent action) answers.Injected (event_in e)))
+    turn-of (GivenAt before) c action (All-nil (λ (e : EventLine). IsGiven action (packet_given c.sent action) answers.Injected (event_in e)))
     (All-nil (λ (e : EventLine). IsGiven action (packet_given c.sent action) (answers.Refused NoAgent) (event_in e)))
     (λ b m actor at. lines-all (IsGiven action (packet_given c.sent action) (apply m c.sent action).done.answer) b (apply m c.sent action).done.events
     (given-effect m action (packet_given c.sent action) (apply m c.sent action) (effect m c.sent action)))
@@ -133,7 +128,7 @@ NewAt before turn = says_new turn.line.answer ≡ true → (e : TimedEntry Event
 
 new-out : (before : List Turn) (c : Cluster) (action : Action) → NewAt before (step c action).turn
 new-out before c action =
-    turn-by (NewAt before) c action (actor_of action) refl (λ is. absurd (cc is)) (λ is. absurd (cc is))
+    turn-of (NewAt before) c action (λ is. absurd (cc is)) (λ is. absurd (cc is))
     (λ b m actor at is. let h = new-effect m action (packet_given c.sent action) (apply m c.sent action) (effect m c.sent action) is in (h.0, lines-in b (apply m c.sent action).done.events ∙ h.1, h.2))
 
 -- ---- settings
@@ -198,7 +193,7 @@ entered-applied configs before c action b m actor settings = by (apply m c.sent 
 
 entered-out : (configs : List Config) (before : List Turn) (c : Cluster) (action : Action) (turns : List Turn) → Each (HasSettings configs) c turns → EnteredAt configs before (step c action).turn
 entered-out configs before c action turns all =
-    turn-by (EnteredAt configs before) c action (actor_of action) refl (λ h e. absurd (cc e)) (λ h e. absurd (cc e)) (λ b m actor at. entered-applied configs before c action b m actor (all b m at))
+    turn-of (EnteredAt configs before) c action (λ h e. absurd (cc e)) (λ h e. absurd (cc e)) (λ b m actor at. entered-applied configs before c action b m actor (all b m at))
 
 -- ---- the messages that were fired
 
@@ -237,7 +232,7 @@ SpeaksAt configs turn = All (Speaks (message_fired configs turn)) (query_packets
 
 speaks-turn : (configs : List Config) (c : Cluster) (action : Action) (turns : List Turn) → HasSizes action → Each (HasSettings configs) c turns → SpeaksAt configs (step c action).turn
 speaks-turn configs c action turns sized all =
-    turn-by (SpeaksAt configs) c action (actor_of action) refl (All-nil (Speaks [])) (All-nil (Speaks []))
+    turn-of (SpeaksAt configs) c action (All-nil (Speaks [])) (All-nil (Speaks []))
     (λ b m actor at. speaks-effect configs m action (packet_given c.sent action) (apply m c.sent action) b sized actor (all b m at) (effect m c.sent action))
 
 -- ---- a run

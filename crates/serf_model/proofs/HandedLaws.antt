@@ -1,6 +1,6 @@
 -- A query is handed to an agent once, where it enters.
 use Rattle.std.proofs.Common.{zero, suc, ◌≡◌, ◌≢◌, ℕ, ◌<◌, ◌==◌, ◌+◌, ◌⊎◌, inl, inr, Bool, true, false, cond, List, [], ◌∷◌, ◌++◌, Option, Some, None, refl, sym, ap, subst, ◌∙◌, arith, map, length, get_or}
-use Rattle.std.specs.Prelude.{All, AllPairs, Contains, slice_get}
+use Rattle.std.specs.Prelude.{All, AllPairs, Contains}
 use Rattle.std.specs.List.{filter, flat_map}
 use Rattle.std.specs.Option.{option_map, option_to_list}
 use Rattle.std.proofs.lemmas.List.{append-nil, map-append}
@@ -12,10 +12,10 @@ use Rattle.serf_agent.specs.Handed.{Handed}
 use Rattle.serf_agent.specs.Queries.{query_at, handed_query, handed_if_passed, all_pass}
 use Rattle.serf_model.specs.declared.action.Action.{Action}
 use Rattle.serf_model.specs.declared.line.HandedLine.{HandedLine}
-use Rattle.serf_model.specs.Cluster.{Applied, IdealNode, Cluster, Done, Run, apply, applied, after, handed_line, on_agent, step, step_by}
-use Rattle.serf_model.specs.Promises.{QueryHandedOnce, QueryOnce}
+use Rattle.serf_model.specs.Cluster.{Applied, IdealNode, Cluster, Done, Run, apply, applied, after, handed_line, step}
 use Rattle.serf_model.specs.Trace.{Turn, actor_of, entered_by, handed_in, is_agent, packet_given, queries_at, queries_to, query_brought}
 use Rattle.serf_model.proofs.Effects.{Effect, asks, effect, is_asked}
+use Rattle.serf_model.proofs.StepCases.{step-cases}
 use Rattle.serf_model.proofs.TurnLaws.{flat_map-push}
 use Rattle.serf_model.proofs.OnceLaws.{query-once}
 use Rattle.serf_model.proofs.RunLaws.{IsAfter, added, after-step, by-push}
@@ -43,11 +43,6 @@ pub hands-apply : (m : IdealNode) (sent : List (List ℕ)) (action : Action) →
 hands-apply m sent action = hands-effect m action (packet_given sent action) (apply m sent action) (effect m sent action)
 
 -- ---- a step
-
--- what was handed out was entered, and once
-pub record IsHanded (turns : List Turn) : Type 0 where
-  pub within : (a : ℕ) → All (Contains (queries_at a turns)) (queries_to a turns)
-  pub once : QueryHandedOnce turns
 
 abbrev mine : ℕ → HandedLine → Bool
 mine a h = h.agent == a
@@ -80,29 +75,30 @@ pub fresh-last : {X : Type 0} (ys : List X) (x y : X) → AllPairs (λ a b. a �
 fresh-last ys x y all h same =
     all h.0 (length ys) y h.1 (let l = length-push ys x in omega arith) (front-at ys x y h.0 h.1 ∙ h.2 ∙ same ∙ sym (last-at ys x y))
 
--- what one agent's turn adds
-handed-more : (turns : List Turn) (turn : Turn) (a : ℕ) → IsHanded turns → QueryOnce (turns ++ turn ∷ []) → (new : List (TimedEntry ℕ)) → map handed_in (filter (mine a) (option_to_list turn.line.handed)) ≡ new
-    → (new ≡ []) ⊎ ((x : TimedEntry ℕ) × (new ≡ x ∷ []) × (added entered a turn ≡ x ∷ [])) → All (Contains (queries_at a (turns ++ turn ∷ []))) (queries_to a (turns ++ turn ∷ [])) × AllPairs (λ x y. x ≢ y) (queries_to a (turns ++ turn ∷ []))
-handed-more turns turn a h once new is (inl none) =
-    let same : queries_to a (turns ++ turn ∷ []) ≡ queries_to a turns = queries_to-push a turns turn ∙ ap (λ l. queries_to a turns ++ l) (is ∙ none) ∙ append-nil (queries_to a turns) in (
-      subst (All (Contains (queries_at a (turns ++ turn ∷ [])))) (sym same)
-          (All-weaker (Contains (queries_at a turns)) (Contains (queries_at a (turns ++ turn ∷ [])))
-          (λ x c. subst (λ l. Contains l x) (sym (by-push entered a turns turn)) (Contains-append_left (queries_at a turns) (added entered a turn) x c)) (queries_to a turns) (h.within a)),
-      subst (AllPairs (λ x y. x ≢ y)) (sym same) (h.once a),
-    )
-handed-more turns turn a h once new is (inr one) =
-    let x : TimedEntry ℕ = one.0 in
-    let to : queries_to a (turns ++ turn ∷ []) ≡ queries_to a turns ++ one.0 ∷ [] = queries_to-push a turns turn ∙ ap (λ l. queries_to a turns ++ l) (is ∙ one.1) in
-    let at : queries_at a (turns ++ turn ∷ []) ≡ queries_at a turns ++ one.0 ∷ [] = by-push entered a turns turn ∙ ap (λ l. queries_at a turns ++ l) one.2 in
-    let pairs : AllPairs (λ x y. x ≢ y) (queries_at a turns ++ one.0 ∷ []) = subst (AllPairs (λ x y. x ≢ y)) at (once a) in
-    let differs : All (λ y. y ≢ one.0) (queries_to a turns) = All-weaker (Contains (queries_at a turns)) (λ y. y ≢ one.0) (λ y c. fresh-last (queries_at a turns) one.0 y pairs c) (queries_to a turns) (h.within a) in
-    let more : All (Contains (queries_at a turns ++ one.0 ∷ [])) (queries_to a turns) =
-    All-weaker (Contains (queries_at a turns)) (Contains (queries_at a turns ++ one.0 ∷ [])) (λ y c. Contains-append_left (queries_at a turns) (one.0 ∷ []) y c) (queries_to a turns) (h.within a) in (
-      subst (All (Contains (queries_at a (turns ++ turn ∷ [])))) (sym to) (subst (λ l. All (Contains l) (queries_to a turns ++ one.0 ∷ [])) (sym at)
-          (All-push (Contains (queries_at a turns ++ one.0 ∷ [])) (queries_to a turns) one.0 more (Contains-push (queries_at a turns) one.0))),
-      subst (AllPairs (λ x y. x ≢ y)) (sym to) (all_pairs_push (λ x y. x ≢ y) (queries_to a turns) one.0 (h.once a) differs),
-    )
+-- a list that grows by what another grows by, or not, has no equal pairs, where that has none
+pub record IsWithin {X : Type 0} (all some : List X) : Type 0 where
+  pub within : All (Contains all) some
+  pub once : AllPairs (λ x y. x ≢ y) some
 
+pub within-more : {X : Type 0} (all some one new : List X) → IsWithin all some → AllPairs (λ x y. x ≢ y) (all ++ one) → (new ≡ []) ⊎ ((x : X) × (new ≡ x ∷ []) × (one ≡ x ∷ [])) → IsWithin (all ++ one) (some ++ new)
+within-more all some one new h once (inl none) =
+    subst (IsWithin (all ++ one)) (sym (ap (λ l. some ++ l) none ∙ append-nil some))
+    (record { within = All-weaker (Contains all) (Contains (all ++ one)) (λ x c. Contains-append_left all one x c) some h.within; once = h.once })
+within-more {X} all some one new h once (inr adds) =
+    let x : X = adds.0 in
+    let pairs : AllPairs (λ x y. x ≢ y) (all ++ adds.0 ∷ []) = subst (λ l. AllPairs (λ x y. x ≢ y) (all ++ l)) adds.2 once in
+    let differs : All (λ y. y ≢ adds.0) some = All-weaker (Contains all) (λ y. y ≢ adds.0) (λ y c. fresh-last all adds.0 y pairs c) some h.within in
+    let more : All (Contains (all ++ adds.0 ∷ [])) some = All-weaker (Contains all) (Contains (all ++ adds.0 ∷ [])) (λ y c. Contains-append_left all (adds.0 ∷ []) y c) some h.within in
+    subst (λ l. IsWithin (all ++ l) (some ++ new)) (sym adds.2) (subst (λ l. IsWithin (all ++ adds.0 ∷ []) (some ++ l)) (sym adds.1) (record {
+      within = All-push (Contains (all ++ adds.0 ∷ [])) some adds.0 more (Contains-push all adds.0);
+      once = all_pairs_push (λ x y. x ≢ y) some adds.0 h.once differs;
+    }))
+
+-- what was handed out was entered, and once
+abbrev pub IsHanded : List Turn → Type 0
+IsHanded turns = (a : ℕ) → IsWithin (queries_at a turns) (queries_to a turns)
+
+-- what a turn adds for an agent
 abbrev Adds : ℕ → Turn → Type 0
 Adds a turn = (map handed_in (filter (mine a) (option_to_list turn.line.handed)) ≡ []) ⊎ ((x : TimedEntry ℕ) × (map handed_in (filter (mine a) (option_to_list turn.line.handed)) ≡ x ∷ []) × (added entered a turn ≡ x ∷ []))
 
@@ -121,22 +117,18 @@ adds-applied c action b m a actor = by (apply m c.sent action).done.handed refl 
         inl (ap (λ (h : Option Handed). map handed_in (filter (mine a) (option_to_list (option_map (handed_line b (length (apply m c.sent action).node.handed)) h)))) some
         ∙ ap (λ (t : Bool). map handed_in (cond t (handed_line b (length (apply m c.sent action).node.handed) q ∷ []) [])) is)
 
-adds-agent : (c : Cluster) (action : Action) (b : ℕ) (r : Option IdealNode) (a : ℕ) → actor_of action ≡ Some b → Adds a (on_agent c action b r).turn
-adds-agent c action b None a actor = inl refl
-adds-agent c action b (Some m) a actor = adds-applied c action b m a actor
-
-adds-by : (c : Cluster) (action : Action) (o : Option ℕ) (a : ℕ) → actor_of action ≡ o → Adds a (step_by c action o).turn
-adds-by c action None a actor = inl refl
-adds-by c action (Some b) a actor = adds-agent c action b (slice_get c.nodes b) a actor
+adds-step : (c : Cluster) (action : Action) (a : ℕ) → Adds a (step c action).turn
+adds-step c action a = step-cases (λ s. Adds a s.turn) c action (λ actor. inl refl) (λ b actor at. inl refl) (λ b m actor at. adds-applied c action b m a actor)
 
 pub handed-step : (r : Run) (action : Action) → IsAfter r.cluster r.turns → IsHanded r.turns → IsHanded (after r action).turns
-handed-step r action h all =
+handed-step r action h all a =
     let turn : Turn = (step r.cluster action).turn in
     let once = query-once (after r action).cluster (after r action).turns (after-step r action h) in
-    record {
-      within = λ a. (handed-more r.turns turn a all once _ refl (adds-by r.cluster action (actor_of action) a refl)).0;
-      once = λ a. (handed-more r.turns turn a all once _ refl (adds-by r.cluster action (actor_of action) a refl)).1;
-    }
+    let new = map handed_in (filter (mine a) (option_to_list turn.line.handed)) in
+    let entered_now = by-push entered a r.turns turn in
+    subst (λ l. IsWithin l (queries_to a (r.turns ++ turn ∷ []))) (sym entered_now)
+    (subst (IsWithin (queries_at a r.turns ++ added entered a turn)) (sym (queries_to-push a r.turns turn))
+    (within-more (queries_at a r.turns) (queries_to a r.turns) (added entered a turn) new (all a) (subst (AllPairs (λ x y. x ≢ y)) entered_now (once a)) (adds-step r.cluster action a)))
 
 pub handed-start : IsHanded []
-handed-start = record { within = λ a. All-nil (Contains (queries_at a [])); once = λ a i j d lt within. absurd (omega arith) }
+handed-start a = record { within = All-nil (Contains (queries_at a [])); once = λ i j d lt within. absurd (omega arith) }

@@ -1,11 +1,10 @@
 -- Which queries an agent can answer, and which it acked.
 use Rattle.std.proofs.Common.{zero, suc, ◌≡◌, ◌≢◌, ℕ, ◌⊎◌, inl, inr, true, false, cond, List, [], ◌∷◌, ◌++◌, length, Option, Some, None, refl, sym, ap, subst, ◌∙◌, map, set}
-use Rattle.std.specs.Prelude.{All, AllPairs, Contains, filter, slice_get}
+use Rattle.std.specs.Prelude.{AllPairs, Contains, filter, slice_get}
 use Rattle.std.specs.List.{flat_map}
 use Rattle.std.specs.Option.{option_map, option_to_list}
 use Rattle.std.proofs.lemmas.List.{append-nil, map-append}
-use Rattle.std.proofs.lemmas.List.Elements.{All-push, All-weaker, Contains-append_left, Contains-push, filter-append}
-use Rattle.std.proofs.lemmas.List.Quantifiers.{all_pairs_push}
+use Rattle.std.proofs.lemmas.List.Elements.{Contains-append_left, Contains-push, filter-append}
 use Rattle.std.proofs.lemmas.List.Sums.{fold_push}
 use Rattle.serf_wire.specs.Message.{Query, QueryResponse}
 use Rattle.serf_window.specs.Window.{TimedEntry}
@@ -19,7 +18,7 @@ use Rattle.serf_model.specs.Bounds.{is_restarted}
 use Rattle.serf_model.specs.Cluster.{Applied, Cluster, Done, IdealNode, applied, apply, handed_line, with_handed}
 use Rattle.serf_model.specs.Trace.{Turn, entered_by, handed_in, packet_given}
 use Rattle.serf_model.specs.HandOuts.{query_message}
-use Rattle.serf_model.proofs.HandedLaws.{fresh-last, hands-apply}
+use Rattle.serf_model.proofs.HandedLaws.{IsWithin, hands-apply, within-more}
 use Rattle.serf_model.proofs.HandOutLaws.{passed-on}
 use Rattle.serf_model.proofs.PresentLife.{last_life, lives_on}
 use Rattle.serf_model.proofs.Effects.{Effect, asks, counts, effect, hears, idle-enters, is_asked, reopens, replies}
@@ -43,25 +42,6 @@ left-at (y ∷ ys) zero zero x is = absurd (cc is)
 left-at (y ∷ ys) zero (suc k) x is = is
 left-at (y ∷ ys) (suc j) zero x is = is
 left-at (y ∷ ys) (suc j) (suc k) x is = left-at ys j k x is
-
--- a list that grows by what another grows by, or not, has no equal pairs, where that has none
-pub record IsWithin {X : Type 0} (all some : List X) : Type 0 where
-  pub within : All (Contains all) some
-  pub once : AllPairs (λ x y. x ≢ y) some
-
-pub within-more : {X : Type 0} (all some one new : List X) → IsWithin all some → AllPairs (λ x y. x ≢ y) (all ++ one) → (new ≡ []) ⊎ ((x : X) × (new ≡ x ∷ []) × (one ≡ x ∷ [])) → IsWithin (all ++ one) (some ++ new)
-within-more all some one new h once (inl none) =
-    subst (IsWithin (all ++ one)) (sym (ap (λ l. some ++ l) none ∙ append-nil some))
-    (record { within = All-weaker (Contains all) (Contains (all ++ one)) (λ x c. Contains-append_left all one x c) some h.within; once = h.once })
-within-more {X} all some one new h once (inr adds) =
-    let x : X = adds.0 in
-    let pairs : AllPairs (λ x y. x ≢ y) (all ++ adds.0 ∷ []) = subst (λ l. AllPairs (λ x y. x ≢ y) (all ++ l)) adds.2 once in
-    let differs : All (λ y. y ≢ adds.0) some = All-weaker (Contains all) (λ y. y ≢ adds.0) (λ y c. fresh-last all adds.0 y pairs c) some h.within in
-    let more : All (Contains (all ++ adds.0 ∷ [])) some = All-weaker (Contains all) (Contains (all ++ adds.0 ∷ [])) (λ y c. Contains-append_left all (adds.0 ∷ []) y c) some h.within in
-    subst (λ l. IsWithin (all ++ l) (some ++ new)) (sym adds.2) (subst (λ l. IsWithin (all ++ adds.0 ∷ []) (some ++ l)) (sym adds.1) (record {
-      within = All-push (Contains (all ++ adds.0 ∷ [])) some adds.0 more (Contains-push all adds.0);
-      once = all_pairs_push (λ x y. x ≢ y) some adds.0 h.once differs;
-    }))
 
 -- ---- what an action leaves of the queries that can be answered
 

@@ -1,8 +1,8 @@
 -- What each action adds to the histories of its agent.
-use Rattle.std.proofs.Common.{◌≡◌, ℕ, ◌+◌, Bool, true, cond, List, [], ◌∷◌, ◌++◌, Option, Some, None, Result, Ok, Err, refl, sym, ap, subst, ◌∙◌, map}
+use Rattle.std.proofs.Common.{◌≡◌, ℕ, ◌+◌, Bool, true, cond, List, [], ◌∷◌, ◌++◌, Option, Some, None, Result, Ok, refl, sym, ap, subst, ◌∙◌, map}
 use Rattle.serf_wire.specs.declared.fault.WireFault.{WireFault}
 use Rattle.serf_wire.specs.Decoded.{decoded}
-use Rattle.serf_wire.specs.Message.{Message, user_event, query, query_response, push_pull, foreign}
+use Rattle.serf_wire.specs.Message.{Message, push_pull}
 use Rattle.serf_window.specs.Texts.{event_of}
 use Rattle.serf_window.specs.Window.{TimedEntry}
 use Rattle.serf_agent.specs.declared.outcome.MergeFault.{MergeFault}
@@ -88,12 +88,8 @@ delivers-handed m now (Some packet) = refl
 
 merge-handed : (m : IdealNode) (join : Bool) (f : Option MergeFault) (r : Result Message WireFault) → (merges_as f m join r).node.handed ≡ m.handed
 merge-handed m join (Some fault) r = refl
-merge-handed m join None (Err fault) = refl
-merge-handed m join None (Ok (user_event e)) = refl
-merge-handed m join None (Ok (query e)) = refl
-merge-handed m join None (Ok (query_response e)) = refl
 merge-handed m join None (Ok (push_pull e)) = refl
-merge-handed m join None (Ok (foreign e)) = refl
+merge-handed m join None _ = refl
 
 pub merges-handed : (m : IdealNode) (join : Bool) (given : Option (List ℕ)) → (merges_given m join given).node.handed ≡ m.handed
 merges-handed m join None = refl

@@ -1,8 +1,12 @@
 pub mod TurnLaws
+pub mod StepCases
 pub mod PerTimeBound
+pub mod AnswersByTime
+pub mod CallsKept
+pub mod OpenQueriesKept
+pub mod InvariantKept
 pub mod Effects
 pub mod HistoryGrowth
-pub mod InvariantKept
 pub mod RunLaws
 pub mod StartLaws
 pub mod OnceLaws
@@ -17,7 +21,6 @@ pub mod BoundLaws
 pub mod QueriesEntered
 pub mod PerAgent
 pub mod PresentLife
-pub mod AnswersByTime
 pub mod OpenQueryContents
 pub mod CountingPromises
 pub mod SendLaws

@@ -7,14 +7,15 @@ use Rattle.serf_window.specs.Window.{TimedEntry}
 use Rattle.serf_agent.specs.Ideal.{Past}
 use Rattle.serf_model.specs.declared.action.Action.{Action}
 use Rattle.serf_model.specs.declared.line.Answer.TheVariants as answers
-use Rattle.serf_model.specs.Cluster.{IdealNode, Cluster, Run, on_agent, step_by, step, after}
+use Rattle.serf_model.specs.Cluster.{IdealNode, Cluster, Run, apply, step, after}
 use Rattle.serf_model.specs.Promises.{Once, Later, QueryOnce, QueryLater}
 use Rattle.serf_model.specs.Trace.{Turn, actor_of, events_to, queries_at}
+use Rattle.serf_model.proofs.StepCases.{same-actor, step-cases}
 use Rattle.serf_model.proofs.TurnLaws.{at_each_nil, at_each_push}
 use Rattle.serf_model.proofs.HistoryGrowth.{keeps-apply}
 use Rattle.serf_model.proofs.PerTimeBound.{entries}
 use Rattle.serf_model.specs.Ready.{IsRepresentable}
-use Rattle.serf_model.proofs.RunLaws.{IsAfter, events_at, queries_of, all-at, turn-action}
+use Rattle.serf_model.proofs.RunLaws.{IsAfter, events_at, queries_of, all-at}
 
 -- ---- what a sound track says of its entries
 
@@ -53,41 +54,29 @@ LaterAt before turn = (a t : ℕ) → actor_of turn.action ≡ Some a → turn.l
 abbrev QueryLaterAt : List Turn → Turn → Type 0
 QueryLaterAt before turn = (a t : ℕ) → actor_of turn.action ≡ Some a → turn.line.answer ≡ answers.Queried t → All (λ q. q.time < t) (queries_at a before)
 
-later-agent : (c : Cluster) (turns : List Turn) (action : Action) (a : ℕ) (r : Option IdealNode) (t : ℕ) → IsAfter c turns → slice_get c.nodes a ≡ r → (on_agent c action a r).turn.line.answer ≡ answers.Fired t → All (λ e. e.time < t) (events_to a turns)
-later-agent c turns action a None t h at fired = absurd (cc fired)
-later-agent c turns action a (Some m) t h at fired =
-    let representable = all-at (λ m. IsRepresentable m.agent) c.nodes a m h.representable at in
+later-acts : (c : Cluster) (turns : List Turn) (action : Action) (b : ℕ) (m : IdealNode) (t : ℕ) → IsAfter c turns → slice_get c.nodes b ≡ Some m → (apply m c.sent action).done.answer ≡ answers.Fired t → All (λ e. e.time < t) (events_to b turns)
+later-acts c turns action b m t h at fired =
+    let representable = all-at (λ m. IsRepresentable m.agent) c.nodes b m h.representable at in
     let clock : t ≡ m.agent.events.clock = (keeps-apply m c.sent action representable.consistent.sound).fired t fired in
-    subst (All (λ e. e.time < t)) (ap events_at (sym at) ∙ h.events a)
+    subst (All (λ e. e.time < t)) (ap events_at (sym at) ∙ h.events b)
     (below-entries m.agent.events.history t (subst (λ (n : ℕ). All (λ p. p.entry.time < n) m.agent.events.history) (sym clock) representable.consistent.sound.events.below_clock))
-
-later-by : (c : Cluster) (turns : List Turn) (action : Action) (o : Option ℕ) (a t : ℕ) → IsAfter c turns → o ≡ Some a → (step_by c action o).turn.line.answer ≡ answers.Fired t → All (λ e. e.time < t) (events_to a turns)
-later-by c turns action None a t h is fired = absurd (cc is)
-later-by c turns action (Some b) a t h is fired =
-    let same : b ≡ a = cc is in
-    later-agent c turns action a (slice_get c.nodes a) t h refl (subst (λ (n : ℕ). (on_agent c action n (slice_get c.nodes n)).turn.line.answer ≡ answers.Fired t) same fired)
 
 pub later-step : (r : Run) (action : Action) → IsAfter r.cluster r.turns → Later r.turns → Later (after r action).turns
 later-step r action h all =
-    at_each_push LaterAt r.turns (step r.cluster action).turn all (λ a t is fired. later-by r.cluster r.turns action (actor_of action) a t h (sym (ap actor_of (turn-action r.cluster action)) ∙ is) fired)
+    at_each_push LaterAt r.turns (step r.cluster action).turn all (step-cases (λ s. LaterAt r.turns s.turn) r.cluster action (λ actor a t is fired. absurd (cc fired)) (λ b actor at a t is fired. absurd (cc fired))
+    (λ b m actor at a t is fired. subst (λ (n : ℕ). All (λ e. e.time < t) (events_to n r.turns)) (same-actor action b a actor is) (later-acts r.cluster r.turns action b m t h at fired)))
 
-query-later-agent : (c : Cluster) (turns : List Turn) (action : Action) (a : ℕ) (r : Option IdealNode) (t : ℕ) → IsAfter c turns → slice_get c.nodes a ≡ r → (on_agent c action a r).turn.line.answer ≡ answers.Queried t → All (λ q. q.time < t) (queries_at a turns)
-query-later-agent c turns action a None t h at fired = absurd (cc fired)
-query-later-agent c turns action a (Some m) t h at fired =
-    let representable = all-at (λ m. IsRepresentable m.agent) c.nodes a m h.representable at in
+query-later-acts : (c : Cluster) (turns : List Turn) (action : Action) (b : ℕ) (m : IdealNode) (t : ℕ) → IsAfter c turns → slice_get c.nodes b ≡ Some m → (apply m c.sent action).done.answer ≡ answers.Queried t → All (λ q. q.time < t) (queries_at b turns)
+query-later-acts c turns action b m t h at fired =
+    let representable = all-at (λ m. IsRepresentable m.agent) c.nodes b m h.representable at in
     let clock : t ≡ m.agent.queries.clock = (keeps-apply m c.sent action representable.consistent.sound).asked t fired in
-    subst (All (λ e. e.time < t)) (ap queries_of (sym at) ∙ h.queries a)
+    subst (All (λ e. e.time < t)) (ap queries_of (sym at) ∙ h.queries b)
     (below-entries m.agent.queries.history t (subst (λ (n : ℕ). All (λ p. p.entry.time < n) m.agent.queries.history) (sym clock) representable.consistent.sound.queries.below_clock))
-
-query-later-by : (c : Cluster) (turns : List Turn) (action : Action) (o : Option ℕ) (a t : ℕ) → IsAfter c turns → o ≡ Some a → (step_by c action o).turn.line.answer ≡ answers.Queried t → All (λ q. q.time < t) (queries_at a turns)
-query-later-by c turns action None a t h is fired = absurd (cc is)
-query-later-by c turns action (Some b) a t h is fired =
-    let same : b ≡ a = cc is in
-    query-later-agent c turns action a (slice_get c.nodes a) t h refl (subst (λ (n : ℕ). (on_agent c action n (slice_get c.nodes n)).turn.line.answer ≡ answers.Queried t) same fired)
 
 pub query-later-step : (r : Run) (action : Action) → IsAfter r.cluster r.turns → QueryLater r.turns → QueryLater (after r action).turns
 query-later-step r action h all =
-    at_each_push QueryLaterAt r.turns (step r.cluster action).turn all (λ a t is fired. query-later-by r.cluster r.turns action (actor_of action) a t h (sym (ap actor_of (turn-action r.cluster action)) ∙ is) fired)
+    at_each_push QueryLaterAt r.turns (step r.cluster action).turn all (step-cases (λ s. QueryLaterAt r.turns s.turn) r.cluster action (λ actor a t is fired. absurd (cc fired)) (λ b actor at a t is fired. absurd (cc fired))
+    (λ b m actor at a t is fired. subst (λ (n : ℕ). All (λ q. q.time < t) (queries_at n r.turns)) (same-actor action b a actor is) (query-later-acts r.cluster r.turns action b m t h at fired)))
 
 -- ---- the start
 

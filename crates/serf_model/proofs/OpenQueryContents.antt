@@ -31,7 +31,8 @@ use Rattle.serf_model.specs.Trace.{Turn, entered_by}
 use Rattle.serf_model.proofs.PerTimeBound.{entries}
 use Rattle.serf_model.proofs.PresentLife.{last_life, lives_on}
 use Rattle.serf_model.proofs.Effects.{Effect, IsIdle, asks, closes_due, counts, hears, idle-enters, reopens}
-use Rattle.serf_model.proofs.InvariantKept.{fresh-name, fresh-response, none-if}
+use Rattle.serf_model.proofs.CallsKept.{none-if}
+use Rattle.serf_model.proofs.OpenQueriesKept.{fresh-name}
 use Rattle.serf_model.proofs.TurnLaws.{flat_map-push}
 use Rattle.serf_model.proofs.AnswersByTime.{asked-found, asked-replaced, none-to_time, passing, to_time-other, to_time-same}
 
@@ -176,11 +177,11 @@ taken now r q is =
     by true kind e id in_time =
         let asked = none-if (not q.wants_ack) AckNotAsked _ e in
         let fresh = none-if (has_acked q r.from) AckTwice None asked.1 in
-        record { id = id; in_time = in_time; asks = λ k. not-false q.wants_ack asked.0; acks = λ k. fresh-name q.acks r.from fresh.0; responses = λ k. absurd (let no : true ≡ false = sym kind ∙ k in cc) }
+        record { id = id; in_time = in_time; asks = λ k. not-false q.wants_ack asked.0; acks = λ k. fresh-name (λ a. a) q.acks r.from fresh.0; responses = λ k. absurd (let no : true ≡ false = sym kind ∙ k in cc) }
     by false kind e id in_time =
         let fresh = none-if (has_responded q r.from) ResponseTwice None e in
         let not_ack : is_ack r ≡ true → ⊥ = λ k. let no : false ≡ true = sym kind ∙ k in cc in
-        record { id = id; in_time = in_time; asks = λ k. absurd (not_ack k); acks = λ k. absurd (not_ack k); responses = λ k. fresh-response q.responses r.from fresh.0 }
+        record { id = id; in_time = in_time; asks = λ k. absurd (not_ack k); acks = λ k. absurd (not_ack k); responses = λ k. fresh-name (λ (a : Response). a.from) q.responses r.from fresh.0 }
 
 -- the name is new among those of its kind and time
 fresh-counted : (ts : List Turn) (now : ℕ) (r : QueryResponse) (q : OpenQuery) (ack : Bool) → IsOpen ts (r.time, q) → IsTaken now r q → is_ack r ≡ ack → All (λ x. x.time ≡ r.time → x.from ≢ r.from) (counted_in ack ts)

@@ -1,5 +1,5 @@
 -- What holds of each agent, where these are the turns that it took.
-use Rattle.std.proofs.Common.{zero, suc, ◌≡◌, ℕ, ◌==◌, Bool, true, false, cond, List, [], ◌∷◌, ◌++◌, Option, Some, None, refl, sym, ap, subst, ◌∙◌, map, set}
+use Rattle.std.proofs.Common.{zero, suc, ◌≡◌, ℕ, ◌==◌, Bool, true, false, cond, List, [], ◌∷◌, ◌++◌, Some, None, refl, sym, ap, subst, ◌∙◌, map, set}
 use Rattle.std.specs.Prelude.{All, slice_get}
 use Rattle.std.proofs.lemmas.Bool.{eqb-true, eqb-false, eq-eqb, ne_eqb}
 use Rattle.std.proofs.lemmas.List.{append-nil}
@@ -8,8 +8,9 @@ use Rattle.serf_agent.specs.declared.config.Config.{Config}
 use Rattle.serf_model.specs.declared.action.Action.{Action}
 use Rattle.serf_model.specs.declared.line.Answer.TheVariants as answers
 use Rattle.serf_model.specs.declared.line.Refusal.TheVariants.{NoAgent}
-use Rattle.serf_model.specs.Cluster.{IdealNode, Cluster, Applied, Run, Stepped, applied, apply, after, first_node, on_agent, start, step_by, with_handed}
-use Rattle.serf_model.specs.Trace.{Turn, actor_of, is_agent, turns_by}
+use Rattle.serf_model.specs.Cluster.{IdealNode, Cluster, Applied, Run, Stepped, applied, apply, after, first_node, injects, on_agent, start, with_handed}
+use Rattle.serf_model.specs.Trace.{Turn, actor_of, injects_of, is_agent, turns_by}
+use Rattle.serf_model.proofs.StepCases.{step-cases}
 use Rattle.serf_model.proofs.RunLaws.{slice_get-set_same, slice_get-set_other}
 
 -- this holds of each agent and its turns
@@ -56,19 +57,12 @@ abbrev pub Keeps : (ℕ → List Turn → IdealNode → Type 0) → Cluster → 
 Keeps P c turns action = (b : ℕ) (m : IdealNode) → actor_of action ≡ Some b → slice_get c.nodes b ≡ Some m → P b (turns_by b turns) m
     → (let o = apply m c.sent action in P b (turns_by b turns ++ (applied c action b o).turn ∷ []) (with_handed o.done.handed o.node))
 
-each-agent : (P : ℕ → List Turn → IdealNode → Type 0) (c : Cluster) (turns : List Turn) (action : Action) (b : ℕ) (r : Option IdealNode) → Each P c turns → Keeps P c turns action → actor_of action ≡ Some b → slice_get c.nodes b ≡ r
-    → Each P (on_agent c action b r).cluster (turns ++ (on_agent c action b r).turn ∷ [])
-each-agent P c turns action b None all keeps actor at =
-    each-still P c turns (on_agent c action b None) all refl (λ a m is. ap (is_agent a) actor ∙ ne_eqb b a (λ e. let no : None ≡ Some m = sym at ∙ ap (slice_get c.nodes) e ∙ is in cc))
-each-agent P c turns action b (Some m) all keeps actor at = each-applied P c turns action b m (apply m c.sent action) all actor at (keeps b m actor at (all b m at))
-
-each-by : (P : ℕ → List Turn → IdealNode → Type 0) (c : Cluster) (turns : List Turn) (action : Action) (o : Option ℕ) → Each P c turns → Keeps P c turns action → actor_of action ≡ o
-    → Each P (step_by c action o).cluster (turns ++ (step_by c action o).turn ∷ [])
-each-by P c turns action None all keeps actor = each-still P c turns (step_by c action None) all refl (λ a m is. ap (is_agent a) actor)
-each-by P c turns action (Some b) all keeps actor = each-agent P c turns action b (slice_get c.nodes b) all keeps actor refl
-
 pub each-step : (P : ℕ → List Turn → IdealNode → Type 0) (r : Run) (action : Action) → Each P r.cluster r.turns → Keeps P r.cluster r.turns action → Each P (after r action).cluster (after r action).turns
-each-step P r action all keeps = each-by P r.cluster r.turns action (actor_of action) all keeps refl
+each-step P r action all keeps =
+    let c : Cluster = r.cluster in
+    step-cases (λ s. Each P s.cluster (r.turns ++ s.turn ∷ [])) c action (λ actor. each-still P c r.turns (injects c action (injects_of action)) all refl (λ a m is. ap (is_agent a) actor))
+    (λ b actor at. each-still P c r.turns (on_agent c action b None) all refl (λ a m is. ap (is_agent a) actor ∙ ne_eqb b a (λ e. let no : None ≡ Some m = sym at ∙ ap (slice_get c.nodes) e ∙ is in cc)))
+    (λ b m actor at. each-applied P c r.turns action b m (apply m c.sent action) all actor at (keeps b m actor at (all b m at)))
 
 joined-at : (configs : List Config) (a : ℕ) (m : IdealNode) → slice_get (map first_node configs) a ≡ Some m → (config : Config) × (slice_get configs a ≡ Some config) × (first_node config ≡ m)
 joined-at [] a m is = absurd (cc is)
@@ -110,16 +104,12 @@ nobodys-applied c turns action b m o all actor at a none = by (b == a) refl
         subst (All IsRefused) (sym (turns-other a turns (applied c action b o).turn (ap (is_agent a) actor ∙ t)))
         (all a (sym (slice_get-set_other c.nodes b a (with_handed o.done.handed o.node) (eqb-false b a t)) ∙ none))
 
-nobodys-agent : (c : Cluster) (turns : List Turn) (action : Action) (b : ℕ) (r : Option IdealNode) → AreNobodys c turns → actor_of action ≡ Some b → slice_get c.nodes b ≡ r → AreNobodys (on_agent c action b r).cluster (turns ++ (on_agent c action b r).turn ∷ [])
-nobodys-agent c turns action b None all actor at = nobodys-still c turns (on_agent c action b None) all refl (record { answer = refl; packets = refl })
-nobodys-agent c turns action b (Some m) all actor at = nobodys-applied c turns action b m (apply m c.sent action) all actor at
-
-nobodys-by : (c : Cluster) (turns : List Turn) (action : Action) (o : Option ℕ) → AreNobodys c turns → actor_of action ≡ o → AreNobodys (step_by c action o).cluster (turns ++ (step_by c action o).turn ∷ [])
-nobodys-by c turns action None all actor = λ a none. subst (All IsRefused) (sym (turns-other a turns (step_by c action None).turn (ap (is_agent a) actor))) (all a none)
-nobodys-by c turns action (Some b) all actor = nobodys-agent c turns action b (slice_get c.nodes b) all actor refl
-
 pub nobodys-step : (r : Run) (action : Action) → AreNobodys r.cluster r.turns → AreNobodys (after r action).cluster (after r action).turns
-nobodys-step r action all = nobodys-by r.cluster r.turns action (actor_of action) all refl
+nobodys-step r action all =
+    let c : Cluster = r.cluster in
+    step-cases (λ s. AreNobodys s.cluster (r.turns ++ s.turn ∷ [])) c action
+    (λ actor a none. subst (All IsRefused) (sym (turns-other a r.turns (injects c action (injects_of action)).turn (ap (is_agent a) actor))) (all a none))
+    (λ b actor at. nobodys-still c r.turns (on_agent c action b None) all refl (record { answer = refl; packets = refl })) (λ b m actor at. nobodys-applied c r.turns action b m (apply m c.sent action) all actor at)
 
 pub nobodys-start : (configs : List Config) → AreNobodys (start configs).cluster []
 nobodys-start configs a none = All-nil IsRefused

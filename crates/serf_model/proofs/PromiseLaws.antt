@@ -64,7 +64,7 @@ promised configs actions ok =
       held = (h.fired.carries, h.seen);
       query_once = query-once r.cluster r.turns h.after;
       query_later = h.query_later;
-      query_handed = h.handed.once;
+      query_handed = λ a. (h.handed a).once;
     }
 
 -- this needs nothing of the settings

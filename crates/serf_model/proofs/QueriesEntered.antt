@@ -1,6 +1,6 @@
 -- Each query that enters was fired, or is forged.
 use Rattle.std.proofs.Common.{Ok, ◌≡◌, ℕ, ◌<◌, ◌≤◌, ◌^◌, inl, inr, Bool, true, false, List, [], ◌∷◌, ◌++◌, Option, Some, None, refl, sym, ap, subst, ◌∙◌, arith, length}
-use Rattle.std.specs.Prelude.{All, Contains, slice_get}
+use Rattle.std.specs.Prelude.{All, Contains}
 use Rattle.std.specs.List.{fold, flat_map}
 use Rattle.std.proofs.lemmas.Bool.{ltb-false}
 use Rattle.std.proofs.lemmas.List.Concat.{flat_map-append}
@@ -22,14 +22,15 @@ use Rattle.serf_agent.proofs.WireLaws.{query-not_long}
 use Rattle.serf_model.specs.declared.action.Action.{Action}
 use Rattle.serf_model.specs.declared.line.Answer.{Answer}
 use Rattle.serf_model.specs.declared.line.Answer.TheVariants as answers
-use Rattle.serf_model.specs.Cluster.{Applied, Cluster, Done, IdealNode, Run, apply, after, on_agent, run_of, start, step, step_by}
+use Rattle.serf_model.specs.Cluster.{Applied, Cluster, Done, IdealNode, Run, apply, after, run_of, start, step}
 use Rattle.serf_model.specs.Sizes.{HasSizes, IsSized}
 use Rattle.serf_model.specs.Queried.{QueryOnlyFired, WasQueried, queried_by, queries_fired, queries_forged}
-use Rattle.serf_model.specs.Trace.{Turn, actor_of, entered_by, injected_in, injects_of, packet_given, queried_in, query_brought, query_packets}
+use Rattle.serf_model.specs.Trace.{Turn, entered_by, injected_in, injects_of, packet_given, queried_in, query_brought, query_packets}
 use Rattle.serf_model.proofs.QueryOrigins.{IsAsked, WasAsked, asked-start, asked-step}
 use Rattle.serf_model.proofs.FiredLaws.{all-parts}
-use Rattle.serf_model.proofs.InvariantKept.{may-ask, none-if}
+use Rattle.serf_model.proofs.CallsKept.{may-ask, none-if}
 use Rattle.serf_model.proofs.Effects.{Effect, asks, counts, effect, hears}
+use Rattle.serf_model.proofs.StepCases.{step-cases}
 use Rattle.serf_model.proofs.TurnLaws.{at_each_nil, at_each_push, flat_map-push}
 
 -- ---- what a query's packet brings
@@ -96,13 +97,8 @@ own-apply m sent action sized = own-effect m action (packet_given sent action) (
 abbrev OwnTurn : Turn → Type 0
 OwnTurn turn = All (Brings (Contains (queried_by turn.action turn.line.answer))) (query_packets turn.line.answer turn.packets)
 
-own-agent : (c : Cluster) (action : Action) (b : ℕ) (r : Option IdealNode) → HasSizes action → OwnTurn (on_agent c action b r).turn
-own-agent c action b None sized = All-nil (Brings (Contains []))
-own-agent c action b (Some m) sized = own-apply m c.sent action sized
-
-own-by : (c : Cluster) (action : Action) (o : Option ℕ) → HasSizes action → OwnTurn (step_by c action o).turn
-own-by c action None sized = All-nil (Brings (Contains []))
-own-by c action (Some b) sized = own-agent c action b (slice_get c.nodes b) sized
+own-step : (c : Cluster) (action : Action) → HasSizes action → OwnTurn (step c action).turn
+own-step c action sized = step-cases (λ s. OwnTurn s.turn) c action (λ actor. All-nil (Brings (Contains []))) (λ b actor at. All-nil (Brings (Contains []))) (λ b m actor at. own-apply m c.sent action sized)
 
 -- what enters is what was fired, or what the given packet brings
 entered-from : (P : TimedEntry ℕ → Type 0) (action : Action) (given : Option (List ℕ)) (answer : Answer) → All P (queried_by action answer) → ((packet : List ℕ) → answer ≡ answers.Query → given ≡ Some packet → Brings P packet)
@@ -182,7 +178,7 @@ queried-step r action sized h =
     let asked = asked-step r action h.asked in
     record {
       asked = asked;
-      own = own-push r.turns turn h.own (own-by r.cluster action (actor_of action) sized);
+      own = own-push r.turns turn h.own (own-step r.cluster action sized);
       only = at_each_push OnlyAt r.turns turn h.only (only-now r.turns turn h.own (asked.fired r.turns turn [] refl));
     }
 

@@ -1,6 +1,6 @@
 -- Where the queries come from that enter as packets.
 use Rattle.std.proofs.Common.{◌≡◌, ℕ, ◌⊎◌, inl, inr, true, List, [], ◌∷◌, ◌++◌, Option, Some, None, refl, sym, ap, subst, ◌∙◌}
-use Rattle.std.specs.Prelude.{All, Contains, slice_get, not}
+use Rattle.std.specs.Prelude.{All, Contains, not}
 use Rattle.std.specs.Option.{option_to_list}
 use Rattle.std.proofs.lemmas.List.{append-nil}
 use Rattle.std.proofs.lemmas.List.Elements.{All-nil, All-cons, All-head, All-append, All-weaker, All-contains_itself, Contains-append_left, Contains-append_right}
@@ -15,10 +15,11 @@ use Rattle.serf_agent.specs.States.{state_of}
 use Rattle.serf_agent.specs.View.{view_of}
 use Rattle.serf_model.specs.declared.action.Action.{Action}
 use Rattle.serf_model.specs.declared.line.Answer.TheVariants as lines
-use Rattle.serf_model.specs.Cluster.{Applied, IdealNode, Cluster, Done, Run, Stepped, apply, applied, after, on_agent, start, step_by}
+use Rattle.serf_model.specs.Cluster.{Applied, IdealNode, Cluster, Done, Run, Stepped, apply, applied, after, injects, on_agent, start}
 use Rattle.serf_model.specs.Promises.{QueryFired}
-use Rattle.serf_model.specs.Trace.{Turn, actor_of, injected_in, injects_of, packet_given, queried_in, query_brought, query_packets}
+use Rattle.serf_model.specs.Trace.{Turn, injected_in, injects_of, packet_given, queried_in, query_brought, query_packets}
 use Rattle.serf_model.proofs.Effects.{Effect, IsIdle, asks, counts, effect, fires, hears, is_asked, passes_on, replies, tells}
+use Rattle.serf_model.proofs.StepCases.{step-cases}
 use Rattle.serf_model.proofs.TurnLaws.{at_each_nil, at_each_push, flat_map-push}
 use Rattle.serf_model.proofs.PacketEvents.{no-query-event, no-query-state, no-query-response}
 use Rattle.serf_model.proofs.FiredLaws.{ack-has, entered-has, given-sent, one}
@@ -121,16 +122,11 @@ asked-still c turns s h sent never all =
       fired = at_each_push FiredAt turns s.turn h.fired (λ p says given. absurd (never says));
     }
 
-asked-agent : (c : Cluster) (turns : List Turn) (action : Action) (b : ℕ) (r : Option IdealNode) → IsAsked c turns → IsAsked (on_agent c action b r).cluster (turns ++ (on_agent c action b r).turn ∷ [])
-asked-agent c turns action b None h = asked-still c turns (on_agent c action b None) h (sym (append-nil c.sent)) (λ e. cc) (All-nil (IsOf (WasAsked (turns ++ (on_agent c action b None).turn ∷ []))))
-asked-agent c turns action b (Some m) h = asked-applied c turns action b m h
-
-asked-by : (c : Cluster) (turns : List Turn) (action : Action) (o : Option ℕ) → IsAsked c turns → IsAsked (step_by c action o).cluster (turns ++ (step_by c action o).turn ∷ [])
-asked-by c turns action None h = asked-still c turns (step_by c action None) h refl (λ e. cc) (injects-now turns (step_by c action None).turn)
-asked-by c turns action (Some b) h = asked-agent c turns action b (slice_get c.nodes b) h
-
 pub asked-step : (r : Run) (action : Action) → IsAsked r.cluster r.turns → IsAsked (after r action).cluster (after r action).turns
-asked-step r action h = asked-by r.cluster r.turns action (actor_of action) h
+asked-step r action h =
+    let now : Stepped = injects r.cluster action (injects_of action) in
+    step-cases (λ s. IsAsked s.cluster (r.turns ++ s.turn ∷ [])) r.cluster action (λ actor. asked-still r.cluster r.turns now h refl (λ e. cc) (injects-now r.turns now.turn))
+    (λ b actor at. asked-still r.cluster r.turns (on_agent r.cluster action b None) h (sym (append-nil r.cluster.sent)) (λ e. cc) (All-nil (IsOf (WasAsked (r.turns ++ (on_agent r.cluster action b None).turn ∷ []))))) (λ b m actor at. asked-applied r.cluster r.turns action b m h)
 
 pub asked-start : (configs : List Config) → IsAsked (start configs).cluster []
 asked-start configs = record { packets = All-nil (IsOf (WasAsked [])); fired = at_each_nil FiredAt }

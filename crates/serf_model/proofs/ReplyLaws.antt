@@ -16,8 +16,8 @@ use Rattle.serf_model.specs.AnswerPromises.{answers_in, query_answered}
 use Rattle.serf_model.specs.Cluster.{Applied, Cluster, IdealNode, applied, apply, with_handed}
 use Rattle.serf_model.specs.Trace.{Turn, entered_by, packet_given}
 use Rattle.serf_model.proofs.Effects.{Effect, asks, closes_due, counts, effect, fires, hears, is_asked, passes_on, reopens, replies, tells}
-use Rattle.serf_model.proofs.HandedLaws.{fresh-last, hands-apply}
-use Rattle.serf_model.proofs.HandedQueries.{IsWithin, left-at, pushed-at, stood, within-more}
+use Rattle.serf_model.proofs.HandedLaws.{IsWithin, fresh-last, hands-apply}
+use Rattle.serf_model.proofs.HandedQueries.{left-at, pushed-at, stood}
 use Rattle.serf_model.proofs.OpenQueryContents.{queries_in}
 use Rattle.serf_model.proofs.SendLaws.{Makes, makes_ack, makes_none, makes_reply}
 use Rattle.serf_model.proofs.TurnLaws.{flat_map-push}

@@ -10,13 +10,14 @@ use Rattle.serf_window.specs.Window.{TimedEntry}
 use Rattle.serf_agent.specs.declared.outcome.EventOut.{EventOut}
 use Rattle.serf_model.specs.declared.action.Action.{Action}
 use Rattle.serf_model.specs.declared.line.EventLine.{EventLine}
-use Rattle.serf_model.specs.Cluster.{IdealNode, Cluster, Applied, Stepped, Run, apply, applied, on_agent, step_by, step, after, event_line, with_handed}
-use Rattle.serf_model.specs.Trace.{Turn, actor_of, is_agent, turns_by, event_in, events_to, queries_at, entered_by, sent_in, packet_given}
+use Rattle.serf_model.specs.Cluster.{IdealNode, Cluster, Applied, Stepped, Run, apply, applied, injects, on_agent, step, after, event_line, with_handed}
+use Rattle.serf_model.specs.Trace.{Turn, actor_of, is_agent, turns_by, event_in, events_to, queries_at, entered_by, injects_of, sent_in, packet_given}
+use Rattle.serf_model.proofs.StepCases.{step-cases}
 use Rattle.serf_model.proofs.TurnLaws.{flat_map-push}
 use Rattle.serf_model.proofs.HistoryGrowth.{Keeps, keeps-apply}
 use Rattle.serf_model.proofs.PerTimeBound.{enters-entries, entries, out_in}
 use Rattle.serf_model.specs.Ready.{IsRepresentable}
-use Rattle.serf_model.proofs.InvariantKept.{representable-apply}
+use Rattle.serf_model.proofs.Effects.{representable-apply}
 
 -- ---- places of lists
 
@@ -149,31 +150,21 @@ after-applied c turns action b m o h actor at representable keeps = record {
         ∙ ap (λ b. queries_at a turns ++ cond b (entered_by action (packet_given c.sent action) o.done.answer) []) (ap (is_agent a) actor ∙ t)
         ∙ append-nil (queries_at a turns))
 
-pub after-agent : (c : Cluster) (turns : List Turn) (action : Action) (b : ℕ) (r : Option IdealNode) → IsAfter c turns → actor_of action ≡ Some b → slice_get c.nodes b ≡ r → IsAfter (on_agent c action b r).cluster (turns ++ (on_agent c action b r).turn ∷ [])
-after-agent c turns action b None h actor at = after-still c turns (on_agent c action b None) h refl (sym (append-nil c.sent)) refl refl
-after-agent c turns action b (Some m) h actor at =
+pub after-acts : (c : Cluster) (turns : List Turn) (action : Action) (b : ℕ) (m : IdealNode) → IsAfter c turns → actor_of action ≡ Some b → slice_get c.nodes b ≡ Some m
+    → (let s = applied c action b (apply m c.sent action) in IsAfter s.cluster (turns ++ s.turn ∷ []))
+after-acts c turns action b m h actor at =
     let representable = all-at (λ m. IsRepresentable m.agent) c.nodes b m h.representable at in
     after-applied c turns action b m (apply m c.sent action) h actor at (representable-apply m c.sent action representable) (keeps-apply m c.sent action representable.consistent.sound)
 
-after-by : (c : Cluster) (turns : List Turn) (action : Action) (o : Option ℕ) → IsAfter c turns → actor_of action ≡ o → IsAfter (step_by c action o).cluster (turns ++ (step_by c action o).turn ∷ [])
-after-by c turns action None h actor = after-still c turns (step_by c action None) h refl refl refl refl
-after-by c turns action (Some b) h actor = after-agent c turns action b (slice_get c.nodes b) h actor refl
-
 pub after-step : (r : Run) (action : Action) → IsAfter r.cluster r.turns → IsAfter (after r action).cluster (after r action).turns
-after-step r action h = after-by r.cluster r.turns action (actor_of action) h refl
+after-step r action h =
+    step-cases (λ s. IsAfter s.cluster (r.turns ++ s.turn ∷ [])) r.cluster action (λ actor. after-still r.cluster r.turns (injects r.cluster action (injects_of action)) h refl refl refl refl)
+    (λ b actor at. after-still r.cluster r.turns (on_agent r.cluster action b None) h refl (sym (append-nil r.cluster.sent)) refl refl) (λ b m actor at. after-acts r.cluster r.turns action b m h actor at)
 
 -- ---- what a turn says of its action
 
-action-agent : (c : Cluster) (action : Action) (b : ℕ) (r : Option IdealNode) → ((on_agent c action b r).turn.action ≡ action) × ((on_agent c action b r).turn.given ≡ packet_given c.sent action)
-action-agent c action b None = (refl, refl)
-action-agent c action b (Some m) = (refl, refl)
-
-action-by : (c : Cluster) (action : Action) (o : Option ℕ) → ((step_by c action o).turn.action ≡ action) × ((step_by c action o).turn.given ≡ packet_given c.sent action)
-action-by c action None = (refl, refl)
-action-by c action (Some b) = action-agent c action b (slice_get c.nodes b)
-
 pub turn-action : (c : Cluster) (action : Action) → (step c action).turn.action ≡ action
-turn-action c action = (action-by c action (actor_of action)).0
+turn-action c action = step-cases (λ s. s.turn.action ≡ action) c action (λ actor. refl) (λ b actor at. refl) (λ b m actor at. refl)
 
 pub turn-given : (c : Cluster) (action : Action) → (step c action).turn.given ≡ packet_given c.sent action
-turn-given c action = (action-by c action (actor_of action)).1
+turn-given c action = step-cases (λ s. s.turn.given ≡ packet_given c.sent action) c action (λ actor. refl) (λ b actor at. refl) (λ b m actor at. refl)

@@ -17,13 +17,14 @@ use Rattle.serf_agent.specs.Tracks.{of_life, was_ever_entered}
 use Rattle.serf_lamport.specs.Clock.{observed}
 use Rattle.serf_model.specs.declared.action.Action.{Action}
 use Rattle.serf_model.specs.declared.line.Answer.TheVariants as lines
-use Rattle.serf_model.specs.Cluster.{Applied, IdealNode, Cluster, Run, apply, after, on_agent, step, step_by}
+use Rattle.serf_model.specs.Cluster.{Applied, IdealNode, Cluster, Run, apply, after, step}
 use Rattle.serf_model.specs.Promises.{SeenWasHanded}
 use Rattle.serf_model.specs.Trace.{Turn, actor_of, events_to, packet_given}
 use Rattle.serf_model.proofs.Effects.{Effect, IsIdle, counts, effect, hears}
+use Rattle.serf_model.proofs.StepCases.{same-actor, step-cases}
 use Rattle.serf_model.proofs.TurnLaws.{at_each_nil, at_each_push}
 use Rattle.serf_model.proofs.PerTimeBound.{entries}
-use Rattle.serf_model.proofs.RunLaws.{IsAfter, events_at, turn-action, turn-given}
+use Rattle.serf_model.proofs.RunLaws.{IsAfter, events_at}
 
 -- ---- what was entered
 
@@ -79,35 +80,24 @@ seen-effect m action given o (hears j outs answer heard idle) packet e says is r
 seen-effect m action given o (counts to number now p r q true at same none kind) packet e says is reads = absurd (cc says)
 seen-effect m action given o _ packet e says is reads = absurd (cc says)
 
-seen-apply : (m : IdealNode) (sent : List (List ℕ)) (action : Action) (packet : List ℕ) (e : UserEvent) → (apply m sent action).done.answer ≡ lines.Ignored Seen → packet_given sent action ≡ Some packet → decoded packet ≡ Ok (user_event e)
-    → Contains (entries m.agent.events.history) (record { time = e.time; key = event_of e.name e.payload })
-seen-apply m sent action packet e says is reads =
-    entered-contains m.agent.events.history e.time (event_of e.name e.payload)
-    (seen-entered m.agent e.time (event_of e.name e.payload) (seen-effect m action (packet_given sent action) (apply m sent action) (effect m sent action) packet e says is reads))
-
 -- ---- a step
 
 abbrev SeenAt : List Turn → Turn → Type 0
 SeenAt before turn = (a : ℕ) (packet : List ℕ) (e : UserEvent) → actor_of turn.action ≡ Some a → turn.line.answer ≡ lines.Ignored Seen → turn.given ≡ Some packet → decoded packet ≡ Ok (user_event e)
     → Contains (events_to a before) (record { time = e.time; key = event_of e.name e.payload })
 
-seen-agent : (c : Cluster) (turns : List Turn) (action : Action) (a : ℕ) (r : Option IdealNode) (packet : List ℕ) (e : UserEvent) → IsAfter c turns → slice_get c.nodes a ≡ r → (on_agent c action a r).turn.line.answer ≡ lines.Ignored Seen
-    → packet_given c.sent action ≡ Some packet → decoded packet ≡ Ok (user_event e) → Contains (events_to a turns) (record { time = e.time; key = event_of e.name e.payload })
-seen-agent c turns action a None packet e h at says given reads = absurd (cc says)
-seen-agent c turns action a (Some m) packet e h at says given reads =
-    subst (λ l. Contains l (record { time = e.time; key = event_of e.name e.payload })) (ap events_at (sym at) ∙ h.events a) (seen-apply m c.sent action packet e says given reads)
-
-seen-by : (c : Cluster) (turns : List Turn) (action : Action) (o : Option ℕ) (a : ℕ) (packet : List ℕ) (e : UserEvent) → IsAfter c turns → o ≡ Some a → (step_by c action o).turn.line.answer ≡ lines.Ignored Seen
-    → packet_given c.sent action ≡ Some packet → decoded packet ≡ Ok (user_event e) → Contains (events_to a turns) (record { time = e.time; key = event_of e.name e.payload })
-seen-by c turns action None a packet e h is says given reads = absurd (cc is)
-seen-by c turns action (Some b) a packet e h is says given reads =
-    let same : b ≡ a = cc is in
-    seen-agent c turns action a (slice_get c.nodes a) packet e h refl (subst (λ (n : ℕ). (on_agent c action n (slice_get c.nodes n)).turn.line.answer ≡ lines.Ignored Seen) same says) given reads
+seen-acts : (c : Cluster) (turns : List Turn) (action : Action) (b : ℕ) (m : IdealNode) (packet : List ℕ) (e : UserEvent) → IsAfter c turns → slice_get c.nodes b ≡ Some m → (apply m c.sent action).done.answer ≡ lines.Ignored Seen
+    → packet_given c.sent action ≡ Some packet → decoded packet ≡ Ok (user_event e) → Contains (events_to b turns) (record { time = e.time; key = event_of e.name e.payload })
+seen-acts c turns action b m packet e h at says given reads =
+    subst (λ l. Contains l (record { time = e.time; key = event_of e.name e.payload })) (ap events_at (sym at) ∙ h.events b)
+    (entered-contains m.agent.events.history e.time (event_of e.name e.payload)
+    (seen-entered m.agent e.time (event_of e.name e.payload) (seen-effect m action (packet_given c.sent action) (apply m c.sent action) (effect m c.sent action) packet e says given reads)))
 
 pub seen-step : (r : Run) (action : Action) → IsAfter r.cluster r.turns → SeenWasHanded r.turns → SeenWasHanded (after r action).turns
 seen-step r action h all =
-    at_each_push SeenAt r.turns (step r.cluster action).turn all
-    (λ a packet e is says given reads. seen-by r.cluster r.turns action (actor_of action) a packet e h (sym (ap actor_of (turn-action r.cluster action)) ∙ is) says (sym (turn-given r.cluster action) ∙ given) reads)
+    at_each_push SeenAt r.turns (step r.cluster action).turn all (step-cases (λ s. SeenAt r.turns s.turn) r.cluster action (λ actor a packet e is says given reads. absurd (cc says)) (λ b actor at a packet e is says given reads. absurd (cc says))
+    (λ b m actor at a packet e is says given reads.
+    subst (λ (n : ℕ). Contains (events_to n r.turns) (record { time = e.time; key = event_of e.name e.payload })) (same-actor action b a actor is) (seen-acts r.cluster r.turns action b m packet e h at says given reads)))
 
 pub seen-start : SeenWasHanded []
 seen-start = at_each_nil SeenAt

@@ -1,11 +1,11 @@
 -- The turns of a run are read off its actions and its trace.
-use Rattle.std.proofs.Common.{suc, ◌≡◌, ℕ, ◌+◌, List, [], ◌∷◌, ◌++◌, Option, Some, None, refl, sym, ap, ◌∙◌, map, length, take, drop, append_assoc, length-append}
-use Rattle.std.specs.Prelude.{slice_get}
+use Rattle.std.proofs.Common.{suc, ◌≡◌, ℕ, ◌+◌, List, [], ◌∷◌, ◌++◌, refl, sym, ap, ◌∙◌, map, length, take, drop, append_assoc, length-append}
 use Rattle.std.specs.List.{fold}
 use Rattle.std.proofs.lemmas.List.{append-nil, map-append}
 use Rattle.serf_model.specs.declared.action.Action.{Action}
-use Rattle.serf_model.specs.Cluster.{IdealNode, Cluster, Run, apply, on_agent, step_by, step, after, trace_of, numbers_from}
-use Rattle.serf_model.specs.Trace.{Turn, AtEach, actor_of, sent_in, turns_from, turns_of, packet_given}
+use Rattle.serf_model.specs.Cluster.{Cluster, Run, apply, step, after, trace_of, numbers_from}
+use Rattle.serf_model.specs.Trace.{Turn, AtEach, sent_in, turns_from, turns_of, packet_given}
+use Rattle.serf_model.proofs.StepCases.{step-cases}
 use Rattle.serf_model.proofs.TurnLaws.{at_each_nil, at_each_push, flat_map-push}
 use Rattle.serf_model.proofs.RunLaws.{IsAfter, turn-action, turn-given}
 
@@ -53,19 +53,15 @@ reads-from before (t ∷ ts) more all =
 
 -- ---- a run's turns
 
-count-agent : (c : Cluster) (action : Action) (b : ℕ) (r : Option IdealNode) → length (on_agent c action b r).turn.line.sent ≡ length (on_agent c action b r).turn.packets
-count-agent c action b None = refl
-count-agent c action b (Some m) = length-numbers (length c.sent) (apply m c.sent action).done.packets
-
-count-by : (c : Cluster) (action : Action) (o : Option ℕ) → length (step_by c action o).turn.line.sent ≡ length (step_by c action o).turn.packets
-count-by c action None = length-numbers (length c.sent) _
-count-by c action (Some b) = count-agent c action b (slice_get c.nodes b)
+count-step : (c : Cluster) (action : Action) → length (step c action).turn.line.sent ≡ length (step c action).turn.packets
+count-step c action =
+    step-cases (λ s. length s.turn.line.sent ≡ length s.turn.packets) c action (λ actor. length-numbers (length c.sent) _) (λ b actor at. refl) (λ b m actor at. length-numbers (length c.sent) (apply m c.sent action).done.packets)
 
 pub read-step : (r : Run) (action : Action) → IsAfter r.cluster r.turns → AtEach IsRead r.turns → AtEach IsRead (after r action).turns
 read-step r action h all =
     at_each_push IsRead r.turns (step r.cluster action).turn all (record {
       given = turn-given r.cluster action ∙ ap (λ l. packet_given l action) h.sent ∙ ap (packet_given (sent_in r.turns)) (sym (turn-action r.cluster action));
-      count = count-by r.cluster action (actor_of action);
+      count = count-step r.cluster action;
     })
 
 pub read-start : AtEach IsRead []

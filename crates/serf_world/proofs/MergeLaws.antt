@@ -26,7 +26,8 @@ use Rattle.serf_model.specs.declared.line.Refusal.TheVariants.{SinkFault as Fail
 use Rattle.serf_model.specs.Cluster.{IdealNode, Merged, merges_as, merges_events, merges_on, merges_packet}
 use Rattle.serf_world.specs.Nodes.{DoesCall, done_of, merge_answer}
 use Rattle.serf_model.specs.Ready.{IsRepresentable}
-use Rattle.serf_model.proofs.InvariantKept.{representable-received, representable-joined, runs-on, times-of, none-if}
+use Rattle.serf_model.proofs.CallsKept.{none-if, representable-received}
+use Rattle.serf_model.proofs.InvariantKept.{representable-joined, runs-on, times-of}
 use Rattle.serf_world.proofs.NodeLaws.{may-will, steps-planned}
 
 -- what a merge came to

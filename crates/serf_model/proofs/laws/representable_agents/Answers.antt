@@ -1,4 +1,5 @@
-use Rattle.serf_model.proofs.InvariantKept.{representable-apply, text-has}
+use Rattle.serf_model.proofs.Effects.{representable-apply}
+use Rattle.serf_model.proofs.InvariantKept.{text-has}
 use Rattle.serf_model.proofs.StartLaws.{representable-start}
 use Rattle.serf_model.proofs.laws.representable_agents.Goals as goal
 

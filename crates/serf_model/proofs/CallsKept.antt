@@ -1,0 +1,194 @@
+-- What a call, an event and a query leave sound, over a sink with a plan.
+use Rattle.std.proofs.Common.{◌≡◌, ◌≢◌, ℕ, ◌-◌, ◌^◌, ◌<◌, ◌≤◌, ◌==◌, nat_lt, nat_le, Bool, true, false, cond, List, Option, Some, None, IsSome, Ok, Err, refl, sym, ap, subst, arith, length, inl, inr}
+use Rattle.std.specs.Prelude.{All, not, is_some}
+use Rattle.std.proofs.lemmas.List.{append-nil}
+use Rattle.std.proofs.lemmas.Bool.{and_parts, or_parts, leb-true, leb-false, ltb-false}
+use Rattle.serf_wire.specs.declared.texts.EventBody.{EventBody}
+use Rattle.serf_wire.specs.Message.{Query, query}
+use Rattle.serf_snap.specs.declared.kind.ClockKind.{ClockKind}
+use Rattle.serf_snap.specs.declared.kind.ClockKind.TheVariants as kinds
+use Rattle.serf_snap.specs.Clocks.{clock_line}
+use Rattle.serf_snap.specs.Device.{FailurePlan}
+use Rattle.serf_snap.specs.Notes.{SnapshotView, Writing, Kept, Failed, IsObservable, MayWrite, MayReplace, will_write, will_replace, noted, written, compacted, compaction_of, last_line, note_fails, left_by}
+use Rattle.serf_agent.specs.Calls.{Notes, Step, MayNote, planned, ended, will_note}
+use Rattle.serf_agent.specs.Ideal.{IdealAgent, with_snapshot}
+use Rattle.serf_agent.specs.Sound.{IsSound}
+use Rattle.serf_wire.specs.Canonical.{canonical}
+use Rattle.serf_agent.specs.declared.config.Config.{Config}
+use Rattle.serf_agent.specs.declared.outcome.Outcome.TheVariants as outcomes
+use Rattle.serf_agent.specs.declared.outcome.Outcome.TheVariants.{Event}
+use Rattle.serf_agent.specs.declared.outcome.QueryFault.{QueryFault}
+use Rattle.serf_agent.specs.declared.outcome.QueryFault.TheVariants as asks
+use Rattle.serf_agent.specs.declared.outcome.QueryParams.{QueryParams}
+use Rattle.serf_agent.specs.declared.outcome.ReceiveFault.TheVariants as receives
+use Rattle.serf_agent.specs.declared.outcome.FireFault.TheVariants as fires
+use Rattle.serf_agent.specs.declared.outcome.Reason.{Reason}
+use Rattle.serf_agent.specs.Config.{is_sound}
+use Rattle.serf_agent.specs.Queries.{query_fired_as, query_fault, query_asked, query_admission, query_received_as, query_entered, handed_if_passed, ack_if_passed, has_flag, no_broadcast_flag, is_no_timeout, is_too_large_query}
+use Rattle.serf_agent.specs.declared.outcome.FireFault.{FireFault}
+use Rattle.serf_agent.specs.Events.{texts_len, admission, received_as, event_entered, fired_as, fire_fault, event_packet, event_out, drawn, is_too_large}
+use Rattle.serf_agent.proofs.SoundLaws.{sound-note_failed, sound-event_entered, sound-event_observed, admission-new, sound-query_entered, sound-query_observed, query_admission-new, sound-query_asked}
+use Rattle.serf_agent.proofs.TrackLaws.{later-fresh}
+use Rattle.serf_model.specs.Ready.{IsRepresentable}
+
+-- ---- what a sink with a plan does
+
+abbrev view : (m e q : ℕ) (stopped : Bool) (k : Option (List ℕ)) (p : Option FailurePlan) → SnapshotView
+view m e q stopped k p = record { member_clock = m; event_clock = e; query_clock = q; stopped = stopped; durable = k; plan = p }
+
+-- the plan says what is done with a line, and that is observable
+record Does (s : SnapshotView) (kind : ClockKind) (t : ℕ) (w : Writing) : Type 0 where
+  may : MayWrite s (clock_line kind t) w
+  observable : IsObservable (written kind t s w)
+
+does-view : (m e q : ℕ) (b : Bool) (k : Option (List ℕ)) (p : Option FailurePlan) (kind : ClockKind) (t : ℕ) → IsSome k → IsSome p → Does (view m e q b k p) kind t (will_write (view m e q b k p))
+does-view m e q b None p kind t h g = absurd (cc h)
+does-view m e q b (Some k) None kind t h g = absurd (cc g)
+does-view m e q b (Some k) (Some p) kind t h g = by (note_fails p) refl
+  where
+    by : (f : Bool) → note_fails p ≡ f → Does (view m e q b (Some k) (Some p)) kind t (cond f (Failed (Some k)) Kept)
+    by true is = record { may = ((0, sym (append-nil k)), (is, refl)); observable = record { durable = refl; plan = refl } }
+    by false is = record { may = is; observable = record { durable = refl; plan = refl } }
+
+does-written : (s : SnapshotView) (kind : ClockKind) (t : ℕ) → IsObservable s → Does s kind t (will_write s)
+does-written s kind t observable = does-view s.member_clock s.event_clock s.query_clock s.stopped s.durable s.plan kind t observable.durable observable.plan
+
+-- what is done at a note
+record DoesNote (s : SnapshotView) (kind : ClockKind) (t : ℕ) (w : Writing) : Type 0 where
+  may : MayNote kind t s w
+  kept : w ≡ Kept → IsObservable (noted kind t s Kept)
+  failed : (k : Option (List ℕ)) → w ≡ Failed k → IsObservable (written kind t s (Failed k))
+
+does-note : (s : SnapshotView) (kind : ClockKind) (t : ℕ) → IsObservable s → DoesNote s kind t (will_note kind t s)
+does-note s kind t observable = by (nat_le t (last_line kind s)) refl
+  where
+    d : Does s kind t (will_write s)
+    d = does-written s kind t observable
+
+    by : (b : Bool) → nat_le t (last_line kind s) ≡ b → DoesNote s kind t (cond b Kept (will_write s))
+    by true is = record { may = rw is refl; kept = λ e. rw is observable; failed = λ k e. absurd (cc e) }
+    by false is = record {
+      may = rw is d.may;
+      kept = λ e. rw is (subst (λ (w : Writing). IsObservable (written kind t s w)) e d.observable);
+      failed = λ k e. subst (λ (w : Writing). IsObservable (written kind t s w)) e d.observable;
+    }
+
+-- what is done in a compaction
+pub record DoesReplace (s : SnapshotView) (w : Writing) : Type 0 where
+  pub may : MayReplace s w
+  pub observable : IsObservable (compacted s w)
+
+replace-view : (m e q : ℕ) (b : Bool) (k : Option (List ℕ)) (p : Option FailurePlan) → IsSome k → IsSome p → DoesReplace (view m e q b k p) (will_replace (view m e q b k p))
+replace-view m e q b None p h g = absurd (cc h)
+replace-view m e q b (Some k) None h g = absurd (cc g)
+replace-view m e q b (Some k) (Some p) h g = by (p.replaces == 1) refl
+  where
+    left : (new : Bool) → (left : Option (List ℕ)) → left ≡ cond new (Some (compaction_of (view m e q b (Some k) (Some p)))) (Some k) → (p.replaces == 1) ≡ true → left_by p (compaction_of (view m e q b (Some k) (Some p))) (Some k) ≡ left
+        → DoesReplace (view m e q b (Some k) (Some p)) (Failed left)
+    left true l is fails same = record { may = (inr is, (fails, sym same)); observable = record { durable = ap is_some is; plan = refl } }
+    left false l is fails same = record { may = (inl is, (fails, sym same)); observable = record { durable = ap is_some is; plan = refl } }
+
+    by : (f : Bool) → (p.replaces == 1) ≡ f → DoesReplace (view m e q b (Some k) (Some p)) (cond f (Failed (left_by p (compaction_of (view m e q b (Some k) (Some p))) (Some k))) Kept)
+    by true is = left p.keeps_new _ refl is refl
+    by false is = record { may = is; observable = record { durable = refl; plan = refl } }
+
+pub does-replace : (s : SnapshotView) → IsObservable s → DoesReplace s (will_replace s)
+does-replace s observable = replace-view s.member_clock s.event_clock s.query_clock s.stopped s.durable s.plan observable.durable observable.plan
+
+-- ---- a call
+
+-- a call whose line is written: what is owed is its end where the line is durable
+pub representable-notes : {R : Type 0} (i : IdealAgent) (kind : ClockKind) (t : ℕ) (step : Step R) (fault : R) → IsRepresentable i
+    → (IsObservable (noted kind t i.snapshot Kept) → IsRepresentable (with_snapshot (noted kind t i.snapshot Kept) step.agent)) → IsRepresentable (planned i (Notes kind t step fault)).agent
+representable-notes {R} i kind t step fault g kept = by (will_note kind t i.snapshot) (does-note i.snapshot kind t g.consistent.observable)
+  where
+    by : (w : Writing) → DoesNote i.snapshot kind t w → IsRepresentable (ended i (Notes kind t step fault) w).agent
+    by Kept d = kept (d.kept refl)
+    by (Failed k) d = record { consistent = record { sound = sound-note_failed kind t k i g.consistent.sound d.may; observable = d.failed k refl }; events = g.events; queries = g.queries }
+
+-- ---- events
+
+representable-event_entered : (i : IdealAgent) (t : ℕ) (what : EventBody) → IsRepresentable i → i.snapshot.stopped ≡ false → t < 2 ^ 64 - 1 → texts_len what ≤ 9216 → All (λ p. p.entry ≢ record { time = t; key = what }) i.events.history
+    → IsObservable (noted kinds.Event t i.snapshot Kept) → IsRepresentable (with_snapshot (noted kinds.Event t i.snapshot Kept) (event_entered t what i))
+representable-event_entered i t what g runs small short fresh observable = record {
+  consistent = record { sound = sound-event_entered t what i g.consistent.sound runs small short fresh; observable = observable };
+  events = omega (arith, g.events);
+  queries = g.queries;
+}
+
+pub representable-received : (i : IdealAgent) (t : ℕ) (what : EventBody) (coalesce : Bool) (r : Option Reason) → IsRepresentable i → i.snapshot.stopped ≡ false → t < 2 ^ 64 - 1 → admission i t what ≡ r → IsRepresentable (planned i (received_as r i t what coalesce)).agent
+representable-received i t what coalesce (Some reason) g runs small is = record { consistent = record { sound = sound-event_observed t i g.consistent.sound; observable = g.consistent.observable }; events = omega (arith, g.events); queries = g.queries }
+representable-received i t what coalesce None g runs small is =
+    let new = admission-new i t what is in
+    representable-notes i kinds.Event t (record { agent = event_entered t what i; answer = Ok (Event (event_out t what coalesce)) }) (Err receives.SinkFault) g (representable-event_entered i t what g runs small new.0 new.1)
+
+pub none-if : {X : Type 0} (b : Bool) (x : X) (r : Option X) → cond b (Some x) r ≡ None → (b ≡ false) × (r ≡ None)
+none-if true x r e = absurd (cc e)
+none-if false x r e = (refl, e)
+
+pub limit-short : (c : Config) → is_sound c ≡ true → c.event_limit ≤ 9216
+limit-short c ok =
+    let per_time = and_parts _ _ ok in
+    let responders = and_parts _ _ per_time.0 in
+    let limit = and_parts _ _ responders.0 in
+    leb-true c.event_limit 9216 limit.1
+
+-- what isn't refused
+pub record MayFire (i : IdealAgent) (what : EventBody) : Type 0 where
+  pub runs : i.snapshot.stopped ≡ false
+  pub short : texts_len what ≤ 9216
+  pub clock : i.events.clock < 2 ^ 64 - 1
+
+pub may-fire : (i : IdealAgent) (what : EventBody) (coalesce : Bool) → IsSound i → fire_fault i what coalesce ≡ None → MayFire i what
+may-fire i what coalesce s is =
+    let runs = none-if i.snapshot.stopped fires.Stopped _ is in
+    let large = none-if (is_too_large i.config.event_limit (drawn i.events.clock) what coalesce) fires.TooLarge _ runs.1 in
+    let short = or_parts (nat_lt i.config.event_limit (texts_len what)) (nat_lt i.config.event_limit (length (event_packet (drawn i.events.clock) what coalesce))) large.0 in
+    let clock = none-if (nat_le (2 ^ 64 - 1) i.events.clock) fires.Exhausted None large.1 in
+    let low : texts_len what ≤ i.config.event_limit = ltb-false _ _ short.0 in
+    let limit : i.config.event_limit ≤ 9216 = limit-short i.config s.config in
+    record { runs = runs.0; short = omega arith; clock = leb-false _ _ clock.0 }
+
+pub representable-fired : (i : IdealAgent) (what : EventBody) (coalesce : Bool) (r : Option FireFault) → IsRepresentable i → fire_fault i what coalesce ≡ r → IsRepresentable (planned i (fired_as r i what coalesce)).agent
+representable-fired i what coalesce (Some fault) g is = g
+representable-fired i what coalesce None g is =
+    let may = may-fire i what coalesce g.consistent.sound is in
+    representable-notes i kinds.Event i.events.clock (record { agent = event_entered i.events.clock what i; answer = Ok record { packet = event_packet i.events.clock what coalesce; handed = event_out i.events.clock what coalesce } }) (Err fires.SinkFault) g
+    (representable-event_entered i i.events.clock what g may.runs may.clock may.short (later-fresh i.events.history i.events.clock what g.consistent.sound.events.below_clock))
+
+-- ---- queries
+
+pub representable-query_received : (i : IdealAgent) (now : ℕ) (q : Query) (r : Option Reason) → IsRepresentable i → i.snapshot.stopped ≡ false → q.time < 2 ^ 64 - 1 → query_admission i q.time q.id ≡ r → IsRepresentable (planned i (query_received_as r i now q)).agent
+representable-query_received i now q (Some reason) g runs small is =
+    record { consistent = record { sound = sound-query_observed q.time i g.consistent.sound; observable = g.consistent.observable }; events = g.events; queries = omega (arith, g.queries) }
+representable-query_received i now q None g runs small is =
+    representable-notes i kinds.Query q.time
+    (record { agent = query_entered q.time q.id i; answer = Ok (outcomes.Query (handed_if_passed i.config.name now q) (ack_if_passed i.config.name q) (not (has_flag no_broadcast_flag q.flags))) }) (Err receives.SinkFault) g
+    (λ observable. record {
+      consistent = record { sound = sound-query_entered q.time q.id i g.consistent.sound runs small (query_admission-new i q.time q.id is); observable = observable };
+      events = g.events;
+      queries = omega (arith, g.queries);
+    })
+
+pub record MayAsk (i : IdealAgent) : Type 0 where
+  pub runs : i.snapshot.stopped ≡ false
+  pub clock : i.queries.clock < 2 ^ 64 - 1
+
+pub may-ask : (i : IdealAgent) (id : ℕ) (name payload : List ℕ) (params : QueryParams) → query_fault i id name payload params ≡ None → MayAsk i
+may-ask i id name payload params is =
+    let runs = none-if i.snapshot.stopped asks.Stopped _ is in
+    let large = none-if (is_too_large_query i.config.name i.queries.clock id name payload params) asks.TooLarge _ runs.1 in
+    let timeout = none-if (is_no_timeout params.timeout) asks.ZeroTimeout _ large.1 in
+    let clock = none-if (nat_le (2 ^ 64 - 1) i.queries.clock) asks.Exhausted None timeout.1 in
+    record { runs = runs.0; clock = leb-false _ _ clock.0 }
+
+pub representable-query_fired : (i : IdealAgent) (now : ℕ) (q : Query) (r : Option QueryFault) → IsRepresentable i → q.time ≡ i.queries.clock → (r ≡ None → MayAsk i) → IsRepresentable (planned i (query_fired_as r i now q)).agent
+representable-query_fired i now q (Some fault) g at may = g
+representable-query_fired i now q None g at may =
+    let m = may refl in
+    representable-notes i kinds.Query q.time (record { agent = query_asked now q i; answer = Ok record { time = q.time; packet = canonical (query q); handed = handed_if_passed i.config.name now q; ack = ack_if_passed i.config.name q } }) (Err asks.SinkFault) g
+    (λ observable. record {
+      consistent = record { sound = sound-query_asked now q i g.consistent.sound m.runs at (omega (arith, m.clock)); observable = observable };
+      events = g.events;
+      queries = omega (arith, g.queries, m.clock);
+    })

@@ -1,0 +1,130 @@
+-- What an answer to an open query, and a deadline, leave sound.
+use Rattle.std.proofs.Common.{zero, suc, ◌≡◌, ◌≢◌, ℕ, ◌<◌, ◌==◌, nat_lt, Bool, true, false, cond, List, [], ◌∷◌, ◌++◌, Some, None, refl, sym, ap, subst, ◌∙◌, arith, map, length}
+use Rattle.std.specs.Prelude.{All, AllPairs, not}
+use Rattle.std.specs.List.{list_any, filter}
+use Rattle.std.proofs.lemmas.List.Quantifiers.{all_pairs_push}
+use Rattle.std.specs.Str.{bytes_eq}
+use Rattle.std.proofs.lemmas.Slice.Eq.{bytes_eq-Decides}
+use Rattle.std.proofs.lemmas.List.{length-map, get_or-map}
+use Rattle.std.proofs.lemmas.Bool.{or_parts, true≢false}
+use Rattle.std.proofs.lemmas.List.Elements.{All-nil, All-map, All-cons, All-head, All-tail, All-filter}
+use Rattle.serf_wire.specs.Message.{QueryResponse}
+use Rattle.serf_agent.specs.Ideal.{IdealAgent, with_asked}
+use Rattle.serf_agent.specs.Sound.{IsOpenQuerySound}
+use Rattle.serf_agent.specs.declared.outcome.Reason.TheVariants.{OtherId, Closed, AckNotAsked, AckTwice, ResponseTwice}
+use Rattle.serf_agent.specs.declared.open_query.OpenQuery.{OpenQuery}
+use Rattle.serf_agent.specs.declared.lists.Response.{Response}
+use Rattle.serf_agent.specs.Queries.{asked_at, with_asked_at, counted, is_ack, has_acked, has_responded, answer_ignore_reason, ack_ignore_reason, response_ignore_reason, is_due, close_due}
+use Rattle.serf_model.specs.Ready.{IsRepresentable}
+use Rattle.serf_model.proofs.AnswersByTime.{asked-found, pairs-rest}
+use Rattle.serf_model.proofs.CallsKept.{none-if}
+
+-- ---- answers to open queries
+
+abbrev keys : List (ℕ × OpenQuery) → List ℕ
+keys l = map (λ p. p.0) l
+
+keys-asked_at : (t : ℕ) (x : OpenQuery) (l : List (ℕ × OpenQuery)) → keys (with_asked_at t x l) ≡ keys l
+keys-asked_at t x [] = refl
+keys-asked_at t x (p ∷ ps) = by (t == p.0) (keys-asked_at t x ps)
+  where
+    by : (b : Bool) → keys (with_asked_at t x ps) ≡ keys ps → keys (cond b ((p.0, x) ∷ ps) (p ∷ with_asked_at t x ps)) ≡ p.0 ∷ keys ps
+    by true rest = refl
+    by false rest = ap (λ l. p.0 ∷ l) rest
+
+-- what holds of all keys, and of all pairs of keys, is a fact of the list of keys
+keys-all : (P : ℕ → Type 0) (l : List (ℕ × OpenQuery)) → All (λ p. P p.0) l → All P (keys l)
+keys-all P l all = All-map P (λ (p : ℕ × OpenQuery). p.0) l all
+
+all-keys : (P : ℕ → Type 0) (l : List (ℕ × OpenQuery)) → All P (keys l) → All (λ p. P p.0) l
+all-keys P l all k d h = rw (get_or-map (λ (p : ℕ × OpenQuery). p.0) l k d d.0 h) at (all k d.0 (omega (arith, length-map l (λ (p : ℕ × OpenQuery). p.0))))
+
+keys-pairs : (l : List (ℕ × OpenQuery)) → AllPairs (λ p q. p.0 ≢ q.0) l → AllPairs (λ s t. s ≢ t) (keys l)
+keys-pairs l all i j d lt within =
+    let long : j < length l = omega (arith, length-map l (λ (p : ℕ × OpenQuery). p.0)) in
+    let none : ℕ × OpenQuery = (d, record { id = 0; deadline = 0; wants_ack = false; acks = []; responses = [] }) in
+    let far = all i j none lt long in
+    λ same. far (sym (get_or-map (λ (p : ℕ × OpenQuery). p.0) l i none d (omega arith)) ∙ same ∙ get_or-map (λ (p : ℕ × OpenQuery). p.0) l j none d long)
+
+pairs-keys : (l : List (ℕ × OpenQuery)) → AllPairs (λ s t. s ≢ t) (keys l) → AllPairs (λ p q. p.0 ≢ q.0) l
+pairs-keys l all i j d lt within =
+    λ same. all i j d.0 lt (omega (arith, length-map l (λ (p : ℕ × OpenQuery). p.0)))
+    (get_or-map (λ (p : ℕ × OpenQuery). p.0) l i d d.0 (omega arith) ∙ same ∙ sym (get_or-map (λ (p : ℕ × OpenQuery). p.0) l j d d.0 within))
+
+sound-asked_at : (P : OpenQuery → Type 0) (t : ℕ) (x : OpenQuery) (l : List (ℕ × OpenQuery)) → P x → All (λ p. P p.1) l → All (λ p. P p.1) (with_asked_at t x l)
+sound-asked_at P t x [] px all = all
+sound-asked_at P t x (p ∷ ps) px all = by (t == p.0) (sound-asked_at P t x ps px (All-tail (λ (p : ℕ × OpenQuery). P p.1) p ps all))
+  where
+    by : (b : Bool) → All (λ p. P p.1) (with_asked_at t x ps) → All (λ p. P p.1) (cond b ((p.0, x) ∷ ps) (p ∷ with_asked_at t x ps))
+    by true rest = All-cons (λ (p : ℕ × OpenQuery). P p.1) (p.0, x) ps px (All-tail (λ (p : ℕ × OpenQuery). P p.1) p ps all)
+    by false rest = All-cons (λ (p : ℕ × OpenQuery). P p.1) p (with_asked_at t x ps) (All-head (λ (p : ℕ × OpenQuery). P p.1) p ps all) rest
+
+representable-asked : (i : IdealAgent) (asked : List (ℕ × OpenQuery)) → IsRepresentable i → All (λ p. p.0 < i.queries.clock) asked → AllPairs (λ p q. p.0 ≢ q.0) asked → All (λ p. IsOpenQuerySound p.1) asked → IsRepresentable (with_asked asked i)
+representable-asked i asked g below distinct sound =
+    let s = g.consistent.sound in
+    record {
+      consistent = record {
+        sound = record { config = s.config; member_clock = s.member_clock; events = s.events; queries = s.queries; short = s.short; snapshot = s.snapshot; asked_below = below; asked_distinct = distinct; asked_sound = sound };
+        observable = g.consistent.observable;
+      };
+      events = g.events;
+      queries = g.queries;
+    }
+
+-- a name that isn't there
+pub fresh-name : {X : Type 0} (f : X → List ℕ) (l : List X) (name : List ℕ) → list_any (λ a. bytes_eq (f a) name) l ≡ false → All (λ a. f a ≢ name) l
+fresh-name f [] name none = All-nil (λ a. f a ≢ name)
+fresh-name f (x ∷ xs) name none =
+    let parts = or_parts (bytes_eq (f x) name) (list_any (λ a. bytes_eq (f a) name) xs) none in
+    All-cons (λ a. f a ≢ name) x xs (λ same. true≢false (sym ((bytes_eq-Decides (f x) name).1 same) ∙ parts.0)) (fresh-name f xs name parts.1)
+
+-- an answer that is counted has a new name
+sound-counted : (i : IdealAgent) (now : ℕ) (r : QueryResponse) (q : OpenQuery) → IsOpenQuerySound q → answer_ignore_reason now r q ≡ None → IsOpenQuerySound (counted r q)
+sound-counted i now r q s is =
+    let id = none-if (not (q.id == r.id)) OtherId _ is in
+    let deadline = none-if (nat_lt q.deadline now) Closed _ id.1 in
+    by (is_ack r) deadline.1
+  where
+    by : (b : Bool) → cond b (ack_ignore_reason r.from q) (response_ignore_reason r.from q) ≡ None
+        → IsOpenQuerySound (cond b (record { id = q.id; deadline = q.deadline; wants_ack = q.wants_ack; acks = q.acks ++ r.from ∷ []; responses = q.responses })
+        (record { id = q.id; deadline = q.deadline; wants_ack = q.wants_ack; acks = q.acks; responses = q.responses ++ record { from = r.from; payload = r.payload } ∷ [] }))
+    by true e =
+        let asked = none-if (not q.wants_ack) AckNotAsked _ e in
+        let fresh = none-if (has_acked q r.from) AckTwice None asked.1 in
+        record { acks = all_pairs_push (λ a b. a ≢ b) q.acks r.from s.acks (fresh-name (λ a. a) q.acks r.from fresh.0); responses = s.responses }
+    by false e =
+        let fresh = none-if (has_responded q r.from) ResponseTwice None e in
+        record { acks = s.acks; responses = all_pairs_push (λ (a b : Response). a.from ≢ b.from) q.responses (record { from = r.from; payload = r.payload }) s.responses (fresh-name (λ (a : Response). a.from) q.responses r.from fresh.0) }
+
+pub representable-counted : (i : IdealAgent) (now : ℕ) (r : QueryResponse) (q : OpenQuery) → IsRepresentable i → asked_at r.time i.asked ≡ Some q → answer_ignore_reason now r q ≡ None → IsRepresentable (with_asked (with_asked_at r.time (counted r q) i.asked) i)
+representable-counted i now r q g at is =
+    let s = g.consistent.sound in
+    let same = keys-asked_at r.time (counted r q) i.asked in
+    let l : List (ℕ × OpenQuery) = with_asked_at r.time (counted r q) i.asked in
+    representable-asked i l g
+    (all-keys (λ t. t < i.queries.clock) l (subst (All (λ t. t < i.queries.clock)) (sym same) (keys-all (λ t. t < i.queries.clock) i.asked s.asked_below)))
+    (pairs-keys l (subst (AllPairs (λ s t. s ≢ t)) (sym same) (keys-pairs i.asked s.asked_distinct)))
+    (sound-asked_at IsOpenQuerySound r.time (counted r q) i.asked (sound-counted i now r q (asked-found (λ p. IsOpenQuerySound p.1) r.time i.asked q s.asked_sound at) is) s.asked_sound)
+
+pairs-cons : {X : Type 0} (R : X → X → Type 0) (x : X) (xs : List X) → All (λ y. R x y) xs → AllPairs R xs → AllPairs R (x ∷ xs)
+pairs-cons R x xs first rest zero zero d lt within = absurd (omega arith)
+pairs-cons R x xs first rest zero (suc j) d lt within = first j d (omega arith)
+pairs-cons R x xs first rest (suc i) zero d lt within = absurd (omega arith)
+pairs-cons R x xs first rest (suc i) (suc j) d lt within = rest i j d (omega arith) (omega arith)
+
+pairs-filter : {X : Type 0} (R : X → X → Type 0) (test : X → Bool) (xs : List X) → AllPairs R xs → AllPairs R (filter test xs)
+pairs-filter R test [] all = all
+pairs-filter {X} R test (x ∷ xs) all = by (test x) (pairs-filter R test xs (pairs-rest R x xs all))
+  where
+    far : All (λ y. R x y) xs
+    far k d h = all 0 (suc k) d (omega arith) (omega arith)
+
+    by : (b : Bool) → AllPairs R (filter test xs) → AllPairs R (cond b (x ∷ filter test xs) (filter test xs))
+    by true rest = pairs-cons R x (filter test xs) (All-filter test (λ y. R x y) xs far) rest
+    by false rest = rest
+
+pub representable-closed : (i : IdealAgent) (now : ℕ) → IsRepresentable i → IsRepresentable (close_due i now).agent
+representable-closed i now g =
+    let s = g.consistent.sound in
+    let keep : ℕ × OpenQuery → Bool = λ q. not (is_due now q) in
+    representable-asked i (filter keep i.asked) g (All-filter keep (λ p. p.0 < i.queries.clock) i.asked s.asked_below) (pairs-filter (λ p q. p.0 ≢ q.0) keep i.asked s.asked_distinct) (All-filter keep (λ p. IsOpenQuerySound p.1) i.asked s.asked_sound)
