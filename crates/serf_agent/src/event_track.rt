@@ -3,7 +3,8 @@
 ghost use Rattle.std.specs.Prelude.{◌≡◌, ℕ, ◌<◌, ◌≤◌, ◌+◌, ◌-◌, ◌^◌, List, [], ◌∷◌, ◌++◌, max, min, map, length, OnOk, OnErr, IfOk, IfSome, SomeIff};
 ghost use Rattle.serf_lamport.specs.Clock.{observed};
 ghost use Rattle.serf_wire.specs.declared.texts.EventBody.{EventBody};
-ghost use Rattle.serf_window.specs.Texts.{event_of, same_texts, slot_view};
+ghost use Rattle.serf_window.specs.Slots.{slot_view};
+ghost use Rattle.serf_window.specs.Texts.{event_of, same_texts};
 ghost use Rattle.serf_window.specs.Window.{TimedEntry, count_in, room_for, slots_of, time_in};
 ghost use Rattle.serf_agent.specs.Events.{drawn};
 ghost use Rattle.serf_agent.specs.Ideal.{Track};
@@ -14,7 +15,7 @@ use crate::outcome::Reason;
 use crate::reason::reason_of;
 use serf_lamport::{Clock, Time};
 use serf_window::{Entry, EventWindow};
-use serf_wire::Slot;
+use serf_wire::{EventBody, EventView, Slot};
 use std::alloc::{AllocError, Global};
 use std::marker::Model;
 
@@ -110,9 +111,8 @@ impl EventTrack {
         ensures small { time < 2 ^ 64 - 1 }
     {
         let clock_after = self.clock.time().max(time.get() + 1);
-        let verdict = self
-            .window
-            .offer(clock_after, self.minimum, time, name, payload);
+        let event = EventView { name, payload };
+        let verdict = self.window.offer(clock_after, self.minimum, time, &event);
         reason_of(verdict)
     }
 
@@ -141,17 +141,18 @@ impl EventTrack {
         time: Time,
         name: &[u8],
         payload: &[u8],
-    ) -> Result<Entry, AllocError>
+    ) -> Result<Entry<EventBody>, AllocError>
         ensures entry { IfOk result (λ entry. entry ≡ record { time = time; key = event_of name.now payload.now }) }
         ensures room { OnOk result (0 < room_for self.new.window time) }
         ensures concrete { concrete_of self.new ≡ concrete_of self.old }
         ensures per_time { self.new.window.per_time ≡ self.old.window.per_time }
     {
-        self.window.prepare(alloc, time, name, payload)
+        self.window
+            .prepare(alloc, time, &EventView { name, payload })
     }
 
     /// Takes an event in, and observes its time.
-    pub(crate) fn enter(&mut self, time: Time, entry: Entry)
+    pub(crate) fn enter(&mut self, time: Time, entry: Entry<EventBody>)
         requires entry { entry.time ≡ time }
         requires room { 0 < room_for self.old.window time }
         requires not_later { time_in self.old.window.slots time ≤ time }

@@ -2,7 +2,8 @@
 
 ghost use Rattle.std.specs.Prelude.{◌≡◌, ℕ, ◌<◌, ◌≤◌, ◌+◌, ◌-◌, ◌^◌, List, [], ◌∷◌, ◌++◌, max, min, map, length, OnOk, OnErr, IfOk, IfSome, SomeIff};
 ghost use Rattle.serf_lamport.specs.Clock.{observed};
-ghost use Rattle.serf_window.specs.Queries.{same_id, id_slot_view};
+ghost use Rattle.serf_window.specs.Queries.{same_id};
+ghost use Rattle.serf_window.specs.Slots.{slot_view};
 ghost use Rattle.serf_window.specs.Window.{TimedEntry, count_in, room_for, slots_of, time_in};
 ghost use Rattle.serf_agent.specs.Events.{drawn};
 ghost use Rattle.serf_agent.specs.Ideal.{Track};
@@ -12,7 +13,7 @@ ghost use Rattle.serf_agent.specs.Tracks.{IsTrackSound, track_reason, view_of_tr
 use crate::outcome::Reason;
 use crate::reason::reason_of;
 use serf_lamport::{Clock, Time};
-use serf_window::{IdEntry, IdSlot, QueryWindow};
+use serf_window::{Entry, IdSlot, QueryWindow};
 use std::alloc::{AllocError, Global};
 use std::marker::Model;
 
@@ -75,7 +76,7 @@ impl QueryTrack {
     }
 
     pub(crate) fn slots(&self) -> &[IdSlot]
-        ensures { map id_slot_view result.now ≡ self.now.window.slots }
+        ensures { map slot_view result.now ≡ self.now.window.slots }
     {
         self.window.slots()
     }
@@ -108,7 +109,7 @@ impl QueryTrack {
         ensures small { time < 2 ^ 64 - 1 }
     {
         let clock_after = self.clock.time().max(time.get() + 1);
-        let verdict = self.window.offer(clock_after, self.minimum, time, id);
+        let verdict = self.window.offer(clock_after, self.minimum, time, &id);
         reason_of(verdict)
     }
 
@@ -136,17 +137,17 @@ impl QueryTrack {
         alloc: Global,
         time: Time,
         id: u32,
-    ) -> Result<IdEntry, AllocError>
+    ) -> Result<Entry<u32>, AllocError>
         ensures entry { IfOk result (λ entry. entry ≡ record { time = time; key = id }) }
         ensures room { OnOk result (0 < room_for self.new.window time) }
         ensures concrete { concrete_of self.new ≡ concrete_of self.old }
         ensures per_time { self.new.window.per_time ≡ self.old.window.per_time }
     {
-        self.window.prepare(alloc, time, id)
+        self.window.prepare(alloc, time, &id)
     }
 
     /// Takes a query in, and observes its time.
-    pub(crate) fn enter(&mut self, time: Time, entry: IdEntry)
+    pub(crate) fn enter(&mut self, time: Time, entry: Entry<u32>)
         requires entry { entry.time ≡ time }
         requires room { 0 < room_for self.old.window time }
         requires not_later { time_in self.old.window.slots time ≤ time }

@@ -4,7 +4,7 @@ use serf_lamport::Time;
 use serf_window::{
     EventWindow, Ids, MAX_PER_TIME, MAX_SLOTS, NewWindowFault, QueryWindow, Verdict,
 };
-use serf_wire::Slot;
+use serf_wire::{EventView, Slot};
 use std::alloc::{AllocError, Global};
 use std::test::Fail;
 
@@ -132,9 +132,10 @@ fn receive(
     name: &[u8],
     payload: &[u8],
 ) -> Result<Verdict, AllocError> {
-    let verdict = window.offer(clock, 1, at, name, payload);
+    let event = EventView { name, payload };
+    let verdict = window.offer(clock, 1, at, &event);
     if let Verdict::New = verdict {
-        let entry = window.prepare(alloc, at, name, payload)?;
+        let entry = window.prepare(alloc, at, &event)?;
         window.enter(entry);
     }
     Ok(verdict)
@@ -146,7 +147,7 @@ fn text_of(alloc: Global, slots: &[Slot]) -> Result<Vec<u8>, AllocError> {
     for slot in slots {
         let number = format!(in alloc; "{}", slot.time.get())?;
         text.extend_from_slice(number.as_bytes())?;
-        for event in slot.events.as_slice() {
+        for event in slot.held.as_slice() {
             text.push(b' ')?;
             text.extend_from_slice(event.name.as_slice())?;
             text.push(b'=')?;
@@ -183,10 +184,16 @@ fn stories(rt: HostRuntime) -> Result<(), Fail> {
     Ok(())
 }
 
+/// An event.
+const EVENT: EventView<'static> = EventView {
+    name: b"a",
+    payload: b"",
+};
+
 /// The verdict on an event that is offered at this minimum, where nothing was entered.
 fn verdict_at(alloc: Global, minimum: u64) -> Result<Verdict, Fail> {
     let window = window(alloc, 4, 2)?;
-    Ok(window.offer(9, minimum, time(8)?, b"a", b""))
+    Ok(window.offer(9, minimum, time(8)?, &EVENT))
 }
 
 #[test]
@@ -199,8 +206,8 @@ fn below_minimum(rt: HostRuntime) -> Result<(), Fail> {
 /// How many events are held, and the verdict on one, once it was prepared and not entered.
 fn prepared(alloc: Global) -> Result<(u64, Verdict), Fail> {
     let mut window = window(alloc, 4, 1)?;
-    let _entry = window.prepare(alloc, time(3)?, b"a", b"")?;
-    Ok((window.held(), window.offer(4, 1, time(3)?, b"a", b"")))
+    let _entry = window.prepare(alloc, time(3)?, &EVENT)?;
+    Ok((window.held(), window.offer(4, 1, time(3)?, &EVENT)))
 }
 
 #[test]
@@ -223,9 +230,9 @@ fn receive_query(
     id: u32,
 ) -> Result<Verdict, Fail> {
     let at = time(1)?;
-    let verdict = window.offer(clock, minimum, at, id);
+    let verdict = window.offer(clock, minimum, at, &id);
     if let Verdict::New = verdict {
-        let entry = window.prepare(alloc, at, id)?;
+        let entry = window.prepare(alloc, at, &id)?;
         window.enter(entry);
     }
     Ok(verdict)
@@ -235,7 +242,7 @@ fn receive_query(
 fn holds_seven(window: &QueryWindow) -> bool {
     match window.slots().get(1) {
         Some(slot) => {
-            slot.time.get() == 1 && slot.ids.as_slice() == [7u32].as_slice() && window.held() == 1
+            slot.time.get() == 1 && slot.held.as_slice() == [7u32].as_slice() && window.held() == 1
         }
         None => false,
     }

@@ -53,11 +53,11 @@ fn slot_copy(alloc: Global, slot: &SlotView) -> Result<Slot, Fail> {
     match *slot {
         SlotView::Empty => Ok(Slot {
             time: Time::new(0).ok_or("a time")?,
-            events: EventBodies::new(alloc),
+            held: EventBodies::new(alloc),
         }),
         SlotView::Held(time, events) => Ok(Slot {
             time,
-            events: event_copies(alloc, events)?,
+            held: event_copies(alloc, events)?,
         }),
     }
 }

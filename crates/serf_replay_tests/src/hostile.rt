@@ -50,7 +50,7 @@ fn packet(alloc: Global, time: u64, number: u64, behind: usize) -> Result<Vec<u8
 fn held(agent: &Agent<MemSink>) -> u64 {
     let mut held: u64 = 0;
     for slot in agent.slots() {
-        held = held.saturating_add(slot.events.as_slice().len() as u64);
+        held = held.saturating_add(slot.held.as_slice().len() as u64);
     }
     held
 }

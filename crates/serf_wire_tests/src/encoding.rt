@@ -133,7 +133,7 @@ fn slot_of(alloc: Global, slot: Held) -> Result<Slot, Fail> {
     };
     Ok(Slot {
         time: time(number)?,
-        events,
+        held: events,
     })
 }
 
