@@ -1,6 +1,6 @@
 //! What is offered to a window: a key where it lies, before any memory is taken for it.
 
-ghost use Rattle.std.specs.Prelude.{◌≡◌, ℕ, Bool, IfOk};
+ghost use Rattle.std.specs.Prelude.{◌≡◌, Bool, IfOk};
 ghost use Rattle.serf_window.specs.Queries.{same_id};
 ghost use Rattle.serf_window.specs.Texts.{event_of, same_texts};
 
