@@ -175,12 +175,15 @@ def path_of(crate, file, head, name):
     module = module_of(file)
     if head is None:
         return "::".join([*module, name])
-    trait = head["trait"].split("::")[-1] + (head["with"] or "") if head["trait"] else ""
+    # a trait's argument that is the impl's own type is not in its name
+    at_trait = head["with"] if head["with"] and head["with"] != head["type"] else ""
+    trait = head["trait"].split("::")[-1] + at_trait if head["trait"] else ""
     # an impl of a generic type at one type has that type in its name
     at_type = f"+{head['of']}" if head["of"] and not head["generic"] else ""
     if not trait and not at_type:
         module = home_of(crate, head["type"]) or module
-    return "::".join([*module, head["type"] + at_type + trait, name])
+    own = head["type"][0].upper() + head["type"][1:]
+    return "::".join([*module, own + at_type + trait, name])
 
 
 def module_of(file):

@@ -2,19 +2,20 @@
 use Rattle.std.proofs.Common.{◌≡◌, ◌≢◌, ◌↔◌, ℕ, Bool, true, false, cond, IsTrue, IsOk, List, [], ◌∷◌, map, Result, Ok, Err, refl, sym, ap, subst, ◌∙◌}
 use Rattle.serf_wire.specs.declared.encode.EncodeFault.{EncodeFault}
 use Rattle.serf_wire.specs.declared.encode.EncodeFault.TheVariants as encodes
-use Rattle.serf_wire.specs.declared.texts.Slot.{Slot}
+use Rattle.serf_wire.specs.declared.texts.EventBody.{EventBody}
+use Rattle.serf_wire.specs.declared.texts.TimeSlot.{TimeSlot}
 use Rattle.serf_wire.specs.Canonical.{canonical, has_long}
 use Rattle.serf_wire.specs.Message.{PushPull, push_pull}
 use Rattle.serf_wire.specs.Parts.{slot_content}
 use Rattle.serf_wire.specs.Slots.{SlotContent}
-use Rattle.serf_window.specs.Texts.{slot_view}
+use Rattle.serf_window.specs.Slots.{slot_view}
 use Rattle.serf_agent.specs.declared.outcome.PushPullFault.{PushPullFault}
 use Rattle.serf_agent.specs.declared.outcome.PushPullFault.TheVariants as states
 use Rattle.serf_agent.specs.States.{send_state, slot_sent, state_of}
 use Rattle.serf_agent.specs.View.{ConcreteState}
 
 -- slots mean what is sent of them
-pub slots-sent : (slots : List Slot) → map slot_content slots ≡ map slot_sent (map slot_view slots)
+pub slots-sent : (slots : List (TimeSlot EventBody)) → map slot_content slots ≡ map slot_sent (map slot_view slots)
 slots-sent [] = refl
 slots-sent (s ∷ ss) = ap (λ (l : List SlotContent). slot_content s ∷ l) (slots-sent ss)
 

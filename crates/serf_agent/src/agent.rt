@@ -14,9 +14,8 @@ ghost use Rattle.serf_agent.specs.View.{view_of};
 
 use crate::asked::Asked;
 use crate::config::Config;
-use crate::event_track::EventTrack;
 use crate::outcome::{NotOpened, OpenFault};
-use crate::query_track::QueryTrack;
+use crate::track::{EventTrack, QueryTrack};
 use serf_lamport::Clock;
 use serf_snap::{OpenFault as SnapshotFault, Sink, Snapshot};
 use std::alloc::{AllocError, Global};

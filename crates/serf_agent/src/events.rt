@@ -19,7 +19,7 @@ use crate::agent::Agent;
 use crate::outcome::{EventOut, FireFault, Fired, LineFault, Outcome, Reason, ReceiveFault};
 use serf_lamport::Time;
 use serf_snap::{NoteFault, Sink};
-use serf_wire::{Bytes, EncodeFault, encode_user_event, user_event_len};
+use serf_wire::{Bytes, EncodeFault, EventView, encode_user_event, user_event_len};
 use std::alloc::{AllocError, Global};
 
 /// The greatest length of an event's name and payload together, wherever it comes from.
@@ -121,7 +121,7 @@ impl<S: Sink> Agent<S> {
         if name.len() > LONGEST_TEXTS || payload.len() > LONGEST_TEXTS - name.len() {
             return Some(Reason::Oversize);
         }
-        self.events.reason(time, name, payload)
+        self.events.reason(time, &EventView { name, payload })
     }
 
     /// Takes an event that comes.
@@ -210,7 +210,8 @@ impl<S: Sink> Agent<S> {
         ensures cause { IsErrOf result LineFault.SinkFault → HasFailed self.old.device.failures self.new.device.failures }
         ensures memory { IsErrOf result LineFault.OutOfMemory → self.new ≡ self.old }
     {
-        let Ok(entry) = self.events.prepare(alloc, time, name, payload) else {
+        let event = EventView { name, payload };
+        let Ok(entry) = self.events.prepare(alloc, time, &event) else {
             return Err(LineFault::OutOfMemory);
         };
         match self.snapshot.note_event(alloc, time) {

@@ -266,7 +266,7 @@ impl<S: Sink> Agent<S> {
         ensures not_full { result ≡ None → count_in self.now.concrete.queries.slots time < self.now.concrete.config.per_time }
         ensures small { time < 2 ^ 64 - 1 }
     {
-        self.queries.reason(time, id)
+        self.queries.reason(time, &id)
     }
 
     /// Takes in a query, once its line is durable.
@@ -317,7 +317,7 @@ impl<S: Sink> Agent<S> {
         ensures cause { IsErrOf result LineFault.SinkFault → HasFailed self.old.device.failures self.new.device.failures }
         ensures memory { IsErrOf result LineFault.OutOfMemory → self.new ≡ self.old }
     {
-        let Ok(entry) = self.queries.prepare(alloc, time, id) else {
+        let Ok(entry) = self.queries.prepare(alloc, time, &id) else {
             return Err(LineFault::OutOfMemory);
         };
         match self.snapshot.note_query(alloc, time) {
@@ -384,7 +384,8 @@ impl<S: Sink> Agent<S> {
         ensures cause { IsErrOf result LineFault.SinkFault → HasFailed self.old.device.failures self.new.device.failures }
         ensures memory { IsErrOf result LineFault.OutOfMemory → self.new ≡ self.old }
     {
-        let Ok(entry) = self.queries.prepare(alloc, time, query.id) else {
+        let id = query.id;
+        let Ok(entry) = self.queries.prepare(alloc, time, &id) else {
             return Err(LineFault::OutOfMemory);
         };
         note_asked(&mut self.asked, &mut self.snapshot, alloc, time, query)?;

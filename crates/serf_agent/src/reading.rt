@@ -1,7 +1,7 @@
 //! What an agent tells of itself. None of these calls takes memory.
 
 ghost use Rattle.std.specs.Prelude.{◌≡◌, false, map, option_copied};
-ghost use Rattle.serf_window.specs.Texts.{slot_view};
+ghost use Rattle.serf_window.specs.Slots.{slot_view};
 ghost use Rattle.serf_snap.specs.Device.{IsClean, append_failing, flush_failing, durable_of, with_plan, replace_failing};
 ghost use Rattle.serf_agent.specs.Queries.{asked_at};
 ghost use Rattle.serf_agent.specs.View.{with_new_plan};

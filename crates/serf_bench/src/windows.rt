@@ -4,6 +4,7 @@ use crate::figures::{Work, call_all, print_per_call};
 use crate::texts::{NAME, payload_of, time_of};
 use serf_lamport::Time;
 use serf_window::{EventWindow, QueryWindow, Verdict};
+use serf_wire::EventView;
 use std::alloc::{AllocError, Global};
 use std::io;
 
@@ -35,12 +36,20 @@ fn offers_of(alloc: Global, first: u64, last: u64, count: u64) -> Result<Vec<Off
     Ok(offers)
 }
 
+fn lent_event(offer: &Offer) -> EventView {
+    EventView {
+        name: NAME,
+        payload: offer.payload.as_slice(),
+    }
+}
+
 /// Takes an event in, if it is new.
 fn take(alloc: Global, window: &mut EventWindow, offer: &Offer) -> Result<bool, AllocError> {
     let clock = offer.time.get().wrapping_add(1);
-    match window.offer(clock, 0, offer.time, NAME, offer.payload.as_slice()) {
+    let event = lent_event(offer);
+    match window.offer(clock, 0, offer.time, &event) {
         Verdict::New => {
-            let entry = window.prepare(alloc, offer.time, NAME, offer.payload.as_slice())?;
+            let entry = window.prepare(alloc, offer.time, &event)?;
             window.enter(entry);
             Ok(true)
         }
@@ -49,7 +58,7 @@ fn take(alloc: Global, window: &mut EventWindow, offer: &Offer) -> Result<bool, 
 }
 
 fn is_seen(window: &EventWindow, offer: &Offer) -> bool {
-    window.offer(SLOTS + 1, 0, offer.time, NAME, offer.payload.as_slice()) == Verdict::Seen
+    window.offer(SLOTS + 1, 0, offer.time, &lent_event(offer)) == Verdict::Seen
 }
 
 /// A window of events, to which events are offered that it has seen, or new ones, which enter.
@@ -137,9 +146,9 @@ fn take_id(
     id: u32,
 ) -> Result<bool, AllocError> {
     let clock = time.get().wrapping_add(1);
-    match window.offer(clock, 0, time, id) {
+    match window.offer(clock, 0, time, &id) {
         Verdict::New => {
-            let entry = window.prepare(alloc, time, id)?;
+            let entry = window.prepare(alloc, time, &id)?;
             window.enter(entry);
             Ok(true)
         }

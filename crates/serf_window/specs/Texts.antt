@@ -1,9 +1,7 @@
--- A window's events and queries, as contracts see them.
+-- A window's events, as contracts see them.
 use Rattle.std.specs.Prelude.{ℕ, ◌&&◌, Bool, List}
 use Rattle.std.specs.Str.{bytes_eq}
 use Rattle.serf_wire.specs.declared.texts.EventBody.{EventBody}
-use Rattle.serf_wire.specs.declared.texts.Slot.{Slot}
-use Rattle.serf_window.specs.Window.{SlotOf}
 
 -- whether two events of one time are the same: one name and one payload (`serf.go`, `userEvent.Equals`)
 abbrev pub same_texts : EventBody → EventBody → Bool
@@ -12,11 +10,3 @@ same_texts a b = bytes_eq a.name b.name && bytes_eq a.payload b.payload
 -- an event of these texts
 abbrev pub event_of : List ℕ → List ℕ → EventBody
 event_of name payload = record { name = name; payload = payload }
-
--- a slot of events
-abbrev pub slot_view : Slot → SlotOf EventBody
-slot_view s = record { time = s.time; held = s.events.items }
-
--- how many more events a slot takes without memory
-abbrev pub room_in : Slot → ℕ
-room_in s = s.events.room

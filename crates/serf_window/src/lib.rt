@@ -6,19 +6,18 @@
 //! (`serf.go`). At most K entries of one time are taken, which is a rule of this project's own: a window
 //! never holds more than N * K.
 //!
-//! `EventWindow` tells events of one time apart by their texts, and `QueryWindow` queries of one time by
-//! their IDs.
+//! A `Window` is generic in what tells the entries of one time apart, their key: an `EventWindow` has the
+//! texts of events, and a `QueryWindow` the IDs of queries. What is offered is a `LentKey`, which a window
+//! copies only where it is to enter.
 #![tactic(auto)]
 
-mod events;
-mod ids;
 mod laws;
+mod lent_key;
 mod place;
-mod queries;
 mod verdict;
+mod window;
 
-pub use events::{Entry, EventWindow};
-pub use ids::{IdSlot, Ids};
 pub use laws::slot_laws;
-pub use queries::{IdEntry, QueryWindow};
+pub use lent_key::LentKey;
 pub use verdict::{MAX_PER_TIME, MAX_SLOTS, NewWindowFault, Verdict};
+pub use window::{Entry, EventWindow, IdSlot, Ids, QueryWindow, Window};

@@ -5,7 +5,8 @@ use mir.Syntax.{w64}
 use Rattle.std.proofs.lemmas.Bool.Decides.{nat_tests}
 use Rattle.std.specs.List.{list_all, AllByRecursion}
 use Rattle.serf_wire.specs.declared.lists.StatusTime.{StatusTime}
-use Rattle.serf_wire.specs.declared.texts.Slot.{Slot}
+use Rattle.serf_wire.specs.declared.texts.EventBody.{EventBody}
+use Rattle.serf_wire.specs.declared.texts.TimeSlot.{TimeSlot}
 use Rattle.serf_wire.specs.Fields.{fits}
 use Rattle.serf_wire.specs.Ranges.{IsTimed}
 use Rattle.serf_wire.specs.Lists.{status_of}
@@ -21,7 +22,7 @@ status_ranged (s ∷ ss) e =
     let both = and_true (nat_lt s.time 18446744073709551616) _ e in
     (grind (arith, nat_tests, both.0), status_ranged ss both.1)
 
-pub slots_timed : (ss : List Slot) → list_all (λ s. nat_lt s.time 18446744073709551615) ss ≡ true → AllByRecursion IsTimed (map slot_content ss)
+pub slots_timed : (ss : List (TimeSlot EventBody)) → list_all (λ s. nat_lt s.time 18446744073709551615) ss ≡ true → AllByRecursion IsTimed (map slot_content ss)
 slots_timed [] e = tt
 slots_timed (s ∷ ss) e =
     let both = and_true (nat_lt s.time 18446744073709551615) _ e in

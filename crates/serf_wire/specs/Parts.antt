@@ -2,7 +2,8 @@
 use Rattle.std.specs.Prelude.{ℕ, List, [], ◌∷◌, ◌++◌, length, codes, map}
 use Rattle.std.specs.List.{flat_map}
 use Rattle.serf_pack.specs.Canonical.{map_head, raw_bytes, uint_bytes}
-use Rattle.serf_wire.specs.declared.texts.Slot.{Slot}
+use Rattle.serf_wire.specs.declared.texts.EventBody.{EventBody}
+use Rattle.serf_wire.specs.declared.texts.TimeSlot.{TimeSlot}
 use Rattle.serf_wire.specs.declared.parts.QueryParts.{QueryParts}
 use Rattle.serf_wire.specs.declared.parts.PushPullParts.{PushPullParts}
 use Rattle.serf_wire.specs.Slots.{SlotContent, held}
@@ -25,8 +26,8 @@ query_of p = record {
   payload = p.payload.now;
 }
 
-abbrev pub slot_content : Slot → SlotContent
-slot_content s = held s.time s.events.items
+abbrev pub slot_content : TimeSlot EventBody → SlotContent
+slot_content s = held s.time s.held.items
 
 abbrev pub push_pull_of : PushPullParts → PushPull
 push_pull_of p = record {

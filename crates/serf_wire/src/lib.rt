@@ -22,6 +22,7 @@ mod message;
 mod packet;
 mod parts;
 mod put;
+mod roomy;
 mod steps;
 mod texts;
 
@@ -34,4 +35,5 @@ pub use lists::{EventView, EventViews, SlotView, SlotViews, StatusTime, StatusTi
 pub use message::Message;
 pub use packet::decode;
 pub use parts::{PushPullParts, QueryParts};
-pub use texts::{Bytes, EventBodies, EventBody, Slot};
+pub use roomy::RoomyList;
+pub use texts::{Bytes, EventBodies, EventBody, Slot, TimeSlot};

@@ -69,7 +69,7 @@ fn has_long_slot(slots: &[Slot]) -> bool
     ensures { result ≡ list_any (λ s. is_long_slot (slot_content s)) slots.now }
 {
     for slot in slots {
-        let events = slot.events.as_slice();
+        let events = slot.held.as_slice();
         if events.len() > LONGEST || has_long_event(events) {
             return true;
         }

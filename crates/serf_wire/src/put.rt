@@ -167,7 +167,7 @@ fn put_slot(out: &mut Vec<u8>, slot: &Slot) -> Result<(), AllocError>
     ensures time { OnOk result (slot.now.time < 18446744073709551615) }
 {
     let time = slot.time.get();
-    let events = slot.events.as_slice();
+    let events = slot.held.as_slice();
     if events.is_empty() {
         return put_nil(out);
     }

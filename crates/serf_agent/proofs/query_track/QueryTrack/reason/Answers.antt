@@ -1,9 +1,0 @@
-use Rattle.std.proofs.Common.{◌≡◌, ◌+◌, max, ◌∙◌}
-use Rattle.serf_window.specs.Queries.{same_id}
-use Rattle.serf_agent.proofs.TrackLaws.{verdict-ideal}
-use Rattle.serf_agent.proofs.query_track.QueryTrack.reason.Goals as goal
-
-pub returns-clause-reason : goal.returns-clause-reason
-returns-clause-reason c = rw (← c.self.view_is) (λ track n life last sound is.
-    c.reason_of.ensures ∙ verdict-ideal same_id _ n c.self.inside.window.per_time life last track c.args.time c.max-clock_after.result c.args.id c.offer-verdict.result sound is
-    (c.max-clock_after.ensures ∙ (λ j. max (c.time.ensures j) (c.get.ensures.value j + 1))) c.offer-verdict.ensures.verdict)

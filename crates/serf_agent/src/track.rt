@@ -1,0 +1,166 @@
+//! What an agent knows of its events, or of its queries.
+
+ghost use Rattle.std.specs.Prelude.{◌≡◌, ℕ, ◌<◌, ◌≤◌, ◌+◌, ◌-◌, ◌^◌, List, [], ◌∷◌, ◌++◌, max, min, map, length, OnOk, OnErr, IfOk, IfSome, SomeIff};
+ghost use Rattle.serf_lamport.specs.Clock.{observed};
+ghost use Rattle.serf_window.specs.Slots.{slot_view};
+ghost use Rattle.serf_window.specs.Window.{TimedEntry, count_in, room_for, slots_of, time_in};
+ghost use Rattle.serf_agent.specs.Events.{drawn};
+ghost use Rattle.serf_agent.specs.Ideal as ideal;
+ghost use Rattle.serf_agent.specs.Inside.{concrete_of};
+ghost use Rattle.serf_agent.specs.Tracks.{IsTrackSound, track_reason, view_of_track};
+
+use crate::outcome::Reason;
+use crate::reason::reason_of;
+use serf_lamport::{Clock, Time};
+use serf_window::{Entry, LentKey, Window};
+use serf_wire::{EventBody, TimeSlot};
+use std::alloc::{AllocError, Global};
+use std::marker::Model;
+
+/// A clock, the least time that is taken, and the window of what came last.
+#[derive(Debug, Drop)]
+pub(crate) struct Track<K> {
+    clock: Clock,
+    minimum: u64,
+    window: Window<K>,
+}
+
+impl<K> Model for Track<K> {
+    ghost use Rattle.serf_agent.specs.Inside.{TrackState};
+
+    ghost Value = { TrackState K };
+
+    ghost use Rattle.serf_window.specs.Window.{TimesBelow};
+
+    ghost view = { λ t. record { clock = t.clock; minimum = t.minimum; window = t.window } };
+
+    ghost use Rattle.std.specs.Prelude.{◌<◌};
+
+    ghost invariant = { λ t. (0 < t.window.per_time) × TimesBelow t.clock t.window.slots };
+}
+
+/// The events that an agent knows of.
+pub(crate) type EventTrack = Track<EventBody>;
+
+/// The queries that an agent knows of.
+pub(crate) type QueryTrack = Track<u32>;
+
+impl<K: Drop> Track<K> {
+    /// A track that has nothing, and draws the time 1 first.
+    pub(crate) fn new(alloc: Global, slot_count: u64, per_time: u64) -> Result<Track<K>, AllocError>
+        requires { 0 < per_time }
+        ensures clock { IfOk result (λ t. t.clock ≡ 1) }
+        ensures minimum { IfOk result (λ t. t.minimum ≡ 1) }
+        ensures slots { IfOk result (λ t. t.window.slots ≡ slots_of slot_count []) }
+        ensures per_time { IfOk result (λ t. t.window.per_time ≡ per_time) }
+    {
+        let Ok(window) = Window::new(alloc, slot_count, per_time) else {
+            return Err(AllocError);
+        };
+        Ok(Track {
+            clock: Clock::new(),
+            minimum: 1,
+            window,
+        })
+    }
+
+    pub(crate) fn time(&self) -> u64
+        ensures { result ≡ self.now.clock }
+    {
+        self.clock.time()
+    }
+
+    pub(crate) fn minimum(&self) -> u64
+        ensures { result ≡ self.now.minimum }
+    {
+        self.minimum
+    }
+
+    pub(crate) fn slots(&self) -> &[TimeSlot<K>]
+        ensures { map slot_view result.now ≡ self.now.window.slots }
+    {
+        self.window.slots()
+    }
+
+    /// The time that a packet is measured with.
+    pub(crate) fn measured(&self) -> Time
+        ensures { result ≡ drawn self.now.clock }
+    {
+        match Time::new(self.clock.time().min(u64::MAX - 1)) {
+            Some(time) => time,
+            None => unreachable!(),
+        }
+    }
+
+    /// The time that is drawn next, which no slot holds yet.
+    pub(crate) fn next_time(&self) -> Option<Time>
+        ensures some { SomeIff result (self.now.clock < 2 ^ 64 - 1) self.now.clock }
+        ensures not_later { time_in self.now.window.slots self.now.clock ≤ self.now.clock }
+        ensures not_full { count_in self.now.window.slots self.now.clock < self.now.window.per_time }
+    {
+        Time::new(self.clock.time())
+    }
+
+    /// Why what comes is ignored, if it is.
+    pub(crate) fn reason<L: LentKey<K>>(&self, time: Time, key: &L) -> Option<Reason>
+        ensures reason { (track : ideal.Track K) (n life last : ℕ) → IsTrackSound track life last → concrete_of self.now ≡ view_of_track n life track
+            → result ≡ track_reason L.same n self.now.window.per_time life track time (L.key key.now) }
+        ensures not_later { result ≡ None → time_in self.now.window.slots time ≤ time }
+        ensures not_full { result ≡ None → count_in self.now.window.slots time < self.now.window.per_time }
+        ensures small { time < 2 ^ 64 - 1 }
+    {
+        let clock_after = self.clock.time().max(time.get() + 1);
+        let verdict = self.window.offer(clock_after, self.minimum, time, key);
+        reason_of(verdict)
+    }
+
+    pub(crate) fn observe(&mut self, time: Time)
+        ensures clock { self.new.clock ≡ observed self.old.clock time }
+        ensures minimum { self.new.minimum ≡ self.old.minimum }
+        ensures window { self.new.window ≡ self.old.window }
+    {
+        self.clock.observe(time);
+    }
+
+    /// Makes the clock at least this, and the least time at least that.
+    pub(crate) fn raise(&mut self, clock: u64, minimum: u64)
+        ensures clock { self.new.clock ≡ max self.old.clock clock }
+        ensures minimum { self.new.minimum ≡ max self.old.minimum minimum }
+        ensures window { self.new.window ≡ self.old.window }
+    {
+        self.clock.observe_before(clock);
+        self.minimum = self.minimum.max(minimum);
+    }
+
+    /// Makes what comes ready to enter.
+    pub(crate) fn prepare<L: LentKey<K>>(
+        &mut self,
+        alloc: Global,
+        time: Time,
+        key: &L,
+    ) -> Result<Entry<K>, AllocError>
+        ensures entry { IfOk result (λ entry. entry ≡ record { time = time; key = L.key key.now }) }
+        ensures room { OnOk result (0 < room_for self.new.window time) }
+        ensures concrete { concrete_of self.new ≡ concrete_of self.old }
+        ensures per_time { self.new.window.per_time ≡ self.old.window.per_time }
+    {
+        self.window.prepare(alloc, time, key)
+    }
+
+    /// Takes an entry in, and observes its time.
+    pub(crate) fn enter(&mut self, time: Time, entry: Entry<K>)
+        requires entry { entry.time ≡ time }
+        requires room { 0 < room_for self.old.window time }
+        requires not_later { time_in self.old.window.slots time ≤ time }
+        requires not_full { count_in self.old.window.slots time < self.old.window.per_time }
+        ensures slots { (entries : List (TimedEntry K)) → self.old.window.slots ≡ slots_of (length self.old.window.slots) entries
+            → self.new.window.slots ≡ slots_of (length self.old.window.slots) (entries ++ entry ∷ []) }
+        ensures clock { self.new.clock ≡ observed self.old.clock time }
+        ensures minimum { self.new.minimum ≡ self.old.minimum }
+        ensures size { length self.new.window.slots ≡ length self.old.window.slots }
+        ensures per_time { self.new.window.per_time ≡ self.old.window.per_time }
+    {
+        self.window.enter(entry);
+        self.clock.observe(time);
+    }
+}

@@ -1,0 +1,244 @@
+//! The window of what came last.
+
+ghost use Rattle.std.specs.Prelude.{◌≡◌, ◌≢◌, ℕ, ◌<◌, ◌≤◌, ◌*◌, ◌%◌, ◌^◌, ◌↔◌, ◌⊎◌, List, [], ◌∷◌, ◌++◌, map, length, sum_by, OnOk, OnErr, IfOk, IsErrOf, vec_len};
+ghost use Rattle.std.specs.List.{list_any};
+ghost use Rattle.serf_window.specs.OneSlot.{slot_verdict};
+ghost use Rattle.serf_window.specs.Slots.{slot_view};
+ghost use Rattle.serf_window.specs.Window.{IsBadSize, IsWindow, TimesBelow, TimedEntry, count_in, empty_slot, held_count, room_for, slot_after, slots_after, slots_of, time_in, verdict_of};
+
+use crate::lent_key::LentKey;
+use crate::place::place_of;
+use crate::verdict::{MAX_PER_TIME, MAX_SLOTS, NewWindowFault, Verdict};
+use serf_lamport::Time;
+use serf_wire::{EventBody, RoomyList, TimeSlot};
+use std::alloc::{AllocError, Global};
+use std::marker::Model;
+
+/// A time and a key of it, which enter the window that prepared them without memory.
+#[derive(Debug, Drop)]
+pub struct Entry<K> {
+    time: Time,
+    key: K,
+}
+
+impl<K> Model for Entry<K> {
+    ghost use Rattle.serf_window.specs.Window.{TimedEntry};
+
+    ghost Value = { TimedEntry K };
+
+    ghost view = { λ e. record { time = e.time; key = e.key } };
+}
+
+/// The keys of the last times, in slots by time modulo their number, at most `per_time` of one time.
+///
+/// Contracts see the slots, the room in each, and `per_time`.
+#[derive(Debug, Drop)]
+pub struct Window<K> {
+    slots: Vec<TimeSlot<K>>,
+    per_time: u64,
+}
+
+impl<K> Model for Window<K> {
+    ghost use Rattle.std.specs.Prelude.{map};
+    ghost use Rattle.std.specs.Vec.{vec_len};
+    ghost use Rattle.serf_window.specs.Window.{IsWindow, WindowOf};
+
+    ghost Value = { WindowOf K };
+
+    ghost use Rattle.serf_window.specs.Slots.{slot_view, room_in};
+
+    ghost view = { λ w. record { slots = map slot_view w.slots.items; rooms = map room_in w.slots.items; per_time = w.per_time } };
+
+    ghost invariant = { λ w. IsWindow (vec_len w.slots) w.per_time (map slot_view w.slots.items) };
+}
+
+/// The window of events: an event is known by its time, name and payload.
+pub type EventWindow = Window<EventBody>;
+
+/// The window of queries: a query is known by its time and ID.
+pub type QueryWindow = Window<u32>;
+
+/// IDs of queries, in order.
+pub type Ids = RoomyList<u32>;
+
+/// A slot of IDs of queries.
+pub type IdSlot = TimeSlot<u32>;
+
+/// Whether one of these keys is the one that is offered.
+fn is_among<K, L: LentKey<K>>(held: &[K], key: &L) -> bool
+    ensures { result ≡ list_any (λ h. L.same h (L.key key.now)) held.now }
+{
+    held.iter().any(|other| key.is(other))
+}
+
+/// The verdict of the slot of an offer's time, where that time isn't below the minimum, nor too old.
+fn verdict_in<K, L: LentKey<K>>(slot: &TimeSlot<K>, per_time: u64, time: Time, key: &L) -> Verdict
+    ensures { result ≡ slot_verdict L.same per_time (slot_view slot.now) time (L.key key.now) }
+{
+    let slot_time = slot.time.get();
+    let held = slot.held.as_slice();
+    if time.get() < slot_time {
+        Verdict::TooOld
+    } else if slot_time < time.get() {
+        Verdict::New
+    } else if is_among(held, key) {
+        Verdict::Seen
+    } else if per_time <= held.len() as u64 {
+        Verdict::TimeFull
+    } else {
+        Verdict::New
+    }
+}
+
+/// Takes a key into the slot of its time. A slot of an older time begins anew, and keeps its memory.
+fn take_in<K: Drop>(slot: &mut TimeSlot<K>, time: Time, key: K)
+    requires room { 0 < slot.old.held.room }
+    requires not_later { slot.old.time ≤ time }
+    ensures { slot_view slot.new ≡ slot_after (slot_view slot.old) (record { time = time; key = key }) }
+{
+    if slot.time.get() < time.get() {
+        slot.held.clear();
+        slot.time = time;
+    }
+    slot.held.add(key);
+}
+
+/// The number of keys in these slots.
+fn count_held<K>(slots: &[TimeSlot<K>]) -> u64
+    requires { sum_by (λ slot. length slot.held.items) slots.now < 2 ^ 64 }
+    ensures { result ≡ sum_by (λ slot. length slot.held.items) slots.now }
+{
+    slots
+        .iter()
+        .map(|slot| slot.held.as_slice().len() as u64)
+        .sum()
+}
+
+/// A slot that holds nothing.
+fn empty_slot<K>(alloc: Global) -> TimeSlot<K>
+    ensures { slot_view result ≡ empty_slot }
+{
+    let Some(time) = Time::new(0) else {
+        unreachable!()
+    };
+    TimeSlot {
+        time,
+        held: RoomyList::new(alloc),
+    }
+}
+
+/// The slots of a window that holds nothing.
+fn empty_slots<K: Drop>(alloc: Global, n: u64) -> Result<Vec<TimeSlot<K>>, AllocError>
+    ensures size { IfOk result (λ slots. vec_len slots ≡ n) }
+    ensures empty { IfOk result (λ slots. map slot_view slots.items ≡ slots_of n []) }
+{
+    let mut slots = Vec::with_capacity(alloc, n as usize)?;
+    for _ in 0..n {
+        slots.push(empty_slot(alloc))?;
+    }
+    Ok(slots)
+}
+
+impl<K: Drop> Window<K> {
+    /// A window of `slot_count` empty slots, which takes `per_time` keys of one time at most. `BadSize` where one
+    /// of the two is 0 or above 65,536, and `OutOfMemory` where there is no memory for the slots.
+    pub fn new(alloc: Global, slot_count: u64, per_time: u64) -> Result<Self, NewWindowFault>
+        ensures slots { IfOk result (λ window. window.slots ≡ slots_of slot_count []) }
+        ensures per_time { IfOk result (λ window. window.per_time ≡ per_time) }
+        ensures bad { IsErrOf result NewWindowFault.BadSize ↔ (IsBadSize slot_count ⊎ IsBadSize per_time) }
+    {
+        if slot_count == 0 || slot_count > MAX_SLOTS || per_time == 0 || per_time > MAX_PER_TIME {
+            return Err(NewWindowFault::BadSize);
+        }
+        let slots = empty_slots(alloc, slot_count).map_err(|_| NewWindowFault::OutOfMemory)?;
+        Ok(Window { slots, per_time })
+    }
+
+    /// The verdict on what is offered, by all that was ever entered, though the window holds the last of it
+    /// alone. The caller's clock has observed the offer's time, and `minimum` is the least time that the caller
+    /// takes. Takes no memory.
+    #[inline]
+    pub fn offer<L: LentKey<K>>(
+        &self,
+        clock_after: u64,
+        minimum: u64,
+        time: Time,
+        key: &L,
+    ) -> Verdict
+        ensures verdict { (entries : List (TimedEntry K)) → self.now.slots ≡ slots_of (length self.now.slots) entries
+            → time < clock_after → TimesBelow clock_after self.now.slots
+            → result ≡ verdict_of L.same (length self.now.slots) self.now.per_time entries clock_after minimum time (L.key key.now) }
+
+        // What is new may enter.
+        ensures not_later { result ≡ Verdict.New → time_in self.now.slots time ≤ time }
+        ensures not_full { result ≡ Verdict.New → count_in self.now.slots time < self.now.per_time }
+    {
+        if time.get() < minimum {
+            return Verdict::BelowMinimum;
+        }
+        if time.get() < clock_after.saturating_sub(self.slots.len() as u64) {
+            return Verdict::TooOld;
+        }
+        let slot = &self.slots[place_of(time, self.slots.len())];
+        verdict_in(slot, self.per_time, time, key)
+    }
+
+    /// Copies what is offered and makes room for it, so that it enters without memory. What the window holds
+    /// is unchanged; where there is no memory, the whole window is.
+    pub fn prepare<L: LentKey<K>>(
+        &mut self,
+        alloc: Global,
+        time: Time,
+        key: &L,
+    ) -> Result<Entry<K>, AllocError>
+        ensures entry { IfOk result (λ entry. entry ≡ record { time = time; key = L.key key.now }) }
+        ensures room { OnOk result (0 < room_for self.new time) }
+        ensures slots { self.new.slots ≡ self.old.slots }
+        ensures per_time { self.new.per_time ≡ self.old.per_time }
+        ensures others { (t : ℕ) → 0 < room_for self.old t → 0 < room_for self.new t }
+        ensures err { OnErr result (self.new ≡ self.old) }
+    {
+        let key = key.copy_of(alloc)?;
+        let place = place_of(time, self.slots.len());
+        let slot = &mut self.slots[place];
+        slot.held.make_room()?;
+        Ok(Entry { time, key })
+    }
+
+    /// Takes an entry in. There is room for its time, its slot holds no later time, and fewer than `per_time`
+    /// keys of this one: `prepare` makes room, and what `offer` calls `New` meets the rest. Takes no memory.
+    pub fn enter(&mut self, entry: Entry<K>)
+        requires room { 0 < room_for self.old entry.time }
+        requires not_later { time_in self.old.slots entry.time ≤ entry.time }
+        requires not_full { count_in self.old.slots entry.time < self.old.per_time }
+
+        ensures slots { (entries : List (TimedEntry K)) → self.old.slots ≡ slots_of (length self.old.slots) entries
+            → self.new.slots ≡ slots_of (length self.old.slots) (entries ++ entry ∷ []) }
+        ensures after { self.new.slots ≡ slots_after self.old.slots entry }
+        ensures below { (clock : ℕ) → entry.time < clock → TimesBelow clock self.old.slots → TimesBelow clock self.new.slots }
+        ensures size { length self.new.slots ≡ length self.old.slots }
+        ensures others { (t : ℕ) → t % length self.old.slots ≢ entry.time % length self.old.slots → room_for self.new t ≡ room_for self.old t }
+        ensures per_time { self.new.per_time ≡ self.old.per_time }
+    {
+        let Entry { time, key } = entry;
+        let place = place_of(time, self.slots.len());
+        take_in(&mut self.slots[place], time, key);
+    }
+
+    /// All slots, in order. Takes no memory.
+    pub fn slots(&self) -> &[TimeSlot<K>]
+        ensures slots { map slot_view result.now ≡ self.now.slots }
+        ensures bounds { IsWindow (length self.now.slots) self.now.per_time self.now.slots }
+    {
+        self.slots.as_slice()
+    }
+
+    /// The number of keys that the window holds: never more than its slots times `per_time`. Takes no
+    /// memory.
+    pub fn held(&self) -> u64
+        ensures count { result ≡ held_count self.now.slots }
+        ensures bound { result ≤ length self.now.slots * self.now.per_time }
+    {
+        count_held(self.slots.as_slice())
+    }
+}

@@ -1,0 +1,89 @@
+//! A list with spare room.
+
+ghost use Rattle.std.specs.Prelude.{◌≡◌, ◌+◌, ◌-◌, ◌<◌, ◌≤◌, [], ◌∷◌, ◌++◌, OnOk, OnErr, length, vec_len, vec_capacity};
+
+use std::alloc::{AllocError, Global};
+use std::marker::Model;
+
+/// Items in order.
+///
+/// Contracts see the list of them, and how many more go in without memory.
+#[derive(Debug, Drop)]
+pub struct RoomyList<T> {
+    items: Vec<T>,
+}
+
+impl<T> Model for RoomyList<T> {
+    ghost use Rattle.std.specs.Prelude.{◌-◌};
+    ghost use Rattle.std.specs.Vec.{vec_len, vec_capacity};
+    ghost use Rattle.serf_wire.specs.Roomy.{Roomy};
+
+    ghost Value = { Roomy T };
+
+    ghost view = { λ l. record { items = l.items.items; room = vec_capacity l.items - vec_len l.items } };
+}
+
+impl<T> RoomyList<T> {
+    /// No items. Takes no memory.
+    pub fn new(alloc: Global) -> RoomyList<T>
+        ensures { result.items ≡ [] }
+    {
+        RoomyList {
+            items: Vec::new(alloc),
+        }
+    }
+
+    /// The items of a vector. Takes no memory.
+    pub fn from_vec(items: Vec<T>) -> RoomyList<T>
+        ensures items { result.items ≡ items.items }
+        ensures room { result.room ≡ vec_capacity items - vec_len items }
+    {
+        RoomyList { items }
+    }
+
+    /// The items. Takes no memory.
+    pub fn as_slice(&self) -> &[T]
+        ensures { result.now ≡ self.now.items }
+    {
+        self.items.as_slice()
+    }
+
+    /// The vector of the items. Takes no memory.
+    pub fn into_vec(self) -> Vec<T>
+        ensures { result.items ≡ self.items }
+    {
+        let RoomyList { items } = self;
+        items
+    }
+
+    /// Makes room for one more, or changes nothing where there is no memory for it. Takes memory only where there
+    /// is no room.
+    pub fn make_room(&mut self) -> Result<(), AllocError>
+        ensures items { self.new.items ≡ self.old.items }
+        ensures room { OnOk result (0 < self.new.room) }
+        ensures kept { self.old.room ≤ self.new.room }
+        ensures err { OnErr result (self.new ≡ self.old) }
+        ensures full { OnErr result (self.old.room ≡ 0) }
+    {
+        self.items.reserve(1)
+    }
+
+    /// Adds an item where there is room for it, and takes up just its place. Takes no memory.
+    pub fn add(&mut self, item: T)
+        requires { 0 < self.old.room }
+        ensures items { self.new.items ≡ self.old.items ++ item ∷ [] }
+        ensures room { self.new.room + 1 ≡ self.old.room }
+    {
+        self.items.push_reserved(item);
+    }
+}
+
+impl<T: Drop> RoomyList<T> {
+    /// Leaves no item, and all the room that was there. Takes no memory.
+    pub fn clear(&mut self)
+        ensures items { self.new.items ≡ [] }
+        ensures room { self.new.room ≡ self.old.room + length self.old.items }
+    {
+        self.items.clear();
+    }
+}
