@@ -1,7 +1,7 @@
 //! Readers and writers that give and take little, and that fail at each place.
 ghost use Rattle.std.specs.Prelude.{◌≡◌, ◌<◌, Some};
 
-use serf_replay::{Cause, MAX_SCHEDULE_BYTES, ReplayFault, replay};
+use serf_replay::{Cause, MAX_SCHEDULE_BYTES, ReplayFault, Unwatched, replay};
 use std::io;
 use std::io::{Read, Write};
 use std::test::Fail;
@@ -93,7 +93,7 @@ fn replayed(
         room,
         can_flush,
     };
-    let outcome = replay(rt.alloc(), &mut reader, &mut writer);
+    let outcome = replay(rt.alloc(), &mut reader, &mut writer, &mut Unwatched);
     let FullWriter { taken, .. } = writer;
     Ok((outcome, taken))
 }
@@ -145,15 +145,15 @@ fn the_greatest_length(rt: HostRuntime) -> Result<(), Fail> {
     let mut bytes = vec![in rt.alloc(); b'x'; MAX_SCHEDULE_BYTES + 1]?;
     let mut written = Vec::new(rt.alloc());
     let mut reader = bytes.as_slice();
-    let outcome = replay(rt.alloc(), &mut reader, &mut written);
+    let outcome = replay(rt.alloc(), &mut reader, &mut written, &mut Unwatched);
     assert_eq!(rt; outcome, Err(ReplayFault::ReadTooLong));
     let mut reader = &bytes[1..];
-    let outcome = replay(rt.alloc(), &mut reader, &mut written);
+    let outcome = replay(rt.alloc(), &mut reader, &mut written, &mut Unwatched);
     let cause = Cause::UnknownWord;
     assert_eq!(rt; outcome, Err(ReplayFault::BadLine { line: 1, cause }));
     bytes[1] = b'#';
     let mut reader = &bytes[1..];
-    replay(rt.alloc(), &mut reader, &mut written)?;
+    replay(rt.alloc(), &mut reader, &mut written, &mut Unwatched)?;
     assert!(rt; written.is_empty());
     Ok(())
 }

@@ -1,6 +1,6 @@
 //! What hurts Serf 0.9.4, and what is answered here.
 
-use serf_replay::replay;
+use serf_replay::{Unwatched, replay};
 use std::process::Abort;
 use std::test::Fail;
 
@@ -8,7 +8,7 @@ use std::test::Fail;
 fn expect_trace(rt: &(impl Abort + AllocGlobal), schedule: &str, trace: &str) -> Result<(), Fail> {
     let mut written = Vec::new(rt.alloc());
     let mut reader = schedule.as_bytes();
-    replay(rt.alloc(), &mut reader, &mut written)?;
+    replay(rt.alloc(), &mut reader, &mut written, &mut Unwatched)?;
     assert_eq!(rt; written.as_slice(), trace.as_bytes());
     Ok(())
 }
