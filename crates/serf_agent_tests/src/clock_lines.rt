@@ -1,7 +1,7 @@
 //! The clocks that a text's lines keep, and a line behind each tail.
 
 use serf_lamport::Time;
-use serf_snap::{Clocks, MemSink, Snapshot, read_clocks};
+use serf_snap::{ClockKind, Clocks, MemSink, Snapshot, read_clocks};
 use std::alloc::Global;
 use std::test::Fail;
 
@@ -104,7 +104,7 @@ fn noted(alloc: Global, text: &[u8]) -> Result<(Clocks, Clocks), Fail> {
     let sink = MemSink::with(alloc, text)?;
     let mut snapshot = Snapshot::open(alloc, text, sink).map_err(|(_, fault)| fault)?;
     let opened = snapshot.clocks();
-    snapshot.note_event(alloc, time(13)?)?;
+    snapshot.note(alloc, ClockKind::Event, time(13)?)?;
     Ok((opened, read_clocks(snapshot.sink().durable())))
 }
 

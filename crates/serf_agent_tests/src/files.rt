@@ -1,7 +1,7 @@
 //! Snapshots in files, and on files that fail.
 
 use crate::clock_lines::{clocks, time};
-use serf_snap::{Clocks, FileSink, NoteFault, OpenFault, Snapshot, read_clocks};
+use serf_snap::{ClockKind, Clocks, FileSink, NoteFault, OpenFault, Snapshot, read_clocks};
 use std::alloc::Global;
 use std::fs::{File, Metadata, OpenFile, OpenOptions};
 use std::io::Write;
@@ -29,7 +29,7 @@ fn note_event(
     snapshot: &mut Snapshot<FileSink<File>>,
     number: u64,
 ) -> Result<(), Fail> {
-    Ok(snapshot.note_event(alloc, time(number)?)?)
+    Ok(snapshot.note(alloc, ClockKind::Event, time(number)?)?)
 }
 
 fn note_query(
@@ -37,7 +37,7 @@ fn note_query(
     snapshot: &mut Snapshot<FileSink<File>>,
     number: u64,
 ) -> Result<(), Fail> {
-    Ok(snapshot.note_query(alloc, time(number)?)?)
+    Ok(snapshot.note(alloc, ClockKind::Query, time(number)?)?)
 }
 
 /// What the file has once an event and a query are noted in it.
@@ -133,7 +133,7 @@ fn noted(
     snapshot: &mut Snapshot<FileSink<FailingFile>>,
     number: u64,
 ) -> Result<Result<(), NoteFault>, Fail> {
-    Ok(snapshot.note_event(alloc, time(number)?))
+    Ok(snapshot.note(alloc, ClockKind::Event, time(number)?))
 }
 
 /// Whether a torn text isn't sealed on a file.

@@ -1,7 +1,9 @@
 //! Snapshots on a sink in memory, and the sink itself.
 
 use crate::clock_lines::{AGENT, clocks, time};
-use serf_snap::{MemSink, NoteFault, ReplaceSink, Sink, SinkFault, Snapshot, read_clocks};
+use serf_snap::{
+    ClockKind, MemSink, NoteFault, ReplaceSink, Sink, SinkFault, Snapshot, read_clocks,
+};
 use std::alloc::Global;
 use std::test::Fail;
 
@@ -210,9 +212,9 @@ fn take(
     step: Step,
 ) -> Result<Result<(), NoteFault>, Fail> {
     Ok(match step {
-        Step::Event(number) => snapshot.note_event(alloc, time(number)?),
-        Step::Query(number) => snapshot.note_query(alloc, time(number)?),
-        Step::Member(number) => snapshot.note_member(alloc, time(number)?),
+        Step::Event(number) => snapshot.note(alloc, ClockKind::Event, time(number)?),
+        Step::Query(number) => snapshot.note(alloc, ClockKind::Query, time(number)?),
+        Step::Member(number) => snapshot.note(alloc, ClockKind::Member, time(number)?),
         Step::Compact => snapshot.compact(alloc),
         _ => {
             break_sink(snapshot, step);
