@@ -18,7 +18,7 @@ ghost use Rattle.serf_agent.specs.View.{concrete_with, view_of};
 use crate::agent::Agent;
 use crate::outcome::{EventOut, FireFault, Fired, LineFault, Outcome, Reason, ReceiveFault};
 use serf_lamport::Time;
-use serf_snap::{NoteFault, Sink};
+use serf_snap::{ClockKind, NoteFault, Sink};
 use serf_wire::{Bytes, EncodeFault, EventView, encode_user_event, user_event_len};
 use std::alloc::{AllocError, Global};
 
@@ -214,7 +214,7 @@ impl<S: Sink> Agent<S> {
         let Ok(entry) = self.events.prepare(alloc, time, &event) else {
             return Err(LineFault::OutOfMemory);
         };
-        match self.snapshot.note_event(alloc, time) {
+        match self.snapshot.note(alloc, ClockKind::Event, time) {
             Ok(()) => {}
             Err(NoteFault::SinkFault) => return Err(LineFault::SinkFault),
             Err(_) => return Err(LineFault::OutOfMemory),

@@ -30,7 +30,7 @@ use crate::outcome::{
     FiredQuery, LineFault, Outcome, QueryFault, QueryParams, Reason, ReceiveFault,
 };
 use serf_lamport::Time;
-use serf_snap::{NoteFault, Sink, Snapshot};
+use serf_snap::{ClockKind, NoteFault, Sink, Snapshot};
 use serf_wire::{Bytes, EncodeFault, QueryParts, Texts, encode_query, passes, query_len};
 use std::alloc::{AllocError, Global};
 
@@ -164,7 +164,7 @@ fn note_asked<S: Sink>(
     if asked.push(time.get(), query).is_err() {
         return Err(LineFault::OutOfMemory);
     }
-    match snapshot.note_query(alloc, time) {
+    match snapshot.note(alloc, ClockKind::Query, time) {
         Ok(()) => Ok(()),
         Err(NoteFault::SinkFault) => {
             asked.pop();
@@ -320,7 +320,7 @@ impl<S: Sink> Agent<S> {
         let Ok(entry) = self.queries.prepare(alloc, time, &id) else {
             return Err(LineFault::OutOfMemory);
         };
-        match self.snapshot.note_query(alloc, time) {
+        match self.snapshot.note(alloc, ClockKind::Query, time) {
             Ok(()) => {}
             Err(NoteFault::SinkFault) => return Err(LineFault::SinkFault),
             Err(_) => return Err(LineFault::OutOfMemory),

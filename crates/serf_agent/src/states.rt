@@ -22,7 +22,7 @@ use crate::agent::Agent;
 use crate::outcome::{EventOut, LineFault, MergeFault, PushPullFault};
 use crate::push_pull::PushPull;
 use serf_lamport::Time;
-use serf_snap::{NoteFault, ReplaceSink, Sink};
+use serf_snap::{ClockKind, NoteFault, ReplaceSink, Sink};
 use serf_wire::{
     Bytes, EncodeFault, EventView, EventViews, Message, PushPullParts, SlotView, SlotViews,
     StatusTime, decode, encode_push_pull,
@@ -116,7 +116,7 @@ impl<S: Sink> Agent<S> {
         let Some(time) = Time::new(self.member_clock.time().saturating_sub(1)) else {
             unreachable!()
         };
-        self.snapshot.note_member(alloc, time)
+        self.snapshot.note(alloc, ClockKind::Member, time)
     }
 
     /// Makes the clocks at least those of another agent; where this one joins and its settings say so, the least time of

@@ -3,7 +3,7 @@
 ghost use Rattle.std.specs.Prelude.{None};
 
 use crate::figures::{Work, print_per_part, print_rate};
-use serf_replay::{Schedule, parse_schedule, replay};
+use serf_replay::{Schedule, Unwatched, parse_schedule, replay};
 use std::alloc::Global;
 use std::io;
 use std::io::{Read, Write};
@@ -58,7 +58,7 @@ impl Work for Replaying<'_> {
     fn call(&mut self, _: u64) -> bool {
         let mut reader = self.text;
         let mut writer = Sink;
-        replay(self.alloc, &mut reader, &mut writer).is_ok()
+        replay(self.alloc, &mut reader, &mut writer, &mut Unwatched).is_ok()
     }
 }
 

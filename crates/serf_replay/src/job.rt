@@ -15,7 +15,7 @@ use crate::output::write_output;
 use crate::parse::{ScheduleFault, parse_schedule};
 use crate::schedule::Schedule;
 use crate::show::put_action;
-use crate::watch::{Unwatched, Watch};
+use crate::watch::Watch;
 use serf_world::{Action, NewFault, World};
 use std::alloc::{AllocError, Global};
 use std::io::{Read, Write};
@@ -104,11 +104,13 @@ fn output_text<T: Watch>(
 /// Reads a schedule to its end, and writes the trace of its cluster.
 ///
 /// At most 16,777,217 bytes are read, and nothing is written before all is read, parsed and run. On `Ok` just the
-/// trace's text was written.
-pub fn replay<R: Read, W: Write>(
+/// trace's text was written. The watch is told of each action of the run that is done ([`crate::Unwatched`] does nothing
+/// with it).
+pub fn replay<R: Read, W: Write, T: Watch>(
     alloc: Global,
     reader: &mut R,
     writer: &mut W,
+    watch: &mut T,
 ) -> Result<(), ReplayFault>
     // Just the text of the input's trace was written.
     ensures done { OnOk result (IfSome (R.remaining reader.old) (λ input. (text : List ℕ)
@@ -126,32 +128,6 @@ pub fn replay<R: Read, W: Write>(
         × AppendsFront (W.contents writer.old) (W.contents writer.new) text) }
     ensures nothing { IfErr result (λ fault. (fault ≡ ReplayFault.WriteFault → ⊥) → writer.new ≡ writer.old) }
     // At most one byte more than the greatest length is read.
-    ensures bounded { (bytes : List ℕ) × Consumes (R.remaining reader.old) (R.remaining reader.new) bytes
-        × (length bytes ≤ MAX_SCHEDULE_BYTES + 1) }
-{
-    replay_watched(alloc, reader, writer, &mut Unwatched)
-}
-
-/// Does what [`replay`] does, and tells of each action of the run that is done.
-pub fn replay_watched<R: Read, W: Write, T: Watch>(
-    alloc: Global,
-    reader: &mut R,
-    writer: &mut W,
-    watch: &mut T,
-) -> Result<(), ReplayFault>
-    ensures done { OnOk result (IfSome (R.remaining reader.old) (λ input. (text : List ℕ)
-        × (output_of input ≡ Ok text) × (length input ≤ MAX_SCHEDULE_BYTES)
-        × Appends (W.contents writer.old) (W.contents writer.new) text)) }
-    ensures too_long { IsErrOf result ReplayFault.ReadTooLong
-        → IfSome (R.remaining reader.old) (λ input. MAX_SCHEDULE_BYTES < length input) }
-    ensures bad_line { (line : ℕ) (cause : Cause) → IsErrOf result (ReplayFault.BadLine line cause)
-        → IfSome (R.remaining reader.old) (λ input. (length input ≤ MAX_SCHEDULE_BYTES)
-        × (output_of input ≡ Err (record { line = line; cause = cause }))) }
-    ensures front { IsErrOf result ReplayFault.WriteFault
-        → IfSome (R.remaining reader.old) (λ input. (text : List ℕ)
-        × (output_of input ≡ Ok text) × (length input ≤ MAX_SCHEDULE_BYTES)
-        × AppendsFront (W.contents writer.old) (W.contents writer.new) text) }
-    ensures nothing { IfErr result (λ fault. (fault ≡ ReplayFault.WriteFault → ⊥) → writer.new ≡ writer.old) }
     ensures bounded { (bytes : List ℕ) × Consumes (R.remaining reader.old) (R.remaining reader.new) bytes
         × (length bytes ≤ MAX_SCHEDULE_BYTES + 1) }
 {

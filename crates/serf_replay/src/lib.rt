@@ -23,7 +23,7 @@ mod words;
 pub use cause::Cause;
 pub use clock_lines::clocks_text;
 pub use input::{InputFault, MAX_SCHEDULE_BYTES, read_input};
-pub use job::{ReplayFault, replay, replay_watched};
+pub use job::{ReplayFault, replay};
 pub use message_lines::{DecodeTextFault, decode_text};
 pub use output::{WriteFault, write_output};
 pub use parse::{ScheduleFault, parse_schedule};

@@ -6,7 +6,7 @@ use clap::Error;
 use clap::error::ErrorKind;
 use hex::FromHexError;
 use serf_replay::{
-    DecodeTextFault, InputFault, ReplayFault, clocks_text, decode_text, read_input, replay_watched,
+    DecodeTextFault, InputFault, ReplayFault, clocks_text, decode_text, read_input, replay,
     write_output,
 };
 use std::io::Read;
@@ -78,13 +78,9 @@ fn run_replay<F: Files, R: Clock + Input + Print + Eprint + AllocGlobal>(
     let mut writer = io::writer(rt);
     let mut progress = Progress::new(rt, is_terminal);
     let outcome = match file {
-        None | Some("-") => {
-            replay_watched(rt.alloc(), &mut rt.reader(), &mut writer, &mut progress)
-        }
+        None | Some("-") => replay(rt.alloc(), &mut rt.reader(), &mut writer, &mut progress),
         Some(path) => match fs::open(files, path) {
-            Ok(mut reader) => {
-                replay_watched(rt.alloc(), &mut reader, &mut writer, &mut progress)
-            }
+            Ok(mut reader) => replay(rt.alloc(), &mut reader, &mut writer, &mut progress),
             Err(_) => Err(ReplayFault::ReadFault),
         },
     };

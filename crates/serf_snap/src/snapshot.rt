@@ -3,7 +3,6 @@
 ghost use Rattle.std.specs.Prelude.{◌≡◌, ◌↔◌, ◌⊎◌, ◌<◌, ◌≤◌, ◌-◌, ◌^◌, ◌++◌, ◌+◌, true, if◌then◌else◌, false, not, is_ok, length, IsTrue, IfOk, IfErr, IsOk, OnOk, OnErr, IfSome, IsErrOf};
 ghost use Rattle.std.specs.Option.{option_map};
 ghost use Rattle.std.specs.Vec.{vec_len};
-ghost use Rattle.serf_snap.specs.declared.kind.ClockKind.TheVariants.{Member, Event, Query};
 ghost use Rattle.serf_snap.specs.Clocks.{clock_line, compacted_text, is_whole, line_above_zero, seal_line, sealed};
 ghost use Rattle.serf_snap.specs.Device.{Observable, Fails, FailsReplace, HasFailed, HasText, IsClean, append_failing, appended, flush_failing, flushed, durable_of, replace_called, replace_failing, replaced, unreplaced};
 ghost use Rattle.serf_snap.specs.Notes.{AreTimes, Failed, HasTriedNote, Kept, MayReplace, MayWrite, compacted, compaction_of, last_line, note_fails, note_decremented, noted, opened, opened_device, with_new_plan, written};
@@ -190,8 +189,14 @@ impl<S: Sink> Snapshot<S> {
         })
     }
 
-    /// Writes the line of a time, where it is above the last one of its kind: the one rule of the three kinds.
-    fn note(&mut self, alloc: Global, kind: ClockKind, time: Time) -> Result<(), NoteFault>
+    /// Writes the line of a time, where it is above the last one of its kind: one append, one flush, and the line
+    /// is durable (`snapshot.go`: `processUserEvent`, which leaves the flush for later, `processQuery` and
+    /// `updateClock`).
+    ///
+    /// Where the time isn't above the last one, this is Ok, takes no memory and makes no call of the sink.
+    /// Else memory is taken before the sink is touched. After [`NoteFault::SinkFault`] a part of the line may
+    /// be durable, and each later note is [`NoteFault::Stopped`].
+    pub fn note(&mut self, alloc: Global, kind: ClockKind, time: Time) -> Result<(), NoteFault>
         ensures stopped { (result ≡ Err NoteFault.Stopped) ↔ IsTrue self.old.snapshot.stopped }
         ensures none { self.old.snapshot.stopped ≡ false → time ≤ last_line kind self.old.snapshot → (result ≡ Ok tt) × (self.new ≡ self.old) }
 
@@ -232,84 +237,6 @@ impl<S: Sink> Snapshot<S> {
                 Err(NoteFault::SinkFault)
             }
         }
-    }
-
-    /// Writes the line of an event's time, where it is above the last one: one append, one flush, and the line
-    /// is durable (`snapshot.go`, `processUserEvent`, which leaves the flush for later).
-    ///
-    /// Where the time isn't above the last one, this is Ok, takes no memory and makes no call of the sink.
-    /// Else memory is taken before the sink is touched. After [`NoteFault::SinkFault`] a part of the line may
-    /// be durable, and each later note is [`NoteFault::Stopped`].
-    pub fn note_event(&mut self, alloc: Global, time: Time) -> Result<(), NoteFault>
-        ensures stopped { (result ≡ Err NoteFault.Stopped) ↔ IsTrue self.old.snapshot.stopped }
-        ensures none { self.old.snapshot.stopped ≡ false → time ≤ self.old.snapshot.event_clock → (result ≡ Ok tt) × (self.new ≡ self.old) }
-
-        // The line is durable, or the sink fails; with a plan exactly where it says.
-        ensures ok { OnOk result (self.new.snapshot ≡ noted Event time self.old.snapshot Kept) }
-        ensures ok_allowed { OnOk result (self.old.snapshot.event_clock < time → MayWrite self.old.snapshot (clock_line Event time) Kept) }
-        ensures ok_device { OnOk result (self.old.snapshot.event_clock < time → self.new.device ≡ flushed (appended (clock_line Event time) self.old.device)) }
-        ensures fault { IsErrOf result NoteFault.SinkFault → self.new.snapshot ≡ written Event time self.old.snapshot (Failed self.new.snapshot.durable) }
-        ensures fault_allowed { IsErrOf result NoteFault.SinkFault → MayWrite self.old.snapshot (clock_line Event time) (Failed self.new.snapshot.durable) }
-        ensures fault_above { IsErrOf result NoteFault.SinkFault → self.old.snapshot.event_clock < time }
-        ensures fault_device { IsErrOf result NoteFault.SinkFault → Fails self.old.device self.new.device (clock_line Event time) }
-        ensures fault_cause { IsErrOf result NoteFault.SinkFault → HasFailed self.old.device.failures self.new.device.failures }
-        ensures fault_called { IsErrOf result NoteFault.SinkFault → HasTriedNote self.old.device.calls self.new.device.calls }
-
-        ensures stays { IsErrOf result NoteFault.Stopped → self.new ≡ self.old }
-        ensures memory { IsErrOf result NoteFault.OutOfMemory → self.new ≡ self.old }
-        ensures clean { OnOk result (IsClean self.new.device) }
-        ensures calm { OnOk result (self.new.device.failures ≡ self.old.device.failures) }
-    {
-        self.note(alloc, ClockKind::Event, time)
-    }
-
-    /// Writes the line of a query's time, by the rule of [`Snapshot::note_event`] (`snapshot.go`, `processQuery`).
-    pub fn note_query(&mut self, alloc: Global, time: Time) -> Result<(), NoteFault>
-        ensures stopped { (result ≡ Err NoteFault.Stopped) ↔ IsTrue self.old.snapshot.stopped }
-        ensures none { self.old.snapshot.stopped ≡ false → time ≤ self.old.snapshot.query_clock → (result ≡ Ok tt) × (self.new ≡ self.old) }
-
-        // The line is durable, or the sink fails; with a plan exactly where it says.
-        ensures ok { OnOk result (self.new.snapshot ≡ noted Query time self.old.snapshot Kept) }
-        ensures ok_allowed { OnOk result (self.old.snapshot.query_clock < time → MayWrite self.old.snapshot (clock_line Query time) Kept) }
-        ensures ok_device { OnOk result (self.old.snapshot.query_clock < time → self.new.device ≡ flushed (appended (clock_line Query time) self.old.device)) }
-        ensures fault { IsErrOf result NoteFault.SinkFault → self.new.snapshot ≡ written Query time self.old.snapshot (Failed self.new.snapshot.durable) }
-        ensures fault_allowed { IsErrOf result NoteFault.SinkFault → MayWrite self.old.snapshot (clock_line Query time) (Failed self.new.snapshot.durable) }
-        ensures fault_above { IsErrOf result NoteFault.SinkFault → self.old.snapshot.query_clock < time }
-        ensures fault_device { IsErrOf result NoteFault.SinkFault → Fails self.old.device self.new.device (clock_line Query time) }
-        ensures fault_cause { IsErrOf result NoteFault.SinkFault → HasFailed self.old.device.failures self.new.device.failures }
-        ensures fault_called { IsErrOf result NoteFault.SinkFault → HasTriedNote self.old.device.calls self.new.device.calls }
-
-        ensures stays { IsErrOf result NoteFault.Stopped → self.new ≡ self.old }
-        ensures memory { IsErrOf result NoteFault.OutOfMemory → self.new ≡ self.old }
-        ensures clean { OnOk result (IsClean self.new.device) }
-        ensures calm { OnOk result (self.new.device.failures ≡ self.old.device.failures) }
-    {
-        self.note(alloc, ClockKind::Query, time)
-    }
-
-    /// Writes the line of a time of the member clock, by the rule of [`Snapshot::note_event`] (`snapshot.go`,
-    /// `updateClock`).
-    pub fn note_member(&mut self, alloc: Global, time: Time) -> Result<(), NoteFault>
-        ensures stopped { (result ≡ Err NoteFault.Stopped) ↔ IsTrue self.old.snapshot.stopped }
-        ensures none { self.old.snapshot.stopped ≡ false → time ≤ self.old.snapshot.member_clock → (result ≡ Ok tt) × (self.new ≡ self.old) }
-
-        // The line is durable, or the sink fails; with a plan exactly where it says.
-        ensures ok { OnOk result (self.new.snapshot ≡ noted Member time self.old.snapshot Kept) }
-        ensures ok_allowed { OnOk result (self.old.snapshot.member_clock < time → MayWrite self.old.snapshot (clock_line Member time) Kept) }
-        ensures ok_device { OnOk result (self.old.snapshot.member_clock < time → self.new.device ≡ flushed (appended (clock_line Member time) self.old.device)) }
-        ensures fault { IsErrOf result NoteFault.SinkFault → self.new.snapshot ≡ written Member time self.old.snapshot (Failed self.new.snapshot.durable) }
-        ensures fault_allowed { IsErrOf result NoteFault.SinkFault → MayWrite self.old.snapshot (clock_line Member time) (Failed self.new.snapshot.durable) }
-        ensures fault_above { IsErrOf result NoteFault.SinkFault → self.old.snapshot.member_clock < time }
-        ensures fault_device { IsErrOf result NoteFault.SinkFault → Fails self.old.device self.new.device (clock_line Member time) }
-        ensures fault_cause { IsErrOf result NoteFault.SinkFault → HasFailed self.old.device.failures self.new.device.failures }
-        ensures fault_called { IsErrOf result NoteFault.SinkFault → HasTriedNote self.old.device.calls self.new.device.calls }
-
-        ensures stays { IsErrOf result NoteFault.Stopped → self.new ≡ self.old }
-        ensures memory { IsErrOf result NoteFault.OutOfMemory → self.new ≡ self.old }
-        ensures clean { OnOk result (IsClean self.new.device) }
-        ensures calm { OnOk result (self.new.device.failures ≡ self.old.device.failures) }
-    {
-        self.note(alloc, ClockKind::Member, time)
     }
 
     /// The last line written or read of each kind, 0 where there is none. Takes no memory.
