@@ -8,11 +8,11 @@
 use crate::schedules::{
     ACKS_AND_RESPONSES, FILTERED_QUERY, FLUSH_FAILS_IN_MERGE, JOIN_AND_SYNC, RESTART_MINIMUM,
 };
-use serf_agent::{BytesList, Config};
+use serf_agent::BytesList;
 use serf_repeats::{Place, Repeat, first_repeat};
 use serf_replay::{Schedule, parse_schedule};
 use serf_wire::Bytes;
-use serf_world::{Action, Answer, Line, Lines, Refusal, SinkCall, Trace, World};
+use serf_world::{Action, Answer, Line, Lines, Refusal, Roster, SinkCall, Trace, World};
 use std::alloc::{AllocError, Global};
 use std::test::Fail;
 
@@ -70,8 +70,8 @@ pub fn schedule_of(alloc: Global, text: &[u8]) -> Result<Schedule, Fail> {
     Ok(parse_schedule(alloc, text)?)
 }
 
-pub fn new_world(alloc: Global, configs: Vec<Config>) -> Result<World, Fail> {
-    Ok(World::new(alloc, configs)?)
+pub fn new_world(alloc: Global, agents: Roster) -> Result<World, Fail> {
+    Ok(World::new(alloc, agents)?)
 }
 
 pub fn step(alloc: Global, world: &mut World, action: &Action) -> Result<Line, Fail> {
@@ -176,9 +176,9 @@ fn give_again(alloc: Global, play: &mut Play, plan: &Plan, agents: u64) -> Resul
     Ok(())
 }
 
-fn new_play(alloc: Global, configs: Vec<Config>) -> Result<Play, Fail> {
+fn new_play(alloc: Global, agents: Roster) -> Result<Play, Fail> {
     Ok(Play {
-        world: new_world(alloc, configs)?,
+        world: new_world(alloc, agents)?,
         lines: Vec::new(alloc),
         sent: 0,
         failures: 0,
@@ -195,11 +195,11 @@ fn repeat_in(alloc: Global, lines: Vec<Line>) -> Option<Repeat> {
 
 /// Plays a schedule.
 fn played(alloc: Global, schedule: Schedule, plan: &Plan) -> Result<Play, Fail> {
-    let Schedule { configs, actions } = schedule;
-    let agents = configs.len() as u64;
-    let mut play = new_play(alloc, configs)?;
+    let Schedule { agents, actions } = schedule;
+    let number = agents.as_slice().len() as u64;
+    let mut play = new_play(alloc, agents)?;
     act_all(alloc, &mut play, plan, &actions)?;
-    give_again(alloc, &mut play, plan, agents)?;
+    give_again(alloc, &mut play, plan, number)?;
     Ok(play)
 }
 
@@ -243,7 +243,7 @@ fn failures_at(
 }
 
 fn agents_in(alloc: Global, text: &[u8]) -> Result<u64, Fail> {
-    Ok(schedule_of(alloc, text)?.configs.len() as u64)
+    Ok(schedule_of(alloc, text)?.agents.as_slice().len() as u64)
 }
 
 /// How often a disk failed in all plays of a schedule with this call.
@@ -294,8 +294,8 @@ fn each_device_fails(rt: HostRuntime) -> Result<(), Fail> {
 
 /// Does the actions of a schedule in a new cluster.
 fn add_lines(alloc: Global, lines: &mut Vec<Line>, schedule: Schedule) -> Result<(), Fail> {
-    let Schedule { configs, actions } = schedule;
-    let mut world = new_world(alloc, configs)?;
+    let Schedule { agents, actions } = schedule;
+    let mut world = new_world(alloc, agents)?;
     for action in &actions {
         lines.push(step(alloc, &mut world, action)?)?;
     }

@@ -20,7 +20,7 @@ fn is_first(config: &Config) -> bool {
 
 /// Whether a schedule has the agent `J`, another one without a number for each time, and two actions.
 fn has_two(schedule: &Schedule) -> bool {
-    match schedule.configs.as_slice() {
+    match schedule.agents.as_slice() {
         [first, second] => {
             is_first(first)
                 && second.per_time == 1_024

@@ -28,8 +28,8 @@ pub struct Story<'a> {
 
 /// The trace of a schedule.
 fn traced(alloc: Global, text: &str) -> Result<Trace, Fail> {
-    let Schedule { configs, actions } = schedule_of(alloc, text.as_bytes())?;
-    Ok(run(alloc, configs, &actions).map_err(|_| "a run")?)
+    let Schedule { agents, actions } = schedule_of(alloc, text.as_bytes())?;
+    Ok(run(alloc, agents.into_vec(), &actions).map_err(|_| "a run")?)
 }
 
 /// The text of it.
@@ -75,8 +75,8 @@ fn step_all(alloc: Global, world: &mut World, actions: &[Action]) -> Result<(), 
 
 /// The cluster in which a schedule's actions were done.
 fn played(alloc: Global, text: &str) -> Result<World, Fail> {
-    let Schedule { configs, actions } = schedule_of(alloc, text.as_bytes())?;
-    let mut world = new_world(alloc, configs)?;
+    let Schedule { agents, actions } = schedule_of(alloc, text.as_bytes())?;
+    let mut world = new_world(alloc, agents)?;
     step_all(alloc, &mut world, &actions)?;
     Ok(world)
 }
