@@ -73,6 +73,7 @@ GROWTHS = {
     "replay": 157,
     "respond": 17,
     "responses": 5,
+    "roster": 12,
     "run": 165,
     "save_member_clock": 20,
     "show_trace": 175,

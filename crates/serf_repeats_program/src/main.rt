@@ -21,12 +21,12 @@ fn trace_of(
         Err(InputFault::ReadFault) => return Err("read fault"),
         Err(InputFault::OutOfMemory) => return Err("no memory"),
     };
-    let Schedule { configs, actions } = match parse_schedule(alloc, &text) {
+    let Schedule { agents, actions } = match parse_schedule(alloc, &text) {
         Ok(schedule) => schedule,
         Err(ScheduleFault::BadLine { .. }) => return Ok(None),
         Err(ScheduleFault::OutOfMemory) => return Err("no memory"),
     };
-    match run(alloc, configs, &actions) {
+    match run(alloc, agents.into_vec(), &actions) {
         Ok(trace) => Ok(Some(trace)),
         Err(RunFault::OutOfMemory(_)) => Err("no memory"),
         Err(_) => Ok(None),

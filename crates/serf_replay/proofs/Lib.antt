@@ -1,4 +1,3 @@
-pub mod ConfigLemmas
 pub mod CutLemmas
 pub mod NumberLemmas
 pub mod ShownLaws

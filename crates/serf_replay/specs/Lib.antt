@@ -5,7 +5,6 @@ pub mod Gives
 pub mod Io
 pub mod Line
 pub mod MessageText
-pub mod Names
 pub mod Output
 pub mod Parts
 pub mod Schedule

@@ -4,7 +4,6 @@ use Rattle.std.specs.List.{slice_split}
 use Rattle.serf_replay.specs.Line.{Parsed, after_line}
 use Rattle.serf_replay.specs.declared.cause.Cause.{Cause}
 use Rattle.serf_replay.specs.declared.schedule.Schedule.{Schedule}
-use Rattle.serf_replay.specs.declared.parsed.Parsed.{Parsed as SoFar}
 use Rattle.serf_replay.specs.declared.parse.ScheduleFault.{ScheduleFault}
 use Rattle.serf_replay.specs.declared.parse.ScheduleFault.TheVariants as faults
 
@@ -15,11 +14,7 @@ pub record BadLine : Type 0 where
 
 -- what a schedule has
 abbrev pub parsed_of : Schedule → Parsed
-parsed_of s = record { configs = s.configs.items; actions = s.actions.items }
-
--- what the code has of the lines so far
-abbrev pub parsed_so_far : SoFar → Parsed
-parsed_so_far s = record { configs = s.agents; actions = s.actions.items }
+parsed_of s = record { configs = s.agents; actions = s.actions.items }
 
 -- the next step, where the line at this number is sound
 abbrev pub at_line : {A : Type 0} → ℕ → Result A Cause → (A → Result A BadLine) → Result A BadLine

@@ -3,7 +3,6 @@
 ghost use Rattle.std.specs.Prelude.{◌≡◌, ◌<◌, ◌≤◌, ◌+◌, List, ℕ, length, OnOk, IfOk, IfErr, IfSome, IsErrOf};
 ghost use Rattle.std.specs.Io.KnownBytes.{Appends, Consumes};
 ghost use Rattle.serf_world.specs.Cluster.{Run, after, run_of, trace_of};
-ghost use Rattle.serf_world.specs.Runs.{AreConfigs};
 ghost use Rattle.serf_replay.specs.Show.{trace_text};
 ghost use Rattle.serf_replay.specs.Io.{AppendsFront};
 ghost use Rattle.serf_replay.specs.Output.{output_of, GivesText};
@@ -16,7 +15,7 @@ use crate::parse::{ScheduleFault, parse_schedule};
 use crate::schedule::Schedule;
 use crate::show::put_action;
 use crate::watch::Watch;
-use serf_world::{Action, NewFault, World};
+use serf_world::{Action, World};
 use std::alloc::{AllocError, Global};
 use std::io::{Read, Write};
 use thiserror::Error;
@@ -65,15 +64,10 @@ fn run_text<T: Watch>(
     schedule: Schedule,
     watch: &mut T,
 ) -> Result<Vec<u8>, AllocError>
-    requires { AreConfigs schedule.configs.items }
-    ensures { IfOk result (λ text. text.items ≡ trace_text (trace_of (run_of schedule.configs.items schedule.actions.items))) }
+    ensures { IfOk result (λ text. text.items ≡ trace_text (trace_of (run_of schedule.agents schedule.actions.items))) }
 {
-    let Schedule { configs, actions } = schedule;
-    let mut world = match World::new(alloc, configs) {
-        Ok(world) => world,
-        Err(NewFault::OutOfMemory) => return Err(AllocError),
-        Err(NewFault::NameTwice(_) | NewFault::BadConfig(_)) => unreachable!(),
-    };
+    let Schedule { agents, actions } = schedule;
+    let mut world = World::new(alloc, agents)?;
     let mut out = Vec::new(alloc);
     let all = actions.len() as u64;
     let mut number: u64 = 0;

@@ -6,17 +6,15 @@ ghost use Rattle.serf_replay.specs.Command.{command_of};
 ghost use Rattle.serf_replay.specs.Words.{words_of, word_at};
 ghost use Rattle.serf_replay.specs.Line.{action_line, query_said, after_line, with_action};
 ghost use Rattle.serf_replay.specs.Parts.{agent_said, parts_said};
-ghost use Rattle.serf_replay.specs.Schedule.{parsed_so_far, schedule_of, Reads};
+ghost use Rattle.serf_replay.specs.Schedule.{parsed_of, schedule_of, Reads};
 ghost use Rattle.serf_replay.specs.Gives.{Gives};
 
 use crate::cause::{Cause, LineFault};
 use crate::command::{Command, Verb, command_in};
 use crate::line::{action, agent, query};
-use crate::parsed::Parsed;
-use crate::roster::Roster;
 use crate::schedule::Schedule;
 use crate::words::{cut, take_words};
-use serf_world::Action;
+use serf_world::{Action, Roster, RosterFault};
 use std::alloc::Global;
 use thiserror::Error;
 
@@ -32,11 +30,11 @@ pub enum ScheduleFault {
 
 fn read_agent(
     alloc: Global,
-    parsed: &mut Parsed,
+    parsed: &mut Schedule,
     words: &[&[u8]],
     is_whole: bool,
 ) -> Result<(), LineFault>
-    ensures { Gives (λ _. parsed_so_far parsed.new) result (agent_said (parsed_so_far parsed.old) is_whole (map (λ w. w.now) words.now)) }
+    ensures { Gives (λ _. parsed_of parsed.new) result (agent_said (parsed_of parsed.old) is_whole (map (λ w. w.now) words.now)) }
 {
     if !parsed.actions.is_empty() {
         return Err(LineFault::Bad(Cause::LateAgent));
@@ -45,18 +43,16 @@ fn read_agent(
         return Err(LineFault::Bad(Cause::WordCount));
     }
     let config = agent(alloc, words)?;
-    if !config.is_sound() {
-        return Err(LineFault::Bad(Cause::BadConfig));
-    }
-    if parsed.agents.add(alloc, config)? {
-        Ok(())
-    } else {
-        Err(LineFault::Bad(Cause::NameTwice))
+    match parsed.agents.add(alloc, config) {
+        Ok(()) => Ok(()),
+        Err(RosterFault::BadConfig) => Err(LineFault::Bad(Cause::BadConfig)),
+        Err(RosterFault::NameTwice) => Err(LineFault::Bad(Cause::NameTwice)),
+        Err(RosterFault::OutOfMemory) => Err(LineFault::OutOfMemory),
     }
 }
 
-fn add_action(parsed: &mut Parsed, action: Action) -> Result<(), LineFault>
-    ensures { Gives (λ _. parsed_so_far parsed.new) result (Ok (with_action (parsed_so_far parsed.old) action)) }
+fn add_action(parsed: &mut Schedule, action: Action) -> Result<(), LineFault>
+    ensures { Gives (λ _. parsed_of parsed.new) result (Ok (with_action (parsed_of parsed.old) action)) }
 {
     match parsed.actions.push(action) {
         Ok(()) => Ok(()),
@@ -67,10 +63,10 @@ fn add_action(parsed: &mut Parsed, action: Action) -> Result<(), LineFault>
 fn read_action(
     alloc: Global,
     verb: Verb,
-    parsed: &mut Parsed,
+    parsed: &mut Schedule,
     words: &[&[u8]],
 ) -> Result<(), LineFault>
-    ensures { Gives (λ _. parsed_so_far parsed.new) result (action_line verb (parsed_so_far parsed.old) (map (λ w. w.now) words.now)) }
+    ensures { Gives (λ _. parsed_of parsed.new) result (action_line verb (parsed_of parsed.old) (map (λ w. w.now) words.now)) }
 {
     if words.len() != verb.count() {
         return Err(LineFault::Bad(Cause::WordCount));
@@ -81,12 +77,12 @@ fn read_action(
 
 fn read_query(
     alloc: Global,
-    parsed: &mut Parsed,
+    parsed: &mut Schedule,
     words: &[&[u8]],
     rest: &[u8],
 ) -> Result<(), LineFault>
     requires { length words.now ≤ 8 }
-    ensures { Gives (λ _. parsed_so_far parsed.new) result (query_said (parsed_so_far parsed.old) (map (λ w. w.now) words.now) (words_of rest.now)) }
+    ensures { Gives (λ _. parsed_of parsed.new) result (query_said (parsed_of parsed.old) (map (λ w. w.now) words.now) (words_of rest.now)) }
 {
     if words.len() < 8 {
         return Err(LineFault::Bad(Cause::WordCount));
@@ -98,13 +94,13 @@ fn read_query(
 /// Reads a line of at most eight words, and of what is left of it.
 fn read_words(
     alloc: Global,
-    parsed: &mut Parsed,
+    parsed: &mut Schedule,
     words: &[&[u8]],
     rest: &[u8],
 ) -> Result<(), LineFault>
     requires { (0 < length words.now) × (length words.now ≤ 8) }
-    ensures { Gives (λ _. parsed_so_far parsed.new) result
-        (parts_said (command_of (word_at 1 (map (λ w. w.now) words.now))) (parsed_so_far parsed.old) (map (λ w. w.now) words.now) rest.now) }
+    ensures { Gives (λ _. parsed_of parsed.new) result
+        (parts_said (command_of (word_at 1 (map (λ w. w.now) words.now))) (parsed_of parsed.old) (map (λ w. w.now) words.now) rest.now) }
 {
     match command_in(words[0]) {
         Some(Command::Agent) => read_agent(alloc, parsed, words, rest.is_empty()),
@@ -128,11 +124,11 @@ fn is_comment(line: &[u8]) -> bool
 #[tactic(auto, unfolding(crate::specs::Line::after_line))]
 fn read_line<'a>(
     alloc: Global,
-    parsed: &mut Parsed,
+    parsed: &mut Schedule,
     words: &mut Vec<&'a [u8]>,
     line: &'a [u8],
 ) -> Result<(), LineFault>
-    ensures { Gives (λ _. parsed_so_far parsed.new) result (after_line (parsed_so_far parsed.old) line.entry.now) }
+    ensures { Gives (λ _. parsed_of parsed.new) result (after_line (parsed_of parsed.old) line.entry.now) }
 {
     if is_comment(line) {
         return Ok(());
@@ -154,9 +150,9 @@ fn read_line<'a>(
 pub fn parse_schedule(alloc: Global, text: &[u8]) -> Result<Schedule, ScheduleFault>
     ensures exact { Reads result (schedule_of text.now) }
     // The agents can make a cluster.
-    ensures agents { IfOk result (λ schedule. AreConfigs schedule.configs.items) }
+    ensures agents { IfOk result (λ schedule. AreConfigs schedule.agents) }
 {
-    let mut parsed = Parsed {
+    let mut parsed = Schedule {
         agents: Roster::new(alloc),
         actions: Vec::new(alloc),
     };
@@ -181,10 +177,7 @@ pub fn parse_schedule(alloc: Global, text: &[u8]) -> Result<Schedule, ScheduleFa
                 number += 1;
             }
             None => {
-                return Ok(Schedule {
-                    configs: parsed.agents.into_vec(),
-                    actions: parsed.actions,
-                });
+                return Ok(parsed);
             }
         }
     }

@@ -1,11 +1,13 @@
 //! What a schedule says: the agents of a cluster, and what is done in it.
 
-use serf_agent::Config;
-use serf_world::Action;
+ghost use Rattle.serf_world.specs.Runs.{AreConfigs};
 
-/// The agents' settings and the actions, in order. Both are numbered from 0.
+use serf_world::{Action, Roster};
+
+/// The agents and the actions, in order. Both are numbered from 0.
 #[derive(Debug, Drop)]
 pub struct Schedule {
-    pub configs: Vec<Config>,
+    pub agents: Roster,
     pub actions: Vec<Action>,
+    ghost configs: { AreConfigs agents },
 }

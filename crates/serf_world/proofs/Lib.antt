@@ -1,3 +1,4 @@
 pub mod NodeLaws
 pub mod MergeLaws
 pub mod ResultLaws
+pub mod RosterLaws

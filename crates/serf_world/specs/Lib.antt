@@ -10,5 +10,4 @@ pub use Rattle.serf_model.specs.Bounds
 pub mod View
 pub mod Nodes
 pub mod Turns
-pub mod Names
 pub mod Roster

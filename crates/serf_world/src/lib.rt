@@ -7,7 +7,6 @@ mod calls;
 mod done;
 mod fault;
 mod merging;
-mod names;
 mod node;
 mod respond;
 mod roster;
@@ -17,6 +16,7 @@ mod turn;
 mod world;
 
 pub use fault::StepFault;
+pub use roster::{Roster, RosterFault};
 pub use running::run;
 pub use serf_model::{
     Action, Answer, BoxedBytes, BoxedParams, EventLine, EventLines, HandedLine, Line, Lines,

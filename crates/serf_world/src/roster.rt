@@ -1,18 +1,34 @@
-//! The agents of a schedule, no two of one name.
+//! Agents that can make a cluster.
 
-ghost use Rattle.std.specs.Prelude.{◌≡◌, [], ◌∷◌, ◌++◌, if◌then◌else◌, IfOk, OnErr, length, not};
-ghost use Rattle.serf_model.specs.Runs.{has_name};
+ghost use Rattle.std.specs.Prelude.{◌≡◌, ◌↔◌, [], ◌∷◌, ◌++◌, if◌then◌else◌, List, false, true, not, IfErr, IfOk, IsErrOf, OnErr, OnOk};
+ghost use Rattle.serf_agent.specs.declared.config.Config.{Config};
+ghost use Rattle.serf_agent.specs.Config.{is_sound};
+ghost use Rattle.serf_model.specs.Runs.{AreConfigs, IsNewFault, first_bad, has_name};
+ghost use Rattle.serf_world.specs.Roster.{AreNames};
 
 use serf_agent::Config;
+use serf_model::NewFault;
 use std::alloc::{AllocError, Global};
 use std::collections::HashSet;
 use std::marker::Model;
+use thiserror::Error;
 
-/// Agents in order, no two of one name. Contracts see the list of their settings.
+/// Why an agent is not added to a roster, which is then as before. `BadConfig` is looked at before `NameTwice`.
+#[derive(Clone, Copy, Debug, PartialEq, Eq, Error)]
+pub enum RosterFault {
+    #[error("the settings are out of bounds")]
+    BadConfig,
+    #[error("an earlier agent has the name")]
+    NameTwice,
+    #[error("out of memory")]
+    OutOfMemory,
+}
+
+/// The settings of agents that can make a cluster: in order, each within its bounds, and no two of one name.
 ///
-/// A name is looked up in a time that does not grow with the number of agents.
-#[derive(Drop)]
-pub(crate) struct Roster {
+/// Contracts see the list of them. A name is looked up in a time that does not grow with the number of agents.
+#[derive(Debug, Drop)]
+pub struct Roster {
     configs: Vec<Config>,
     names: HashSet<Vec<u8>>,
 }
@@ -20,19 +36,38 @@ pub(crate) struct Roster {
 impl Model for Roster {
     ghost use Rattle.std.specs.Prelude.{List};
     ghost use Rattle.serf_agent.specs.declared.config.Config.{Config};
+    ghost use Rattle.serf_model.specs.Runs.{AreConfigs};
+    ghost use Rattle.serf_world.specs.Roster.{AreNames};
 
     ghost Value = { List Config };
 
-    ghost use Rattle.serf_world.specs.Roster.{AreNames};
-
     ghost view = { λ r. r.configs.items };
 
-    ghost invariant = { λ r. AreNames r.names r.configs.items };
+    ghost invariant = { λ r. AreNames r.names r.configs.items × AreConfigs r.configs.items };
+}
+
+/// Adds a name to those of some agents, and says whether it was free: where it was not, nothing is added.
+fn add_name(alloc: Global, names: &mut HashSet<Vec<u8>>, name: &[u8]) -> Result<bool, AllocError>
+    ensures free { (configs : List Config) → AreNames names.old configs → IfOk result (λ free. free ≡ not (has_name configs name.now)) }
+    ensures names { (configs : List Config) (config : Config) → AreNames names.old configs → config.name ≡ name.now → IfOk result (λ free. AreNames names.new (if free then configs ++ config ∷ [] else configs)) }
+    ensures err { (configs : List Config) → AreNames names.old configs → OnErr result (AreNames names.new configs) }
+{
+    let name = Vec::from_slice(alloc, name)?;
+    match names.insert(name) {
+        Ok(free) => Ok(free),
+        Err(_) => Err(AllocError),
+    }
+}
+
+fn bad_config(configs: &[Config]) -> Option<usize>
+    ensures { result ≡ first_bad configs.now }
+{
+    configs.iter().position(|config| !config.is_sound())
 }
 
 impl Roster {
-    /// No agents.
-    pub(crate) fn new(alloc: Global) -> Roster
+    /// No agents. Takes no memory.
+    pub fn new(alloc: Global) -> Roster
         ensures { result ≡ [] }
     {
         Roster {
@@ -41,35 +76,66 @@ impl Roster {
         }
     }
 
-    /// Adds an agent, and says whether its name was free: where it was not, nothing is added.
-    pub(crate) fn add(&mut self, alloc: Global, config: Config) -> Result<bool, AllocError>
-        ensures free { IfOk result (λ free. free ≡ not (has_name self.old config.name)) }
-        ensures added { IfOk result (λ free. self.new ≡ (if free then self.old ++ config ∷ [] else self.old)) }
-        ensures err { OnErr result (self.new ≡ self.old) }
+    /// The agents of these settings, in this order.
+    ///
+    /// `NameTwice` is looked at before `BadConfig`; each names the first such agent.
+    pub fn from_vec(alloc: Global, configs: Vec<Config>) -> Result<Roster, NewFault>
+        ensures agents { IfOk result (λ roster. roster ≡ configs.items) }
+        ensures configs { OnOk result (AreConfigs configs.items) }
+        ensures fault { IfErr result (IsNewFault configs.items) }
     {
-        self.configs.reserve(1)?;
-        let name = Vec::from_slice(alloc, config.name.as_slice())?;
-        match self.names.insert(name) {
+        let mut names = HashSet::new(alloc);
+        for (number, config) in configs.iter().enumerate() {
+            match add_name(alloc, &mut names, config.name.as_slice()) {
+                Ok(true) => {}
+                Ok(false) => return Err(NewFault::NameTwice(number as u64)),
+                Err(_) => return Err(NewFault::OutOfMemory),
+            }
+        }
+        match bad_config(&configs) {
+            Some(number) => Err(NewFault::BadConfig(number as u64)),
+            None => Ok(Roster { configs, names }),
+        }
+    }
+
+    /// Adds an agent of these settings behind the others.
+    pub fn add(&mut self, alloc: Global, config: Config) -> Result<(), RosterFault>
+        ensures ok { OnOk result (self.new ≡ self.old ++ config ∷ []) }
+        ensures free { OnOk result (has_name self.old config.name ≡ false) }
+        ensures bad { IsErrOf result RosterFault.BadConfig ↔ (is_sound config ≡ false) }
+        ensures twice { IsErrOf result RosterFault.NameTwice → has_name self.old config.name ≡ true }
+        ensures err { OnErr result (self.new ≡ self.old) }
+        ensures configs { OnOk result (AreConfigs self.new) }
+    {
+        if !config.is_sound() {
+            return Err(RosterFault::BadConfig);
+        }
+        if self.configs.reserve(1).is_err() {
+            return Err(RosterFault::OutOfMemory);
+        }
+        match add_name(alloc, &mut self.names, config.name.as_slice()) {
             Ok(true) => {}
-            Ok(false) => return Ok(false),
-            Err(_) => return Err(AllocError),
+            Ok(false) => return Err(RosterFault::NameTwice),
+            Err(_) => return Err(RosterFault::OutOfMemory),
         }
         match self.configs.push(config) {
-            Ok(()) => Ok(true),
+            Ok(()) => Ok(()),
             Err(_) => unreachable!(),
         }
     }
 
-    /// How many agents there are.
-    pub(crate) fn len(&self) -> usize
-        ensures { result ≡ length self.now }
+    /// The agents' settings, in order. Takes no memory.
+    pub fn as_slice(&self) -> &[Config]
+        ensures agents { result.now ≡ self.now }
+        ensures configs { AreConfigs self.now }
     {
-        self.configs.len()
+        self.configs.as_slice()
     }
 
-    /// The agents' settings, in order.
-    pub(crate) fn into_vec(self) -> Vec<Config>
-        ensures { result.items ≡ self }
+    /// The agents' settings, in order. Takes no memory.
+    pub fn into_vec(self) -> Vec<Config>
+        ensures agents { result.items ≡ self }
+        ensures configs { AreConfigs self }
     {
         let Roster { configs, .. } = self;
         configs

@@ -13,6 +13,7 @@ ghost use Rattle.serf_model.specs.Runs.{AreConfigs, IsRun, OfTurns};
 ghost use Rattle.serf_model.specs.Trace.{outcome_of};
 ghost use Rattle.serf_world.specs.View.{AddsLine, IsViewed};
 
+use crate::roster::Roster;
 use crate::sizes::read_all_numbers;
 use crate::world::World;
 use serf_agent::{BytesList, Config};
@@ -62,20 +63,28 @@ fn run_in(alloc: Global, world: World, actions: &[Action]) -> Result<Trace, Trac
     })
 }
 
+/// The trace of no action.
+fn no_lines(alloc: Global) -> Trace
+    ensures { outcome_of result ≡ record { lines = []; sent = [] } }
+{
+    Trace {
+        lines: Lines::from_vec(Vec::new(alloc)),
+        sent: BytesList::new(alloc),
+    }
+}
+
 /// A run, exactly.
 fn run_exactly(alloc: Global, configs: Vec<Config>, actions: &[Action]) -> Result<Trace, RunFault>
     ensures { IsRun configs.items actions.now result }
 {
-    let world = match World::new(alloc, configs) {
-        Ok(world) => world,
+    let roster = match Roster::from_vec(alloc, configs) {
+        Ok(roster) => roster,
         Err(NewFault::NameTwice(number)) => return Err(RunFault::NameTwice(number)),
         Err(NewFault::BadConfig(number)) => return Err(RunFault::BadConfig(number)),
-        Err(NewFault::OutOfMemory) => {
-            return Err(RunFault::OutOfMemory(Trace {
-                lines: Lines::from_vec(Vec::new(alloc)),
-                sent: BytesList::new(alloc),
-            }));
-        }
+        Err(NewFault::OutOfMemory) => return Err(RunFault::OutOfMemory(no_lines(alloc))),
+    };
+    let Ok(world) = World::new(alloc, roster) else {
+        return Err(RunFault::OutOfMemory(no_lines(alloc)));
     };
     match run_in(alloc, world, actions) {
         Ok(trace) => Ok(trace),

@@ -1,22 +1,20 @@
 //! A cluster that does one action after another.
 
-ghost use Rattle.std.specs.Prelude.{◌≡◌, ◌↔◌, ℕ, [], false, true, map, slice_get, IfErr, IfOk, IsErrOf, IsTrue, OnErr, OnOk};
+ghost use Rattle.std.specs.Prelude.{◌≡◌, ◌↔◌, ℕ, [], false, true, map, slice_get, IfOk, IsErrOf, IsTrue, OnErr, OnOk};
 ghost use Rattle.std.specs.Option.{option_map};
 ghost use Rattle.serf_model.specs.Cluster.{Cluster, first_node, on_agent, start, step};
 ghost use Rattle.serf_model.specs.Ready.{AreRepresentable};
-ghost use Rattle.serf_model.specs.Runs.{AreConfigs, IsNewFault, first_bad};
+ghost use Rattle.serf_model.specs.Runs.{AreConfigs};
 ghost use Rattle.serf_model.specs.Trace.{actor_of, injects_of};
 ghost use Rattle.serf_world.specs.View.{IsViewed, TakesStep, agent_at, node_of};
 
 use crate::calls::open_on;
 use crate::fault::StepFault;
-use crate::names::{NamesFault, distinct};
 use crate::node::Node;
+use crate::roster::Roster;
 use crate::turn::{Turn, send, take_turn};
 use serf_agent::{Agent, BytesList, Config};
-use serf_model::{
-    Action, Answer, EventLines, Line, NewFault, Numbers, Refusal, representable_agents,
-};
+use serf_model::{Action, Answer, EventLines, Line, Numbers, Refusal, representable_agents};
 use serf_snap::MemSink;
 use serf_wire::Bytes;
 use std::alloc::{AllocError, Global};
@@ -72,12 +70,6 @@ fn injected(alloc: Global, action: &Action) -> Result<BytesList, AllocError>
     Ok(packets)
 }
 
-fn bad_config(configs: &[Config]) -> Option<usize>
-    ensures { result ≡ first_bad configs.now }
-{
-    configs.iter().position(|config| !config.is_sound())
-}
-
 /// Agents of these settings that have done nothing.
 fn open_all(alloc: Global, configs: Vec<Config>) -> Result<Vec<Node>, AllocError>
     ensures { IfOk result (λ nodes. nodes.items ≡ map (λ c. node_of (first_node c)) configs.items) }
@@ -106,33 +98,19 @@ fn line_only(alloc: Global, answer: Answer) -> Line
 }
 
 impl World {
-    /// A cluster of agents of these settings, which are numbered from 0 in this order and have done nothing.
-    ///
-    /// `NameTwice` is looked at before `BadConfig`; each names the first such agent.
-    pub fn new(alloc: Global, configs: Vec<Config>) -> Result<World, NewFault>
-        ensures start { IfOk result (IsViewed (start configs.items).cluster) }
+    /// A cluster of these agents, which are numbered from 0 in their order and have done nothing.
+    pub fn new(alloc: Global, roster: Roster) -> Result<World, AllocError>
+        ensures start { IfOk result (IsViewed (start roster).cluster) }
         ensures fresh { IfOk result (λ world. world.poisoned ≡ false) }
-        ensures configs { OnOk result (AreConfigs configs.items) }
-        ensures representable { OnOk result (AreRepresentable (start configs.items).cluster) }
-        ensures fault { IfErr result (IsNewFault configs.items) }
+        ensures configs { OnOk result (AreConfigs roster) }
+        ensures representable { OnOk result (AreRepresentable (start roster).cluster) }
     {
         representable_agents();
-        let configs = match distinct(alloc, configs) {
-            Ok(configs) => configs,
-            Err(NamesFault::Twice(number)) => return Err(NewFault::NameTwice(number)),
-            Err(NamesFault::OutOfMemory) => return Err(NewFault::OutOfMemory),
-        };
-        if let Some(number) = bad_config(&configs) {
-            return Err(NewFault::BadConfig(number as u64));
-        }
-        match open_all(alloc, configs) {
-            Ok(nodes) => Ok(World {
-                nodes,
-                sent: Vec::new(alloc),
-                poisoned: false,
-            }),
-            Err(_) => Err(NewFault::OutOfMemory),
-        }
+        Ok(World {
+            nodes: open_all(alloc, roster.into_vec())?,
+            sent: Vec::new(alloc),
+            poisoned: false,
+        })
     }
 
     /// Does an action. A refused action is a line too.

@@ -10,11 +10,11 @@ use Rattle.serf_replay.proofs.job.run_text.Goals as goal
 pub loop-action-init : goal.loop-action-init
 loop-action-init g c =
     let all = c.into_iter-action-iterator.ensures.into_iter_gives.0 in (
-      start c.args.schedule.configs.items,
-      record { view = c.in-Ok.ensures.start; representable = c.in-Ok.ensures.representable; shown = λ more. sym c.new-out.ensures.items },
+      start c.args.schedule.agents,
+      record { view = c.in_ok-world.ensures.start; representable = c.in_ok-world.ensures.representable; shown = λ more. sym c.new-out.ensures.items },
       refl,
       omega (arith, ap length all),
-      ap (fold after (start c.args.schedule.configs.items)) all,
+      ap (fold after (start c.args.schedule.agents)) all,
     )
 
 pub loop-action-preserved : goal.loop-action-preserved
@@ -35,6 +35,6 @@ returns g c =
     let inv = c.loop-action.invariant in
     let r : Run = inv.0 in
     let none : into_iter_items c.loop-action.action-iterator ≡ [] = grind (arith, common_steps) in
-    let whole : r ≡ run_of c.args.schedule.configs.items c.args.schedule.actions.items = ap (fold after r) (sym none) ∙ inv.4 in
+    let whole : r ≡ run_of c.args.schedule.agents c.args.schedule.actions.items = ap (fold after r) (sym none) ∙ inv.4 in
     sym (inv.1.shown []) ∙ ap (λ s. actions_text s 1 (map (λ t. t.line) r.turns)) (append-nil r.cluster.sent)
     ∙ ap (λ (r : Run). trace_text (trace_of r)) whole

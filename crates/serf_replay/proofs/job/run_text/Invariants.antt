@@ -10,4 +10,4 @@ abbrev pub invariant-loop-action : goal.invariant-loop-action
 invariant-loop-action g l = (r : Run) × IsShown r l.world l.out.items
     × (l.number ≡ length r.turns)
     × (l.number + length (into_iter_items l.action-iterator) ≡ length l.fn.schedule.actions.items)
-    × (fold after r (into_iter_items l.action-iterator) ≡ run_of l.fn.schedule.configs.items l.fn.schedule.actions.items)
+    × (fold after r (into_iter_items l.action-iterator) ≡ run_of l.fn.schedule.agents l.fn.schedule.actions.items)

@@ -5,13 +5,13 @@ use Rattle.serf_replay.specs.declared.cause.Cause.{Cause}
 use Rattle.serf_replay.specs.Gives.{Gives}
 use Rattle.serf_replay.specs.Words.{words_of}
 use Rattle.serf_replay.specs.Line.{Parsed}
-use Rattle.serf_replay.specs.Schedule.{parsed_so_far}
+use Rattle.serf_replay.specs.Schedule.{parsed_of}
 use Rattle.serf_replay.proofs.WordLemmas.{line-said}
 use Rattle.serf_replay.proofs.parse.read_line.Goals as goal
 
 pub returns : goal.returns
 returns c =
-    let before : Parsed = parsed_so_far c.args.parsed.now in
+    let before : Parsed = parsed_of c.args.parsed.now in
     let words : List (List ℕ) = map (λ w. w.now) c.deref.result.now in
     let rest : List ℕ = c.in_ok-rest.rest.now in
     let given : words ≡ map (λ w. w.now) c.take_words.new.words.items = ap (map (λ w. w.now)) c.deref.ensures.value in
@@ -21,4 +21,4 @@ returns c =
     let full : 0 < length rest → (length words ≡ 8) × (0 < length (words_of rest)) =
     λ more. let f = c.in_ok-rest.ensures.full more in (grind (arith, common_steps, ap length given, f.0), f.1) in
     let whole = line-said before c.args.line.now words rest (grind (arith, common_steps)) joined some few full in
-    subst (λ (s : Result Parsed Cause). Gives (λ _. parsed_so_far c.read_words.new.parsed) c.read_words.result s) whole c.read_words.ensures
+    subst (λ (s : Result Parsed Cause). Gives (λ _. parsed_of c.read_words.new.parsed) c.read_words.result s) whole c.read_words.ensures

@@ -1,0 +1,43 @@
+-- Agents that can make a cluster, and one more.
+use Rattle.std.proofs.Common.{◌≡◌, ◌≤◌, ◌++◌, ◌∙◌, ℕ, List, [], ◌∷◌, Bool, true, false, Option, Some, None, refl, sym, ap, cond, length, length-append, arith}
+use Rattle.std.specs.Prelude.{not, nat_lt}
+use Rattle.std.specs.List.{position_or_len}
+use Rattle.std.proofs.lemmas.Grind.{common_steps}
+use Rattle.std.proofs.lemmas.List.{append-nil, append_assoc}
+use Rattle.std.proofs.lemmas.List.Folds.{position_or_len_push}
+use Rattle.std.proofs.lemmas.List.Sums.{prefix_len-le-length}
+use Rattle.serf_agent.specs.declared.config.Config.{Config}
+use Rattle.serf_agent.specs.Config.{is_sound}
+use Rattle.serf_model.specs.Runs.{AreConfigs, has_name, twice_after, first_bad}
+
+not-some : (b : Bool) (n : ℕ) (o : Option ℕ) → cond b (Some n) o ≡ None → b ≡ false
+not-some true n o h = absurd (cc h)
+not-some false n o h = refl
+
+twice-push : (before xs : List Config) (c : Config) → twice_after before xs ≡ None → has_name (before ++ xs) c.name ≡ false
+    → twice_after before (xs ++ c ∷ []) ≡ None
+twice-push before [] c none free =
+    let h : has_name before c.name ≡ false = ap (λ (all : List Config). has_name all c.name) (sym (append-nil before)) ∙ free in
+    rw h refl
+twice-push before (x ∷ xs) c none free =
+    let own = not-some (has_name before x.name) (length before) (twice_after (before ++ x ∷ []) xs) none in
+    let rest : twice_after (before ++ x ∷ []) xs ≡ None = rw own at none in
+    let all : (before ++ x ∷ []) ++ xs ≡ before ++ x ∷ xs = append_assoc before (x ∷ []) xs in
+    rw own (twice-push (before ++ x ∷ []) xs c rest (ap (λ (a : List Config). has_name a c.name) all ∙ free))
+
+last : (k n : ℕ) → nat_lt k n ≡ false → k ≤ n → k ≡ n
+last k n h le = grind (arith, common_steps)
+
+not-below : (n k : ℕ) → k ≡ n → nat_lt k n ≡ false
+not-below n k h = grind (arith, common_steps)
+
+bad-push : (xs : List Config) (c : Config) → first_bad xs ≡ None → is_sound c ≡ true → first_bad (xs ++ c ∷ []) ≡ None
+bad-push xs c none sound =
+    let k = position_or_len (λ c. not (is_sound c)) xs in
+    let all : k ≡ length xs = last k (length xs) (not-some (nat_lt k (length xs)) k None none) (prefix_len-le-length (λ c. not (not (is_sound c))) xs) in
+    let more : position_or_len (λ c. not (is_sound c)) (xs ++ c ∷ []) ≡ length (xs ++ c ∷ []) = grind (arith, common_steps, position_or_len_push (λ c. not (is_sound c)) xs c, length-append xs (c ∷ [])) in
+    rw (not-below (length (xs ++ c ∷ [])) (position_or_len (λ c. not (is_sound c)) (xs ++ c ∷ [])) more) refl
+
+-- one more, within its bounds and of a name of its own
+pub one_more : (xs : List Config) (c : Config) → AreConfigs xs → is_sound c ≡ true → has_name xs c.name ≡ false → AreConfigs (xs ++ c ∷ [])
+one_more xs c ok sound free = record { names = twice-push [] xs c ok.names free; sound = bad-push xs c ok.sound sound }

@@ -1,0 +1,9 @@
+use Rattle.std.proofs.Common.{◌≡◌, take, drop}
+use Rattle.serf_model.specs.Runs.{twice_after, first_twice}
+use Rattle.serf_world.specs.Roster.{AreNames}
+use Rattle.serf_world.proofs.roster.Roster.from_vec.Given as goal
+
+-- the names of the agents so far, and those that are left give the answer
+abbrev pub invariant-loop-number : goal.invariant-loop-number
+invariant-loop-number l = AreNames l.names (take l.number l.fn.configs.items)
+    × (twice_after (take l.number l.fn.configs.items) (drop l.number l.fn.configs.items) ≡ first_twice l.fn.configs.items)
