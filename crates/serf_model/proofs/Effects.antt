@@ -65,13 +65,6 @@ IsIdle i given (lines.Restarted member_clock event_clock query_clock) = ⊥
 IsIdle i given (lines.Ignored reason) = (packet : List ℕ) (e : UserEvent) → given ≡ Some packet → decoded packet ≡ Ok (user_event e) → admission i e.time (event_of e.name e.payload) ≡ Some reason
 IsIdle i given _ = Unit {0}
 
--- what an answer that is idle says
-pub idle-enters : (i : IdealAgent) (action : Action) (given : Option (List ℕ)) (answer : Answer) → IsIdle i given answer → (entered_by action given answer ≡ []) × (is_restarted answer ≡ false)
-idle-enters i action given lines.Query idle = absurd idle
-idle-enters i action given (lines.Queried t) idle = absurd idle
-idle-enters i action given (lines.Restarted member_clock event_clock query_clock) idle = absurd idle
-idle-enters i action given _ idle = (refl, refl)
-
 -- An agent's life goes on. It enters just the events that it hands out, each of them one of these.
 pub record Hears (i j : IdealAgent) (brought : List (TimedEntry EventBody)) (outs : List EventOut) : Type 0 where
   pub config : j.config ≡ i.config
@@ -120,6 +113,13 @@ pub record Acts (m : IdealNode) (action : Action) (given : Option (List ℕ)) (o
 
 -- ---- nothing is entered
 
+-- with an answer that is idle no query enters and no life begins
+pub idle-enters : (i : IdealAgent) (action : Action) (given : Option (List ℕ)) (answer : Answer) → IsIdle i given answer → (entered_by action given answer ≡ []) × (is_restarted answer ≡ false)
+idle-enters i action given lines.Query idle = absurd idle
+idle-enters i action given (lines.Queried t) idle = absurd idle
+idle-enters i action given (lines.Restarted member_clock event_clock query_clock) idle = absurd idle
+idle-enters i action given _ idle = (refl, refl)
+
 rests : (i j : IdealAgent) (brought : List (TimedEntry EventBody)) → j.config ≡ i.config → j.life ≡ i.life → j.events.history ≡ i.events.history → j.queries.history ≡ i.queries.history → j.asked ≡ i.asked → Hears i j brought []
 rests i j brought config life events queries asked = record {
   config = config;
@@ -161,12 +161,12 @@ acts-fire m given agent name payload coalesce None is = record {
   sound = λ g. representable-fired m.agent (event_of name payload) coalesce None g is;
 }
 
--- what a delivery does
-abbrev Delivers : IdealNode → ℕ → ℕ → ℕ → List ℕ → Step (Result Outcome ReceiveFault) → Type 0
-Delivers m to number now packet o = Effect m (actions.Deliver to number now) (Some packet) (called m o (receive_gives packet))
+-- what a delivery does, and that it leaves its agent sound
+abbrev DeliveryEffect : IdealNode → ℕ → ℕ → ℕ → List ℕ → Step (Result Outcome ReceiveFault) → Type 0
+DeliveryEffect m to number now packet o = Effect m (actions.Deliver to number now) (Some packet) (called m o (receive_gives packet))
 
-abbrev Delivered : IdealNode → ℕ → ℕ → ℕ → List ℕ → Step (Result Outcome ReceiveFault) → Type 0
-Delivered m to number now packet o = Acts m (actions.Deliver to number now) (Some packet) (called m o (receive_gives packet))
+abbrev DeliveryActs : IdealNode → ℕ → ℕ → ℕ → List ℕ → Step (Result Outcome ReceiveFault) → Type 0
+DeliveryActs m to number now packet o = Acts m (actions.Deliver to number now) (Some packet) (called m o (receive_gives packet))
 
 -- why what came was ignored, where it is an event
 abbrev IgnoredAs : IdealAgent → Reason → Result Message WireFault → Type 0
@@ -179,38 +179,38 @@ ignored i packet r reason is why p e given reads =
     subst (IgnoredAs i reason) (sym is ∙ ap decoded same ∙ reads) why
 
 acts-event : (m : IdealNode) (to number now : ℕ) (packet : List ℕ) (e : UserEvent) (r : Option Reason) → decoded packet ≡ Ok (user_event e) → m.agent.snapshot.stopped ≡ false → admission m.agent e.time (event_of e.name e.payload) ≡ r
-    → Delivered m to number now packet (planned m.agent (received_as r m.agent e.time (event_of e.name e.payload) e.coalesce))
+    → DeliveryActs m to number now packet (planned m.agent (received_as r m.agent e.time (event_of e.name e.payload) e.coalesce))
 acts-event m to number now packet e r is runs why = record {
   effect = by r why;
   sound = λ g. representable-received m.agent e.time (event_of e.name e.payload) e.coalesce r g runs (decoded_ranged packet (user_event e) is) why;
 }
   where
-    by : (r : Option Reason) → admission m.agent e.time (event_of e.name e.payload) ≡ r → Delivers m to number now packet (planned m.agent (received_as r m.agent e.time (event_of e.name e.payload) e.coalesce))
+    by : (r : Option Reason) → admission m.agent e.time (event_of e.name e.payload) ≡ r → DeliveryEffect m to number now packet (planned m.agent (received_as r m.agent e.time (event_of e.name e.payload) e.coalesce))
     by (Some reason) why = idles m _ _ _ _ refl refl refl refl refl (ignored m.agent packet (Ok (user_event e)) reason is why)
-    by None new = kept-or-failed (Delivers m to number now packet) m.agent (received_as None m.agent e.time (event_of e.name e.payload) e.coalesce) (passes_on packet e is new) (λ d. snaps m tt)
+    by None new = kept-or-failed (DeliveryEffect m to number now packet) m.agent (received_as None m.agent e.time (event_of e.name e.payload) e.coalesce) (passes_on packet e is new) (λ d. snaps m tt)
 
 -- ---- queries
 
 acts-query : (m : IdealNode) (to number now : ℕ) (packet : List ℕ) (q : Query) (r : Option Reason) → decoded packet ≡ Ok (query q) → m.agent.snapshot.stopped ≡ false → query_admission m.agent q.time q.id ≡ r
-    → Delivered m to number now packet (planned m.agent (query_received_as r m.agent now q))
+    → DeliveryActs m to number now packet (planned m.agent (query_received_as r m.agent now q))
 acts-query m to number now packet q r is runs why = record { effect = by r why; sound = λ g. representable-query_received m.agent now q r g runs (decoded_ranged packet (query q) is).time why }
   where
-    by : (r : Option Reason) → query_admission m.agent q.time q.id ≡ r → Delivers m to number now packet (planned m.agent (query_received_as r m.agent now q))
+    by : (r : Option Reason) → query_admission m.agent q.time q.id ≡ r → DeliveryEffect m to number now packet (planned m.agent (query_received_as r m.agent now q))
     by (Some reason) why = idles m _ _ _ _ refl refl refl refl refl (ignored m.agent packet (Ok (query q)) reason is tt)
-    by None new = kept-or-failed (Delivers m to number now packet) m.agent (query_received_as None m.agent now q) (is_asked to number packet now q is new) (λ d. snaps m tt)
+    by None new = kept-or-failed (DeliveryEffect m to number now packet) m.agent (query_received_as None m.agent now q) (is_asked to number packet now q is new) (λ d. snaps m tt)
 
 acts-response : (m : IdealNode) (to number now : ℕ) (packet : List ℕ) (r : QueryResponse) (o : Option OpenQuery) → decoded packet ≡ Ok (query_response r) → asked_at r.time m.agent.asked ≡ o
-    → Delivered m to number now packet (planned m.agent (response_received_at o m.agent now r))
+    → DeliveryActs m to number now packet (planned m.agent (response_received_at o m.agent now r))
 acts-response m to number now packet r None is at = stays m (ignored m.agent packet (Ok (query_response r)) _ is tt)
 acts-response m to number now packet r (Some q) is at = by (answer_ignore_reason now r q) refl
   where
-    by-room : (full ack : Bool) → answer_ignore_reason now r q ≡ None → is_ack r ≡ ack → Delivered m to number now packet (planned m.agent (cond full (answers m.agent (Err receives.RespondersFull))
+    by-room : (full ack : Bool) → answer_ignore_reason now r q ≡ None → is_ack r ≡ ack → DeliveryActs m to number now packet (planned m.agent (cond full (answers m.agent (Err receives.RespondersFull))
         (Ends (record { agent = with_asked (with_asked_at r.time (counted r q) m.agent.asked) m.agent; answer = Ok (cond ack outcomes.Ack outcomes.Response) }))))
     by-room true ack none kind = stays m tt
     by-room false true none kind = record { effect = counts to number now packet r q true is at none kind; sound = λ g. representable-counted m.agent now r q g at none }
     by-room false false none kind = record { effect = counts to number now packet r q false is at none kind; sound = λ g. representable-counted m.agent now r q g at none }
 
-    by : (s : Option Reason) → answer_ignore_reason now r q ≡ s → Delivered m to number now packet (planned m.agent (response_received_as s m.agent r q))
+    by : (s : Option Reason) → answer_ignore_reason now r q ≡ s → DeliveryActs m to number now packet (planned m.agent (response_received_as s m.agent r q))
     by (Some reason) none = stays m (ignored m.agent packet (Ok (query_response r)) reason is tt)
     by None none = by-room (is_full m.agent.config.responders r q) (is_ack r) none refl
 
@@ -237,7 +237,7 @@ acts-responds m given agent number now payload (Some (Some h)) at = by (respond_
 
 -- ---- deliveries
 
-acts-read : (m : IdealNode) (to number now : ℕ) (packet : List ℕ) (r : Result Message WireFault) → decoded packet ≡ r → m.agent.snapshot.stopped ≡ false → Delivered m to number now packet (planned m.agent (receive_read m.agent now r))
+acts-read : (m : IdealNode) (to number now : ℕ) (packet : List ℕ) (r : Result Message WireFault) → decoded packet ≡ r → m.agent.snapshot.stopped ≡ false → DeliveryActs m to number now packet (planned m.agent (receive_read m.agent now r))
 acts-read m to number now packet (Ok (user_event e)) is runs = acts-event m to number now packet e (admission m.agent e.time (event_of e.name e.payload)) is runs refl
 acts-read m to number now packet (Ok (query q)) is runs = acts-query m to number now packet q (query_admission m.agent q.time q.id) is runs refl
 acts-read m to number now packet (Ok (query_response r)) is runs = acts-response m to number now packet r (asked_at r.time m.agent.asked) is refl
@@ -247,7 +247,7 @@ acts-delivers : (m : IdealNode) (to number now : ℕ) (given : Option (List ℕ)
 acts-delivers m to number now None = stays m tt
 acts-delivers m to number now (Some packet) = by m.agent.snapshot.stopped refl
   where
-    by : (b : Bool) → m.agent.snapshot.stopped ≡ b → Delivered m to number now packet (planned m.agent (cond b (answers m.agent (Err receives.Stopped)) (receive_read m.agent now (decoded packet))))
+    by : (b : Bool) → m.agent.snapshot.stopped ≡ b → DeliveryActs m to number now packet (planned m.agent (cond b (answers m.agent (Err receives.Stopped)) (receive_read m.agent now (decoded packet))))
     by true is = stays m tt
     by false runs = acts-read m to number now packet (decoded packet) refl runs
 
