@@ -1,6 +1,6 @@
 //! What an agent knows of its events, or of its queries.
 
-ghost use Rattle.std.specs.Prelude.{◌≡◌, ℕ, ◌<◌, ◌≤◌, ◌+◌, ◌-◌, ◌^◌, List, [], ◌∷◌, ◌++◌, max, min, map, length, OnOk, OnErr, IfOk, IfSome, SomeIff};
+ghost use Rattle.std.specs.Prelude.{◌≡◌, ℕ, ◌<◌, ◌≤◌, ◌-◌, ◌^◌, List, [], ◌∷◌, ◌++◌, max, map, length, OnOk, IfOk, SomeIff};
 ghost use Rattle.serf_lamport.specs.Clock.{observed};
 ghost use Rattle.serf_window.specs.Slots.{slot_view};
 ghost use Rattle.serf_window.specs.Window.{TimedEntry, count_in, room_for, slots_of, time_in};

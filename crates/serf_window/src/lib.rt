@@ -3,8 +3,8 @@
 //! A window has N slots, and an entry of time t goes into slot t modulo N. An entry of a later time takes the
 //! slot over, so a window forgets; yet it decides as if it had forgotten nothing, since a time that a slot
 //! gave up is always too old. These are the buffers of Serf's `handleUserEvent` and `handleQuery`
-//! (`serf.go`). At most K entries of one time are taken, which is a rule of this project's own: a window
-//! never holds more than N * K.
+//! (`serf.go`). At most M entries of one time are taken, which is a rule of this project's own: a window
+//! never holds more than N * M.
 //!
 //! A `Window` is generic in what tells the entries of one time apart, their key: an `EventWindow` has the
 //! texts of events, and a `QueryWindow` the IDs of queries. What is offered is a `LentKey`, which a window
