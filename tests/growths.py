@@ -42,6 +42,7 @@ GROWTHS = {
     "compact_snapshot": 4,
     "copy_of": 1,
     "decode_text": 9,
+    "default_config": 1,
     "encode_push_pull": 11,
     "encode_query": 6,
     "encode_response": 4,
@@ -52,7 +53,6 @@ GROWTHS = {
     "ids": 1,
     "local_state": 19,
     "merge_remote_state": 14,
-    "new_windows": 2,
     "new_world": 15,
     "node_filter": 2,
     "note_event": 3,
@@ -83,11 +83,84 @@ GROWTHS = {
     "step": 165,
 }
 
+# Each public call that is passed an allocator, and the case that makes it; None where it takes no memory.
+CALLS = {
+    "serf_agent Agent::compact": "compact_agent",
+    "serf_agent Agent::fire": "fire",
+    "serf_agent Agent::local_state": "local_state",
+    "serf_agent Agent::merge_remote_state": "merge_remote_state",
+    "serf_agent Agent::open": "open_agent",
+    "serf_agent Agent::query": "query",
+    "serf_agent Agent::receive": "receive_event",
+    "serf_agent Agent::save_member_clock": "save_member_clock",
+    "serf_agent BytesList::new": None,
+    "serf_agent Config::new": "default_config",
+    "serf_agent HandedQuery::respond": "respond",
+    "serf_agent Responses::new": None,
+    "serf_model BoxedBytes::new": "parse_schedule",
+    "serf_model BoxedParams::new": "parse_schedule",
+    "serf_replay bytes_at": "parse_schedule",
+    "serf_replay clocks_text": "clocks_text",
+    "serf_replay decode_text": "decode_text",
+    "serf_replay parse_schedule": "parse_schedule",
+    "serf_replay read_input": "read_input",
+    "serf_replay replay": "replay",
+    "serf_replay show_trace": "show_trace",
+    "serf_snap MemSink::new": None,
+    "serf_snap MemSink::with": "sink_with",
+    "serf_snap Snapshot::compact": "compact_snapshot",
+    "serf_snap Snapshot::note": "note_event",
+    "serf_snap Snapshot::open": "open_snapshot",
+    "serf_window Window::new": "new_windows",
+    "serf_window Window::prepare": "event_window",
+    "serf_wire Bytes::copy_of": "copy_of",
+    "serf_wire RoomyList::new": None,
+    "serf_wire encode_push_pull": "encode_push_pull",
+    "serf_wire encode_query": "encode_query",
+    "serf_wire encode_response": "encode_response",
+    "serf_wire encode_user_event": "encode_user_event",
+    "serf_wire node_filter": "node_filter",
+    "serf_world Roster::add": "roster",
+    "serf_world Roster::from_vec": "roster",
+    "serf_world Roster::new": None,
+    "serf_world World::new": "new_world",
+    "serf_world World::step": "step",
+    "serf_world run": "run",
+}
+
+# A public function with its parameters, and the head of the impl or trait that it stands in.
+PUBLIC = re.compile(r"^( *)pub fn (\w+)(?:<[^(]*>)?\(([^)]*)\)", re.M)
+OWNER = re.compile(r"^(?:impl(?:<[^{]*?>)? (?:[\w:]+(?:<[^{]*?>)? for )?|pub trait )(\w+)", re.M)
+
 # What takes no memory, so that it is never refused, and how many growths its state takes.
-NEVER_REFUSED = {"ignore": 10, "merge_again": 14}
+NEVER_REFUSED = {"ignore": 10, "merge_again": 14, "new_windows": 0}
 
 # Calls that are wrong on purpose, and have to come out as wrong: one that always answers want of memory among them.
 WRONG = {"wrong_always_refused": 1, "wrong_another_error": 1, "wrong_answer": 1, "wrong_change": 2}
+
+
+def public_calls():
+    """Each public call of the crates that is passed an allocator."""
+    found = set()
+    for crate in USES:
+        for folder, _, files in os.walk(os.path.join(TOP, "crates", crate, "src")):
+            for file in files:
+                with open(os.path.join(folder, file), encoding="utf-8") as source:
+                    text = source.read()
+                for call in PUBLIC.finditer(text):
+                    if "alloc: Global" in call[3]:
+                        owner = [head[1] + "::" for head in OWNER.finditer(text, 0, call.start())][-1] if call[1] else ""
+                        found.add(f"{crate} {owner}{call[2]}")
+    return found
+
+
+def faults_of_calls():
+    """What is wrong with the table of public calls."""
+    found = public_calls()
+    faults = [f"{call}: a public call without a case" for call in sorted(found - CALLS.keys())]
+    faults += [f"{call}: a case for a call that isn't there" for call in sorted(CALLS.keys() - found)]
+    cases = {**GROWTHS, **NEVER_REFUSED}
+    return faults + [f"{call}: no case {case}" for call, case in CALLS.items() if case is not None and case not in cases]
 
 
 def first_numbers():
@@ -181,13 +254,18 @@ def main():
         for name, number in asked.items():
             print(f"{name} has more than {numbers[name]} growths: up to {number} are tried now")
         numbers.update(asked)
-    failed = 0
+    wrong_calls = faults_of_calls()
+    for fault in wrong_calls:
+        print(f"FAILED {fault}")
+    failed = len(wrong_calls)
+    passed = len(CALLS) - failed
     for name, number in numbers.items():
         fault = fault_of(name, number, came[name])
         if fault:
             failed += 1
             print(f"FAILED {name}: {fault}")
-    passed = len(numbers) - failed
+        else:
+            passed += 1
     if status != 0:
         failed += 1
         print(f"FAILED rt try ended with status {status}: {said[-1500:]}")

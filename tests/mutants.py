@@ -34,7 +34,7 @@ import toolchain
 LANES = min(os.cpu_count() or 1, 5)
 
 # A line that begins or names a function.
-FUNCTION = re.compile(r"^(\s*(?:pub(?:\([^)]*\))? )?(?:const )?)fn (\w+)")
+FUNCTION = re.compile(r'^(\s*(?:pub(?:\([^)]*\))? )?(?:const )?(?:extern "C" )?)fn (\w+)')
 
 # The head of an impl: what it is of, and the trait.
 IMPL = re.compile(r"^impl(?P<generic><[^{]*?>)? (?:(?P<trait>[\w:]+)(?:<(?P<with>\w+)[^{]*>)? for )?(?:&(?:'\w+ )?)?(?P<type>\w+)(?:<(?P<of>\w+)>)?", re.M)

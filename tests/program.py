@@ -3,6 +3,7 @@
 import os
 import pty
 import re
+import resource
 import subprocess
 import sys
 import tempfile
@@ -184,14 +185,45 @@ def full_device(count):
         count.check("a full device: " + " ".join(words), (ran.returncode, ran.stderr) == (3, b"write fault\n"), str(ran))
 
 
+def peak_kib(schedule):
+    """The peak of the resident set of a run that passes, in KiB, or what was wrong with it."""
+    with tempfile.TemporaryFile() as given:
+        given.write(schedule)
+        given.seek(0)
+        child = subprocess.Popen([PROGRAM, "replay"], stdin=given, stdout=subprocess.DEVNULL)
+        _, status, usage = os.wait4(child.pid, 0)
+    child.returncode = os.waitstatus_to_exitcode(status)
+    return usage.ru_maxrss if status == 0 else f"status {status}"
+
+
+def memory_of_agents(count):
+    """Agents of 512 slots that do nothing take at most 1 KiB each, their lines and the program included.
+
+    There are so many that what the system tells is not the peak of this interpreter, as it is of a small run.
+    """
+    agents = 50_000
+    peak = peak_kib(b"".join(b"agent %08x 512 512 512 8 keep\n" % number for number in range(agents)))
+    count.check(f"{agents} agents that do nothing", isinstance(peak, int) and peak <= agents, f"{peak} KiB")
+
+
+def no_memory(count):
+    """Where memory is short, nothing is written but the fault."""
+    schedule = b"agent 61 4 4 512 8 keep\n" + b"fire 0 78 - 0\n" * 100_000
+    some = 12 * 1024 * 1024
+    ran = subprocess.run([PROGRAM, "replay"], input=schedule, capture_output=True, timeout=600, preexec_fn=lambda: resource.setrlimit(resource.RLIMIT_AS, (some, some)))
+    count.check("a run without memory", (ran.returncode, ran.stdout, ran.stderr) == (3, b"", b"no memory\n"), str(ran)[-300:])
+    ran = run(["replay"], schedule)
+    count.check("the same run with memory", (ran.returncode, ran.stderr) == (0, b"") and ran.stdout.count(b" fired ") == 100_000, f"{ran.returncode} {ran.stderr}")
+
+
 def command_line(count):
-    for words in (["--help"], ["replay", "--help"], ["decode", "--help"], ["clocks", "--help"], ["--version"]):
+    for words in (["--help"], ["replay", "--help"], ["decode", "--help"], ["clocks", "--help"], ["judge", "--help"], ["--version"]):
         ran = run(words)
         count.check(" ".join(words), ran.returncode == 0 and ran.stdout and not ran.stderr, str(ran))
-    for command in ("replay", "decode", "clocks"):
+    for command in ("replay", "decode", "clocks", "judge"):
         example = b"Example: serf-replay " + command.encode()
         count.check(f"an example in the help of {command}", example in run([command, "--help"]).stdout)
-    for words in ([], ["bogus"], ["replay", "a", "b"], ["decode"], ["clocks"]):
+    for words in ([], ["bogus"], ["replay", "a", "b"], ["decode", "a", "b"], ["clocks"]):
         ran = run(words)
         count.check("refused: " + " ".join(words), ran.returncode == 2 and ran.stderr and not ran.stdout, str(ran))
 
@@ -202,7 +234,7 @@ def main():
         print(f"{fault}\n0 passed, 1 failed")
         return 1
     count = Count()
-    for part in (examples, short_run_on_a_terminal, long_run_on_a_terminal, packets_and_snapshots, refused_packets, faults, full_device, command_line):
+    for part in (examples, short_run_on_a_terminal, long_run_on_a_terminal, packets_and_snapshots, refused_packets, faults, full_device, memory_of_agents, no_memory, command_line):
         part(count)
     print(f"{count.passed} passed, {count.failed} failed")
     return 1 if count.failed else 0

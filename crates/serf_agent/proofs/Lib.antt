@@ -1,12 +1,13 @@
 pub mod OpenQueries
 pub mod ConfigLaws
+pub mod LifeLaws
 pub mod LineLaws
 pub mod MergeLaws
 pub mod NoteLaws
-pub mod PlanLaws
 pub mod SendLaws
 pub mod SoundLaws
 pub mod StepLaws
 pub mod TrackLaws
 pub mod ViewLaws
 pub mod WireLaws
+pub mod Deadlines

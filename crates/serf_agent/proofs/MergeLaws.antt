@@ -1,57 +1,56 @@
 -- Events of a push/pull, one after another.
-use Rattle.std.proofs.Common.{◌≡◌, ◌⊎◌, inl, inr, ℕ, ◌-◌, ◌^◌, ◌<◌, Bool, true, false, cond, List, [], ◌∷◌, ◌++◌, Option, Some, None, Result, Ok, Err, refl, sym, ap, subst, ◌∙◌, append_assoc, append-nil}
+use Rattle.std.proofs.Common.{◌≡◌, inl, inr, ℕ, ◌-◌, ◌^◌, ◌<◌, Bool, false, List, [], ◌∷◌, ◌++◌, Option, Some, None, Ok, Err, refl, sym, ap, subst, ◌∙◌, append_assoc, append-nil}
 use Rattle.serf_wire.specs.declared.texts.EventBody.{EventBody}
 use Rattle.serf_wire.specs.Message.{PushPull, push_pull}
 use Rattle.serf_window.specs.Window.{TimedEntry}
 use Rattle.serf_snap.specs.declared.kind.ClockKind.TheVariants as kinds
-use Rattle.serf_snap.specs.Notes.{Kept, Failed, noted, written}
+use Rattle.serf_snap.specs.Device.{Device}
+use Rattle.serf_snap.specs.Notes.{Kept, noted}
 use Rattle.serf_agent.specs.declared.outcome.EventOut.{EventOut}
 use Rattle.serf_agent.specs.declared.outcome.MergeFault.{MergeFault}
 use Rattle.serf_agent.specs.declared.outcome.MergeFault.TheVariants as merges
-use Rattle.serf_agent.specs.declared.outcome.Outcome.{Outcome}
-use Rattle.serf_agent.specs.declared.outcome.Outcome.TheVariants as outcomes
 use Rattle.serf_agent.specs.declared.outcome.Reason.{Reason}
-use Rattle.serf_agent.specs.declared.outcome.ReceiveFault.{ReceiveFault}
 use Rattle.serf_agent.specs.declared.outcome.ReceiveFault.TheVariants.{SinkFault}
-use Rattle.serf_agent.specs.Calls.{Call, Ends, Notes, MayEnd, MayNote, AsksSink, ended}
+use Rattle.serf_agent.specs.Calls.{MayEnd, MayNote, AsksSink, ended}
+use Rattle.serf_agent.specs.Devices.{device_after, device_noted}
 use Rattle.serf_agent.specs.Events.{admission, event_entered, event_observed, event_out, received_as}
 use Rattle.serf_agent.specs.Ideal.{IdealAgent, with_snapshot}
 use Rattle.serf_agent.specs.Merging.{GoesOn, GoesWrong, Received, HasReceived}
 use Rattle.serf_agent.specs.Sound.{IsSound}
-use Rattle.serf_agent.specs.States.{Receives, EndsAt, Merges, events_of, delivered, handed_by, joined, receive_one, after_event}
+use Rattle.serf_agent.specs.States.{Receives, Merges, events_of, delivered, handed_by, joined, receive_one, after_event}
 use Rattle.serf_agent.specs.Steps.{Steps}
-use Rattle.serf_agent.specs.View.{ConcreteState, view_of}
+use Rattle.serf_agent.specs.View.{AgentState, view_of}
 use Rattle.serf_agent.proofs.SoundLaws.{admission-new, sound-event_entered, sound-event_observed, stopped-noted}
 
 -- nothing was received yet
-pub goes-start : (i : IdealAgent) (concrete : ConcreteState) → IsSound i → i.snapshot.stopped ≡ false → concrete ≡ view_of i → GoesOn i [] [] concrete
-goes-start i concrete sound runs state = record { agent = i; state = state; sound = sound; runs = runs; follows = λ rest more last fault r. r }
+pub goes-start : (i : IdealAgent) (now : AgentState) → IsSound i → i.snapshot.stopped ≡ false → now.concrete ≡ view_of i → GoesOn i [] now.device [] now
+goes-start i now sound runs state = record { agent = i; state = state; sound = sound; runs = runs; follows = λ rest more last fault r. r }
 
 -- one list after another
-pub goes-then : (i : IdealAgent) (es fs : List (TimedEntry EventBody)) (g h : List EventOut) (mid new : ConcreteState) (first : GoesOn i es g mid) → GoesOn first.agent fs h new → GoesOn i (es ++ fs) (g ++ h) new
-goes-then i es fs g h mid new first second = record {
+pub goes-then : (i : IdealAgent) (es fs : List (TimedEntry EventBody)) (old : Device) (g h : List EventOut) (mid new : AgentState) (first : GoesOn i es old g mid) → GoesOn first.agent fs mid.device h new → GoesOn i (es ++ fs) old (g ++ h) new
+goes-then i es fs old g h mid new first second = record {
   agent = second.agent;
   state = second.state;
   sound = second.sound;
   runs = second.runs;
   follows = λ rest more last fault r.
       let joined = first.follows (fs ++ rest) (h ++ more) last fault (second.follows rest more last fault r) in
-      subst (λ (l : List (TimedEntry EventBody)). Receives i l ((g ++ h) ++ more) last fault) (sym (append_assoc es fs rest)) (subst (λ (l : List EventOut). Receives i (es ++ (fs ++ rest)) l last fault) (sym (append_assoc g h more)) joined);
+      subst (λ (l : List (TimedEntry EventBody)). Receives i l old ((g ++ h) ++ more) last fault) (sym (append_assoc es fs rest)) (subst (λ (l : List EventOut). Receives i (es ++ (fs ++ rest)) old l last fault) (sym (append_assoc g h more)) joined);
 }
 
-pub goes-wrong : (i : IdealAgent) (es fs : List (TimedEntry EventBody)) (g h : List EventOut) (mid new : ConcreteState) (fault : MergeFault) (first : GoesOn i es g mid) → GoesWrong first.agent fs h new fault → GoesWrong i (es ++ fs) (g ++ h) new fault
-goes-wrong i es fs g h mid new fault first second = λ rest.
+pub goes-wrong : (i : IdealAgent) (es fs : List (TimedEntry EventBody)) (old : Device) (g h : List EventOut) (mid new : AgentState) (fault : MergeFault) (first : GoesOn i es old g mid) → GoesWrong first.agent fs mid.device h new fault → GoesWrong i (es ++ fs) old (g ++ h) new fault
+goes-wrong i es fs old g h mid new fault first second = λ rest.
     let joined = first.follows (fs ++ rest) h new (Some fault) (second rest) in
-    subst (λ (l : List (TimedEntry EventBody)). Receives i l (g ++ h) new (Some fault)) (sym (append_assoc es fs rest)) joined
+    subst (λ (l : List (TimedEntry EventBody)). Receives i l old (g ++ h) new (Some fault)) (sym (append_assoc es fs rest)) joined
 
 -- all was received
-pub goes-all : (i : IdealAgent) (es : List (TimedEntry EventBody)) (g : List EventOut) (new : ConcreteState) → GoesOn i es g new → Receives i es g new None
-goes-all i es g new goes =
-    let all = goes.follows [] [] new None (refl, goes.state, goes.sound, refl) in
-    subst (λ (l : List (TimedEntry EventBody)). Receives i l g new None) (append-nil es) (subst (λ (l : List EventOut). Receives i (es ++ []) l new None) (append-nil g) all)
+pub goes-all : (i : IdealAgent) (es : List (TimedEntry EventBody)) (old : Device) (g : List EventOut) (new : AgentState) → GoesOn i es old g new → Receives i es old g new None
+goes-all i es old g new goes =
+    let all = goes.follows [] [] new None (refl, goes.state, refl, goes.sound, refl) in
+    subst (λ (l : List (TimedEntry EventBody)). Receives i l old g new None) (append-nil es) (subst (λ (l : List EventOut). Receives i (es ++ []) old l new None) (append-nil g) all)
 
-pub wrong-all : (i : IdealAgent) (es : List (TimedEntry EventBody)) (g : List EventOut) (new : ConcreteState) (fault : MergeFault) → GoesWrong i es g new fault → Receives i es g new (Some fault)
-wrong-all i es g new fault wrong = subst (λ (l : List (TimedEntry EventBody)). Receives i l g new (Some fault)) (append-nil es) (wrong [])
+pub wrong-all : (i : IdealAgent) (es : List (TimedEntry EventBody)) (old : Device) (g : List EventOut) (new : AgentState) (fault : MergeFault) → GoesWrong i es old g new fault → Receives i es old g new (Some fault)
+wrong-all i es old g new fault wrong = subst (λ (l : List (TimedEntry EventBody)). Receives i l old g new (Some fault)) (append-nil es) (wrong [])
 
 -- ---- one event
 
@@ -61,84 +60,88 @@ after_event-is i e r says = ap (λ (o : Option Reason). (ended i (received_as o 
 delivered-is : (i : IdealAgent) (e : TimedEntry EventBody) (r : Option Reason) → admission i e.time e.key ≡ r → delivered i e ≡ handed_by (ended i (received_as r i e.time e.key false) Kept).answer
 delivered-is i e r says = ap (λ (o : Option Reason). handed_by (ended i (received_as o i e.time e.key false) Kept).answer) says
 
+device-is : (i : IdealAgent) (e : TimedEntry EventBody) (old : Device) (r : Option Reason) → admission i e.time e.key ≡ r → device_after i (receive_one i e) old ≡ device_after i (received_as r i e.time e.key false) old
+device-is i e old r says = ap (λ (o : Option Reason). device_after i (received_as o i e.time e.key false) old) says
+
 -- it is received, its line is durable
-goes-one : (i : IdealAgent) (e : TimedEntry EventBody) (g : List EventOut) (j : IdealAgent) (new : ConcreteState) → MayEnd i (receive_one i e) Kept → delivered i e ≡ g → after_event i e ≡ j → new ≡ view_of j → IsSound j → j.snapshot.stopped ≡ false → GoesOn i (e ∷ []) g new
-goes-one i e g j new may deliveries is state sound runs = record {
+goes-one : (i : IdealAgent) (e : TimedEntry EventBody) (old : Device) (g : List EventOut) (j : IdealAgent) (new : AgentState) → MayEnd i (receive_one i e) Kept → delivered i e ≡ g → after_event i e ≡ j → new.concrete ≡ view_of j → new.device ≡ device_after i (receive_one i e) old → IsSound j → j.snapshot.stopped ≡ false → GoesOn i (e ∷ []) old g new
+goes-one i e old g j new may deliveries is state device sound runs = record {
   agent = j;
   state = state;
   sound = sound;
   runs = runs;
   follows = λ rest more last fault r.
-      inl (may, (more, ap (λ (l : List EventOut). l ++ more) (sym deliveries), subst (λ (k : IdealAgent). Receives k rest more last fault) (sym is) r));
+      let after = subst (λ (k : IdealAgent). Receives k rest new.device more last fault) (sym is) r in
+      inl (may, (more, ap (λ (l : List EventOut). l ++ more) (sym deliveries), subst (λ (d : Device). Receives (after_event i e) rest d more last fault) device after));
 }
 
-pub goes-ignored : (i : IdealAgent) (t : ℕ) (what : EventBody) (reason : Reason) (new : ConcreteState) → IsSound i → i.snapshot.stopped ≡ false → admission i t what ≡ Some reason → new ≡ view_of (event_observed t i) → GoesOn i (record { time = t; key = what } ∷ []) [] new
-goes-ignored i t what reason new sound runs says state =
+pub goes-ignored : (i : IdealAgent) (t : ℕ) (what : EventBody) (reason : Reason) (old : Device) (new : AgentState) → IsSound i → i.snapshot.stopped ≡ false → admission i t what ≡ Some reason → new.concrete ≡ view_of (event_observed t i) → new.device ≡ old → GoesOn i (record { time = t; key = what } ∷ []) old [] new
+goes-ignored i t what reason old new sound runs says state device =
     let e : TimedEntry EventBody = record { time = t; key = what } in
-    goes-one i e [] (event_observed t i) new (subst (λ (r : Option Reason). MayEnd i (received_as r i t what false) Kept) (sym says) refl) (delivered-is i e (Some reason) says) (after_event-is i e (Some reason) says) state (sound-event_observed t i sound) runs
+    goes-one i e old [] (event_observed t i) new (subst (λ (r : Option Reason). MayEnd i (received_as r i t what false) Kept) (sym says) refl) (delivered-is i e (Some reason) says) (after_event-is i e (Some reason) says) state (device ∙ sym (device-is i e old (Some reason) says)) (sound-event_observed t i sound) runs
 
-pub goes-entered : (i : IdealAgent) (t : ℕ) (what : EventBody) (new : ConcreteState) → IsSound i → i.snapshot.stopped ≡ false → t < 2 ^ 64 - 1 → admission i t what ≡ None → MayNote kinds.Event t i.snapshot Kept
-    → new ≡ view_of (with_snapshot (noted kinds.Event t i.snapshot Kept) (event_entered t what i)) → GoesOn i (record { time = t; key = what } ∷ []) (event_out t what false ∷ []) new
-goes-entered i t what new sound runs small says may state =
+pub goes-entered : (i : IdealAgent) (t : ℕ) (what : EventBody) (old : Device) (new : AgentState) → IsSound i → i.snapshot.stopped ≡ false → t < 2 ^ 64 - 1 → admission i t what ≡ None → MayNote kinds.Event t i.snapshot Kept
+    → new.concrete ≡ view_of (with_snapshot (noted kinds.Event t i.snapshot Kept) (event_entered t what i)) → new.device ≡ device_noted kinds.Event t i.snapshot old → GoesOn i (record { time = t; key = what } ∷ []) old (event_out t what false ∷ []) new
+goes-entered i t what old new sound runs small says may state device =
     let e : TimedEntry EventBody = record { time = t; key = what } in
     let parts = admission-new i t what says in
-    goes-one i e (event_out t what false ∷ []) (with_snapshot (noted kinds.Event t i.snapshot Kept) (event_entered t what i)) new (subst (λ (r : Option Reason). MayEnd i (received_as r i t what false) Kept) (sym says) may) (delivered-is i e None says) (after_event-is i e None says) state
-    (sound-event_entered t what i sound runs small parts.0 parts.1) (stopped-noted kinds.Event t i.snapshot ∙ runs)
+    goes-one i e old (event_out t what false ∷ []) (with_snapshot (noted kinds.Event t i.snapshot Kept) (event_entered t what i)) new (subst (λ (r : Option Reason). MayEnd i (received_as r i t what false) Kept) (sym says) may) (delivered-is i e None says) (after_event-is i e None says) state
+    (device ∙ sym (device-is i e old None says)) (sound-event_entered t what i sound runs small parts.0 parts.1) (stopped-noted kinds.Event t i.snapshot ∙ runs)
 
-pub wrong-memory : (i : IdealAgent) (t : ℕ) (what : EventBody) (new : ConcreteState) → IsSound i → admission i t what ≡ None → new ≡ view_of i → GoesWrong i (record { time = t; key = what } ∷ []) [] new merges.OutOfMemory
-wrong-memory i t what new sound says state = λ rest. inr (refl, (merges.OutOfMemory, refl, (subst (λ (r : Option Reason). AsksSink (received_as r i t what false)) (sym says) tt, state, sound)))
+pub wrong-memory : (i : IdealAgent) (t : ℕ) (what : EventBody) (old : Device) (new : AgentState) → IsSound i → admission i t what ≡ None → new.concrete ≡ view_of i → new.device ≡ old → GoesWrong i (record { time = t; key = what } ∷ []) old [] new merges.OutOfMemory
+wrong-memory i t what old new sound says state device = λ rest. inr (refl, (merges.OutOfMemory, refl, (subst (λ (r : Option Reason). AsksSink (received_as r i t what false)) (sym says) tt, state, device, sound)))
 
-pub wrong-line : (i : IdealAgent) (t : ℕ) (what : EventBody) (new : ConcreteState) → Steps i (receive_one i (record { time = t; key = what })) (Err SinkFault) new → GoesWrong i (record { time = t; key = what } ∷ []) [] new merges.SinkFault
-wrong-line i t what new steps = λ rest. inr (refl, (merges.SinkFault, refl, steps))
+pub wrong-line : (i : IdealAgent) (t : ℕ) (what : EventBody) (old : Device) (new : AgentState) → Steps i (receive_one i (record { time = t; key = what })) (Err SinkFault) old new → GoesWrong i (record { time = t; key = what } ∷ []) old [] new merges.SinkFault
+wrong-line i t what old new steps = λ rest. inr (refl, (merges.SinkFault, refl, steps))
 
 -- ---- parts of a list
 
-pub received-ignored : (i : IdealAgent) (es : List (TimedEntry EventBody)) (before after : List EventOut) (new : ConcreteState) → after ≡ before → GoesOn i es [] new → Received i es before after new (Ok tt)
-received-ignored i es before after new same goes = record { deliveries = []; out = same ∙ sym (append-nil before); went = goes }
+pub received-ignored : (i : IdealAgent) (es : List (TimedEntry EventBody)) (before after : List EventOut) (old : Device) (new : AgentState) → after ≡ before → GoesOn i es old [] new → Received i es before after old new (Ok tt)
+received-ignored i es before after old new same goes = record { deliveries = []; out = same ∙ sym (append-nil before); went = goes }
 
-pub received-entered : (i : IdealAgent) (es : List (TimedEntry EventBody)) (before after : List EventOut) (out handed : EventOut) (new : ConcreteState) → after ≡ before ++ out ∷ [] → out ≡ handed → GoesOn i es (handed ∷ []) new → Received i es before after new (Ok tt)
-received-entered i es before after out handed new added is goes = record { deliveries = handed ∷ []; out = added ∙ ap (λ (o : EventOut). before ++ o ∷ []) is; went = goes }
+pub received-entered : (i : IdealAgent) (es : List (TimedEntry EventBody)) (before after : List EventOut) (out handed : EventOut) (old : Device) (new : AgentState) → after ≡ before ++ out ∷ [] → out ≡ handed → GoesOn i es old (handed ∷ []) new → Received i es before after old new (Ok tt)
+received-entered i es before after out handed old new added is goes = record { deliveries = handed ∷ []; out = added ∙ ap (λ (o : EventOut). before ++ o ∷ []) is; went = goes }
 
-pub received-wrong : (i : IdealAgent) (es : List (TimedEntry EventBody)) (before after : List EventOut) (new : ConcreteState) (fault : MergeFault) → after ≡ before → GoesWrong i es [] new fault → Received i es before after new (Err fault)
-received-wrong i es before after new fault same wrong = record { deliveries = []; out = same ∙ sym (append-nil before); went = wrong }
+pub received-wrong : (i : IdealAgent) (es : List (TimedEntry EventBody)) (before after : List EventOut) (old : Device) (new : AgentState) (fault : MergeFault) → after ≡ before → GoesWrong i es old [] new fault → Received i es before after old new (Err fault)
+received-wrong i es before after old new fault same wrong = record { deliveries = []; out = same ∙ sym (append-nil before); went = wrong }
 
-pub has-start : (i : IdealAgent) (all : List (TimedEntry EventBody)) (before : List EventOut) (concrete : ConcreteState) → IsSound i → i.snapshot.stopped ≡ false → concrete ≡ view_of i → HasReceived i all all before before concrete
-has-start i all before concrete sound runs state = record { done = []; split = refl; deliveries = []; out = sym (append-nil before); goes = goes-start i concrete sound runs state }
+pub has-start : (i : IdealAgent) (all : List (TimedEntry EventBody)) (before : List EventOut) (now : AgentState) → IsSound i → i.snapshot.stopped ≡ false → now.concrete ≡ view_of i → HasReceived i all all before before now.device now
+has-start i all before now sound runs state = record { done = []; split = refl; deliveries = []; out = sym (append-nil before); goes = goes-start i now sound runs state }
 
-pub has-more : (i : IdealAgent) (all part left : List (TimedEntry EventBody)) (before mid after : List EventOut) (concrete new : ConcreteState) (has : HasReceived i all (part ++ left) before mid concrete) → Received has.goes.agent part mid after new (Ok tt) → HasReceived i all left before after new
-has-more i all part left before mid after concrete new has more = record {
+pub has-more : (i : IdealAgent) (all part left : List (TimedEntry EventBody)) (before mid after : List EventOut) (old : Device) (now new : AgentState) (has : HasReceived i all (part ++ left) before mid old now) → Received has.goes.agent part mid after now.device new (Ok tt) → HasReceived i all left before after old new
+has-more i all part left before mid after old now new has more = record {
   done = has.done ++ part;
   split = append_assoc has.done part left ∙ has.split;
   deliveries = has.deliveries ++ more.deliveries;
   out = more.out ∙ ap (λ (l : List EventOut). l ++ more.deliveries) has.out ∙ append_assoc before has.deliveries more.deliveries;
-  goes = goes-then i has.done part has.deliveries more.deliveries concrete new has.goes more.went;
+  goes = goes-then i has.done part old has.deliveries more.deliveries now new has.goes more.went;
 }
 
-wrong-longer : (i : IdealAgent) (es fs : List (TimedEntry EventBody)) (g : List EventOut) (new : ConcreteState) (fault : MergeFault) → GoesWrong i es g new fault → GoesWrong i (es ++ fs) g new fault
-wrong-longer i es fs g new fault wrong = λ rest. subst (λ (l : List (TimedEntry EventBody)). Receives i l g new (Some fault)) (sym (append_assoc es fs rest)) (wrong (fs ++ rest))
+wrong-longer : (i : IdealAgent) (es fs : List (TimedEntry EventBody)) (old : Device) (g : List EventOut) (new : AgentState) (fault : MergeFault) → GoesWrong i es old g new fault → GoesWrong i (es ++ fs) old g new fault
+wrong-longer i es fs old g new fault wrong = λ rest. subst (λ (l : List (TimedEntry EventBody)). Receives i l old g new (Some fault)) (sym (append_assoc es fs rest)) (wrong (fs ++ rest))
 
-pub has-wrong : (i : IdealAgent) (all part left : List (TimedEntry EventBody)) (before mid after : List EventOut) (concrete new : ConcreteState) (fault : MergeFault) (has : HasReceived i all (part ++ left) before mid concrete) → Received has.goes.agent part mid after new (Err fault) → Received i all before after new (Err fault)
-has-wrong i all part left before mid after concrete new fault has more = record {
+pub has-wrong : (i : IdealAgent) (all part left : List (TimedEntry EventBody)) (before mid after : List EventOut) (old : Device) (now new : AgentState) (fault : MergeFault) (has : HasReceived i all (part ++ left) before mid old now) → Received has.goes.agent part mid after now.device new (Err fault) → Received i all before after old new (Err fault)
+has-wrong i all part left before mid after old now new fault has more = record {
   deliveries = has.deliveries ++ more.deliveries;
   out = more.out ∙ ap (λ (l : List EventOut). l ++ more.deliveries) has.out ∙ append_assoc before has.deliveries more.deliveries;
-  went = subst (λ (l : List (TimedEntry EventBody)). GoesWrong i l (has.deliveries ++ more.deliveries) new fault) (append_assoc has.done part left ∙ has.split)
-      (wrong-longer i (has.done ++ part) left (has.deliveries ++ more.deliveries) new fault (goes-wrong i has.done part has.deliveries more.deliveries concrete new fault has.goes more.went));
+  went = subst (λ (l : List (TimedEntry EventBody)). GoesWrong i l old (has.deliveries ++ more.deliveries) new fault) (append_assoc has.done part left ∙ has.split)
+      (wrong-longer i (has.done ++ part) left old (has.deliveries ++ more.deliveries) new fault (goes-wrong i has.done part old has.deliveries more.deliveries now new fault has.goes more.went));
 }
 
-pub has-all : (i : IdealAgent) (all : List (TimedEntry EventBody)) (before after : List EventOut) (new : ConcreteState) → HasReceived i all [] before after new → Received i all before after new (Ok tt)
-has-all i all before after new has = record {
+pub has-all : (i : IdealAgent) (all : List (TimedEntry EventBody)) (before after : List EventOut) (old : Device) (new : AgentState) → HasReceived i all [] before after old new → Received i all before after old new (Ok tt)
+has-all i all before after old new has = record {
   deliveries = has.deliveries;
   out = has.out;
-  went = subst (λ (l : List (TimedEntry EventBody)). GoesOn i l has.deliveries new) (sym (append-nil has.done) ∙ has.split) has.goes;
+  went = subst (λ (l : List (TimedEntry EventBody)). GoesOn i l old has.deliveries new) (sym (append-nil has.done) ∙ has.split) has.goes;
 }
 
 -- ---- a whole push/pull
 
-pub merges-all : (i : IdealAgent) (m : PushPull) (is_join : Bool) (before after : List EventOut) (new : ConcreteState) (done : Unit {0}) → Received (joined m is_join i) (events_of m.slots) before after new (Ok done) → Merges i m is_join before after new None
-merges-all i m is_join before after new done r = record { deliveries = r.deliveries; out = r.out; receives = goes-all (joined m is_join i) (events_of m.slots) r.deliveries new r.went }
+pub merges-all : (i : IdealAgent) (m : PushPull) (is_join : Bool) (before after : List EventOut) (old : Device) (new : AgentState) (done : Unit {0}) → Received (joined m is_join i) (events_of m.slots) before after old new (Ok done) → Merges i m is_join before after old new None
+merges-all i m is_join before after old new done r = record { deliveries = r.deliveries; out = r.out; receives = goes-all (joined m is_join i) (events_of m.slots) old r.deliveries new r.went }
 
-pub merges-wrong : (i : IdealAgent) (m : PushPull) (is_join : Bool) (before after : List EventOut) (new : ConcreteState) (fault : MergeFault) → Received (joined m is_join i) (events_of m.slots) before after new (Err fault) → Merges i m is_join before after new (Some fault)
-merges-wrong i m is_join before after new fault r = record { deliveries = r.deliveries; out = r.out; receives = wrong-all (joined m is_join i) (events_of m.slots) r.deliveries new fault r.went }
+pub merges-wrong : (i : IdealAgent) (m : PushPull) (is_join : Bool) (before after : List EventOut) (old : Device) (new : AgentState) (fault : MergeFault) → Received (joined m is_join i) (events_of m.slots) before after old new (Err fault) → Merges i m is_join before after old new (Some fault)
+merges-wrong i m is_join before after old new fault r = record { deliveries = r.deliveries; out = r.out; receives = wrong-all (joined m is_join i) (events_of m.slots) old r.deliveries new fault r.went }
 
 pub same-push_pull : (a b : PushPull) → push_pull a ≡ push_pull b → a ≡ b
 same-push_pull a b is = cc

@@ -14,7 +14,7 @@ use Rattle.serf_window.specs.Texts.{same_texts}
 use Rattle.serf_window.specs.Queries.{same_id}
 use Rattle.serf_snap.specs.declared.kind.ClockKind.{ClockKind}
 use Rattle.serf_snap.specs.declared.kind.ClockKind.TheVariants as kinds
-use Rattle.serf_snap.specs.Clocks.{clock_line}
+use Rattle.serf_snap.specs.Clocks.{clock_line, last_clock}
 use Rattle.serf_snap.specs.Device.{Device}
 use Rattle.serf_snap.specs.Notes.{SnapshotView, Writing, Kept, Failed, last_line, noted, written, compacted, KeepsPart, KeepsEither, compaction_of, MayWrite, MayReplace, opened}
 use Rattle.serf_snap.proofs.NoteLaws.{sound-noted, sound-failed, sound-opened, sound-compacted, sound-compaction_failed}
@@ -262,6 +262,9 @@ sound-unopened config text d ok small = record {
       distinct = no-pairs (λ p q. p.entry ≢ q.entry);
       minimum = omega arith;
     }
+
+pub text-unopened : (config : Config) (s : SnapshotView) (text : List ℕ) → IsInText (unopened config s) text
+text-unopened config s text = record { events = All-nil (λ p. p.entry.time ≤ last_clock kinds.Event text); queries = All-nil (λ p. p.entry.time ≤ last_clock kinds.Query text) }
 
 -- ---- answers that are counted
 

@@ -1,10 +1,11 @@
 -- How a call of the ideal agent ends, by how the real one's ended.
-use Rattle.std.proofs.Common.{◌≡◌, ◌≢◌, ℕ, ◌-◌, ◌^◌, ◌<◌, ◌≤◌, nat_lt, nat_le, not, cond, length, Bool, true, false, List, Option, Some, None, Result, Ok, Err, refl, sym, ◌∙◌, ap, subst, arith}
-use Rattle.std.specs.Prelude.{All}
+use Rattle.std.proofs.Common.{◌≡◌, ℕ, ◌-◌, ◌^◌, ◌<◌, ◌≤◌, nat_lt, nat_le, not, cond, length, Bool, false, List, Option, Some, None, Result, Ok, Err, refl, sym, subst, arith}
 use Rattle.serf_wire.specs.declared.texts.EventBody.{EventBody}
 use Rattle.serf_snap.specs.declared.kind.ClockKind.{ClockKind}
 use Rattle.serf_snap.specs.declared.kind.ClockKind.TheVariants as kinds
-use Rattle.serf_snap.specs.Notes.{Writing, Kept, Failed, noted, written}
+use Rattle.serf_snap.specs.Clocks.{clock_line}
+use Rattle.serf_snap.specs.Device.{Device}
+use Rattle.serf_snap.specs.Notes.{Kept, Failed, noted, written}
 use Rattle.serf_agent.specs.declared.outcome.Fired.{Fired}
 use Rattle.serf_agent.specs.declared.outcome.FireFault.{FireFault}
 use Rattle.serf_agent.specs.declared.outcome.FireFault.TheVariants as fires
@@ -17,7 +18,8 @@ use Rattle.serf_agent.specs.declared.outcome.QueryParams.{QueryParams}
 use Rattle.serf_agent.specs.declared.outcome.Reason.{Reason}
 use Rattle.serf_agent.specs.declared.outcome.ReceiveFault.{ReceiveFault}
 use Rattle.serf_agent.specs.declared.outcome.ReceiveFault.TheVariants.{SinkFault, Stopped}
-use Rattle.serf_agent.specs.Calls.{Call, Ends, Notes, Step, MayNote, answers}
+use Rattle.serf_agent.specs.Calls.{Ends, Notes, Step, MayNote, answers}
+use Rattle.serf_agent.specs.Devices.{FailsLine, device_noted}
 use Rattle.serf_agent.specs.Events.{admission, event_observed, event_entered, event_out, event_packet, received_as, receive_event, fire_fault, fired_as, fire, texts_len, is_too_large, drawn}
 use Rattle.serf_wire.specs.declared.fault.WireFault.{WireFault}
 use Rattle.serf_wire.specs.Decoded.{decoded}
@@ -30,58 +32,58 @@ use Rattle.serf_agent.specs.Sound.{IsSound}
 use Rattle.serf_agent.specs.Steps.{Steps}
 use Rattle.std.proofs.lemmas.Bool.{or_parts, ltb-false, lt-leb}
 use Rattle.serf_agent.proofs.ConfigLaws.{limit-sound}
-use Rattle.serf_agent.specs.View.{ConcreteState, view_of}
+use Rattle.serf_agent.specs.View.{AgentState, view_of}
 use Rattle.serf_agent.proofs.SoundLaws.{admission-new, sound-event_observed, sound-event_entered, sound-note_failed, sound-query_observed, sound-query_entered, query_admission-new, sound-counted, sound-query_asked}
 use Rattle.serf_agent.proofs.TrackLaws.{later-fresh}
 
-pub steps-ends : {R : Type 0} (i : IdealAgent) (step : Step R) (result : R) (new : ConcreteState) → result ≡ step.answer → new ≡ view_of step.agent → IsSound step.agent → Steps i (Ends step) result new
-steps-ends i step result new answers state sound = record { writing = Kept; allowed = refl; answers = answers; state = state; sound = sound }
+pub steps-ends : {R : Type 0} (i : IdealAgent) (step : Step R) (result : R) (old : Device) (new : AgentState) → result ≡ step.answer → new.concrete ≡ view_of step.agent → IsSound step.agent → new.device ≡ old → Steps i (Ends step) result old new
+steps-ends i step result old new answers state sound device = record { writing = Kept; allowed = refl; answers = answers; state = state; sound = sound; device = device }
 
-pub steps-answers : {R : Type 0} (i : IdealAgent) (answer result : R) (new : ConcreteState) → IsSound i → result ≡ answer → new ≡ view_of i → Steps i (answers i answer) result new
-steps-answers i answer result new sound same state = record { writing = Kept; allowed = refl; answers = same; state = state; sound = sound }
+pub steps-answers : {R : Type 0} (i : IdealAgent) (answer result : R) (old : Device) (new : AgentState) → IsSound i → result ≡ answer → new.concrete ≡ view_of i → new.device ≡ old → Steps i (answers i answer) result old new
+steps-answers i answer result old new sound same state device = record { writing = Kept; allowed = refl; answers = same; state = state; sound = sound; device = device }
 
-pub steps-kept : {R : Type 0} (i : IdealAgent) (kind : ClockKind) (t : ℕ) (step : Step R) (fault result : R) (new : ConcreteState) → MayNote kind t i.snapshot Kept → result ≡ step.answer → new ≡ view_of (with_snapshot (noted kind t i.snapshot Kept) step.agent) → IsSound (with_snapshot (noted kind t i.snapshot Kept) step.agent)
-    → Steps i (Notes kind t step fault) result new
-steps-kept i kind t step fault result new may answers state sound = record { writing = Kept; allowed = may; answers = answers; state = state; sound = sound }
+pub steps-kept : {R : Type 0} (i : IdealAgent) (kind : ClockKind) (t : ℕ) (step : Step R) (fault result : R) (old : Device) (new : AgentState) → MayNote kind t i.snapshot Kept → result ≡ step.answer → new.concrete ≡ view_of (with_snapshot (noted kind t i.snapshot Kept) step.agent) → IsSound (with_snapshot (noted kind t i.snapshot Kept) step.agent)
+    → new.device ≡ device_noted kind t i.snapshot old → Steps i (Notes kind t step fault) result old new
+steps-kept i kind t step fault result old new may answers state sound device = record { writing = Kept; allowed = may; answers = answers; state = state; sound = sound; device = device }
 
-pub steps-failed : {R : Type 0} (i : IdealAgent) (kind : ClockKind) (t : ℕ) (step : Step R) (fault result : R) (new : ConcreteState) (durable : Option (List ℕ)) → IsSound i → MayNote kind t i.snapshot (Failed durable) → result ≡ fault → new ≡ view_of (with_snapshot (written kind t i.snapshot (Failed durable)) i)
-    → Steps i (Notes kind t step fault) result new
-steps-failed i kind t step fault result new durable sound may answers state = record { writing = Failed durable; allowed = may; answers = answers; state = state; sound = sound-note_failed kind t durable i sound may }
+pub steps-failed : {R : Type 0} (i : IdealAgent) (kind : ClockKind) (t : ℕ) (step : Step R) (fault result : R) (old : Device) (new : AgentState) (durable : Option (List ℕ)) → IsSound i → MayNote kind t i.snapshot (Failed durable) → result ≡ fault → new.concrete ≡ view_of (with_snapshot (written kind t i.snapshot (Failed durable)) i)
+    → FailsLine old new.device (clock_line kind t) → Steps i (Notes kind t step fault) result old new
+steps-failed i kind t step fault result old new durable sound may answers state device = record { writing = Failed durable; allowed = may; answers = answers; state = state; sound = sound-note_failed kind t durable i sound may; device = device }
 
 -- ---- an event that comes
 
-pub steps-event_ignored : (i : IdealAgent) (t : ℕ) (what : EventBody) (coalesce : Bool) (reason : Reason) (new : ConcreteState) → IsSound i → admission i t what ≡ Some reason → new ≡ view_of (event_observed t i) → Steps i (receive_event i t what coalesce) (Ok (outcomes.Ignored reason)) new
-steps-event_ignored i t what flag reason new sound says state =
-    subst (λ (r : Option Reason). Steps i (received_as r i t what flag) (Ok (outcomes.Ignored reason)) new) (sym says) (steps-ends i _ _ new refl state (sound-event_observed t i sound))
+pub steps-event_ignored : (i : IdealAgent) (t : ℕ) (what : EventBody) (coalesce : Bool) (reason : Reason) (old : Device) (new : AgentState) → IsSound i → admission i t what ≡ Some reason → new.concrete ≡ view_of (event_observed t i) → new.device ≡ old → Steps i (receive_event i t what coalesce) (Ok (outcomes.Ignored reason)) old new
+steps-event_ignored i t what flag reason old new sound says state device =
+    subst (λ (r : Option Reason). Steps i (received_as r i t what flag) (Ok (outcomes.Ignored reason)) old new) (sym says) (steps-ends i _ _ old new refl state (sound-event_observed t i sound) device)
 
-pub steps-event_entered : (i : IdealAgent) (t : ℕ) (what : EventBody) (flag : Bool) (result : Result Outcome ReceiveFault) (new : ConcreteState) → IsSound i → i.snapshot.stopped ≡ false → t < 2 ^ 64 - 1 → admission i t what ≡ None → MayNote kinds.Event t i.snapshot Kept
-    → result ≡ Ok (outcomes.Event (event_out t what flag)) → new ≡ view_of (with_snapshot (noted kinds.Event t i.snapshot Kept) (event_entered t what i)) → Steps i (receive_event i t what flag) result new
-steps-event_entered i t what flag result new sound runs small says may answers state =
+pub steps-event_entered : (i : IdealAgent) (t : ℕ) (what : EventBody) (flag : Bool) (result : Result Outcome ReceiveFault) (old : Device) (new : AgentState) → IsSound i → i.snapshot.stopped ≡ false → t < 2 ^ 64 - 1 → admission i t what ≡ None → MayNote kinds.Event t i.snapshot Kept
+    → result ≡ Ok (outcomes.Event (event_out t what flag)) → new.concrete ≡ view_of (with_snapshot (noted kinds.Event t i.snapshot Kept) (event_entered t what i)) → new.device ≡ device_noted kinds.Event t i.snapshot old → Steps i (receive_event i t what flag) result old new
+steps-event_entered i t what flag result old new sound runs small says may answers state device =
     let parts = admission-new i t what says in
-    subst (λ (r : Option Reason). Steps i (received_as r i t what flag) result new) (sym says) (steps-kept i kinds.Event t _ _ result new may answers state (sound-event_entered t what i sound runs small parts.0 parts.1))
+    subst (λ (r : Option Reason). Steps i (received_as r i t what flag) result old new) (sym says) (steps-kept i kinds.Event t _ _ result old new may answers state (sound-event_entered t what i sound runs small parts.0 parts.1) device)
 
-pub steps-event_failed : (i : IdealAgent) (t : ℕ) (what : EventBody) (flag : Bool) (durable : Option (List ℕ)) (result : Result Outcome ReceiveFault) (new : ConcreteState) → IsSound i → admission i t what ≡ None → MayNote kinds.Event t i.snapshot (Failed durable) → result ≡ Err SinkFault
-    → new ≡ view_of (with_snapshot (written kinds.Event t i.snapshot (Failed durable)) i) → Steps i (receive_event i t what flag) result new
-steps-event_failed i t what flag durable result new sound says may answers state =
-    subst (λ (r : Option Reason). Steps i (received_as r i t what flag) result new) (sym says) (steps-failed i kinds.Event t _ _ result new durable sound may answers state)
+pub steps-event_failed : (i : IdealAgent) (t : ℕ) (what : EventBody) (flag : Bool) (durable : Option (List ℕ)) (result : Result Outcome ReceiveFault) (old : Device) (new : AgentState) → IsSound i → admission i t what ≡ None → MayNote kinds.Event t i.snapshot (Failed durable) → result ≡ Err SinkFault
+    → new.concrete ≡ view_of (with_snapshot (written kinds.Event t i.snapshot (Failed durable)) i) → FailsLine old new.device (clock_line kinds.Event t) → Steps i (receive_event i t what flag) result old new
+steps-event_failed i t what flag durable result old new sound says may answers state device =
+    subst (λ (r : Option Reason). Steps i (received_as r i t what flag) result old new) (sym says) (steps-failed i kinds.Event t _ _ result old new durable sound may answers state device)
 
 -- ---- an event that is fired
 
-pub steps-fire_refused : (i : IdealAgent) (what : EventBody) (flag : Bool) (fault : FireFault) (new : ConcreteState) → IsSound i → fire_fault i what flag ≡ Some fault → new ≡ view_of i → Steps i (fire i what flag) (Err fault) new
-steps-fire_refused i what flag fault new sound says state =
-    subst (λ (r : Option FireFault). Steps i (fired_as r i what flag) (Err fault) new) (sym says) (steps-answers i (Err fault) (Err fault) new sound refl state)
+pub steps-fire_refused : (i : IdealAgent) (what : EventBody) (flag : Bool) (fault : FireFault) (old : Device) (new : AgentState) → IsSound i → fire_fault i what flag ≡ Some fault → new.concrete ≡ view_of i → new.device ≡ old → Steps i (fire i what flag) (Err fault) old new
+steps-fire_refused i what flag fault old new sound says state device =
+    subst (λ (r : Option FireFault). Steps i (fired_as r i what flag) (Err fault) old new) (sym says) (steps-answers i (Err fault) (Err fault) old new sound refl state device)
 
-pub steps-fire_entered : (i : IdealAgent) (what : EventBody) (flag : Bool) (result : Result Fired FireFault) (new : ConcreteState) → IsSound i → i.snapshot.stopped ≡ false → i.events.clock < 2 ^ 64 - 1 → texts_len what ≤ 9216 → fire_fault i what flag ≡ None → MayNote kinds.Event i.events.clock i.snapshot Kept
+pub steps-fire_entered : (i : IdealAgent) (what : EventBody) (flag : Bool) (result : Result Fired FireFault) (old : Device) (new : AgentState) → IsSound i → i.snapshot.stopped ≡ false → i.events.clock < 2 ^ 64 - 1 → texts_len what ≤ 9216 → fire_fault i what flag ≡ None → MayNote kinds.Event i.events.clock i.snapshot Kept
     → result ≡ Ok record { packet = event_packet i.events.clock what flag; handed = event_out i.events.clock what flag }
-    → new ≡ view_of (with_snapshot (noted kinds.Event i.events.clock i.snapshot Kept) (event_entered i.events.clock what i)) → Steps i (fire i what flag) result new
-steps-fire_entered i what flag result new sound runs small short says may answers state =
-    subst (λ (r : Option FireFault). Steps i (fired_as r i what flag) result new) (sym says)
-    (steps-kept i kinds.Event i.events.clock _ _ result new may answers state (sound-event_entered i.events.clock what i sound runs small short (later-fresh i.events.history i.events.clock what sound.events.below_clock)))
+    → new.concrete ≡ view_of (with_snapshot (noted kinds.Event i.events.clock i.snapshot Kept) (event_entered i.events.clock what i)) → new.device ≡ device_noted kinds.Event i.events.clock i.snapshot old → Steps i (fire i what flag) result old new
+steps-fire_entered i what flag result old new sound runs small short says may answers state device =
+    subst (λ (r : Option FireFault). Steps i (fired_as r i what flag) result old new) (sym says)
+    (steps-kept i kinds.Event i.events.clock _ _ result old new may answers state (sound-event_entered i.events.clock what i sound runs small short (later-fresh i.events.history i.events.clock what sound.events.below_clock)) device)
 
-pub steps-fire_failed : (i : IdealAgent) (what : EventBody) (flag : Bool) (durable : Option (List ℕ)) (result : Result Fired FireFault) (new : ConcreteState) → IsSound i → fire_fault i what flag ≡ None → MayNote kinds.Event i.events.clock i.snapshot (Failed durable) → result ≡ Err fires.SinkFault
-    → new ≡ view_of (with_snapshot (written kinds.Event i.events.clock i.snapshot (Failed durable)) i) → Steps i (fire i what flag) result new
-steps-fire_failed i what flag durable result new sound says may answers state =
-    subst (λ (r : Option FireFault). Steps i (fired_as r i what flag) result new) (sym says) (steps-failed i kinds.Event i.events.clock _ _ result new durable sound may answers state)
+pub steps-fire_failed : (i : IdealAgent) (what : EventBody) (flag : Bool) (durable : Option (List ℕ)) (result : Result Fired FireFault) (old : Device) (new : AgentState) → IsSound i → fire_fault i what flag ≡ None → MayNote kinds.Event i.events.clock i.snapshot (Failed durable) → result ≡ Err fires.SinkFault
+    → new.concrete ≡ view_of (with_snapshot (written kinds.Event i.events.clock i.snapshot (Failed durable)) i) → FailsLine old new.device (clock_line kinds.Event i.events.clock) → Steps i (fire i what flag) result old new
+steps-fire_failed i what flag durable result old new sound says may answers state device =
+    subst (λ (r : Option FireFault). Steps i (fired_as r i what flag) result old new) (sym says) (steps-failed i kinds.Event i.events.clock _ _ result old new durable sound may answers state device)
 
 -- an agent that runs fires what is small enough, while its clock has a time
 pub fire-allowed : (i : IdealAgent) (what : EventBody) (flag : Bool) → i.snapshot.stopped ≡ false → is_too_large i.config.event_limit (drawn i.events.clock) what flag ≡ false → i.events.clock < 2 ^ 64 - 1 → fire_fault i what flag ≡ None
@@ -97,37 +99,37 @@ small-short i t what flag sound small =
 
 -- ---- a query that comes
 
-pub steps-query_ignored : (i : IdealAgent) (now : ℕ) (q : Query) (reason : Reason) (new : ConcreteState) → IsSound i → query_admission i q.time q.id ≡ Some reason → new ≡ view_of (query_observed q.time i) → Steps i (receive_query i now q) (Ok (outcomes.Ignored reason)) new
-steps-query_ignored i now q reason new sound says state =
-    subst (λ (r : Option Reason). Steps i (query_received_as r i now q) (Ok (outcomes.Ignored reason)) new) (sym says) (steps-ends i _ _ new refl state (sound-query_observed q.time i sound))
+pub steps-query_ignored : (i : IdealAgent) (now : ℕ) (q : Query) (reason : Reason) (old : Device) (new : AgentState) → IsSound i → query_admission i q.time q.id ≡ Some reason → new.concrete ≡ view_of (query_observed q.time i) → new.device ≡ old → Steps i (receive_query i now q) (Ok (outcomes.Ignored reason)) old new
+steps-query_ignored i now q reason old new sound says state device =
+    subst (λ (r : Option Reason). Steps i (query_received_as r i now q) (Ok (outcomes.Ignored reason)) old new) (sym says) (steps-ends i _ _ old new refl state (sound-query_observed q.time i sound) device)
 
-pub steps-query_entered : (i : IdealAgent) (now : ℕ) (q : Query) (result : Result Outcome ReceiveFault) (new : ConcreteState) → IsSound i → i.snapshot.stopped ≡ false → q.time < 2 ^ 64 - 1 → query_admission i q.time q.id ≡ None → MayNote kinds.Query q.time i.snapshot Kept
+pub steps-query_entered : (i : IdealAgent) (now : ℕ) (q : Query) (result : Result Outcome ReceiveFault) (old : Device) (new : AgentState) → IsSound i → i.snapshot.stopped ≡ false → q.time < 2 ^ 64 - 1 → query_admission i q.time q.id ≡ None → MayNote kinds.Query q.time i.snapshot Kept
     → result ≡ Ok (outcomes.Query (handed_if_passed i.config.name now q) (ack_if_passed i.config.name q) (not (has_flag no_broadcast_flag q.flags)))
-    → new ≡ view_of (with_snapshot (noted kinds.Query q.time i.snapshot Kept) (query_entered q.time q.id i)) → Steps i (receive_query i now q) result new
-steps-query_entered i now q result new sound runs small says may answers state =
-    subst (λ (r : Option Reason). Steps i (query_received_as r i now q) result new) (sym says)
-    (steps-kept i kinds.Query q.time _ _ result new may answers state (sound-query_entered q.time q.id i sound runs small (query_admission-new i q.time q.id says)))
+    → new.concrete ≡ view_of (with_snapshot (noted kinds.Query q.time i.snapshot Kept) (query_entered q.time q.id i)) → new.device ≡ device_noted kinds.Query q.time i.snapshot old → Steps i (receive_query i now q) result old new
+steps-query_entered i now q result old new sound runs small says may answers state device =
+    subst (λ (r : Option Reason). Steps i (query_received_as r i now q) result old new) (sym says)
+    (steps-kept i kinds.Query q.time _ _ result old new may answers state (sound-query_entered q.time q.id i sound runs small (query_admission-new i q.time q.id says)) device)
 
-pub steps-query_failed : (i : IdealAgent) (now : ℕ) (q : Query) (durable : Option (List ℕ)) (result : Result Outcome ReceiveFault) (new : ConcreteState) → IsSound i → query_admission i q.time q.id ≡ None → MayNote kinds.Query q.time i.snapshot (Failed durable) → result ≡ Err SinkFault
-    → new ≡ view_of (with_snapshot (written kinds.Query q.time i.snapshot (Failed durable)) i) → Steps i (receive_query i now q) result new
-steps-query_failed i now q durable result new sound says may answers state =
-    subst (λ (r : Option Reason). Steps i (query_received_as r i now q) result new) (sym says) (steps-failed i kinds.Query q.time _ _ result new durable sound may answers state)
+pub steps-query_failed : (i : IdealAgent) (now : ℕ) (q : Query) (durable : Option (List ℕ)) (result : Result Outcome ReceiveFault) (old : Device) (new : AgentState) → IsSound i → query_admission i q.time q.id ≡ None → MayNote kinds.Query q.time i.snapshot (Failed durable) → result ≡ Err SinkFault
+    → new.concrete ≡ view_of (with_snapshot (written kinds.Query q.time i.snapshot (Failed durable)) i) → FailsLine old new.device (clock_line kinds.Query q.time) → Steps i (receive_query i now q) result old new
+steps-query_failed i now q durable result old new sound says may answers state device =
+    subst (λ (r : Option Reason). Steps i (query_received_as r i now q) result old new) (sym says) (steps-failed i kinds.Query q.time _ _ result old new durable sound may answers state device)
 
 -- ---- an answer that comes
 
-pub steps-counted : (i : IdealAgent) (now : ℕ) (r : QueryResponse) (q : OpenQuery) (result : Result Outcome ReceiveFault) (new : ConcreteState) → IsSound i → asked_at r.time i.asked ≡ Some q → answer_ignore_reason now r q ≡ None → is_full i.config.responders r q ≡ false
-    → result ≡ Ok (counted_as r) → new ≡ view_of (with_asked (with_asked_at r.time (counted r q) i.asked) i) → Steps i (receive_response i now r) result new
-steps-counted i now r q result new sound at none room answers state =
-    let done : Steps i (counts i r q) result new = rw room (steps-ends i _ result new answers state (sound-counted now r q i sound at none)) in
-    let taken : Steps i (response_received_as (answer_ignore_reason now r q) i r q) result new = subst (λ (o : Option Reason). Steps i (response_received_as o i r q) result new) (sym none) done in
-    subst (λ (o : Option OpenQuery). Steps i (response_received_at o i now r) result new) (sym at) taken
+pub steps-counted : (i : IdealAgent) (now : ℕ) (r : QueryResponse) (q : OpenQuery) (result : Result Outcome ReceiveFault) (old : Device) (new : AgentState) → IsSound i → asked_at r.time i.asked ≡ Some q → answer_ignore_reason now r q ≡ None → is_full i.config.responders r q ≡ false
+    → result ≡ Ok (counted_as r) → new.concrete ≡ view_of (with_asked (with_asked_at r.time (counted r q) i.asked) i) → new.device ≡ old → Steps i (receive_response i now r) result old new
+steps-counted i now r q result old new sound at none room answers state device =
+    let done : Steps i (counts i r q) result old new = rw room (steps-ends i _ result old new answers state (sound-counted now r q i sound at none) device) in
+    let taken : Steps i (response_received_as (answer_ignore_reason now r q) i r q) result old new = subst (λ (o : Option Reason). Steps i (response_received_as o i r q) result old new) (sym none) done in
+    subst (λ (o : Option OpenQuery). Steps i (response_received_at o i now r) result old new) (sym at) taken
 
 -- ---- a packet that comes
 
-pub steps-receive : (i : IdealAgent) (now : ℕ) (packet : List ℕ) (read : Result Message WireFault) (result : Result Outcome ReceiveFault) (new : ConcreteState) → i.snapshot.stopped ≡ false → decoded packet ≡ read → Steps i (receive_read i now read) result new → Steps i (receive i now packet) result new
-steps-receive i now packet read result new runs is steps =
-    let by_decoded : Steps i (receive_read i now (decoded packet)) result new = subst (λ (m : Result Message WireFault). Steps i (receive_read i now m) result new) (sym is) steps in
-    subst (λ (b : Bool). Steps i (cond b (answers i (Err Stopped)) (receive_read i now (decoded packet))) result new) (sym runs) by_decoded
+pub steps-receive : (i : IdealAgent) (now : ℕ) (packet : List ℕ) (read : Result Message WireFault) (result : Result Outcome ReceiveFault) (old : Device) (new : AgentState) → i.snapshot.stopped ≡ false → decoded packet ≡ read → Steps i (receive_read i now read) result old new → Steps i (receive i now packet) result old new
+steps-receive i now packet read result old new runs is steps =
+    let by_decoded : Steps i (receive_read i now (decoded packet)) result old new = subst (λ (m : Result Message WireFault). Steps i (receive_read i now m) result old new) (sym is) steps in
+    subst (λ (b : Bool). Steps i (cond b (answers i (Err Stopped)) (receive_read i now (decoded packet))) result old new) (sym runs) by_decoded
 
 -- ---- a query that is fired
 
@@ -135,15 +137,15 @@ pub query-allowed : (i : IdealAgent) (id : ℕ) (name payload : List ℕ) (param
     → query_fault i id name payload params ≡ None
 query-allowed i id name payload params runs small some time = let low : nat_le (2 ^ 64 - 1) i.queries.clock ≡ false = lt-leb _ _ time in rw (runs, small, some, low) refl
 
-pub steps-query_asked : (i : IdealAgent) (now id : ℕ) (name payload : List ℕ) (params : QueryParams) (result : Result FiredQuery QueryFault) (new : ConcreteState) → IsSound i → i.snapshot.stopped ≡ false → i.queries.clock < 2 ^ 64 - 1 → query_fault i id name payload params ≡ None → MayNote kinds.Query i.queries.clock i.snapshot Kept
+pub steps-query_asked : (i : IdealAgent) (now id : ℕ) (name payload : List ℕ) (params : QueryParams) (result : Result FiredQuery QueryFault) (old : Device) (new : AgentState) → IsSound i → i.snapshot.stopped ≡ false → i.queries.clock < 2 ^ 64 - 1 → query_fault i id name payload params ≡ None → MayNote kinds.Query i.queries.clock i.snapshot Kept
     → result ≡ Ok (fired_query i.config.name now (query_at i.queries.clock i.config.name id name payload params))
-    → new ≡ view_of (with_snapshot (noted kinds.Query i.queries.clock i.snapshot Kept) (query_asked now (query_at i.queries.clock i.config.name id name payload params) i)) → Steps i (fire_query i now id name payload params) result new
-steps-query_asked i now id name payload params result new sound runs small says may answers state =
+    → new.concrete ≡ view_of (with_snapshot (noted kinds.Query i.queries.clock i.snapshot Kept) (query_asked now (query_at i.queries.clock i.config.name id name payload params) i)) → new.device ≡ device_noted kinds.Query i.queries.clock i.snapshot old → Steps i (fire_query i now id name payload params) result old new
+steps-query_asked i now id name payload params result old new sound runs small says may answers state device =
     let q = query_at i.queries.clock i.config.name id name payload params in
-    subst (λ (r : Option QueryFault). Steps i (query_fired_as r i now q) result new) (sym says) (steps-kept i kinds.Query i.queries.clock _ _ result new may answers state (sound-query_asked now q i sound runs refl small))
+    subst (λ (r : Option QueryFault). Steps i (query_fired_as r i now q) result old new) (sym says) (steps-kept i kinds.Query i.queries.clock _ _ result old new may answers state (sound-query_asked now q i sound runs refl small) device)
 
-pub steps-query_fire_failed : (i : IdealAgent) (now id : ℕ) (name payload : List ℕ) (params : QueryParams) (durable : Option (List ℕ)) (result : Result FiredQuery QueryFault) (new : ConcreteState) → IsSound i → query_fault i id name payload params ≡ None → MayNote kinds.Query i.queries.clock i.snapshot (Failed durable) → result ≡ Err asks_faults.SinkFault
-    → new ≡ view_of (with_snapshot (written kinds.Query i.queries.clock i.snapshot (Failed durable)) i) → Steps i (fire_query i now id name payload params) result new
-steps-query_fire_failed i now id name payload params durable result new sound says may answers state =
+pub steps-query_fire_failed : (i : IdealAgent) (now id : ℕ) (name payload : List ℕ) (params : QueryParams) (durable : Option (List ℕ)) (result : Result FiredQuery QueryFault) (old : Device) (new : AgentState) → IsSound i → query_fault i id name payload params ≡ None → MayNote kinds.Query i.queries.clock i.snapshot (Failed durable) → result ≡ Err asks_faults.SinkFault
+    → new.concrete ≡ view_of (with_snapshot (written kinds.Query i.queries.clock i.snapshot (Failed durable)) i) → FailsLine old new.device (clock_line kinds.Query i.queries.clock) → Steps i (fire_query i now id name payload params) result old new
+steps-query_fire_failed i now id name payload params durable result old new sound says may answers state device =
     let q = query_at i.queries.clock i.config.name id name payload params in
-    subst (λ (r : Option QueryFault). Steps i (query_fired_as r i now q) result new) (sym says) (steps-failed i kinds.Query i.queries.clock _ _ result new durable sound may answers state)
+    subst (λ (r : Option QueryFault). Steps i (query_fired_as r i now q) result old new) (sym says) (steps-failed i kinds.Query i.queries.clock _ _ result old new durable sound may answers state device)

@@ -5,13 +5,17 @@ pub mod Tracks
 pub mod Calls
 pub mod View
 pub mod Sound
+pub mod Devices
 pub mod Steps
 pub mod Events
 pub mod States
 pub mod Queries
 pub mod Receive
 pub mod Restart
+pub mod Lives
 pub mod Reasons
 pub mod Inside
 pub mod Lent
 pub mod Merging
+pub mod Defaults
+pub mod LentQueries

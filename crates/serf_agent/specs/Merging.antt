@@ -2,39 +2,40 @@
 use Rattle.std.specs.Prelude.{◌≡◌, false, List, ◌++◌, Option, Some, Result, Ok, Err}
 use Rattle.serf_wire.specs.declared.texts.EventBody.{EventBody}
 use Rattle.serf_window.specs.Window.{TimedEntry}
+use Rattle.serf_snap.specs.Device.{Device}
 use Rattle.serf_agent.specs.declared.outcome.EventOut.{EventOut}
 use Rattle.serf_agent.specs.declared.outcome.MergeFault.{MergeFault}
 use Rattle.serf_agent.specs.Ideal.{IdealAgent}
 use Rattle.serf_agent.specs.Sound.{IsSound}
 use Rattle.serf_agent.specs.States.{Receives}
-use Rattle.serf_agent.specs.View.{ConcreteState, view_of}
+use Rattle.serf_agent.specs.View.{AgentState, view_of}
 
--- all of these were received, and the agent goes on as this one
-pub record GoesOn (i : IdealAgent) (events : List (TimedEntry EventBody)) (deliveries : List EventOut) (new : ConcreteState) : Type 0 where
+-- all of these were received over a device, and the agent goes on as this one
+pub record GoesOn (i : IdealAgent) (events : List (TimedEntry EventBody)) (old : Device) (deliveries : List EventOut) (new : AgentState) : Type 0 where
   pub agent : IdealAgent
-  pub state : new ≡ view_of agent
+  pub state : new.concrete ≡ view_of agent
   pub sound : IsSound agent
   pub runs : agent.snapshot.stopped ≡ false
-  pub follows : (rest : List (TimedEntry EventBody)) (more : List EventOut) (last : ConcreteState) (fault : Option MergeFault) → Receives agent rest more last fault → Receives i (events ++ rest) (deliveries ++ more) last fault
+  pub follows : (rest : List (TimedEntry EventBody)) (more : List EventOut) (last : AgentState) (fault : Option MergeFault) → Receives agent rest new.device more last fault → Receives i (events ++ rest) old (deliveries ++ more) last fault
 
 -- it ended at one of these
-abbrev pub GoesWrong : IdealAgent → List (TimedEntry EventBody) → List EventOut → ConcreteState → MergeFault → Type 0
-GoesWrong i events deliveries new fault = (rest : List (TimedEntry EventBody)) → Receives i (events ++ rest) deliveries new (Some fault)
+abbrev pub GoesWrong : IdealAgent → List (TimedEntry EventBody) → Device → List EventOut → AgentState → MergeFault → Type 0
+GoesWrong i events old deliveries new fault = (rest : List (TimedEntry EventBody)) → Receives i (events ++ rest) old deliveries new (Some fault)
 
-abbrev pub Went : IdealAgent → List (TimedEntry EventBody) → List EventOut → ConcreteState → Result (Unit {0}) MergeFault → Type 0
-Went i events deliveries new (Ok done) = GoesOn i events deliveries new
-Went i events deliveries new (Err fault) = GoesWrong i events deliveries new fault
+abbrev pub Went : IdealAgent → List (TimedEntry EventBody) → Device → List EventOut → AgentState → Result (Unit {0}) MergeFault → Type 0
+Went i events old deliveries new (Ok done) = GoesOn i events old deliveries new
+Went i events old deliveries new (Err fault) = GoesWrong i events old deliveries new fault
 
 -- these were received so, and what they delivered was added to what was handed out before
-pub record Received (i : IdealAgent) (events : List (TimedEntry EventBody)) (before after : List EventOut) (new : ConcreteState) (result : Result (Unit {0}) MergeFault) : Type 0 where
+pub record Received (i : IdealAgent) (events : List (TimedEntry EventBody)) (before after : List EventOut) (old : Device) (new : AgentState) (result : Result (Unit {0}) MergeFault) : Type 0 where
   pub deliveries : List EventOut
   pub out : after ≡ before ++ deliveries
-  pub went : Went i events deliveries new result
+  pub went : Went i events old deliveries new result
 
 -- a part of a list was received, and this is left of it
-pub record HasReceived (i : IdealAgent) (all left : List (TimedEntry EventBody)) (before after : List EventOut) (new : ConcreteState) : Type 0 where
+pub record HasReceived (i : IdealAgent) (all left : List (TimedEntry EventBody)) (before after : List EventOut) (old : Device) (new : AgentState) : Type 0 where
   pub done : List (TimedEntry EventBody)
   pub split : done ++ left ≡ all
   pub deliveries : List EventOut
   pub out : after ≡ before ++ deliveries
-  pub goes : GoesOn i done deliveries new
+  pub goes : GoesOn i done old deliveries new

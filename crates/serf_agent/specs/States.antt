@@ -4,12 +4,13 @@ use Rattle.std.specs.Prelude.{◌≡◌, ℕ, ◌-◌, ◌&&◌, max, Bool, fals
 use Rattle.serf_wire.specs.declared.fault.WireFault.{WireFault}
 use Rattle.serf_wire.specs.declared.texts.EventBody.{EventBody}
 use Rattle.serf_wire.specs.Canonical.{canonical, has_long}
-use Rattle.serf_wire.specs.Message.{Message, PushPull, user_event, query, query_response, push_pull, foreign}
+use Rattle.serf_wire.specs.Message.{Message, PushPull, push_pull}
 use Rattle.serf_wire.specs.Slots.{SlotContent, empty, held}
 use Rattle.serf_window.specs.Window.{TimedEntry, SlotOf}
 use Rattle.serf_snap.specs.declared.kind.ClockKind.TheVariants as kinds
 use Rattle.serf_snap.specs.declared.snapshot.NoteFault.{NoteFault}
 use Rattle.serf_snap.specs.declared.snapshot.NoteFault.TheVariants as notes
+use Rattle.serf_snap.specs.Device.{Device}
 use Rattle.serf_snap.specs.Notes.{Kept}
 use Rattle.serf_agent.specs.declared.outcome.EventOut.{EventOut}
 use Rattle.serf_agent.specs.declared.outcome.Outcome.{Outcome}
@@ -22,11 +23,12 @@ use Rattle.serf_agent.specs.declared.outcome.PushPullFault.{PushPullFault}
 use Rattle.serf_agent.specs.declared.outcome.PushPullFault.TheVariants as states
 use Rattle.serf_agent.specs.Ideal.{IdealAgent}
 use Rattle.serf_agent.specs.Tracks.{track_raised}
-use Rattle.serf_agent.specs.Calls.{Call, Notes, Replaces, Step, MayEnd, AsksSink, answers, ended}
+use Rattle.serf_agent.specs.Calls.{Call, Notes, Replaces, MayEnd, AsksSink, answers, ended}
+use Rattle.serf_agent.specs.Devices.{device_after}
 use Rattle.serf_agent.specs.Events.{receive_event}
 use Rattle.serf_agent.specs.Sound.{IsSound}
 use Rattle.serf_agent.specs.Steps.{Steps}
-use Rattle.serf_agent.specs.View.{ConcreteState, view_of}
+use Rattle.serf_agent.specs.View.{AgentState, ConcreteState, view_of}
 
 -- Sending
 
@@ -90,27 +92,27 @@ after_event i e = (ended i (receive_one i e) Kept).agent
 abbrev pub delivered : IdealAgent → TimedEntry EventBody → List EventOut
 delivered i e = handed_by (ended i (receive_one i e) Kept).answer
 
--- How a list of events ends at one of them: for want of memory where it is new, the agent unchanged; or with a line
--- that failed.
-abbrev pub EndsAt : IdealAgent → TimedEntry EventBody → ConcreteState → MergeFault → Type 0
-EndsAt i e new merges.OutOfMemory = AsksSink (receive_one i e) × (new ≡ view_of i) × IsSound i
-EndsAt i e new merges.SinkFault = Steps i (receive_one i e) (Err SinkFault) new
-EndsAt i e new _ = ⊥
+-- How a list of events ends at one of them: for want of memory where it is new, the agent and its device unchanged; or
+-- with a line that failed.
+abbrev pub EndsAt : IdealAgent → TimedEntry EventBody → Device → AgentState → MergeFault → Type 0
+EndsAt i e old new merges.OutOfMemory = AsksSink (receive_one i e) × (new.concrete ≡ view_of i) × (new.device ≡ old) × IsSound i
+EndsAt i e old new merges.SinkFault = Steps i (receive_one i e) (Err SinkFault) old new
+EndsAt i e old new _ = ⊥
 
--- Events are received one after another, and hand out just what is delivered. Where none is left, all were received.
--- Else the first is received, its line is durable if it has one, and the others follow; or it ends at the first, and
--- hands out no more.
-abbrev pub Receives : IdealAgent → List (TimedEntry EventBody) → List EventOut → ConcreteState → Option MergeFault → Type 0
-Receives i [] deliveries new fault = (deliveries ≡ []) × (new ≡ view_of i) × IsSound i × (fault ≡ None)
-Receives i (e ∷ es) deliveries new fault =
-    (MayEnd i (receive_one i e) Kept × ((rest : List EventOut) × (deliveries ≡ delivered i e ++ rest) × Receives (after_event i e) es rest new fault))
-    ⊎ ((deliveries ≡ []) × ((f : MergeFault) × (fault ≡ Some f) × EndsAt i e new f))
+-- Events are received one after another over a device, and hand out just what is delivered. Where none is left, all were
+-- received. Else the first is received, its line is durable if it has one, and the others follow over the device with
+-- this line; or it ends at the first, and hands out no more.
+abbrev pub Receives : IdealAgent → List (TimedEntry EventBody) → Device → List EventOut → AgentState → Option MergeFault → Type 0
+Receives i [] old deliveries new fault = (deliveries ≡ []) × (new.concrete ≡ view_of i) × (new.device ≡ old) × IsSound i × (fault ≡ None)
+Receives i (e ∷ es) old deliveries new fault =
+    (MayEnd i (receive_one i e) Kept × ((rest : List EventOut) × (deliveries ≡ delivered i e ++ rest) × Receives (after_event i e) es (device_after i (receive_one i e) old) rest new fault))
+    ⊎ ((deliveries ≡ []) × ((f : MergeFault) × (fault ≡ Some f) × EndsAt i e old new f))
 
--- A push/pull was merged: its clocks were heard of, and its events were received.
-pub record Merges (i : IdealAgent) (m : PushPull) (is_join : Bool) (before after : List EventOut) (new : ConcreteState) (fault : Option MergeFault) : Type 0 where
+-- A push/pull was merged: its clocks were heard of, and its events were received, over this device.
+pub record Merges (i : IdealAgent) (m : PushPull) (is_join : Bool) (before after : List EventOut) (old : Device) (new : AgentState) (fault : Option MergeFault) : Type 0 where
   pub deliveries : List EventOut
   pub out : after ≡ before ++ deliveries
-  pub receives : Receives (joined m is_join i) (events_of m.slots) deliveries new fault
+  pub receives : Receives (joined m is_join i) (events_of m.slots) old deliveries new fault
 
 -- the fault of a result, if it is one
 abbrev pub fault_in : {R E : Type 0} → Result R E → Option E

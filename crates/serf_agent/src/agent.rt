@@ -1,14 +1,15 @@
 //! One agent.
 
-ghost use Rattle.std.specs.Prelude.{◌≡◌, ◌≢◌, ◌↔◌, ◌<◌, ◌≤◌, ◌+◌, ◌-◌, ◌^◌, false, true, List, [], ◌∷◌, ◌++◌, map, length, OnOk, OnErr, IfOk, IfErr, IsErrOf};
+ghost use Rattle.std.specs.Prelude.{◌≡◌, ◌≢◌, ◌↔◌, ◌<◌, ◌≤◌, ◌+◌, ◌-◌, ◌^◌, false, true, List, [], ◌∷◌, ◌++◌, map, length, OnOk, OnErr, IfOk, IfErr, IfSome, IsErrOf, IsOk};
+ghost use Rattle.std.specs.Option.{option_map};
 ghost use Rattle.serf_snap.specs.Device.{HasText, Fails};
-ghost use Rattle.serf_snap.specs.Clocks.{seal_line};
-ghost use Rattle.serf_snap.specs.Notes.{opened, opened_device};
+ghost use Rattle.serf_snap.specs.Clocks.{is_whole, seal_line};
+ghost use Rattle.serf_snap.specs.Notes.{HasTriedNote, note_decremented, note_fails, opened, opened_device};
 ghost use Rattle.serf_window.specs.Window.{slots_of};
 ghost use Rattle.serf_agent.specs.Config.{is_sound};
 ghost use Rattle.serf_agent.specs.Ideal.{IdealAgent};
 ghost use Rattle.serf_agent.specs.Inside.{first_concrete, concrete_of};
-ghost use Rattle.serf_agent.specs.Restart.{IsInText, restarted};
+ghost use Rattle.serf_agent.specs.Restart.{IsInText, restarted, unopened};
 ghost use Rattle.serf_agent.specs.Sound.{IsSound};
 ghost use Rattle.serf_agent.specs.View.{view_of};
 
@@ -18,7 +19,7 @@ use crate::outcome::{NotOpened, OpenFault};
 use crate::track::{EventTrack, QueryTrack};
 use serf_lamport::Clock;
 use serf_snap::{OpenFault as SnapshotFault, Sink, Snapshot};
-use std::alloc::{AllocError, Global};
+use std::alloc::Global;
 use std::marker::Model;
 
 /// An agent: its clocks, what it knows of events and queries, and its snapshot on a sink.
@@ -47,17 +48,19 @@ impl<S: Sink> Model for Agent<S> {
     ghost invariant = { λ a. IsBuilt a.config a.events a.queries a.asked };
 }
 
-/// Two tracks that have nothing.
-fn new_tracks(alloc: Global, config: &Config) -> Result<(EventTrack, QueryTrack), AllocError>
+/// Two tracks that have nothing. Takes no memory.
+fn new_tracks(alloc: Global, config: &Config) -> (EventTrack, QueryTrack)
     requires { is_sound config.now ≡ true }
-    ensures events { IfOk result (λ t. concrete_of t.0 ≡ record { clock = 1; minimum = 1; slots = slots_of config.now.event_buffer [] }) }
-    ensures event_per_time { IfOk result (λ t. t.0.window.per_time ≡ config.now.per_time) }
-    ensures queries { IfOk result (λ t. concrete_of t.1 ≡ record { clock = 1; minimum = 1; slots = slots_of config.now.query_buffer [] }) }
-    ensures query_per_time { IfOk result (λ t. t.1.window.per_time ≡ config.now.per_time) }
+    ensures events { concrete_of result.0 ≡ record { clock = 1; minimum = 1; slots = slots_of config.now.event_buffer [] } }
+    ensures event_size { length result.0.window.slots ≡ config.now.event_buffer }
+    ensures event_per_time { result.0.window.per_time ≡ config.now.per_time }
+    ensures queries { concrete_of result.1 ≡ record { clock = 1; minimum = 1; slots = slots_of config.now.query_buffer [] } }
+    ensures query_size { length result.1.window.slots ≡ config.now.query_buffer }
+    ensures query_per_time { result.1.window.per_time ≡ config.now.per_time }
 {
-    let events = EventTrack::new(alloc, config.event_buffer, config.per_time)?;
-    let queries = QueryTrack::new(alloc, config.query_buffer, config.per_time)?;
-    Ok((events, queries))
+    let events = EventTrack::new(alloc, config.event_buffer, config.per_time);
+    let queries = QueryTrack::new(alloc, config.query_buffer, config.per_time);
+    (events, queries)
 }
 
 /// A snapshot that isn't opened, as an agent that isn't.
@@ -77,8 +80,10 @@ impl<S: Sink> Agent<S> {
     /// agent in a new life. It goes on from the text as the agent would whose lines the text has: its clocks, and the
     /// least times that it takes, are above all that was handed out before.
     ///
-    /// `BadConfig` where the settings are out of bounds, `OutOfMemory`, or `SinkFault` where the sink failed as the torn
-    /// last line of the text was ended; each hands back the settings and the sink, and the first two left the sink alone.
+    /// `BadConfig` where the settings are out of bounds; and only where the last line of the text is torn, `OutOfMemory`, or
+    /// `SinkFault` where the sink failed as that line was ended. Each hands back the settings and the sink, and the first two
+    /// left the sink alone. On a text that is empty or ends in a newline the sink isn't called, and no memory is taken:
+    /// slots are made as times enter.
     pub fn open(alloc: Global, config: Config, text: &[u8], sink: S) -> Result<Self, NotOpened<S>>
         requires { HasText text.now (S.device sink) }
 
@@ -87,12 +92,23 @@ impl<S: Sink> Agent<S> {
             → IfOk result (λ a. (a.concrete ≡ view_of (restarted (opened text.now (S.device sink)) i)) × IsSound (restarted (opened text.now (S.device sink)) i)) }
         ensures device { IfOk result (λ a. a.device ≡ opened_device text.now (S.device sink)) }
         ensures ok { OnOk result (is_sound config ≡ true) }
+        ensures opens { is_sound config ≡ true → is_whole text.now ≡ true → IsOk result }
+
+        // On any text it is the next life of an agent that has entered nothing, and which is sound.
+        ensures first { IfOk result (λ a. let o = opened text.now (S.device sink) in (a.concrete ≡ view_of (restarted o (unopened config o))) × IsSound (restarted o (unopened config o))) }
+
+        // A whole text needs no call of the sink; a sink with a plan fails just where the plan says.
+        ensures whole { IfErr result (λ e. is_whole text.now ≡ true → e.fault ≢ OpenFault.SinkFault) }
+        ensures ok_planned { OnOk result (is_whole text.now ≡ false → IfSome (S.device sink).plan (λ p. note_fails p ≡ false)) }
+        ensures planned { IfErr result (λ e. e.fault ≡ OpenFault.SinkFault → IfSome (S.device sink).plan (λ p. note_fails p ≡ true)) }
 
         // What is handed back.
         ensures config { IfErr result (λ e. e.config ≡ config) }
         ensures bad { IfErr result (λ e. (e.fault ≡ OpenFault.BadConfig) ↔ (is_sound config ≡ false)) }
         ensures untouched { IfErr result (λ e. e.fault ≢ OpenFault.SinkFault → S.device e.sink ≡ S.device sink) }
         ensures cause { IfErr result (λ e. e.fault ≡ OpenFault.SinkFault → Fails (S.device sink) (S.device e.sink) seal_line) }
+        ensures called { IfErr result (λ e. e.fault ≡ OpenFault.SinkFault → HasTriedNote (S.device sink).calls (S.device e.sink).calls) }
+        ensures decremented { IfErr result (λ e. e.fault ≡ OpenFault.SinkFault → (S.device e.sink).plan ≡ option_map note_decremented (S.device sink).plan) }
     {
         if !config.is_sound() {
             let fault = OpenFault::BadConfig;
@@ -102,17 +118,7 @@ impl<S: Sink> Agent<S> {
                 fault,
             });
         }
-        let (events, queries) = match new_tracks(alloc, &config) {
-            Ok(tracks) => tracks,
-            Err(_) => {
-                let fault = OpenFault::OutOfMemory;
-                return Err(NotOpened {
-                    config,
-                    sink,
-                    fault,
-                });
-            }
-        };
+        let (events, queries) = new_tracks(alloc, &config);
         match Snapshot::open(alloc, text, sink) {
             Ok(snapshot) => Ok(Agent::behind(alloc, config, events, queries, snapshot)),
             Err((sink, fault)) => {
@@ -136,8 +142,10 @@ impl<S: Sink> Agent<S> {
     ) -> Self
         requires config_sound { is_sound config ≡ true }
         requires events { concrete_of events ≡ record { clock = 1; minimum = 1; slots = slots_of config.event_buffer [] } }
+        requires event_size { length events.window.slots ≡ config.event_buffer }
         requires event_per_time { events.window.per_time ≡ config.per_time }
         requires queries { concrete_of queries ≡ record { clock = 1; minimum = 1; slots = slots_of config.query_buffer [] } }
+        requires query_size { length queries.window.slots ≡ config.query_buffer }
         requires query_per_time { queries.window.per_time ≡ config.per_time }
 
         ensures concrete { result.concrete ≡ first_concrete config snapshot.snapshot }

@@ -1,12 +1,13 @@
 //! The queries that an agent fired and that still take answers, by time.
 
-ghost use Rattle.std.specs.Prelude.{◌≡◌, ◌<◌, ℕ, List, [], ◌∷◌, ◌++◌, OnOk, OnErr, IfSome, All, filter, nat_lt, not, length, nat_eq, option_copied};
+ghost use Rattle.std.specs.Prelude.{◌≡◌, ◌<◌, ℕ, List, [], ◌∷◌, ◌++◌, OnOk, OnErr, IfSome, All, filter, nat_lt, not, length, map, nat_eq, option_copied};
 ghost use Rattle.serf_agent.specs.Lent.{response_in};
 ghost use Rattle.serf_agent.specs.Queries.{asked_at, counted, is_due, with_asked_at};
 
 use crate::answer::Answer;
 use crate::open_query::OpenQuery;
 use indexmap::IndexMap;
+use indexmap::map::Iter;
 use std::alloc::{AllocError, Global};
 use std::marker::Model;
 
@@ -42,6 +43,20 @@ impl Asked {
         ensures { option_copied result ≡ asked_at time self.now }
     {
         self.queries.get(&time)
+    }
+
+    /// All of them, in order. Takes no memory.
+    pub(crate) fn iter(&self) -> Iter<'_, u64, OpenQuery>
+        ensures { result ≡ self.now }
+    {
+        self.queries.iter()
+    }
+
+    /// All of them without their times, in order. Takes no memory.
+    pub(crate) fn values(&self) -> &[OpenQuery]
+        ensures { result.now ≡ map (λ q. q.1) self.now }
+    {
+        self.queries.values().as_slice()
     }
 
     /// Adds a query whose time is above those of all others.

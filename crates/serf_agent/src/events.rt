@@ -1,14 +1,16 @@
 //! User events: firing them, and taking those that come.
 
-ghost use Rattle.std.specs.Prelude.{◌≡◌, ◌≢◌, ◌<◌, ◌≤◌, ◌+◌, ◌-◌, ◌^◌, false, List, None, length, OnOk, IfOk, IsErrOf};
+ghost use Rattle.std.specs.Prelude.{◌≡◌, ◌≢◌, ◌<◌, ◌≤◌, ◌+◌, ◌-◌, ◌^◌, false, List, None, length, Err, OnOk, OnErr, IfOk, IsErrOf};
 ghost use Rattle.serf_wire.specs.Canonical.{canonical};
 ghost use Rattle.serf_wire.specs.Message.{user_event_of};
 ghost use Rattle.serf_window.specs.Texts.{event_of};
 ghost use Rattle.serf_window.specs.Window.{count_in, time_in};
 ghost use Rattle.serf_snap.specs.declared.kind.ClockKind.TheVariants as kinds;
+ghost use Rattle.serf_snap.specs.Clocks.{clock_line};
 ghost use Rattle.serf_snap.specs.Device.{HasFailed};
 ghost use Rattle.serf_snap.specs.Notes.{Kept, Failed, noted, written};
 ghost use Rattle.serf_agent.specs.Calls.{AsksSink, MayNote};
+ghost use Rattle.serf_agent.specs.Devices.{FailsLine, device_noted};
 ghost use Rattle.serf_agent.specs.Events.{admission, drawn, event_entered, event_out, event_packet, fire, is_too_large, receive_event};
 ghost use Rattle.serf_agent.specs.Ideal.{IdealAgent, with_snapshot};
 ghost use Rattle.serf_agent.specs.Sound.{IsSound};
@@ -74,8 +76,11 @@ impl<S: Sink> Agent<S> {
     /// Fires an event at the event clock's time: its clock line is durable, it enters the buffer and is handed out
     /// here, and its packet is to be sent (Serf's `serf.go`, `UserEvent`).
     ///
-    /// Of the refusals the first that holds is answered. All of them leave the agent as it was, but that `SinkFault` stops
-    /// it.
+    /// On Ok the sink was appended this one line and flushed, and nothing else, or was not called where its last line of
+    /// events already says this time or a later one.
+    ///
+    /// Of the refusals the first that holds is answered. All of them leave the agent and its sink as they were, but
+    /// `SinkFault`, which stops the agent: then the sink failed at this line's append or flush, and may keep a part of it.
     pub fn fire(
         &mut self,
         alloc: Global,
@@ -84,7 +89,12 @@ impl<S: Sink> Agent<S> {
         coalesce: bool,
     ) -> Result<Fired, FireFault>
         ensures step { (i : IdealAgent) → IsSound i → self.old.concrete ≡ view_of i → result ≢ Err FireFault.OutOfMemory
-            → Steps i (fire i (event_of name.now payload.now) coalesce) result self.new.concrete }
+            → Steps i (fire i (event_of name.now payload.now) coalesce) result self.old.device self.new }
+
+        // What becomes of the sink, whatever it tells of its bytes.
+        ensures ok_device { IfOk result (λ f. self.new.device ≡ device_noted kinds.Event f.handed.time self.old.concrete.snapshot self.old.device) }
+        ensures fault_device { IsErrOf result FireFault.SinkFault → FailsLine self.old.device self.new.device (clock_line kinds.Event self.old.concrete.events.clock) }
+        ensures refused { OnErr result (result ≢ Err FireFault.SinkFault → self.new ≡ self.old) }
 
         // Memory is wanted only where the event is fired, and its want changes nothing.
         ensures only_fired { (i : IdealAgent) → IsSound i → self.old.concrete ≡ view_of i → IsErrOf result FireFault.OutOfMemory → AsksSink (fire i (event_of name.now payload.now) coalesce) }
@@ -135,9 +145,10 @@ impl<S: Sink> Agent<S> {
     ) -> Result<Outcome, ReceiveFault>
         requires { self.old.concrete.snapshot.stopped ≡ false }
         ensures step { (i : IdealAgent) → IsSound i → self.old.concrete ≡ view_of i → result ≢ Err ReceiveFault.OutOfMemory
-            → Steps i (receive_event i time (event_of name.now payload.now) coalesce) result self.new.concrete }
+            → Steps i (receive_event i time (event_of name.now payload.now) coalesce) result self.old.device self.new }
         ensures only_new { (i : IdealAgent) → IsSound i → self.old.concrete ≡ view_of i → IsErrOf result ReceiveFault.OutOfMemory → AsksSink (receive_event i time (event_of name.now payload.now) coalesce) }
         ensures memory { IsErrOf result ReceiveFault.OutOfMemory → self.new ≡ self.old }
+        ensures refused { OnErr result (result ≢ Err ReceiveFault.SinkFault → self.new ≡ self.old) }
         ensures cause { IsErrOf result ReceiveFault.SinkFault → HasFailed self.old.device.failures self.new.device.failures }
     {
         match self.admission(time, name, payload) {
@@ -170,11 +181,13 @@ impl<S: Sink> Agent<S> {
         ensures entered { OnOk result ((i : IdealAgent) → self.old.concrete ≡ view_of i
             → self.new.concrete ≡ view_of (with_snapshot (noted kinds.Event time i.snapshot Kept) (event_entered time (event_of name.now payload.now) i))) }
         ensures allowed { OnOk result (MayNote kinds.Event time self.old.concrete.snapshot Kept) }
+        ensures device { OnOk result (self.new.device ≡ device_noted kinds.Event time self.old.concrete.snapshot self.old.device) }
         ensures runs { OnOk result (self.new.concrete.snapshot.stopped ≡ false) }
         ensures calm { OnOk result (self.new.device.failures ≡ self.old.device.failures) }
 
         ensures failed { IsErrOf result LineFault.SinkFault → self.new.concrete ≡ concrete_with (written kinds.Event time self.old.concrete.snapshot (Failed self.new.concrete.snapshot.durable)) self.old.concrete }
         ensures fault_allowed { IsErrOf result LineFault.SinkFault → MayNote kinds.Event time self.old.concrete.snapshot (Failed self.new.concrete.snapshot.durable) }
+        ensures fault_device { IsErrOf result LineFault.SinkFault → FailsLine self.old.device self.new.device (clock_line kinds.Event time) }
         ensures cause { IsErrOf result LineFault.SinkFault → HasFailed self.old.device.failures self.new.device.failures }
         ensures memory { IsErrOf result LineFault.OutOfMemory → self.new ≡ self.old }
     {
@@ -202,11 +215,13 @@ impl<S: Sink> Agent<S> {
         ensures entered { OnOk result ((i : IdealAgent) → self.old.concrete ≡ view_of i
             → self.new.concrete ≡ view_of (with_snapshot (noted kinds.Event time i.snapshot Kept) (event_entered time (event_of name.now payload.now) i))) }
         ensures allowed { OnOk result (MayNote kinds.Event time self.old.concrete.snapshot Kept) }
+        ensures device { OnOk result (self.new.device ≡ device_noted kinds.Event time self.old.concrete.snapshot self.old.device) }
         ensures runs { OnOk result (self.new.concrete.snapshot.stopped ≡ false) }
         ensures calm { OnOk result (self.new.device.failures ≡ self.old.device.failures) }
 
         ensures failed { IsErrOf result LineFault.SinkFault → self.new.concrete ≡ concrete_with (written kinds.Event time self.old.concrete.snapshot (Failed self.new.concrete.snapshot.durable)) self.old.concrete }
         ensures fault_allowed { IsErrOf result LineFault.SinkFault → MayNote kinds.Event time self.old.concrete.snapshot (Failed self.new.concrete.snapshot.durable) }
+        ensures fault_device { IsErrOf result LineFault.SinkFault → FailsLine self.old.device self.new.device (clock_line kinds.Event time) }
         ensures cause { IsErrOf result LineFault.SinkFault → HasFailed self.old.device.failures self.new.device.failures }
         ensures memory { IsErrOf result LineFault.OutOfMemory → self.new ≡ self.old }
     {

@@ -23,9 +23,12 @@ mod agent;
 mod answer;
 mod asked;
 mod config;
+mod defaults;
 mod events;
 mod flags;
 mod handed;
+mod laws;
+mod lent_queries;
 mod lists;
 mod open_query;
 mod outcome;
@@ -39,7 +42,10 @@ mod track;
 
 pub use agent::Agent;
 pub use config::Config;
+pub use defaults::{DEFAULT_EVENT_LIMIT, DEFAULT_PER_TIME, DEFAULT_RESPONDERS, DEFAULT_SLOTS};
 pub use handed::HandedQuery;
+pub use laws::life_promises;
+pub use lent_queries::LentQueries;
 pub use lists::{BytesList, Response, Responses};
 pub use open_query::OpenQuery;
 pub use outcome::{

@@ -1,6 +1,6 @@
 //! Queries: firing them, taking those that come, and counting what is answered.
 
-ghost use Rattle.std.specs.Prelude.{◌≡◌, ◌≢◌, ◌<◌, ◌≤◌, ◌-◌, ◌^◌, false, if◌then◌else◌, List, [], ◌∷◌, ◌++◌, None, Some, All, length, filter, not, OnOk, OnErr, IfOk, IsErrOf};
+ghost use Rattle.std.specs.Prelude.{◌≡◌, ◌≢◌, ◌<◌, ◌≤◌, ◌-◌, ◌^◌, false, if◌then◌else◌, List, [], ◌∷◌, ◌++◌, None, Some, All, length, filter, not, Err, OnOk, OnErr, IfOk, IsErrOf};
 ghost use Rattle.serf_wire.specs.Canonical.{canonical};
 ghost use Rattle.serf_wire.specs.Lists.{texts_left};
 ghost use Rattle.serf_wire.specs.Message.{query};
@@ -11,6 +11,7 @@ ghost use Rattle.serf_snap.specs.Device.{HasFailed};
 ghost use Rattle.serf_snap.specs.Notes.{Kept, Failed, MayWrite, noted, written};
 ghost use Rattle.serf_snap.specs.Clocks.{clock_line};
 ghost use Rattle.serf_agent.specs.Calls.{AsksSink, MayNote};
+ghost use Rattle.serf_agent.specs.Devices.{FailsLine, device_noted};
 ghost use Rattle.serf_agent.specs.Ideal.{IdealAgent, with_asked, with_snapshot};
 ghost use Rattle.serf_agent.specs.Lent.{query_in, response_in};
 ghost use Rattle.serf_agent.specs.Queries.{ack_packet, all_pass, close_due, counted_as, fire_query, fired_query, handed_query, has_flag, is_no_timeout, is_too_large_query, opened_query, query_admission, query_asked, query_at, query_entered, receive_query, receive_response};
@@ -159,6 +160,8 @@ fn note_asked<S: Sink>(
     ensures fault_allowed { IsErrOf result LineFault.SinkFault → MayWrite snapshot.old.snapshot (clock_line kinds.Query time) (Failed snapshot.new.snapshot.durable) }
     ensures fault_above { IsErrOf result LineFault.SinkFault → snapshot.old.snapshot.query_clock < time }
     ensures fault_cause { IsErrOf result LineFault.SinkFault → HasFailed snapshot.old.device.failures snapshot.new.device.failures }
+    ensures device { OnOk result (snapshot.new.device ≡ device_noted kinds.Query time snapshot.old.snapshot snapshot.old.device) }
+    ensures fault_device { IsErrOf result LineFault.SinkFault → FailsLine snapshot.old.device snapshot.new.device (clock_line kinds.Query time) }
     ensures memory { IsErrOf result LineFault.OutOfMemory → snapshot.new ≡ snapshot.old }
 {
     if asked.push(time.get(), query).is_err() {
@@ -234,9 +237,10 @@ impl<S: Sink> Agent<S> {
     ) -> Result<Outcome, ReceiveFault>
         requires { self.old.concrete.snapshot.stopped ≡ false }
         ensures step { (i : IdealAgent) → IsSound i → self.old.concrete ≡ view_of i → result ≢ Err ReceiveFault.OutOfMemory
-            → Steps i (receive_query i now (query_in query.now (texts_left filters.entry))) result self.new.concrete }
+            → Steps i (receive_query i now (query_in query.now (texts_left filters.entry))) result self.old.device self.new }
         ensures only_new { (i : IdealAgent) → IsSound i → self.old.concrete ≡ view_of i → IsErrOf result ReceiveFault.OutOfMemory → AsksSink (receive_query i now (query_in query.now (texts_left filters.entry))) }
         ensures memory { IsErrOf result ReceiveFault.OutOfMemory → self.new ≡ self.old }
+        ensures refused { OnErr result (result ≢ Err ReceiveFault.SinkFault → self.new ≡ self.old) }
         ensures cause { IsErrOf result ReceiveFault.SinkFault → HasFailed self.old.device.failures self.new.device.failures }
     {
         match self.query_admission(query.time, query.id) {
@@ -286,9 +290,11 @@ impl<S: Sink> Agent<S> {
         ensures entered { OnOk result ((i : IdealAgent) → self.old.concrete ≡ view_of i
             → self.new.concrete ≡ view_of (with_snapshot (noted kinds.Query query.now.time i.snapshot Kept) (query_entered query.now.time query.now.id i))) }
         ensures allowed { OnOk result (MayNote kinds.Query query.now.time self.old.concrete.snapshot Kept) }
+        ensures device { OnOk result (self.new.device ≡ device_noted kinds.Query query.now.time self.old.concrete.snapshot self.old.device) }
 
         ensures failed { IsErrOf result LineFault.SinkFault → self.new.concrete ≡ concrete_with (written kinds.Query query.now.time self.old.concrete.snapshot (Failed self.new.concrete.snapshot.durable)) self.old.concrete }
         ensures fault_allowed { IsErrOf result LineFault.SinkFault → MayNote kinds.Query query.now.time self.old.concrete.snapshot (Failed self.new.concrete.snapshot.durable) }
+        ensures fault_device { IsErrOf result LineFault.SinkFault → FailsLine self.old.device self.new.device (clock_line kinds.Query query.now.time) }
         ensures cause { IsErrOf result LineFault.SinkFault → HasFailed self.old.device.failures self.new.device.failures }
         ensures memory { IsErrOf result LineFault.OutOfMemory → self.new ≡ self.old }
     {
@@ -311,9 +317,11 @@ impl<S: Sink> Agent<S> {
         ensures entered { OnOk result ((i : IdealAgent) → self.old.concrete ≡ view_of i
             → self.new.concrete ≡ view_of (with_snapshot (noted kinds.Query time i.snapshot Kept) (query_entered time id i))) }
         ensures allowed { OnOk result (MayNote kinds.Query time self.old.concrete.snapshot Kept) }
+        ensures device { OnOk result (self.new.device ≡ device_noted kinds.Query time self.old.concrete.snapshot self.old.device) }
 
         ensures failed { IsErrOf result LineFault.SinkFault → self.new.concrete ≡ concrete_with (written kinds.Query time self.old.concrete.snapshot (Failed self.new.concrete.snapshot.durable)) self.old.concrete }
         ensures fault_allowed { IsErrOf result LineFault.SinkFault → MayNote kinds.Query time self.old.concrete.snapshot (Failed self.new.concrete.snapshot.durable) }
+        ensures fault_device { IsErrOf result LineFault.SinkFault → FailsLine self.old.device self.new.device (clock_line kinds.Query time) }
         ensures cause { IsErrOf result LineFault.SinkFault → HasFailed self.old.device.failures self.new.device.failures }
         ensures memory { IsErrOf result LineFault.OutOfMemory → self.new ≡ self.old }
     {
@@ -350,9 +358,11 @@ impl<S: Sink> Agent<S> {
         ensures entered { OnOk result ((i : IdealAgent) → self.old.concrete ≡ view_of i
             → self.new.concrete ≡ view_of (with_snapshot (noted kinds.Query time i.snapshot Kept) (query_asked now (query_at time self.old.concrete.config.name id name.now payload.now params.now) i))) }
         ensures allowed { OnOk result (MayNote kinds.Query time self.old.concrete.snapshot Kept) }
+        ensures device { OnOk result (self.new.device ≡ device_noted kinds.Query time self.old.concrete.snapshot self.old.device) }
 
         ensures failed { IsErrOf result LineFault.SinkFault → self.new.concrete ≡ concrete_with (written kinds.Query time self.old.concrete.snapshot (Failed self.new.concrete.snapshot.durable)) self.old.concrete }
         ensures fault_allowed { IsErrOf result LineFault.SinkFault → MayNote kinds.Query time self.old.concrete.snapshot (Failed self.new.concrete.snapshot.durable) }
+        ensures fault_device { IsErrOf result LineFault.SinkFault → FailsLine self.old.device self.new.device (clock_line kinds.Query time) }
         ensures cause { IsErrOf result LineFault.SinkFault → HasFailed self.old.device.failures self.new.device.failures }
         ensures memory { IsErrOf result LineFault.OutOfMemory → self.new ≡ self.old }
     {
@@ -378,9 +388,11 @@ impl<S: Sink> Agent<S> {
         ensures entered { OnOk result ((i : IdealAgent) → self.old.concrete ≡ view_of i
             → self.new.concrete ≡ view_of (with_snapshot (noted kinds.Query time i.snapshot Kept) (with_asked (i.asked ++ (time, query) ∷ []) (query_entered time query.id i)))) }
         ensures allowed { OnOk result (MayNote kinds.Query time self.old.concrete.snapshot Kept) }
+        ensures device { OnOk result (self.new.device ≡ device_noted kinds.Query time self.old.concrete.snapshot self.old.device) }
 
         ensures failed { IsErrOf result LineFault.SinkFault → self.new.concrete ≡ concrete_with (written kinds.Query time self.old.concrete.snapshot (Failed self.new.concrete.snapshot.durable)) self.old.concrete }
         ensures fault_allowed { IsErrOf result LineFault.SinkFault → MayNote kinds.Query time self.old.concrete.snapshot (Failed self.new.concrete.snapshot.durable) }
+        ensures fault_device { IsErrOf result LineFault.SinkFault → FailsLine self.old.device self.new.device (clock_line kinds.Query time) }
         ensures cause { IsErrOf result LineFault.SinkFault → HasFailed self.old.device.failures self.new.device.failures }
         ensures memory { IsErrOf result LineFault.OutOfMemory → self.new ≡ self.old }
     {
@@ -401,9 +413,10 @@ impl<S: Sink> Agent<S> {
         answer: &Answer,
     ) -> Result<Outcome, ReceiveFault>
         ensures step { (i : IdealAgent) → IsSound i → self.old.concrete ≡ view_of i → result ≢ Err ReceiveFault.OutOfMemory
-            → Steps i (receive_response i now (response_in answer.now)) result self.new.concrete }
+            → Steps i (receive_response i now (response_in answer.now)) result self.old.device self.new }
         ensures only_counted { (i : IdealAgent) → IsSound i → self.old.concrete ≡ view_of i → IsErrOf result ReceiveFault.OutOfMemory → TakesMemory (receive_response i now (response_in answer.now)) }
         ensures memory { IsErrOf result ReceiveFault.OutOfMemory → self.new ≡ self.old }
+        ensures refused { OnErr result (result ≢ Err ReceiveFault.SinkFault → self.new ≡ self.old) }
         ensures no_fault { result ≢ Err ReceiveFault.SinkFault }
     {
         let Some(query) = self.asked.get(answer.time) else {
@@ -435,8 +448,11 @@ impl<S: Sink> Agent<S> {
     /// buffer and is open for answers, its packet is to be sent, and where its filters let this node pass it is handed
     /// out here too.
     ///
-    /// Of the refusals the first that holds is answered. All of them leave the agent as it was, but that `SinkFault` stops
-    /// it.
+    /// On Ok the sink was appended this one line and flushed, and nothing else, or was not called where its last line of
+    /// queries already says this time or a later one.
+    ///
+    /// Of the refusals the first that holds is answered. All of them leave the agent and its sink as they were, but
+    /// `SinkFault`, which stops the agent: then the sink failed at this line's append or flush, and may keep a part of it.
     pub fn query(
         &mut self,
         alloc: Global,
@@ -447,7 +463,12 @@ impl<S: Sink> Agent<S> {
         params: &QueryParams,
     ) -> Result<FiredQuery, QueryFault>
         ensures step { (i : IdealAgent) → IsSound i → self.old.concrete ≡ view_of i → result ≢ Err QueryFault.OutOfMemory
-            → Steps i (fire_query i now id name.now payload.now params.now) result self.new.concrete }
+            → Steps i (fire_query i now id name.now payload.now params.now) result self.old.device self.new }
+
+        // What becomes of the sink, whatever it tells of its bytes.
+        ensures ok_device { IfOk result (λ f. self.new.device ≡ device_noted kinds.Query f.time self.old.concrete.snapshot self.old.device) }
+        ensures fault_device { IsErrOf result QueryFault.SinkFault → FailsLine self.old.device self.new.device (clock_line kinds.Query self.old.concrete.queries.clock) }
+        ensures refused { OnErr result (result ≢ Err QueryFault.SinkFault → self.new ≡ self.old) }
 
         // Memory is wanted only where the query is fired, and its want changes nothing.
         ensures only_fired { (i : IdealAgent) → IsSound i → self.old.concrete ≡ view_of i → IsErrOf result QueryFault.OutOfMemory → AsksSink (fire_query i now id name.now payload.now params.now) }

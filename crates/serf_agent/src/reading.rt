@@ -1,8 +1,10 @@
 //! What an agent tells of itself. None of these calls takes memory.
 
-ghost use Rattle.std.specs.Prelude.{◌≡◌, false, map, option_copied};
+ghost use Rattle.std.specs.Prelude.{◌≡◌, false, true, map, option_copied};
+ghost use Rattle.serf_wire.specs.Buffers.{slots_lent};
 ghost use Rattle.serf_window.specs.Slots.{slot_view};
 ghost use Rattle.serf_snap.specs.Device.{IsClean, append_failing, flush_failing, durable_of, with_plan, replace_failing};
+ghost use Rattle.serf_agent.specs.Config.{is_sound};
 ghost use Rattle.serf_agent.specs.Queries.{asked_at};
 ghost use Rattle.serf_agent.specs.View.{with_new_plan};
 
@@ -11,12 +13,13 @@ use crate::config::Config;
 use crate::open_query::OpenQuery;
 use serf_lamport::Time;
 use serf_snap::{MemSink, Sink};
-use serf_wire::Slot;
+use serf_wire::LentEventSlots;
 
 impl<S: Sink> Agent<S> {
-    /// The agent's settings.
+    /// The agent's settings, which are within their bounds.
     pub fn config(&self) -> &Config
-        ensures { result.now ≡ self.now.concrete.config }
+        ensures config { result.now ≡ self.now.concrete.config }
+        ensures sound { is_sound result.now ≡ true }
     {
         &self.config
     }
@@ -63,9 +66,9 @@ impl<S: Sink> Agent<S> {
         self.snapshot.is_stopped()
     }
 
-    /// The slots of the event buffer, in order. A slot that holds nothing has no events.
-    pub fn slots(&self) -> &[Slot]
-        ensures { map slot_view result.now ≡ self.now.concrete.events.slots }
+    /// The slots of the event buffer, in order. One that was never used has the time 0 and no events.
+    pub fn slots(&self) -> LentEventSlots<'_>
+        ensures { map slot_view (slots_lent result) ≡ self.now.concrete.events.slots }
     {
         self.events.slots()
     }

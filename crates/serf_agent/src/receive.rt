@@ -1,6 +1,6 @@
 //! Packets that come.
 
-ghost use Rattle.std.specs.Prelude.{◌≡◌, ◌≢◌, false, IsErrOf};
+ghost use Rattle.std.specs.Prelude.{◌≡◌, ◌≢◌, false, Err, OnErr, IsErrOf};
 ghost use Rattle.serf_wire.specs.Message.{message_of};
 ghost use Rattle.serf_snap.specs.Device.{HasFailed};
 ghost use Rattle.serf_agent.specs.Ideal.{IdealAgent};
@@ -19,8 +19,12 @@ use std::alloc::Global;
 impl<S: Sink> Agent<S> {
     /// Takes a packet that comes at a moment, in nanoseconds (Serf's `delegate.go`, `NotifyMsg`).
     ///
-    /// Of the refusals the first that holds is answered. All of them leave the agent as it was, but that `SinkFault` stops
-    /// it. Takes no memory where the packet is faulty, foreign or ignored, and where it is a push/pull.
+    /// Where an event or a query is new, the sink is appended its one line and flushed before it is handed out; it is not
+    /// called where its last line of the kind already says this time or a later one, nor for any other packet.
+    ///
+    /// Of the refusals the first that holds is answered. All of them leave the agent and its sink as they were, but
+    /// `SinkFault`, which stops the agent: then the sink failed at this line's append or flush, and may keep a part of it.
+    /// Takes no memory where the packet is faulty, foreign or ignored, and where it is a push/pull.
     pub fn receive(
         &mut self,
         alloc: Global,
@@ -28,11 +32,12 @@ impl<S: Sink> Agent<S> {
         packet: &[u8],
     ) -> Result<Outcome, ReceiveFault>
         ensures step { (i : IdealAgent) → IsSound i → self.old.concrete ≡ view_of i → result ≢ Err ReceiveFault.OutOfMemory
-            → Steps i (receive i now packet.now) result self.new.concrete }
+            → Steps i (receive i now packet.now) result self.old.device self.new }
 
         // Memory is wanted only where an event or a query is new, or an answer is counted; its want changes nothing.
         ensures only_new { (i : IdealAgent) → IsSound i → self.old.concrete ≡ view_of i → IsErrOf result ReceiveFault.OutOfMemory → TakesMemory (receive i now packet.now) }
         ensures memory { IsErrOf result ReceiveFault.OutOfMemory → self.new ≡ self.old }
+        ensures refused { OnErr result (result ≢ Err ReceiveFault.SinkFault → self.new ≡ self.old) }
         ensures cause { IsErrOf result ReceiveFault.SinkFault → HasFailed self.old.device.failures self.new.device.failures }
     {
         if self.snapshot.is_stopped() {
@@ -53,9 +58,10 @@ impl<S: Sink> Agent<S> {
     ) -> Result<Outcome, ReceiveFault>
         requires { self.old.concrete.snapshot.stopped ≡ false }
         ensures step { (i : IdealAgent) → IsSound i → self.old.concrete ≡ view_of i → result ≢ Err ReceiveFault.OutOfMemory
-            → Steps i (receive_message i now (message_of message.now)) result self.new.concrete }
+            → Steps i (receive_message i now (message_of message.now)) result self.old.device self.new }
         ensures only_new { (i : IdealAgent) → IsSound i → self.old.concrete ≡ view_of i → IsErrOf result ReceiveFault.OutOfMemory → TakesMemory (receive_message i now (message_of message.now)) }
         ensures memory { IsErrOf result ReceiveFault.OutOfMemory → self.new ≡ self.old }
+        ensures refused { OnErr result (result ≢ Err ReceiveFault.SinkFault → self.new ≡ self.old) }
         ensures cause { IsErrOf result ReceiveFault.SinkFault → HasFailed self.old.device.failures self.new.device.failures }
     {
         match *message {

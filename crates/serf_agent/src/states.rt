@@ -1,14 +1,18 @@
 //! The whole states that agents exchange, the member clock's line, and compaction.
 
-ghost use Rattle.std.specs.Prelude.{◌≡◌, ◌≢◌, ◌<◌, ◌≤◌, ◌-◌, ◌^◌, ◌⊎◌, false, List, [], ◌∷◌, ◌++◌, None, Some, map, Ok, Err, OnOk, IfOk, IfSome, IsErrOf, IsOk, vec_len, vec_capacity};
+ghost use Rattle.std.specs.Prelude.{◌≡◌, ◌≢◌, ◌<◌, ◌≤◌, ◌-◌, ◌^◌, ◌⊎◌, false, List, [], ◌∷◌, ◌++◌, None, Some, map, Ok, Err, OnOk, OnErr, IfOk, IfSome, IsErrOf, IsOk, vec_len, vec_capacity};
 ghost use Rattle.serf_wire.specs.declared.texts.EventBody.{EventBody};
 ghost use Rattle.serf_wire.specs.Decoded.{decoded};
 ghost use Rattle.serf_wire.specs.Lists.{event_of as text_of, events_left, slot_of, slots_left, status_of};
 ghost use Rattle.serf_wire.specs.Message.{PushPull as State, message_of, push_pull};
 ghost use Rattle.serf_window.specs.Window.{TimedEntry, count_in, time_in};
-ghost use Rattle.serf_snap.specs.Device.{HasFailed, replace_called, unreplaced};
+ghost use Rattle.serf_snap.specs.Clocks.{clock_line};
+ghost use Rattle.serf_snap.specs.declared.kind.ClockKind.TheVariants as kinds;
+ghost use Rattle.serf_snap.specs.Device.{HasFailed, replace_called, replaced, unreplaced};
+ghost use Rattle.serf_snap.specs.Notes.{compaction_of};
 ghost use Rattle.serf_agent.specs.Calls.{AsksSink};
 ghost use Rattle.serf_agent.specs.declared.outcome.MergeFault.{MergeFault as Fault};
+ghost use Rattle.serf_agent.specs.Devices.{FailsLine, FailsText, device_noted};
 ghost use Rattle.serf_agent.specs.Events.{admission};
 ghost use Rattle.serf_agent.specs.Ideal.{IdealAgent};
 ghost use Rattle.serf_agent.specs.Lent.{push_pull_in};
@@ -105,12 +109,18 @@ impl<S: Sink> Agent<S> {
 
     /// Notes the time before the member clock, so that a restart goes on from there (Serf's `snapshot.go`, `updateClock`).
     ///
-    /// `Stopped`, `OutOfMemory` (the agent is unchanged) or `SinkFault`, which stops the agent. Where the last such line
-    /// says the same or more there is no call of the sink, and it takes no memory.
+    /// `Stopped` and `OutOfMemory` leave the agent and its sink as they were; `SinkFault` stops the agent: then the sink
+    /// failed at the line's append or flush, and may keep a part of it. On Ok the sink was appended this one line and
+    /// flushed. Where the last such line says the same or more this is Ok, there is no call of the sink, and it takes no
+    /// memory.
     pub fn save_member_clock(&mut self, alloc: Global) -> Result<(), NoteFault>
-        ensures step { (i : IdealAgent) → IsSound i → self.old.concrete ≡ view_of i → result ≢ Err NoteFault.OutOfMemory → Steps i (save i) result self.new.concrete }
+        ensures step { (i : IdealAgent) → IsSound i → self.old.concrete ≡ view_of i → result ≢ Err NoteFault.OutOfMemory → Steps i (save i) result self.old.device self.new }
         ensures only_noted { (i : IdealAgent) → self.old.concrete ≡ view_of i → IsErrOf result NoteFault.OutOfMemory → AsksSink (save i) }
         ensures memory { IsErrOf result NoteFault.OutOfMemory → self.new ≡ self.old }
+        ensures ok_device { OnOk result (self.new.device ≡ device_noted kinds.Member (self.old.concrete.member_clock - 1) self.old.concrete.snapshot self.old.device) }
+        ensures fault_device { IsErrOf result NoteFault.SinkFault → FailsLine self.old.device self.new.device (clock_line kinds.Member (self.old.concrete.member_clock - 1)) }
+        ensures refused { OnErr result (result ≢ Err NoteFault.SinkFault → self.new ≡ self.old) }
+        ensures quiet { self.old.concrete.snapshot.stopped ≡ false → self.old.concrete.member_clock - 1 ≤ self.old.concrete.snapshot.member_clock → (result ≡ Ok tt) × (self.new ≡ self.old) }
         ensures cause { IsErrOf result NoteFault.SinkFault → HasFailed self.old.device.failures self.new.device.failures }
     {
         let Some(time) = Time::new(self.member_clock.time().saturating_sub(1)) else {
@@ -140,6 +150,9 @@ impl<S: Sink> Agent<S> {
     /// events where this agent joins and is set to ignore what is old, and its events, of which those that are new are added
     /// to `out` in order. What the packet says is lent.
     ///
+    /// Each event that is new is written first: the sink is appended its one line and flushed, or is not called where its
+    /// last line of events already says the time or a later one; one event's line after the other, in the packet's order.
+    ///
     /// Of the refusals the first that holds is answered. `Stopped`, `Wire` and `NotPushPull` leave all as it was. After
     /// `OutOfMemory` and `SinkFault`, which stops the agent, the clocks were heard of, and `out` has just what was handed out
     /// before; after `OutOfMemory` the same merge may be called again.
@@ -153,7 +166,7 @@ impl<S: Sink> Agent<S> {
         ensures refused { (fault : Fault) → merge_refusal self.old.concrete (decoded packet.now) ≡ Some fault
             → (result ≡ Err fault) × (out.new.items ≡ out.old.items) × (self.new ≡ self.old) }
         ensures merged { (i : IdealAgent) (m : State) → IsSound i → self.old.concrete ≡ view_of i → i.snapshot.stopped ≡ false → decoded packet.now ≡ Ok (push_pull m)
-            → Merges i m is_join out.old.items out.new.items self.new.concrete (fault_in result) }
+            → Merges i m is_join out.old.items out.new.items self.old.device self.new (fault_in result) }
         ensures lent { IfOk result (λ p. decoded packet.now ≡ Ok (push_pull (push_pull_in p))) }
         ensures cause { IsErrOf result MergeFault.SinkFault → HasFailed self.old.device.failures self.new.device.failures }
     {
@@ -177,7 +190,7 @@ impl<S: Sink> Agent<S> {
         requires { self.old.concrete.snapshot.stopped ≡ false }
         ensures refused { ((m : State) → message_of message.now ≢ push_pull m) → (result ≡ Err MergeFault.NotPushPull) × (out.new.items ≡ out.old.items) × (self.new ≡ self.old) }
         ensures merged { (i : IdealAgent) (m : State) → IsSound i → self.old.concrete ≡ view_of i → message_of message.now ≡ push_pull m
-            → Merges i m is_join out.old.items out.new.items self.new.concrete (fault_in result) }
+            → Merges i m is_join out.old.items out.new.items self.old.device self.new (fault_in result) }
         ensures lent { IfOk result (λ p. message_of message.now ≡ push_pull (push_pull_in p)) }
         ensures cause { IsErrOf result MergeFault.SinkFault → HasFailed self.old.device.failures self.new.device.failures }
     {
@@ -199,7 +212,7 @@ impl<S: Sink> Agent<S> {
         out: &mut Vec<EventOut>,
     ) -> Result<(), MergeFault>
         requires { self.old.concrete.snapshot.stopped ≡ false }
-        ensures received { (i : IdealAgent) → IsSound i → self.old.concrete ≡ view_of i → Received i (events_of (slots_left slots.entry)) out.old.items out.new.items self.new.concrete result }
+        ensures received { (i : IdealAgent) → IsSound i → self.old.concrete ≡ view_of i → Received i (events_of (slots_left slots.entry)) out.old.items out.new.items self.old.device self.new result }
         ensures cause { IsErrOf result MergeFault.SinkFault → HasFailed self.old.device.failures self.new.device.failures }
     {
         for slot in slots {
@@ -219,7 +232,7 @@ impl<S: Sink> Agent<S> {
         out: &mut Vec<EventOut>,
     ) -> Result<(), MergeFault>
         requires { self.old.concrete.snapshot.stopped ≡ false }
-        ensures received { (i : IdealAgent) → IsSound i → self.old.concrete ≡ view_of i → Received i (events_of_slot (slot_of slot.now)) out.old.items out.new.items self.new.concrete result }
+        ensures received { (i : IdealAgent) → IsSound i → self.old.concrete ≡ view_of i → Received i (events_of_slot (slot_of slot.now)) out.old.items out.new.items self.old.device self.new result }
         ensures runs { OnOk result (self.new.concrete.snapshot.stopped ≡ false) }
         ensures calm { OnOk result (self.new.device.failures ≡ self.old.device.failures) }
         ensures cause { IsErrOf result MergeFault.SinkFault → HasFailed self.old.device.failures self.new.device.failures }
@@ -239,7 +252,7 @@ impl<S: Sink> Agent<S> {
         out: &mut Vec<EventOut>,
     ) -> Result<(), MergeFault>
         requires { self.old.concrete.snapshot.stopped ≡ false }
-        ensures received { (i : IdealAgent) → IsSound i → self.old.concrete ≡ view_of i → Received i (at_time time (events_left events.entry)) out.old.items out.new.items self.new.concrete result }
+        ensures received { (i : IdealAgent) → IsSound i → self.old.concrete ≡ view_of i → Received i (at_time time (events_left events.entry)) out.old.items out.new.items self.old.device self.new result }
         ensures runs { OnOk result (self.new.concrete.snapshot.stopped ≡ false) }
         ensures calm { OnOk result (self.new.device.failures ≡ self.old.device.failures) }
         ensures cause { IsErrOf result MergeFault.SinkFault → HasFailed self.old.device.failures self.new.device.failures }
@@ -263,7 +276,7 @@ impl<S: Sink> Agent<S> {
     ) -> Result<(), MergeFault>
         requires { self.old.concrete.snapshot.stopped ≡ false }
         ensures received { (i : IdealAgent) → IsSound i → self.old.concrete ≡ view_of i
-            → Received i (record { time = time; key = text_of event.now } ∷ []) out.old.items out.new.items self.new.concrete result }
+            → Received i (record { time = time; key = text_of event.now } ∷ []) out.old.items out.new.items self.old.device self.new result }
         ensures runs { OnOk result (self.new.concrete.snapshot.stopped ≡ false) }
         ensures calm { OnOk result (self.new.device.failures ≡ self.old.device.failures) }
         ensures cause { IsErrOf result MergeFault.SinkFault → HasFailed self.old.device.failures self.new.device.failures }
@@ -290,7 +303,7 @@ impl<S: Sink> Agent<S> {
         requires not_full { count_in self.old.concrete.events.slots time < self.old.concrete.config.per_time }
         requires small { time < 2 ^ 64 - 1 }
         ensures received { (i : IdealAgent) → IsSound i → self.old.concrete ≡ view_of i → admission i time (text_of event.now) ≡ None
-            → Received i (record { time = time; key = text_of event.now } ∷ []) out.old.items out.new.items self.new.concrete result }
+            → Received i (record { time = time; key = text_of event.now } ∷ []) out.old.items out.new.items self.old.device self.new result }
         ensures runs { OnOk result (self.new.concrete.snapshot.stopped ≡ false) }
         ensures calm { OnOk result (self.new.device.failures ≡ self.old.device.failures) }
         ensures cause { IsErrOf result MergeFault.SinkFault → HasFailed self.old.device.failures self.new.device.failures }
@@ -312,14 +325,18 @@ impl<S: Sink> Agent<S> {
 impl<S: ReplaceSink> Agent<S> {
     /// Replaces what the sink keeps by the last line of each clock. The rest of the agent is unchanged.
     ///
-    /// `Stopped`, `OutOfMemory` (the agent is unchanged) or `SinkFault`, which stops the agent; what is durable is then
-    /// the old text or the new one.
+    /// On Ok the sink's text was replaced once, and it was neither appended to nor flushed. `Stopped` leaves all as it was,
+    /// the counts of the sink's calls too; `OutOfMemory` leaves the agent as it was, and its sink but for a call that is
+    /// counted; `SinkFault` stops the agent, and what is durable is then the old text or the new one.
     pub fn compact(&mut self, alloc: Global) -> Result<(), NoteFault>
-        ensures step { (i : IdealAgent) → IsSound i → self.old.concrete ≡ view_of i → result ≢ Err NoteFault.OutOfMemory → Steps i (compact i) result self.new.concrete }
+        ensures step { (i : IdealAgent) → IsSound i → self.old.concrete ≡ view_of i → result ≢ Err NoteFault.OutOfMemory → Steps i (compact i) result self.old.device self.new }
         ensures only_replaced { (i : IdealAgent) → self.old.concrete ≡ view_of i → IsErrOf result NoteFault.OutOfMemory → AsksSink (compact i) }
         ensures memory { IsErrOf result NoteFault.OutOfMemory → self.new.concrete ≡ self.old.concrete }
         ensures memory_device { IsErrOf result NoteFault.OutOfMemory → (self.new.device ≡ self.old.device) ⊎ (self.new.device ≡ unreplaced self.old.device) }
         ensures cause { IsErrOf result NoteFault.SinkFault → HasFailed self.old.device.failures self.new.device.failures }
+        ensures ok_device { OnOk result (self.new.device ≡ replaced (compaction_of self.old.concrete.snapshot) self.old.device) }
+        ensures fault_device { IsErrOf result NoteFault.SinkFault → FailsText self.old.device self.new.device (compaction_of self.old.concrete.snapshot) }
+        ensures stopped { IsErrOf result NoteFault.Stopped → self.new ≡ self.old }
         ensures called { OnOk result (self.new.device.calls ≡ replace_called self.old.device.calls) }
         ensures fault_called { IsErrOf result NoteFault.SinkFault → self.new.device.calls ≡ replace_called self.old.device.calls }
     {

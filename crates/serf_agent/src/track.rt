@@ -2,6 +2,7 @@
 
 ghost use Rattle.std.specs.Prelude.{◌≡◌, ℕ, ◌<◌, ◌≤◌, ◌-◌, ◌^◌, List, [], ◌∷◌, ◌++◌, max, map, length, OnOk, IfOk, SomeIff};
 ghost use Rattle.serf_lamport.specs.Clock.{observed};
+ghost use Rattle.serf_wire.specs.Buffers.{slots_lent};
 ghost use Rattle.serf_window.specs.Slots.{slot_view};
 ghost use Rattle.serf_window.specs.Window.{TimedEntry, count_in, room_for, slots_of, time_in};
 ghost use Rattle.serf_agent.specs.Events.{drawn};
@@ -13,7 +14,7 @@ use crate::outcome::Reason;
 use crate::reason::reason_of;
 use serf_lamport::{Clock, Time};
 use serf_window::{Entry, LentKey, Window};
-use serf_wire::{EventBody, TimeSlot};
+use serf_wire::{EventBody, LentSlots};
 use std::alloc::{AllocError, Global};
 use std::marker::Model;
 
@@ -46,22 +47,26 @@ pub(crate) type EventTrack = Track<EventBody>;
 pub(crate) type QueryTrack = Track<u32>;
 
 impl<K: Drop> Track<K> {
-    /// A track that has nothing, and draws the time 1 first.
-    pub(crate) fn new(alloc: Global, slot_count: u64, per_time: u64) -> Result<Track<K>, AllocError>
-        requires { 0 < per_time }
-        ensures clock { IfOk result (λ t. t.clock ≡ 1) }
-        ensures minimum { IfOk result (λ t. t.minimum ≡ 1) }
-        ensures slots { IfOk result (λ t. t.window.slots ≡ slots_of slot_count []) }
-        ensures per_time { IfOk result (λ t. t.window.per_time ≡ per_time) }
+    /// A track that has nothing, and draws the time 1 first. Takes no memory.
+    pub(crate) fn new(alloc: Global, slot_count: u64, per_time: u64) -> Track<K>
+        requires some_slot { 0 < slot_count }
+        requires most_slots { slot_count ≤ 65536 }
+        requires some_of_time { 0 < per_time }
+        requires most_of_time { per_time ≤ 65536 }
+        ensures clock { result.clock ≡ 1 }
+        ensures minimum { result.minimum ≡ 1 }
+        ensures slots { result.window.slots ≡ slots_of slot_count [] }
+        ensures size { length result.window.slots ≡ slot_count }
+        ensures per_time { result.window.per_time ≡ per_time }
     {
         let Ok(window) = Window::new(alloc, slot_count, per_time) else {
-            return Err(AllocError);
+            unreachable!()
         };
-        Ok(Track {
+        Track {
             clock: Clock::new(),
             minimum: 1,
             window,
-        })
+        }
     }
 
     pub(crate) fn time(&self) -> u64
@@ -76,8 +81,8 @@ impl<K: Drop> Track<K> {
         self.minimum
     }
 
-    pub(crate) fn slots(&self) -> &[TimeSlot<K>]
-        ensures { map slot_view result.now ≡ self.now.window.slots }
+    pub(crate) fn slots(&self) -> LentSlots<'_, K>
+        ensures { map slot_view (slots_lent result) ≡ self.now.window.slots }
     {
         self.window.slots()
     }

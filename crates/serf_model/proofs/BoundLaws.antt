@@ -1,21 +1,21 @@
 -- What enters at an agent in one life is bounded by its settings, in every run.
 use Rattle.std.proofs.Common.{zero, suc, ◌≡◌, ℕ, ◌+◌, ◌*◌, ◌≤◌, ◌==◌, ◌&&◌, inl, inr, Bool, true, false, cond, List, [], ◌∷◌, ◌++◌, Option, Some, None, refl, sym, ap, subst, ◌∙◌, arith, map, length, set, get_or, ◌%◌}
-use Rattle.std.specs.Prelude.{slice_get}
+use Rattle.std.specs.Prelude.{All, slice_get}
 use Rattle.std.specs.List.{filter, range_with_len}
 use Rattle.std.specs.Option.{option_map}
 use Rattle.std.proofs.lemmas.Bool.{cases_Bool, eq-eqb, eqb-true, eqb-false}
 use Rattle.std.proofs.lemmas.List.{append-nil}
-use Rattle.std.proofs.lemmas.List.Elements.{All-map}
+use Rattle.std.proofs.lemmas.List.Elements.{All-filter, All-map}
 use Rattle.std.proofs.lemmas.List.Sums.{fold-append}
 use Rattle.serf_wire.specs.declared.texts.EventBody.{EventBody}
 use Rattle.serf_window.specs.Window.{EachAtMost, SlotOf, TimedEntry, count_at, entries_of, greatest_time, held_at, held_count, slot_of, slots_of}
-use Rattle.serf_window.proofs.WindowLaws.{slot_laws}
+use Rattle.serf_window.specs.Laws.{SlotLaws}
 use Rattle.serf_agent.specs.declared.config.Config.{Config}
-use Rattle.serf_agent.specs.Ideal.{IdealAgent}
+use Rattle.serf_agent.specs.Ideal.{IdealAgent, Past}
 use Rattle.serf_agent.specs.Tracks.{of_life}
 use Rattle.serf_model.specs.declared.action.Action.{Action}
 use Rattle.serf_model.specs.declared.line.EventLine.{EventLine}
-use Rattle.serf_model.specs.Bounds.{AtMostOfOneTime, EventsBounded, IsBounded, QueriesBounded, events_of_life, is_restarted, lived_on, present_life, queries_of_life, reopens}
+use Rattle.serf_model.specs.Bounds.{AtMostOfOneTime, EventsBounded, AreEventsBounded, IsBounded, QueriesBounded, events_of_life, longest_texts, is_restarted, lived_on, present_life, queries_of_life, reopens}
 use Rattle.serf_model.specs.Cluster.{Applied, Cluster, IdealNode, Run, Stepped, applied, apply, after, first_node, injects, on_agent, run_of, start, step, with_handed}
 use Rattle.serf_model.specs.Ready.{IsRepresentable}
 use Rattle.serf_model.specs.Runs.{AreConfigs}
@@ -54,9 +54,8 @@ each-slot {K} n k es most = All-map (λ (s : SlotOf K). length s.held ≤ k) (sl
         let fewer = filter-held t (λ (e : TimedEntry K). e.time % n == i) es in
         omega arith
 
-is-bounded : {K : Type 0} (n k : ℕ) (es : List (TimedEntry K)) → AtMostOfOneTime k es → IsBounded n k es
-is-bounded {K} n k es most =
-    let laws = slot_laws K in
+is-bounded : {K : Type 0} → SlotLaws K → (n k : ℕ) (es : List (TimedEntry K)) → AtMostOfOneTime k es → IsBounded n k es
+is-bounded {K} laws n k es most =
     record { of_one_time = most; in_window = subst (λ (m : ℕ). held_count (slots_of n es) ≤ m * k) (laws.size n es) (laws.together k (slots_of n es) (each-slot n k es most)) }
 
 -- ---- an agent's life, turn by turn
@@ -244,20 +243,31 @@ lived-start configs a = subst (IsLivedAt configs [] a) (sym (first_node-at confi
 
 -- ---- every run
 
-bounded-events : (configs : List Config) (turns : List Turn) (a : ℕ) (r : Option IdealNode) (c : Config) → IsLivedAt configs turns a r → slice_get configs a ≡ Some c → IsBounded c.event_buffer c.per_time (events_of_life a turns)
-bounded-events configs turns a None c h at = absurd (let no : None ≡ Some c = h.config ∙ at in cc)
-bounded-events configs turns a (Some m) c h at =
-    let same : m.agent.config ≡ c = let e : Some m.agent.config ≡ Some c = h.config ∙ at in cc in
-    is-bounded c.event_buffer c.per_time (events_of_life a turns) (subst (λ (x : Config). AtMostOfOneTime x.per_time (events_of_life a turns)) same (subst (AtMostOfOneTime m.agent.config.per_time) h.events h.few_events))
+abbrev IsShort : TimedEntry EventBody → Type 0
+IsShort e = length e.key.name + length e.key.payload ≤ longest_texts
 
-bounded-queries : (configs : List Config) (turns : List Turn) (a : ℕ) (r : Option IdealNode) (c : Config) → IsLivedAt configs turns a r → slice_get configs a ≡ Some c → IsBounded c.query_buffer c.per_time (queries_of_life a turns)
-bounded-queries configs turns a None c h at = absurd (let no : None ≡ Some c = h.config ∙ at in cc)
-bounded-queries configs turns a (Some m) c h at =
+-- the entries of a life are short, where those of all lives are
+short-life : (life : ℕ) (history : List (Past EventBody)) → All (λ p. IsShort p.entry) history → All IsShort (of_life life history)
+short-life life history all = All-map IsShort (λ (p : Past EventBody). p.entry) (filter (λ p. p.life == life) history) (All-filter (λ (p : Past EventBody). p.life == life) (λ p. IsShort p.entry) history all)
+
+bounded-events : SlotLaws EventBody → (configs : List Config) (turns : List Turn) (a : ℕ) (r : Option IdealNode) (c : Config) → IsLivedAt configs turns a r → ((m : IdealNode) → r ≡ Some m → IsRepresentable m.agent) → slice_get configs a ≡ Some c
+    → AreEventsBounded c.event_buffer c.per_time (events_of_life a turns)
+bounded-events laws configs turns a None c h representable at = absurd (let no : None ≡ Some c = h.config ∙ at in cc)
+bounded-events laws configs turns a (Some m) c h representable at =
     let same : m.agent.config ≡ c = let e : Some m.agent.config ≡ Some c = h.config ∙ at in cc in
-    is-bounded c.query_buffer c.per_time (queries_of_life a turns) (subst (λ (x : Config). AtMostOfOneTime x.per_time (queries_of_life a turns)) same (subst (AtMostOfOneTime m.agent.config.per_time) h.queries h.few_queries))
+    record {
+      bounded = is-bounded laws c.event_buffer c.per_time (events_of_life a turns) (subst (λ (x : Config). AtMostOfOneTime x.per_time (events_of_life a turns)) same (subst (AtMostOfOneTime m.agent.config.per_time) h.events h.few_events));
+      short = subst (All IsShort) h.events (short-life m.agent.life m.agent.events.history (representable m refl).consistent.sound.short);
+    }
+
+bounded-queries : SlotLaws ℕ → (configs : List Config) (turns : List Turn) (a : ℕ) (r : Option IdealNode) (c : Config) → IsLivedAt configs turns a r → slice_get configs a ≡ Some c → IsBounded c.query_buffer c.per_time (queries_of_life a turns)
+bounded-queries laws configs turns a None c h at = absurd (let no : None ≡ Some c = h.config ∙ at in cc)
+bounded-queries laws configs turns a (Some m) c h at =
+    let same : m.agent.config ≡ c = let e : Some m.agent.config ≡ Some c = h.config ∙ at in cc in
+    is-bounded laws c.query_buffer c.per_time (queries_of_life a turns) (subst (λ (x : Config). AtMostOfOneTime x.per_time (queries_of_life a turns)) same (subst (AtMostOfOneTime m.agent.config.per_time) h.queries h.few_queries))
 
 abbrev EventsAt : List Config → List Turn → Turn → Type 0
-EventsAt configs before turn = (a : ℕ) (c : Config) → slice_get configs a ≡ Some c → IsBounded c.event_buffer c.per_time (events_of_life a (before ++ turn ∷ []))
+EventsAt configs before turn = (a : ℕ) (c : Config) → slice_get configs a ≡ Some c → AreEventsBounded c.event_buffer c.per_time (events_of_life a (before ++ turn ∷ []))
 
 abbrev QueriesAt : List Config → List Turn → Turn → Type 0
 QueriesAt configs before turn = (a : ℕ) (c : Config) → slice_get configs a ≡ Some c → IsBounded c.query_buffer c.per_time (queries_of_life a (before ++ turn ∷ []))
@@ -269,25 +279,26 @@ record IsKept (configs : List Config) (r : Run) : Type 0 where
   events : EventsBounded configs r.turns
   queries : QueriesBounded configs r.turns
 
-kept-step : (configs : List Config) (r : Run) (action : Action) → IsKept configs r → IsKept configs (after r action)
-kept-step configs r action h =
+kept-step : SlotLaws EventBody → SlotLaws ℕ → (configs : List Config) (r : Run) (action : Action) → IsKept configs r → IsKept configs (after r action)
+kept-step event_laws query_laws configs r action h =
     let turn : Turn = (step r.cluster action).turn in
     let lived = lived-step configs r action h.after h.lived in
+    let next : IsAfter (after r action).cluster (after r action).turns = after-step r action h.after in
     record {
-      after = after-step r action h.after;
+      after = next;
       lived = lived;
-      events = at_each_push (EventsAt configs) r.turns turn h.events (λ a c at. bounded-events configs (r.turns ++ turn ∷ []) a (slice_get (after r action).cluster.nodes a) c (lived a) at);
-      queries = at_each_push (QueriesAt configs) r.turns turn h.queries (λ a c at. bounded-queries configs (r.turns ++ turn ∷ []) a (slice_get (after r action).cluster.nodes a) c (lived a) at);
+      events = at_each_push (EventsAt configs) r.turns turn h.events (λ a c at. bounded-events event_laws configs (r.turns ++ turn ∷ []) a (slice_get (after r action).cluster.nodes a) c (lived a) (λ m is. all-at (λ m. IsRepresentable m.agent) (after r action).cluster.nodes a m next.representable is) at);
+      queries = at_each_push (QueriesAt configs) r.turns turn h.queries (λ a c at. bounded-queries query_laws configs (r.turns ++ turn ∷ []) a (slice_get (after r action).cluster.nodes a) c (lived a) at);
     }
 
-kept-run : (configs : List Config) (actions : List Action) → AreConfigs configs → IsKept configs (run_of configs actions)
-kept-run configs actions ok =
+kept-run : SlotLaws EventBody → SlotLaws ℕ → (configs : List Config) (actions : List Action) → AreConfigs configs → IsKept configs (run_of configs actions)
+kept-run event_laws query_laws configs actions ok =
     fold_keeps (IsKept configs) after (start configs) actions
     (record { after = after-start configs ok; lived = lived-start configs; events = at_each_nil (EventsAt configs); queries = at_each_nil (QueriesAt configs) })
-    (kept-step configs)
+    (kept-step event_laws query_laws configs)
 
-pub events-bounded : (configs : List Config) (actions : List Action) → AreConfigs configs → EventsBounded configs (run_of configs actions).turns
-events-bounded configs actions ok = (kept-run configs actions ok).events
+pub events-bounded : SlotLaws EventBody → SlotLaws ℕ → (configs : List Config) (actions : List Action) → AreConfigs configs → EventsBounded configs (run_of configs actions).turns
+events-bounded event_laws query_laws configs actions ok = (kept-run event_laws query_laws configs actions ok).events
 
-pub queries-bounded : (configs : List Config) (actions : List Action) → AreConfigs configs → QueriesBounded configs (run_of configs actions).turns
-queries-bounded configs actions ok = (kept-run configs actions ok).queries
+pub queries-bounded : SlotLaws EventBody → SlotLaws ℕ → (configs : List Config) (actions : List Action) → AreConfigs configs → QueriesBounded configs (run_of configs actions).turns
+queries-bounded event_laws query_laws configs actions ok = (kept-run event_laws query_laws configs actions ok).queries

@@ -1,6 +1,7 @@
 -- What a call, an event and a query leave sound, over a sink with a plan.
 use Rattle.std.proofs.Common.{◌≡◌, ◌≢◌, ℕ, ◌-◌, ◌^◌, ◌<◌, ◌≤◌, ◌==◌, nat_lt, nat_le, Bool, true, false, cond, List, Option, Some, None, IsSome, Ok, Err, refl, sym, ap, subst, arith, length, inl, inr}
 use Rattle.std.specs.Prelude.{All, not, is_some}
+use Rattle.std.proofs.lemmas.List.Elements.{All-weaker}
 use Rattle.std.proofs.lemmas.List.{append-nil}
 use Rattle.std.proofs.lemmas.Bool.{and_parts, or_parts, leb-true, leb-false, ltb-false}
 use Rattle.serf_wire.specs.declared.texts.EventBody.{EventBody}
@@ -11,9 +12,10 @@ use Rattle.serf_snap.specs.Clocks.{clock_line}
 use Rattle.serf_snap.specs.Device.{FailurePlan}
 use Rattle.serf_snap.specs.Notes.{SnapshotView, Writing, Kept, Failed, IsObservable, MayWrite, MayReplace, will_write, will_replace, noted, written, compacted, compaction_of, last_line, note_fails, left_by}
 use Rattle.serf_agent.specs.Calls.{Notes, Step, MayNote, planned, ended, will_note}
-use Rattle.serf_agent.specs.Ideal.{IdealAgent, with_snapshot}
+use Rattle.serf_agent.specs.Ideal.{IdealAgent, with_snapshot, Past}
 use Rattle.serf_agent.specs.Sound.{IsSound}
 use Rattle.serf_wire.specs.Canonical.{canonical}
+use Rattle.serf_window.specs.Window.{TimedEntry}
 use Rattle.serf_agent.specs.declared.config.Config.{Config}
 use Rattle.serf_agent.specs.declared.outcome.Outcome.TheVariants as outcomes
 use Rattle.serf_agent.specs.declared.outcome.Outcome.TheVariants.{Event}
@@ -28,8 +30,8 @@ use Rattle.serf_agent.specs.Queries.{query_fired_as, query_fault, query_asked, q
 use Rattle.serf_agent.specs.declared.outcome.FireFault.{FireFault}
 use Rattle.serf_agent.specs.Events.{texts_len, admission, received_as, event_entered, fired_as, fire_fault, event_packet, event_out, drawn, is_too_large}
 use Rattle.serf_agent.proofs.SoundLaws.{sound-note_failed, sound-event_entered, sound-event_observed, admission-new, sound-query_entered, sound-query_observed, query_admission-new, sound-query_asked}
-use Rattle.serf_agent.proofs.TrackLaws.{later-fresh}
 use Rattle.serf_model.specs.Ready.{IsRepresentable}
+use Rattle.serf_model.proofs.PerTimeBound.{none-if}
 
 -- ---- what a sink with a plan does
 
@@ -122,10 +124,6 @@ representable-received i t what coalesce None g runs small is =
     let new = admission-new i t what is in
     representable-notes i kinds.Event t (record { agent = event_entered t what i; answer = Ok (Event (event_out t what coalesce)) }) (Err receives.SinkFault) g (representable-event_entered i t what g runs small new.0 new.1)
 
-pub none-if : {X : Type 0} (b : Bool) (x : X) (r : Option X) → cond b (Some x) r ≡ None → (b ≡ false) × (r ≡ None)
-none-if true x r e = absurd (cc e)
-none-if false x r e = (refl, e)
-
 pub limit-short : (c : Config) → is_sound c ≡ true → c.event_limit ≤ 9216
 limit-short c ok =
     let per_time = and_parts _ _ ok in
@@ -148,6 +146,11 @@ may-fire i what coalesce s is =
     let low : texts_len what ≤ i.config.event_limit = ltb-false _ _ short.0 in
     let limit : i.config.event_limit ≤ 9216 = limit-short i.config s.config in
     record { runs = runs.0; short = omega arith; clock = leb-false _ _ clock.0 }
+
+-- what is later than all entries differs from each
+later-fresh : {K : Type 0} (history : List (Past K)) (t : ℕ) (what : K) → All (λ p. p.entry.time < t) history → All (λ p. p.entry ≢ record { time = t; key = what }) history
+later-fresh {K} history t what below =
+    All-weaker (λ p. p.entry.time < t) (λ p. p.entry ≢ record { time = t; key = what }) (λ p early is. let same = ap (λ (y : TimedEntry K). y.time) is in omega arith) history below
 
 pub representable-fired : (i : IdealAgent) (what : EventBody) (coalesce : Bool) (r : Option FireFault) → IsRepresentable i → fire_fault i what coalesce ≡ r → IsRepresentable (planned i (fired_as r i what coalesce)).agent
 representable-fired i what coalesce (Some fault) g is = g

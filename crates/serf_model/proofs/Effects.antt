@@ -44,7 +44,7 @@ use Rattle.serf_model.specs.Bounds.{is_restarted}
 use Rattle.serf_model.specs.Cluster.{Applied, IdealNode, Merged, apply, called, closes, compacts, delivers, does_nothing, fire_gives, merges_as, merges_events, merges_given, merges_on, note_gives, only, plan_with, query_gives, receive_gives, responds, responds_as, restarts, saves, sends_state, state_gives, text_after}
 use Rattle.serf_model.specs.HandOuts.{events_given}
 use Rattle.serf_model.specs.Ready.{IsRepresentable}
-use Rattle.serf_model.specs.Trace.{entered_by, events_brought, events_in_packet, packet_given}
+use Rattle.serf_model.specs.Trace.{entered_by, events_brought, packet_given}
 use Rattle.serf_model.proofs.CallsKept.{may-ask, representable-fired, representable-query_fired, representable-query_received, representable-received}
 use Rattle.serf_model.proofs.InvariantKept.{compacting, representable-compacted, representable-merged, representable-opened, representable-planned, representable-saved, saving, text-has}
 use Rattle.serf_model.proofs.OpenQueriesKept.{representable-closed, representable-counted}

@@ -1,5 +1,5 @@
 -- What a turn hands out, and which queries enter.
-use Rattle.std.proofs.Common.{length, ◌≡◌, ℕ, ◌⊎◌, inl, inr, Bool, true, false, cond, List, [], ◌∷◌, ◌++◌, Option, Some, None, Ok, refl, sym, ap, subst, ◌∙◌, map}
+use Rattle.std.proofs.Common.{length, ◌≡◌, ℕ, ◌⊎◌, inl, inr, Bool, true, false, cond, List, [], ◌∷◌, ◌++◌, Option, Some, None, refl, sym, ap, subst, ◌∙◌, map}
 use Rattle.std.specs.Prelude.{All, Contains, slice_get}
 use Rattle.std.specs.List.{fold}
 use Rattle.std.specs.Option.{option_map, option_to_list}
@@ -7,7 +7,7 @@ use Rattle.std.proofs.lemmas.List.Elements.{All-nil, All-cons, All-head, All-tai
 use Rattle.serf_wire.specs.declared.texts.EventBody.{EventBody}
 use Rattle.serf_wire.specs.Canonical.{canonical}
 use Rattle.serf_wire.specs.Decoded.{decoded}
-use Rattle.serf_wire.specs.Message.{Message, Query, query}
+use Rattle.serf_wire.specs.Message.{Query, query}
 use Rattle.serf_window.specs.Texts.{event_of}
 use Rattle.serf_window.specs.Window.{TimedEntry}
 use Rattle.serf_agent.specs.declared.config.Config.{Config}
@@ -16,17 +16,16 @@ use Rattle.serf_agent.specs.Handed.{Handed}
 use Rattle.serf_agent.specs.Ideal.{IdealAgent}
 use Rattle.serf_agent.specs.Queries.{all_pass, handed_if_passed, handed_query, query_at}
 use Rattle.serf_model.specs.declared.action.Action.{Action}
-use Rattle.serf_model.specs.declared.action.Action.TheVariants as actions
 use Rattle.serf_model.specs.declared.line.Answer.{Answer}
 use Rattle.serf_model.specs.declared.line.Answer.TheVariants as answers
 use Rattle.serf_model.specs.declared.line.EventLine.{EventLine}
 use Rattle.serf_model.specs.declared.line.HandedLine.{HandedLine}
 use Rattle.serf_model.specs.declared.line.Refusal.TheVariants.{NoAgent}
 use Rattle.serf_model.specs.Cluster.{Applied, Cluster, IdealNode, Run, after, applied, apply, event_line, handed_line, injects, line_only, run_of, start, step}
-use Rattle.serf_model.specs.HandOuts.{HandsOutEntered, HandsOutGiven, IsHandedOf, MessagesFired, NewIsHanded, OnlyToActor, events_given, message_at, message_entered, message_fired, messages_fired, new_in, query_message, says_new}
+use Rattle.serf_model.specs.HandOuts.{HandsOutEntered, HandsOutGiven, IsHandedOf, MessagesFired, NewIsHanded, OnlyToActor, events_given, message_entered, message_fired, messages_fired, new_in, query_message, says_new}
 use Rattle.serf_model.specs.Sizes.{HasSizes}
-use Rattle.serf_model.specs.Trace.{Turn, AtEach, actor_of, event_in, events_brought, events_in_packet, fired_by, injected_in, injects_of, packet_given, queried_in, query_packets}
-use Rattle.serf_model.proofs.Effects.{Effect, IsIdle, asks, closes_due, counts, effect, fires, hears, is_asked, passes_on, reopens, replies, tells}
+use Rattle.serf_model.specs.Trace.{Turn, actor_of, event_in, events_brought, events_in_packet, fired_by, injected_in, injects_of, packet_given, queried_in, query_packets}
+use Rattle.serf_model.proofs.Effects.{Effect, IsIdle, asks, counts, effect, fires, hears, is_asked, passes_on}
 use Rattle.serf_model.proofs.PerAgent.{Each, each-start, each-step}
 use Rattle.serf_model.proofs.PerTimeBound.{out_in}
 use Rattle.serf_model.proofs.QueriesEntered.{own-decoded}

@@ -33,7 +33,8 @@ use Rattle.serf_snap.specs.declared.snapshot.NoteFault.TheVariants as notes
 use Rattle.serf_agent.specs.declared.outcome.MergeFault.TheVariants as merges
 use Rattle.serf_model.specs.Ready.{IsConsistent, IsRepresentable}
 use Rattle.serf_model.specs.Cluster.{Merged, merges_events, merges_on, reopened, text_after, opened_first, with_plan}
-use Rattle.serf_model.proofs.CallsKept.{DoesReplace, does-replace, none-if, representable-notes, representable-received}
+use Rattle.serf_model.proofs.CallsKept.{DoesReplace, does-replace, representable-notes, representable-received}
+use Rattle.serf_model.proofs.PerTimeBound.{none-if}
 
 -- ---- merges
 
@@ -81,6 +82,17 @@ pub times-of : (ss : List SlotContent) → AllByRecursion IsTimed ss → AllByRe
 times-of [] times = tt
 times-of (empty ∷ ss) times = times-of ss times.1
 times-of (held t es ∷ ss) times = all-append (λ (e : TimedEntry EventBody). e.time < 2 ^ 64 - 1) (events_of_slot (held t es)) (events_of ss) (times-slot t es times.0) (times-of ss times.1)
+
+-- and so of what a packet spells
+pub joined-spelled : (i : IdealAgent) (packet : List ℕ) (m : PushPull) (join : Bool) → IsRepresentable i → decoded packet ≡ Ok (push_pull m) → IsRepresentable (joined m join i)
+joined-spelled i packet m join g is = representable-joined m join i g (decoded_ranged packet (push_pull m) is)
+
+pub times-spelled : (packet : List ℕ) (m : PushPull) → decoded packet ≡ Ok (push_pull m) → AllByRecursion (λ (e : TimedEntry EventBody). e.time < 2 ^ 64 - 1) (events_of m.slots)
+times-spelled packet m is = let ranged = decoded_ranged packet (push_pull m) is in times-of m.slots ranged.slots
+
+-- an agent before its first life
+pub unopened-sound : (config : Config) → is_sound config ≡ true → IsSound (unopened config (opened [] (fresh_device [])))
+unopened-sound config ok = sound-unopened config [] (fresh_device []) ok (omega arith)
 
 pub representable-merged : (i : IdealAgent) (join : Bool) (packet : List ℕ) (s : PushPull) → IsRepresentable i → decoded packet ≡ Ok (push_pull s) → merge_refusal (view_of i) (Ok (push_pull s)) ≡ None
     → IsRepresentable (merges_events (events_of s.slots) (joined s join i)).agent

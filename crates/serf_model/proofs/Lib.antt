@@ -29,5 +29,7 @@ pub mod ReplyLaws
 pub mod AnswerLaws
 pub mod AnswerPromiseLaws
 pub mod HandOutLaws
+pub mod SentPromises
+pub mod KeptLaws
 pub mod WrongTurns
 pub mod AloneLaws

@@ -17,7 +17,7 @@ use Rattle.serf_agent.specs.declared.lists.Response.{Response}
 use Rattle.serf_agent.specs.Queries.{asked_at, with_asked_at, counted, is_ack, has_acked, has_responded, answer_ignore_reason, ack_ignore_reason, response_ignore_reason, is_due, close_due}
 use Rattle.serf_model.specs.Ready.{IsRepresentable}
 use Rattle.serf_model.proofs.AnswersByTime.{asked-found, pairs-rest}
-use Rattle.serf_model.proofs.CallsKept.{none-if}
+use Rattle.serf_model.proofs.PerTimeBound.{none-if}
 
 -- ---- answers to open queries
 

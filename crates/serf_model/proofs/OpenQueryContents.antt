@@ -28,10 +28,9 @@ use Rattle.serf_model.specs.Bounds.{is_restarted}
 use Rattle.serf_model.specs.Cluster.{Applied, IdealNode}
 use Rattle.serf_model.specs.Ready.{IsRepresentable}
 use Rattle.serf_model.specs.Trace.{Turn, entered_by}
-use Rattle.serf_model.proofs.PerTimeBound.{entries}
+use Rattle.serf_model.proofs.PerTimeBound.{entries, none-if}
 use Rattle.serf_model.proofs.PresentLife.{last_life, lives_on}
 use Rattle.serf_model.proofs.Effects.{Effect, IsIdle, asks, closes_due, counts, hears, idle-enters, reopens}
-use Rattle.serf_model.proofs.CallsKept.{none-if}
 use Rattle.serf_model.proofs.OpenQueriesKept.{fresh-name}
 use Rattle.serf_model.proofs.TurnLaws.{flat_map-push}
 use Rattle.serf_model.proofs.AnswersByTime.{asked-found, asked-replaced, none-to_time, passing, to_time-other, to_time-same}
@@ -83,6 +82,7 @@ pub record IsOpen (ts : List Turn) (q : ℕ × OpenQuery) : Type 0 where
   pub entered : Contains (queries_in ts) (as_entered q)
   pub acks : q.1.acks ≡ map (λ r. r.from) (to_time q.0 (counted_in true ts))
   pub responses : q.1.responses ≡ map response_held (to_time q.0 (counted_in false ts))
+  pub ids : (ack : Bool) → All (λ r. r.id ≡ q.1.id) (to_time q.0 (counted_in ack ts))
 
 -- what is true of an agent, where these are its turns
 pub record IsTallied (ts : List Turn) (i : IdealAgent) : Type 0 where
@@ -97,6 +97,7 @@ open-more ts t q on same h = record {
   entered = queries-more ts t (as_entered q) h.entered;
   acks = h.acks ∙ ap (map (λ (r : QueryResponse). r.from)) (sym (same true));
   responses = h.responses ∙ ap (map response_held) (sym (same false));
+  ids = λ ack. subst (All (λ r. r.id ≡ q.1.id)) (sym (same ack)) (h.ids ack);
 }
 
 -- a turn that counts nothing
@@ -146,6 +147,7 @@ tallied-asks ts t i j agent now id name payload params representable same h acti
       entered = subst (λ l. Contains l (as_entered (i.queries.clock, new))) (sym (queries-push ts t ∙ ap (λ l. queries_in ts ++ l) enters)) (Contains-push (queries_in ts) (as_entered (i.queries.clock, new)));
       acks = ap (map (λ (r : QueryResponse). r.from)) (sym (none true));
       responses = ap (map response_held) (sym (none false));
+      ids = λ ack. subst (All (λ r. r.id ≡ new.id)) (sym (none ack)) (All-nil (λ (r : QueryResponse). r.id ≡ new.id));
     } in
     tallied-still ts t i j h never (subst (All (IsOpen (ts ++ t ∷ []))) (sym is)
     (All-push (IsOpen (ts ++ t ∷ [])) i.asked (i.queries.clock, new) (All-weaker (IsOpen ts) (IsOpen (ts ++ t ∷ [])) (λ q. open-more ts t q on (λ ack. ap (to_time q.0) (still ack))) i.asked h.asked) first))
@@ -195,27 +197,34 @@ fresh-counted ts now r q ack here takes kind = by ack kind
     by false is =
         timed false (passing (λ (a : Response). a.from ≢ r.from) response_held (λ x. x.time == r.time) (counted_in false ts) (subst (All (λ (a : Response). a.from ≢ r.from)) here.responses (takes.responses is)))
 
+-- the answers to its time have its ID still
+ids-counted : (rs more : List QueryResponse) (r : QueryResponse) (id : ℕ) (b : Bool) → more ≡ rs ++ cond b (r ∷ []) [] → r.id ≡ id → All (λ x. x.id ≡ id) (to_time r.time rs) → All (λ x. x.id ≡ id) (to_time r.time more)
+ids-counted rs more r id true e same all = subst (All (λ x. x.id ≡ id)) (sym (ap (to_time r.time) e ∙ to_time-same rs r)) (All-push (λ (x : QueryResponse). x.id ≡ id) (to_time r.time rs) r all same)
+ids-counted rs more r id false e same all = subst (All (λ x. x.id ≡ id)) (sym (ap (to_time r.time) (e ∙ append-nil rs))) all
+
 -- the open query once it is counted
 open-counted : (ts : List Turn) (t : Turn) (r : QueryResponse) (q : OpenQuery) (b : Bool) → is_restarted t.line.answer ≡ false → ((ack : Bool) → counted_in ack (ts ++ t ∷ []) ≡ counted_in ack ts ++ cond (is_counted ack (cond b lines.Ack lines.Response)) (r ∷ []) [])
-    → IsOpen ts (r.time, q)
+    → IsOpen ts (r.time, q) → q.id ≡ r.id
     → IsOpen (ts ++ t ∷ []) (
       r.time,
       cond b (record { id = q.id; deadline = q.deadline; wants_ack = q.wants_ack; acks = q.acks ++ r.from ∷ []; responses = q.responses })
           (record { id = q.id; deadline = q.deadline; wants_ack = q.wants_ack; acks = q.acks; responses = q.responses ++ record { from = r.from; payload = r.payload } ∷ [] }),
     )
-open-counted ts t r q true on more h = record {
+open-counted ts t r q true on more h id = record {
   fired = own-more ts t (as_fired (r.time, q)) on h.fired;
   entered = queries-more ts t (as_entered (r.time, q)) h.entered;
   acks = ap (λ l. l ++ r.from ∷ []) h.acks ∙ sym (ap (λ l. map (λ (x : QueryResponse). x.from) (to_time r.time l)) (more true) ∙ ap (map (λ (x : QueryResponse). x.from)) (to_time-same (counted_in true ts) r)
       ∙ map-append (λ (x : QueryResponse). x.from) (to_time r.time (counted_in true ts)) (r ∷ []));
   responses = h.responses ∙ sym (ap (λ l. map response_held (to_time r.time l)) (more false ∙ append-nil (counted_in false ts)));
+  ids = λ ack. ids-counted (counted_in ack ts) (counted_in ack (ts ++ t ∷ [])) r q.id (is_counted ack lines.Ack) (more ack) (sym id) (h.ids ack);
 }
-open-counted ts t r q false on more h = record {
+open-counted ts t r q false on more h id = record {
   fired = own-more ts t (as_fired (r.time, q)) on h.fired;
   entered = queries-more ts t (as_entered (r.time, q)) h.entered;
   acks = h.acks ∙ sym (ap (λ l. map (λ (x : QueryResponse). x.from) (to_time r.time l)) (more true ∙ append-nil (counted_in true ts)));
   responses = ap (λ l. l ++ record { from = r.from; payload = r.payload } ∷ []) h.responses
       ∙ sym (ap (λ l. map response_held (to_time r.time l)) (more false) ∙ ap (map response_held) (to_time-same (counted_in false ts) r) ∙ map-append response_held (to_time r.time (counted_in false ts)) (r ∷ []));
+  ids = λ ack. ids-counted (counted_in ack ts) (counted_in ack (ts ++ t ∷ [])) r q.id (is_counted ack lines.Response) (more ack) (sym id) (h.ids ack);
 }
 
 -- what a counting turn brings
@@ -228,7 +237,7 @@ tallied-counts ts t i j now packet r q representable h given says at none answer
   asked = subst (All (IsOpen (ts ++ t ∷ []))) (sym is)
       (asked-replaced (IsOpen ts) (IsOpen (ts ++ t ∷ [])) r.time (counted r q) i.asked representable.consistent.sound.asked_distinct h.asked
       (λ p other here. open-more ts t p on (λ ack. ap (to_time p.0) (more ack) ∙ to_time-other p.0 (counted_in ack ts) r _ (λ e. other (sym e))) here)
-      (open-counted ts t r q (is_ack r) on more found));
+      (open-counted ts t r q (is_ack r) on more found takes.id));
   past = λ ack. subst (All (λ x. Contains (queries_in (ts ++ t ∷ [])) (query_answered x))) (sym (more ack)) (past ack (is_counted ack (cond (is_ack r) lines.Ack lines.Response)));
   once = λ ack. subst AreNamedOnce (sym (more ack)) (once ack (is_counted ack (cond (is_ack r) lines.Ack lines.Response)) refl);
 }

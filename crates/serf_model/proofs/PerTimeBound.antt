@@ -10,7 +10,6 @@ use Rattle.serf_wire.specs.declared.texts.EventBody.{EventBody}
 use Rattle.serf_window.specs.Texts.{event_of, same_texts}
 use Rattle.serf_window.specs.Queries.{same_id}
 use Rattle.serf_window.specs.Window.{TimedEntry, count_at, held_at}
-use Rattle.serf_window.proofs.SlotLemmas.{held_at-append}
 use Rattle.serf_agent.specs.declared.config.Config.{Config}
 use Rattle.serf_agent.specs.declared.outcome.EventOut.{EventOut}
 use Rattle.serf_agent.specs.declared.outcome.Reason.{Reason}
@@ -20,8 +19,22 @@ use Rattle.serf_agent.specs.Events.{admission, texts_len}
 use Rattle.serf_agent.specs.Ideal.{IdealAgent, Past, Track}
 use Rattle.serf_agent.specs.Queries.{query_admission}
 use Rattle.serf_agent.specs.Tracks.{of_life, track_reason, was_ever_entered}
-use Rattle.serf_agent.proofs.TrackLaws.{none-from}
 use Rattle.serf_model.specs.Bounds.{AtMostOfOneTime}
+
+-- a reason that isn't given
+pub none-if : {X : Type 0} (b : Bool) (x : X) (r : Option X) → cond b (Some x) r ≡ None → (b ≡ false) × (r ≡ None)
+none-if true x r e = absurd (cc e)
+none-if false x r e = (refl, e)
+
+-- what has a time, where one more is entered
+held_at-append : {K : Type 0} (t : ℕ) (es : List (TimedEntry K)) (e : TimedEntry K) → held_at t (es ++ e ∷ []) ≡ held_at t es ++ cond (e.time == t) (e.key ∷ []) []
+held_at-append {K} t es e =
+    ap (map (λ (x : TimedEntry K). x.key)) (filter-append (λ (x : TimedEntry K). x.time == t) es (e ∷ [])) ∙ map-append (λ (x : TimedEntry K). x.key) (filter (λ (x : TimedEntry K). x.time == t) es) (cond (e.time == t) (e ∷ []) [])
+    ∙ ap (λ l. held_at t es ++ l) (by (e.time == t))
+  where
+    by : (b : Bool) → map (λ (x : TimedEntry K). x.key) (cond b (e ∷ []) []) ≡ cond b (e.key ∷ []) []
+    by true = refl
+    by false = refl
 
 -- ---- what a track enters
 
@@ -110,14 +123,14 @@ reason-room same n k life track t what none =
     let by_count : Option Reason = cond (nat_le k (count_at (of_life life track.history) t)) (Some TimeFull) None in
     let by_hand : Option Reason = cond (was_ever_entered same track.history t what) (Some Seen) by_count in
     let by_age : Option Reason = cond (nat_lt (t + n) (observed track.clock t)) (Some TooOld) by_hand in
-    let minimum = none-from (nat_lt t track.minimum) BelowMinimum by_age none in
-    let age = none-from (nat_lt (t + n) (observed track.clock t)) TooOld by_hand minimum.1 in
-    let hand = none-from (was_ever_entered same track.history t what) Seen by_count age.1 in
-    leb-false _ _ (none-from (nat_le k (count_at (of_life life track.history) t)) TimeFull None hand.1).0
+    let minimum = none-if (nat_lt t track.minimum) BelowMinimum by_age none in
+    let age = none-if (nat_lt (t + n) (observed track.clock t)) TooOld by_hand minimum.1 in
+    let hand = none-if (was_ever_entered same track.history t what) Seen by_count age.1 in
+    leb-false _ _ (none-if (nat_le k (count_at (of_life life track.history) t)) TimeFull None hand.1).0
 
 pub event-room : (i : IdealAgent) (t : ℕ) (what : EventBody) → admission i t what ≡ None → count_at (of_life i.life i.events.history) t < i.config.per_time
 event-room i t what new =
-    reason-room same_texts i.config.event_buffer i.config.per_time i.life i.events t what (none-from (nat_lt 9216 (texts_len what)) Oversize (track_reason same_texts i.config.event_buffer i.config.per_time i.life i.events t what) new).1
+    reason-room same_texts i.config.event_buffer i.config.per_time i.life i.events t what (none-if (nat_lt 9216 (texts_len what)) Oversize (track_reason same_texts i.config.event_buffer i.config.per_time i.life i.events t what) new).1
 
 pub query-room : (i : IdealAgent) (t id : ℕ) → query_admission i t id ≡ None → count_at (of_life i.life i.queries.history) t < i.config.per_time
 query-room i t id new = reason-room same_id i.config.query_buffer i.config.per_time i.life i.queries t id new

@@ -28,7 +28,8 @@ use Rattle.serf_model.specs.Queried.{QueryOnlyFired, WasQueried, queried_by, que
 use Rattle.serf_model.specs.Trace.{Turn, entered_by, injected_in, injects_of, packet_given, queried_in, query_brought, query_packets}
 use Rattle.serf_model.proofs.QueryOrigins.{IsAsked, WasAsked, asked-start, asked-step}
 use Rattle.serf_model.proofs.FiredLaws.{all-parts}
-use Rattle.serf_model.proofs.CallsKept.{may-ask, none-if}
+use Rattle.serf_model.proofs.CallsKept.{may-ask}
+use Rattle.serf_model.proofs.PerTimeBound.{none-if}
 use Rattle.serf_model.proofs.Effects.{Effect, asks, counts, effect, hears}
 use Rattle.serf_model.proofs.StepCases.{step-cases}
 use Rattle.serf_model.proofs.TurnLaws.{at_each_nil, at_each_push, flat_map-push}

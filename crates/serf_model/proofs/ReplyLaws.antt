@@ -1,23 +1,22 @@
 -- Which queries an agent answered: each of them is taken out of those that it can answer.
-use Rattle.std.proofs.Common.{zero, suc, ◌≡◌, ◌≢◌, ℕ, ◌⊎◌, inl, inr, true, false, List, [], ◌∷◌, ◌++◌, length, Option, Some, None, refl, sym, ap, subst, ◌∙◌, arith, map, set}
+use Rattle.std.proofs.Common.{zero, suc, ◌≡◌, ◌≢◌, ℕ, inl, inr, true, false, List, [], ◌∷◌, ◌++◌, Option, Some, None, refl, sym, ap, subst, ◌∙◌, arith, map, set}
 use Rattle.std.specs.Prelude.{All, AllPairs, Contains, filter, not, slice_get}
 use Rattle.std.specs.List.{flat_map}
 use Rattle.std.specs.Option.{option_to_list}
 use Rattle.std.proofs.lemmas.List.{append-nil, map-append}
-use Rattle.std.proofs.lemmas.List.Elements.{All-nil, All-push, All-weaker, All-contains, Contains-append_left, Contains-push, filter-append}
+use Rattle.std.proofs.lemmas.List.Elements.{All-nil, All-push, All-weaker, Contains-append_left, Contains-push, filter-append}
 use Rattle.std.proofs.lemmas.List.Quantifiers.{all_pairs_push}
 use Rattle.serf_wire.specs.Message.{QueryResponse}
 use Rattle.serf_window.specs.Window.{TimedEntry}
 use Rattle.serf_agent.specs.Handed.{Handed}
 use Rattle.serf_agent.specs.Queries.{is_ack}
 use Rattle.serf_model.specs.declared.action.Action.{Action}
-use Rattle.serf_model.specs.declared.action.Action.TheVariants as actions
 use Rattle.serf_model.specs.AnswerPromises.{answers_in, query_answered}
 use Rattle.serf_model.specs.Cluster.{Applied, Cluster, IdealNode, applied, apply, with_handed}
 use Rattle.serf_model.specs.Trace.{Turn, entered_by, packet_given}
-use Rattle.serf_model.proofs.Effects.{Effect, asks, closes_due, counts, effect, fires, hears, is_asked, passes_on, reopens, replies, tells}
+use Rattle.serf_model.proofs.Effects.{Effect, counts, effect, hears, replies}
 use Rattle.serf_model.proofs.HandedLaws.{IsWithin, fresh-last, hands-apply}
-use Rattle.serf_model.proofs.HandedQueries.{left-at, pushed-at, stood}
+use Rattle.serf_model.proofs.HandedQueries.{pushed-at, stood}
 use Rattle.serf_model.proofs.OpenQueryContents.{queries_in}
 use Rattle.serf_model.proofs.SendLaws.{Makes, makes_ack, makes_none, makes_reply}
 use Rattle.serf_model.proofs.TurnLaws.{flat_map-push}

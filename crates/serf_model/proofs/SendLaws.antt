@@ -33,7 +33,8 @@ use Rattle.serf_model.specs.Ready.{IsRepresentable}
 use Rattle.serf_model.specs.Sizes.{HasSizes}
 use Rattle.serf_model.specs.Trace.{packet_given}
 use Rattle.serf_model.proofs.Effects.{Effect, asks, effect, fires, hears, is_asked, passes_on, replies, tells}
-use Rattle.serf_model.proofs.CallsKept.{may-ask, none-if}
+use Rattle.serf_model.proofs.CallsKept.{may-ask}
+use Rattle.serf_model.proofs.PerTimeBound.{none-if}
 
 -- ---- what packets of each kind bring
 

@@ -1,7 +1,7 @@
 -- For each promise a small list of turns that breaks it, and the proof that the promise refuses this list. A definition
 -- that is changed so that it promises nothing doesn't pass here.
-use Rattle.std.proofs.Common.{◌≡◌, ◌≢◌, ℕ, ◌<◌, ◌≤◌, ◌⊎◌, inl, inr, Bool, true, false, List, [], ◌∷◌, ◌++◌, Option, Some, None, Ok, refl, sym, ap, subst, ◌∙◌, arith, cond, map}
-use Rattle.std.specs.Prelude.{ℤ, pos, All, AllPairs, Contains, Result, filter, not, slice_get}
+use Rattle.std.proofs.Common.{◌≡◌, ◌≢◌, ℕ, ◌<◌, ◌≤◌, ◌+◌, inl, inr, Bool, true, false, List, [], ◌∷◌, ◌++◌, Option, Some, None, Ok, refl, sym, ap, subst, ◌∙◌, arith, cond, length, map}
+use Rattle.std.specs.Prelude.{pos, All, AllPairs, Contains, Result, filter, not, slice_get}
 use Rattle.std.specs.List.{slice_index_or}
 use Rattle.std.specs.Option.{option_to_list}
 use Rattle.serf_wire.specs.declared.fault.WireFault.{WireFault}
@@ -20,8 +20,7 @@ use Rattle.serf_model.specs.declared.line.Answer.{Answer}
 use Rattle.serf_model.specs.declared.line.Answer.TheVariants as answers
 use Rattle.serf_model.specs.declared.line.EventLine.{EventLine}
 use Rattle.serf_model.specs.declared.line.HandedLine.{HandedLine}
-use Rattle.serf_model.specs.declared.line.Line.{Line}
-use Rattle.serf_model.specs.AnswerPromises.{AckedOnce, AnswersMade, CountedInTime, CountedOnce, CountedSent, HoldsCounted, IsAwaited, IsMade, OpenQueriesHold, RepliedOnce, acked, answer_brought, injected, life_of, query_answered, replied, reply_deadline}
+use Rattle.serf_model.specs.AnswerPromises.{AckedOnce, AnswersMade, CountedInTime, CountedOnce, CountedSent, HoldsCounted, HoldsSent, IsAwaited, IsMade, IsSentTo, OpenQueriesHold, OpenQueriesSent, RepliedOnce, acked, answer_brought, injected, life_of, query_answered, replied, reply_deadline}
 use Rattle.serf_model.specs.Bounds.{EventsBounded, QueriesBounded}
 use Rattle.serf_model.specs.Cluster.{IdealNode}
 use Rattle.serf_model.specs.HandOuts.{HandsOutEntered, HandsOutGiven, MessagesFired, NewIsHanded, OnlyToActor, messages_fired, query_message}
@@ -257,7 +256,15 @@ late-refuses configs params packet r timeout reads empty h =
 -- an agent that takes one event of one time is handed two
 events-refuses : (c : Config) → c.per_time ≡ 1 → EventsBounded (c ∷ []) (turn (actions.Close 0 0) (answers.Closed 0) (handed_event 0 1 ∷ handed_event 0 1 ∷ []) None ∷ []) → ⊥
 events-refuses c one h =
-    let most : 2 ≤ c.per_time = (h [] (turn (actions.Close 0 0) (answers.Closed 0) (handed_event 0 1 ∷ handed_event 0 1 ∷ []) None) [] refl 0 c refl).of_one_time 1 in
+    let most : 2 ≤ c.per_time = (h [] (turn (actions.Close 0 0) (answers.Closed 0) (handed_event 0 1 ∷ handed_event 0 1 ∷ []) None) [] refl 0 c refl).bounded.of_one_time 1 in
+    absurd (omega arith)
+
+-- an agent is handed an event of more than 9,216 bytes
+long-refuses : (c : Config) (name : List ℕ) → length name ≡ 9217 → EventsBounded (c ∷ []) (turn (actions.Close 0 0) (answers.Closed 0) (record { agent = 0; time = 1; name = name; payload = []; coalesce = false } ∷ []) None ∷ []) → ⊥
+long-refuses c name long h =
+    let line : EventLine = record { agent = 0; time = 1; name = name; payload = []; coalesce = false } in
+    let all = (h [] (turn (actions.Close 0 0) (answers.Closed 0) (line ∷ []) None) [] refl 0 c refl).short in
+    let short : length name + length {A = ℕ} [] ≤ 9216 = all 0 (record { time = 1; key = event_of name [] }) (omega arith) in
     absurd (omega arith)
 
 -- and so with queries
@@ -269,3 +276,10 @@ queries-refuses c params one h =
 -- an open query that was never fired
 open-refuses : (m : IdealNode) (q : ℕ × OpenQuery) → m.agent.asked ≡ q ∷ [] → OpenQueriesHold (record { cluster = record { nodes = m ∷ []; sent = [] }; turns = [] }) → ⊥
 open-refuses m q asked h = let held = subst (λ l. All (HoldsCounted 0 []) l) asked (h 0 m refl) 0 q (omega arith) in in-none _ held.fired
+
+-- an open query that holds a name which no answer was sent with
+sent_to-refuses : (m : IdealNode) (q : ℕ × OpenQuery) (name : List ℕ) → m.agent.asked ≡ q ∷ [] → q.1.acks ≡ name ∷ [] → OpenQueriesSent (record { cluster = record { nodes = m ∷ []; sent = [] }; turns = [] }) → ⊥
+sent_to-refuses m q name asked acks h =
+    let held = subst (λ l. All (HoldsSent []) l) asked (h 0 m refl) 0 q (omega arith) in
+    let found = subst (All (λ name. (r : QueryResponse) × IsSentTo [] q true r × (r.from ≡ name))) acks held.acks 0 name (omega arith) in
+    in-none _ found.1.sent

@@ -134,6 +134,25 @@ pub record HoldsCounted (a : ℕ) (turns : List Turn) (q : ℕ × OpenQuery) : T
 abbrev pub OpenQueriesHold : Run → Type 0
 OpenQueriesHold r = (a : ℕ) (m : IdealNode) → slice_get r.cluster.nodes a ≡ Some m → All (HoldsCounted a r.turns) m.agent.asked
 
+-- An answer of a kind was sent, as a packet spells it, and it has an open query's time and ID.
+pub record IsSentTo (turns : List Turn) (q : ℕ × OpenQuery) (ack : Bool) (r : QueryResponse) : Type 0 where
+  pub packet : List ℕ
+  pub sent : Contains (sent_in turns) packet
+  pub says : decoded packet ≡ Ok (query_response r)
+  pub kind : is_ack r ≡ ack
+  pub time : r.time ≡ q.0
+  pub id : r.id ≡ q.1.id
+
+-- Each name that an open query holds, of an ack or of a response with its payload, stands in an answer that was sent, of
+-- its time, its ID and this kind.
+pub record HoldsSent (turns : List Turn) (q : ℕ × OpenQuery) : Type 0 where
+  pub acks : All (λ name. (r : QueryResponse) × IsSentTo turns q true r × (r.from ≡ name)) q.1.acks
+  pub responses : All (λ held. (r : QueryResponse) × IsSentTo turns q false r × (response_held r ≡ held)) q.1.responses
+
+-- After a run it is so with each open query of each agent.
+abbrev pub OpenQueriesSent : Run → Type 0
+OpenQueriesSent r = (a : ℕ) (m : IdealNode) → slice_get r.cluster.nodes a ≡ Some m → All (HoldsSent r.turns) m.agent.asked
+
 -- Where an answer comes from
 
 -- the agent of this number has the name that the answer is from

@@ -1,5 +1,5 @@
 -- How much each agent holds of what enters, whatever it is sent: said of a run's turns, as every promise is.
-use Rattle.std.specs.Prelude.{◌≡◌, ◌≤◌, ◌*◌, ℕ, ◌&&◌, Bool, true, false, if◌then◌else◌, List, [], ◌∷◌, ◌++◌, Some, slice_get}
+use Rattle.std.specs.Prelude.{◌≡◌, ◌≤◌, ◌+◌, ◌*◌, ℕ, ◌&&◌, Bool, true, false, if◌then◌else◌, List, [], ◌∷◌, ◌++◌, length, Some, All, slice_get}
 use Rattle.std.specs.List.{fold}
 use Rattle.serf_wire.specs.declared.texts.EventBody.{EventBody}
 use Rattle.serf_window.specs.Window.{TimedEntry, count_at, held_count, slots_of}
@@ -45,11 +45,20 @@ pub record IsBounded {K : Type 0} (n k : ℕ) (entered : List (TimedEntry K)) : 
   pub of_one_time : AtMostOfOneTime k entered
   pub in_window : held_count (slots_of n entered) ≤ n * k
 
+-- the most bytes that the name and the payload of an event have together
+abbrev pub longest_texts : ℕ
+longest_texts = 9216
+
+-- and its events are short
+pub record AreEventsBounded (n k : ℕ) (entered : List (TimedEntry EventBody)) : Type 0 where
+  pub bounded : IsBounded n k entered
+  pub short : All (λ e. length e.key.name + length e.key.payload ≤ longest_texts) entered
+
 -- After each turn the events of each agent's present life are bounded by its settings: by the number of its event
--- window's slots, and by the number of entries of one time that it takes.
+-- window's slots, and by the number of entries of one time that it takes. Each has at most 9,216 bytes of texts.
 abbrev pub EventsBounded : List Config → List Turn → Type 0
 EventsBounded configs turns =
-    AtEach (λ before turn. (a : ℕ) (c : Config) → slice_get configs a ≡ Some c → IsBounded c.event_buffer c.per_time (events_of_life a (before ++ turn ∷ []))) turns
+    AtEach (λ before turn. (a : ℕ) (c : Config) → slice_get configs a ≡ Some c → AreEventsBounded c.event_buffer c.per_time (events_of_life a (before ++ turn ∷ []))) turns
 
 -- And so are the queries, each a time and an ID, by its query window's.
 abbrev pub QueriesBounded : List Config → List Turn → Type 0

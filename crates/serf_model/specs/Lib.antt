@@ -9,3 +9,5 @@ pub mod AnswerPromises
 pub mod Bounds
 pub mod HandOuts
 pub mod Alone
+pub mod Kept
+pub mod Merging

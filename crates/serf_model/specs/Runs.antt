@@ -1,5 +1,5 @@
 -- What a run answers.
-use Rattle.std.specs.Prelude.{◌≡◌, ◌≤◌, ◌⊎◌, ℕ, ◌++◌, Bool, if◌then◌else◌, not, List, [], ◌∷◌, length, take, position, Option, Some, None, Result, Ok, Err}
+use Rattle.std.specs.Prelude.{◌≡◌, ◌<◌, ◌⊎◌, ℕ, ◌++◌, Bool, if◌then◌else◌, not, List, [], ◌∷◌, length, take, position, Option, Some, None, Result, Ok, Err}
 use Rattle.std.specs.List.{list_any}
 use Rattle.std.specs.Str.{bytes_eq}
 use Rattle.serf_agent.specs.declared.config.Config.{Config}
@@ -11,7 +11,8 @@ use Rattle.serf_model.specs.declared.fault.RunFault.{RunFault}
 use Rattle.serf_model.specs.declared.fault.RunFault.TheVariants as runs
 use Rattle.serf_model.specs.declared.trace.Trace.{Trace}
 use Rattle.serf_model.specs.Cluster.{run_of, trace_of}
-use Rattle.serf_model.specs.Trace.{Turn, outcome_of, turns_of}
+use Rattle.serf_model.specs.Kept.{KeepsPromises}
+use Rattle.serf_model.specs.Trace.{Outcome, outcome_of, turns_of}
 
 -- whether one of these agents has this name
 abbrev pub has_name : List Config → List ℕ → Bool
@@ -41,16 +42,24 @@ IsNewFault configs (news.BadConfig n) = (first_twice configs ≡ None) × (first
 IsNewFault configs news.OutOfMemory = Unit {0}
 
 -- The trace is the run's. A refusal names the first agent of its kind; where memory ran out, the trace is that of the
--- actions done before.
+-- actions done before: of none, or of some but not of all.
 abbrev pub IsRun : List Config → List Action → Result Trace RunFault → Type 0
 IsRun configs actions (Ok trace) = AreConfigs configs × (outcome_of trace ≡ trace_of (run_of configs actions))
 IsRun configs actions (Err (runs.NameTwice n)) = first_twice configs ≡ Some n
 IsRun configs actions (Err (runs.BadConfig n)) = (first_twice configs ≡ None) × (first_bad configs ≡ Some n)
 IsRun configs actions (Err (runs.OutOfMemory trace)) =
-    (n : ℕ) × (n ≤ length actions) × ((n ≡ 0) ⊎ AreConfigs configs) × (outcome_of trace ≡ trace_of (run_of configs (take n actions)))
+    (n : ℕ) × ((n ≡ 0) ⊎ (n < length actions)) × ((n ≡ 0) ⊎ AreConfigs configs) × (outcome_of trace ≡ trace_of (run_of configs (take n actions)))
 
--- what holds of the turns of a run, as its actions and its trace show them
-abbrev pub OfTurns : (List Turn → Type 0) → List Action → Result Trace RunFault → Type 0
-OfTurns P actions (Ok trace) = P (turns_of actions (outcome_of trace))
-OfTurns P actions (Err (runs.OutOfMemory trace)) = P (turns_of actions (outcome_of trace))
-OfTurns P actions (Err _) = Unit {0}
+-- A trace is that of the first of these actions, the turns that the actions and the trace show are the turns of their
+-- run, and this run keeps all promises.
+pub record ShowsRun (configs : List Config) (actions : List Action) (trace : Outcome) : Type 0 where
+  pub count : ℕ
+  pub trace_is : trace ≡ trace_of (run_of configs (take count actions))
+  pub turns : turns_of actions trace ≡ (run_of configs (take count actions)).turns
+  pub keeps : KeepsPromises configs (run_of configs (take count actions))
+
+-- so it is with each trace that is handed back
+abbrev pub ShowsKept : List Config → List Action → Result Trace RunFault → Type 0
+ShowsKept configs actions (Ok trace) = ShowsRun configs actions (outcome_of trace)
+ShowsKept configs actions (Err (runs.OutOfMemory trace)) = ShowsRun configs actions (outcome_of trace)
+ShowsKept configs actions (Err _) = Unit {0}

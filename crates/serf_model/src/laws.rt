@@ -1,14 +1,20 @@
 //! What holds of every run of the model, as clauses of functions that do nothing.
 
-ghost use Rattle.std.specs.Prelude.{◌≡◌, ◌++◌, ℕ, List, Some, All, slice_get};
+ghost use Rattle.std.specs.Prelude.{◌≡◌, ◌++◌, ℕ, Bool, true, List, [], Option, Some, All, slice_get};
+ghost use Rattle.serf_snap.specs.Device.{fresh_device};
+ghost use Rattle.serf_snap.specs.Notes.{opened};
+ghost use Rattle.serf_agent.specs.Config.{is_sound};
 ghost use Rattle.serf_agent.specs.declared.config.Config.{Config};
-ghost use Rattle.serf_agent.specs.Restart.{IsInText};
+ghost use Rattle.serf_agent.specs.Restart.{IsInText, unopened};
+ghost use Rattle.serf_agent.specs.Sound.{IsSound};
 ghost use Rattle.serf_model.specs.declared.action.Action.{Action};
 ghost use Rattle.serf_model.specs.Alone.{IsAlone};
 ghost use Rattle.serf_model.specs.AnswerPromises.{AckedOnce, AnswersMade, CountedInTime, CountedOnce, CountedSent, OpenQueriesHold, RepliedOnce};
 ghost use Rattle.serf_model.specs.Bounds.{EventsBounded, QueriesBounded};
-ghost use Rattle.serf_model.specs.Cluster.{IdealNode, apply, run_of, start, text_after, trace_of};
+ghost use Rattle.serf_model.specs.Cluster.{IdealNode, apply, delivers, merges_given, run_of, start, text_after, trace_of};
 ghost use Rattle.serf_model.specs.HandOuts.{HandsOutEntered, HandsOutGiven, MessagesFired, NewIsHanded, OnlyToActor};
+ghost use Rattle.serf_model.specs.Kept.{KeepsPromises};
+ghost use Rattle.serf_model.specs.Merging.{MergesRepresentable};
 ghost use Rattle.serf_model.specs.Promises.{Held, Later, Once, OnlyFired, QueryFired, QueryHandedOnce, QueryLater, QueryOnce};
 ghost use Rattle.serf_model.specs.Queried.{QueryOnlyFired};
 ghost use Rattle.serf_model.specs.Ready.{AreRepresentable, IsRepresentable};
@@ -16,10 +22,18 @@ ghost use Rattle.serf_model.specs.Runs.{AreConfigs};
 ghost use Rattle.serf_model.specs.Sizes.{HasSizes};
 ghost use Rattle.serf_model.specs.Trace.{turns_by, turns_of};
 
+use serf_window::slot_laws;
+
 /// Every run keeps every promise, whatever its settings and its actions are. Does nothing.
 ///
-/// Five promises on queries and answers rest on what the types say of an action's numbers (`HasSizes`).
+/// `promises` says them all at once, of agents that can make a cluster and of actions whose numbers have their types'
+/// sizes (`HasSizes`). The other clauses say each promise by itself, of what it rests on.
 pub fn run_promises()
+    ensures promises { (configs : List Config) (actions : List Action) → AreConfigs configs → All HasSizes actions
+        → KeepsPromises configs (run_of configs actions) }
+    // A run of no action keeps them whatever the settings are.
+    ensures start { (configs : List Config) → KeepsPromises configs (start configs) }
+
     // What the turns of every run keep.
     ensures once { (configs : List Config) (actions : List Action) → AreConfigs configs → Once (run_of configs actions).turns }
     ensures fired { (configs : List Config) (actions : List Action) → AreConfigs configs → OnlyFired (run_of configs actions).turns }
@@ -52,7 +66,9 @@ pub fn run_promises()
 
     // After it the agents' open queries hold what was counted.
     ensures open_queries { (configs : List Config) (actions : List Action) → AreConfigs configs → OpenQueriesHold (run_of configs actions) }
-{}
+{
+    slot_laws();
+}
 
 /// The turns of a run are what its actions and its trace show, whatever actions come behind. Does nothing.
 pub fn turns_shown()
@@ -65,10 +81,24 @@ pub fn agents_alone()
     ensures { (configs : List Config) (actions : List Action) (a : ℕ) (config : Config) (m : IdealNode) → slice_get configs a ≡ Some config → slice_get (run_of configs actions).cluster.nodes a ≡ Some m → IsAlone config a (turns_by a (run_of configs actions).turns) m }
 {}
 
-/// The agents of a cluster that has done nothing are representable, and an action leaves its agent representable. What
-/// a representable agent's sink keeps has the times of all that entered, whatever tail comes behind. Does nothing.
+/// The agents of a cluster that has done nothing are representable, and an action leaves its agent representable. An
+/// agent before its first life is sound. What a representable agent's sink keeps has the times of all that entered,
+/// whatever tail comes behind. Does nothing.
 pub fn representable_agents()
     ensures start { (configs : List Config) → AreConfigs configs → AreRepresentable (start configs).cluster }
     ensures apply { (m : IdealNode) (sent : List (List ℕ)) (action : Action) → IsRepresentable m.agent → IsRepresentable (apply m sent action).node.agent }
+    ensures unopened { (config : Config) → is_sound config ≡ true → IsSound (unopened config (opened [] (fresh_device []))) }
     ensures text { (m : IdealNode) (tail : List ℕ) → IsRepresentable m.agent → IsInText m.agent (text_after m.agent tail) }
+{}
+
+/// A merge leaves its agent representable, at each event. Does nothing.
+pub fn merged_agents()
+    ensures { MergesRepresentable }
+{}
+
+/// A delivery and a merge leave the queries that were handed to their agent. Does nothing.
+pub fn handed_queries()
+    ensures delivers { (m : IdealNode) (now : ℕ) (given : Option (List ℕ)) → (delivers m now given).node.handed ≡ m.handed }
+    ensures merges { (m : IdealNode) (join : Bool) (given : Option (List ℕ))
+        → (merges_given m join given).node.handed ≡ m.handed }
 {}

@@ -1,8 +1,11 @@
 //! Events that were handed to one agent twice.
 
-ghost use Rattle.std.specs.Prelude.{◌≡◌, ◌↔◌, ◌<◌, IsTrue, MatchOption, Some, length};
+ghost use Rattle.std.specs.Prelude.{◌≡◌, ◌↔◌, ◌<◌, IsTrue, List, MatchOption, None, Some, length, map};
+ghost use Rattle.serf_model.specs.Promises.{Once};
+ghost use Rattle.serf_model.specs.Trace.{Turn};
 ghost use Rattle.serf_repeats.specs.Repeats.{AreEqual, HasNoRepeat, HasNoRepeatAt, HasNoRepeatIn, IsFirstEqual, IsFirstRepeat, IsFirstRepeatAt, IsFirstRepeatIn, IsNoneEqual, event_line_at};
 
+use crate::laws::once_has_no_repeat;
 use crate::place::{Place, Repeat};
 use serf_model::{EventLine, Line, Trace};
 
@@ -57,9 +60,13 @@ fn first_repeat_in(lines: &[Line], line: usize) -> Option<Repeat>
 
 /// The first event line of a trace that repeats an earlier one, and the first that it repeats; `None` where no agent was
 /// handed an event twice. Takes no memory.
+///
+/// So it is `None` exactly where the turns that the trace shows keep the promise `Once`.
 pub fn first_repeat(trace: &Trace) -> Option<Repeat>
-    ensures { MatchOption result (HasNoRepeat trace.now.lines) (IsFirstRepeat trace.now.lines) }
+    ensures first { MatchOption result (HasNoRepeat trace.now.lines) (IsFirstRepeat trace.now.lines) }
+    ensures once { (turns : List Turn) → map (λ t. t.line) turns ≡ trace.now.lines → (result ≡ None) ↔ Once turns }
 {
+    once_has_no_repeat();
     let lines = trace.lines.as_slice();
     for line in 0..lines.len() {
         if let Some(repeat) = first_repeat_in(lines, line) {

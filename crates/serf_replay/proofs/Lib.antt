@@ -3,3 +3,4 @@ pub mod NumberLemmas
 pub mod ShownLaws
 pub mod SlotLemmas
 pub mod WordLemmas
+pub mod SizedLaws

@@ -1,11 +1,15 @@
 -- What is written for the bytes that are read.
-use Rattle.std.specs.Prelude.{◌≡◌, ℕ, List, Result, Ok, Err}
+use Rattle.std.specs.Prelude.{◌≡◌, ℕ, List, Result, Ok, Err, All}
 use Rattle.std.specs.declared.vec.Vec.{Vec}
 use Rattle.serf_replay.specs.declared.parse.ScheduleFault.{ScheduleFault}
 use Rattle.serf_replay.specs.declared.parse.ScheduleFault.TheVariants as faults
 use Rattle.serf_replay.specs.Line.{Parsed}
 use Rattle.serf_replay.specs.Schedule.{BadLine, schedule_of}
 use Rattle.serf_world.specs.Cluster.{run_of, trace_of}
+use Rattle.serf_world.specs.Kept.{KeepsPromises}
+use Rattle.serf_world.specs.Runs.{AreConfigs}
+use Rattle.serf_world.specs.Sizes.{HasSizes}
+use Rattle.serf_world.specs.Trace.{turns_of}
 use Rattle.serf_replay.specs.Show.{trace_text}
 
 abbrev pub text_of : Result Parsed BadLine → Result (List ℕ) BadLine
@@ -15,6 +19,17 @@ text_of (Err bad) = Err bad
 -- the text of the trace of the schedule that a text stands for, or its first bad line
 abbrev pub output_of : List ℕ → Result (List ℕ) BadLine
 output_of text = text_of (schedule_of text)
+
+-- The input is a schedule, of agents that can make a cluster; the text is that of the trace of its run, whose turns are
+-- those that the schedule's actions and this trace show; and the run keeps all promises.
+pub record TracesRun (input text : List ℕ) : Type 0 where
+  pub schedule : Parsed
+  pub reads : schedule_of input ≡ Ok schedule
+  pub settings : AreConfigs schedule.configs
+  pub sizes : All HasSizes schedule.actions
+  pub text_is : text ≡ trace_text (trace_of (run_of schedule.configs schedule.actions))
+  pub turns : turns_of schedule.actions (trace_of (run_of schedule.configs schedule.actions)) ≡ (run_of schedule.configs schedule.actions).turns
+  pub promises : KeepsPromises schedule.configs (run_of schedule.configs schedule.actions)
 
 -- the text is as said, unless memory runs out
 abbrev pub GivesText : {A : Type 0} → Result (Vec ℕ A) ScheduleFault → Result (List ℕ) BadLine → Type 0

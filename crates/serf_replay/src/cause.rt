@@ -40,8 +40,10 @@ impl fmt::Display for Cause {
 
 /// Why a line is not read.
 #[derive(Clone, Copy, Debug, PartialEq, Eq)]
-pub(crate) enum LineFault {
+pub enum LineFault {
+    /// It is not sound, for this cause.
     Bad(Cause),
+    /// There was no memory for what it says.
     OutOfMemory,
 }
 

@@ -5,7 +5,7 @@ ghost use Rattle.std.specs.Io.KnownBytes.{Appends, Consumes};
 ghost use Rattle.serf_world.specs.Cluster.{Run, after, run_of, trace_of};
 ghost use Rattle.serf_replay.specs.Show.{trace_text};
 ghost use Rattle.serf_replay.specs.Io.{AppendsFront};
-ghost use Rattle.serf_replay.specs.Output.{output_of, GivesText};
+ghost use Rattle.serf_replay.specs.Output.{output_of, GivesText, TracesRun};
 ghost use Rattle.serf_replay.specs.Running.{IsShown};
 
 use crate::cause::Cause;
@@ -15,6 +15,7 @@ use crate::parse::{ScheduleFault, parse_schedule};
 use crate::schedule::Schedule;
 use crate::show::put_action;
 use crate::watch::Watch;
+use serf_model::{run_promises, turns_shown};
 use serf_world::{Action, World};
 use std::alloc::{AllocError, Global};
 use std::io::{Read, Write};
@@ -85,8 +86,11 @@ fn output_text<T: Watch>(
     input: Vec<u8>,
     watch: &mut T,
 ) -> Result<Vec<u8>, ScheduleFault>
-    ensures { GivesText result (output_of input.items) }
+    ensures text { GivesText result (output_of input.items) }
+    ensures run { IfOk result (λ text. TracesRun input.items text.items) }
 {
+    run_promises();
+    turns_shown();
     let schedule = parse_schedule(alloc, &input)?;
     drop(input);
     match run_text(alloc, schedule, watch) {
@@ -98,7 +102,7 @@ fn output_text<T: Watch>(
 /// Reads a schedule to its end, and writes the trace of its cluster.
 ///
 /// At most 16,777,217 bytes are read, and nothing is written before all is read, parsed and run. On `Ok` just the
-/// trace's text was written. The watch is told of each action of the run that is done ([`crate::Unwatched`] does nothing
+/// trace's text was written, and the run that it shows keeps all promises ([`serf_model::run_promises`]). The watch is told of each action of the run that is done ([`crate::Unwatched`] does nothing
 /// with it).
 pub fn replay<R: Read, W: Write, T: Watch>(
     alloc: Global,
@@ -106,10 +110,10 @@ pub fn replay<R: Read, W: Write, T: Watch>(
     writer: &mut W,
     watch: &mut T,
 ) -> Result<(), ReplayFault>
-    // Just the text of the input's trace was written.
+    // Just the text of the input's trace was written: it is that of a run which keeps all promises.
     ensures done { OnOk result (IfSome (R.remaining reader.old) (λ input. (text : List ℕ)
         × (output_of input ≡ Ok text) × (length input ≤ MAX_SCHEDULE_BYTES)
-        × Appends (W.contents writer.old) (W.contents writer.new) text)) }
+        × TracesRun input text × Appends (W.contents writer.old) (W.contents writer.new) text)) }
     ensures too_long { IsErrOf result ReplayFault.ReadTooLong
         → IfSome (R.remaining reader.old) (λ input. MAX_SCHEDULE_BYTES < length input) }
     ensures bad_line { (line : ℕ) (cause : Cause) → IsErrOf result (ReplayFault.BadLine line cause)
@@ -119,7 +123,7 @@ pub fn replay<R: Read, W: Write, T: Watch>(
     ensures front { IsErrOf result ReplayFault.WriteFault
         → IfSome (R.remaining reader.old) (λ input. (text : List ℕ)
         × (output_of input ≡ Ok text) × (length input ≤ MAX_SCHEDULE_BYTES)
-        × AppendsFront (W.contents writer.old) (W.contents writer.new) text) }
+        × TracesRun input text × AppendsFront (W.contents writer.old) (W.contents writer.new) text) }
     ensures nothing { IfErr result (λ fault. (fault ≡ ReplayFault.WriteFault → ⊥) → writer.new ≡ writer.old) }
     // At most one byte more than the greatest length is read.
     ensures bounded { (bytes : List ℕ) × Consumes (R.remaining reader.old) (R.remaining reader.new) bytes

@@ -122,8 +122,10 @@ fn put_status_lines(out: &mut Vec<u8>, status: StatusTimes) -> Result<(), AllocE
     Ok(())
 }
 
+/// Appends the lines of a push/pull from its first to its event clock: the member clock, the members' status times, and
+/// those that left. After an `AllocError`, which comes where there is no memory for them, `out` may have a front of them.
 #[tactic(auto, unfolding(crate::specs::MessageText::member_lines))]
-fn put_members(
+pub fn put_members(
     out: &mut Vec<u8>,
     time: u64,
     status: StatusTimes,
@@ -154,8 +156,10 @@ fn put_event_lines(out: &mut Vec<u8>, events: EventViews) -> Result<(), AllocErr
     Ok(())
 }
 
+/// Appends a slot of a push/pull: this number of it, and then `nil`, or its time and, on lines of their own, its events.
+/// After an `AllocError`, which comes where there is no memory for them, `out` may have a front of them.
 #[tactic(auto, unfolding(crate::specs::MessageText::slot_lines))]
-fn put_slot(out: &mut Vec<u8>, number: u64, slot: &SlotView) -> Result<(), AllocError>
+pub fn put_slot(out: &mut Vec<u8>, number: u64, slot: &SlotView) -> Result<(), AllocError>
     ensures { OnOk result (out.new.items ≡ out.old.items ++ slot_lines number (slot_of slot.now)) }
 {
     match slot {
@@ -261,7 +265,9 @@ fn put_push_pull_head(
     put_buffer(out, event_clock, slots)
 }
 
-fn put_message(out: &mut Vec<u8>, message: &Message) -> Result<(), AllocError>
+/// Appends the lines of a message. After an `AllocError`, which comes where there is no memory for them, `out` may have
+/// a front of them.
+pub fn put_message(out: &mut Vec<u8>, message: &Message) -> Result<(), AllocError>
     ensures { OnOk result (out.new.items ≡ out.old.items ++ message_text (message_of message.now)) }
 {
     match message {

@@ -1,7 +1,8 @@
 //! A whole schedule.
 
-ghost use Rattle.std.specs.Prelude.{◌≡◌, ◌<◌, ◌≤◌, ◌==◌, slice_index, length, map, IfOk, Ok, Err};
+ghost use Rattle.std.specs.Prelude.{◌≡◌, ◌<◌, ◌≤◌, ◌==◌, slice_index, length, map, All, IfOk, Ok, Err};
 ghost use Rattle.serf_world.specs.Runs.{AreConfigs};
+ghost use Rattle.serf_world.specs.Sizes.{HasSizes};
 ghost use Rattle.serf_replay.specs.Command.{command_of};
 ghost use Rattle.serf_replay.specs.Words.{words_of, word_at};
 ghost use Rattle.serf_replay.specs.Line.{action_line, query_said, after_line, with_action};
@@ -151,6 +152,8 @@ pub fn parse_schedule(alloc: Global, text: &[u8]) -> Result<Schedule, ScheduleFa
     ensures exact { Reads result (schedule_of text.now) }
     // The agents can make a cluster.
     ensures agents { IfOk result (λ schedule. AreConfigs schedule.agents) }
+    // The numbers of the actions have their types' sizes.
+    ensures sizes { IfOk result (λ schedule. All HasSizes schedule.actions.items) }
 {
     let mut parsed = Schedule {
         agents: Roster::new(alloc),

@@ -6,16 +6,16 @@ ghost use Rattle.serf_replay.specs.TextParts.{flag_line, flag_text, hex_line, he
 use itoa::Buffer;
 use std::alloc::AllocError;
 
-/// Appends a number in decimal.
-pub(crate) fn put_number(out: &mut Vec<u8>, n: u64) -> Result<(), AllocError>
+/// Appends a number in decimal, or is an `AllocError` where there is no memory for it.
+pub fn put_number(out: &mut Vec<u8>, n: u64) -> Result<(), AllocError>
     ensures { OnOk result (out.new.items ≡ out.old.items ++ decimal n) }
 {
     let mut buffer = Buffer::new();
     out.extend_from_slice(buffer.format(n).as_bytes())
 }
 
-/// Appends a signed number in decimal.
-pub(crate) fn put_signed(out: &mut Vec<u8>, n: i64) -> Result<(), AllocError>
+/// Appends a signed number in decimal, or is an `AllocError` where there is no memory for it.
+pub fn put_signed(out: &mut Vec<u8>, n: i64) -> Result<(), AllocError>
     ensures { OnOk result (out.new.items ≡ out.old.items ++ signed_decimal n) }
 {
     let mut buffer = Buffer::new();
@@ -31,9 +31,10 @@ fn grow(out: &mut Vec<u8>, bytes: usize) -> Result<(), AllocError>
     out.resize(len.saturating_add(bytes.saturating_mul(2)), 0)
 }
 
-/// Appends bytes in lower case hex, or a dash for none.
+/// Appends bytes in lower case hex, or a dash for none. An `AllocError` comes only where there is no memory for
+/// the text.
 #[tactic(auto, unfolding(crate::specs::TextParts::hex_text))]
-pub(crate) fn put_hex(out: &mut Vec<u8>, bytes: &[u8]) -> Result<(), AllocError>
+pub fn put_hex(out: &mut Vec<u8>, bytes: &[u8]) -> Result<(), AllocError>
     ensures { OnOk result (out.new.items ≡ out.old.items ++ hex_text bytes.now) }
 {
     if bytes.is_empty() {
@@ -47,16 +48,17 @@ pub(crate) fn put_hex(out: &mut Vec<u8>, bytes: &[u8]) -> Result<(), AllocError>
     }
 }
 
-/// `1` for true and `0` for false.
-pub(crate) fn flag(flag: bool) -> &'static [u8]
+/// `1` for true and `0` for false. Takes no memory.
+pub fn flag(flag: bool) -> &'static [u8]
     ensures { result.now ≡ flag_text flag }
 {
     if flag { b"1" } else { b"0" }
 }
 
-/// Appends a text, a space and a number.
+/// Appends a text, a space and a number in decimal. After an `AllocError`, which comes where there is no memory for
+/// them, `out` may have a front of them.
 #[tactic(auto, unfolding(crate::specs::TextParts::with_number))]
-pub(crate) fn put_with_number(out: &mut Vec<u8>, text: &[u8], n: u64) -> Result<(), AllocError>
+pub fn put_with_number(out: &mut Vec<u8>, text: &[u8], n: u64) -> Result<(), AllocError>
     ensures { OnOk result (out.new.items ≡ out.old.items ++ with_number text.now n) }
 {
     out.extend_from_slice(text)?;
@@ -79,9 +81,10 @@ pub(crate) fn put_with_numbers(
     put_number(out, n)
 }
 
-/// Appends a text, a space and bytes.
+/// Appends a text, a space and bytes in hex. After an `AllocError`, which comes where there is no memory for them,
+/// `out` may have a front of them.
 #[tactic(auto, unfolding(crate::specs::TextParts::with_hex))]
-pub(crate) fn put_with_hex(out: &mut Vec<u8>, text: &[u8], bytes: &[u8]) -> Result<(), AllocError>
+pub fn put_with_hex(out: &mut Vec<u8>, text: &[u8], bytes: &[u8]) -> Result<(), AllocError>
     ensures { OnOk result (out.new.items ≡ out.old.items ++ with_hex text.now bytes.now) }
 {
     out.extend_from_slice(text)?;
@@ -89,9 +92,10 @@ pub(crate) fn put_with_hex(out: &mut Vec<u8>, text: &[u8], bytes: &[u8]) -> Resu
     put_hex(out, bytes)
 }
 
-/// Appends a line of a name and a number.
+/// Appends a line of a name and a number. After an `AllocError`, which comes where there is no memory for it, `out` may
+/// have a front of it.
 #[tactic(auto, unfolding(crate::specs::TextParts::number_line))]
-pub(crate) fn put_number_line(out: &mut Vec<u8>, name: &[u8], n: u64) -> Result<(), AllocError>
+pub fn put_number_line(out: &mut Vec<u8>, name: &[u8], n: u64) -> Result<(), AllocError>
     ensures { OnOk result (out.new.items ≡ out.old.items ++ number_line name.now n) }
 {
     put_with_number(out, name, n)?;

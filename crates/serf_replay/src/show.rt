@@ -69,7 +69,9 @@ fn put_restarted(
     put_number(out, query_clock)
 }
 
-fn put_answer(out: &mut Vec<u8>, answer: Answer) -> Result<(), AllocError>
+/// Appends the words of an answer. After an `AllocError`, which comes where there is no memory for them, `out` may
+/// have a front of them.
+pub fn put_answer(out: &mut Vec<u8>, answer: Answer) -> Result<(), AllocError>
     ensures { OnOk result (out.new.items ≡ out.old.items ++ answer_text answer) }
 {
     match answer {

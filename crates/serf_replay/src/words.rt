@@ -1,6 +1,6 @@
 //! The words of a line, and what they stand for.
 
-ghost use Rattle.std.specs.Prelude.{◌≡◌, ◌<◌, ◌≤◌, ◌+◌, ◌++◌, ◌==◌, ◌∷◌, [], length, map, position, false, All, MatchOption, IfNone, IfOk, OnOk, Ok, Err};
+ghost use Rattle.std.specs.Prelude.{◌≡◌, ◌<◌, ◌≤◌, ◌+◌, ◌++◌, ◌==◌, ◌∷◌, [], length, map, position, false, All, MatchOption, IfNone, IfOk, OnOk};
 ghost use Rattle.std.specs.List.{slice_split};
 ghost use Rattle.serf_replay.specs.Words.{words_of, number_of, between, bytes_of, word_at, choice_of, sink_call_of, number_in, number_between, bytes_in, choice_in, sink_call_in};
 ghost use Rattle.serf_replay.specs.Gives.{Gives};
@@ -19,8 +19,8 @@ fn place_of(text: &[u8], separator: u8) -> Option<usize>
     text.iter().position(|b| *b == separator)
 }
 
-/// The text before the first separator, and what follows the separator where there is one.
-pub(crate) fn cut(text: &[u8], separator: u8) -> (&[u8], Option<&[u8]>)
+/// The text before the first separator, and what follows the separator where there is one. Takes no memory.
+pub fn cut(text: &[u8], separator: u8) -> (&[u8], Option<&[u8]>)
     ensures parts { MatchOption result.1
         (slice_split (λ b. b == separator) text.now ≡ result.0.now ∷ [])
         (λ rest. slice_split (λ b. b == separator) text.now ≡ result.0.now ∷ slice_split (λ b. b == separator) rest.now) }
@@ -37,11 +37,10 @@ pub(crate) fn cut(text: &[u8], separator: u8) -> (&[u8], Option<&[u8]>)
 pub(crate) const FIXED_WORDS: usize = 8;
 
 /// Puts the words of a line, in order and at most eight, in place of those that were there. Gives what is left of
-/// the line: the ninth word and all behind it, or nothing.
-pub(crate) fn take_words<'a>(
-    line: &'a [u8],
-    words: &mut Vec<&'a [u8]>,
-) -> Result<&'a [u8], AllocError>
+/// the line: the ninth word and all behind it, or nothing. Words stand between spaces.
+///
+/// Where there is no memory for the words, `words` has some of them.
+pub fn take_words<'a>(line: &'a [u8], words: &mut Vec<&'a [u8]>) -> Result<&'a [u8], AllocError>
     ensures joined { IfOk result (λ rest. map (λ w. w.now) words.new.items ++ words_of rest.now ≡ words_of line.entry.now) }
     ensures few { OnOk result (length words.new.items ≤ FIXED_WORDS) }
     ensures full { IfOk result (λ rest. 0 < length rest.now → (length words.new.items ≡ FIXED_WORDS) × (0 < length (words_of rest.now))) }
@@ -63,8 +62,8 @@ pub(crate) fn take_words<'a>(
     }
 }
 
-/// A number below 2^64 in decimal digits.
-fn number(word: &[u8]) -> Option<u64>
+/// A number below 2^64 in decimal digits; `None` for any other word. Takes no memory.
+pub fn number(word: &[u8]) -> Option<u64>
     ensures { result ≡ number_of word.now }
 {
     if word.is_empty() {
@@ -131,13 +130,25 @@ fn sink_call(word: &[u8]) -> Option<SinkCall>
     }
 }
 
-/// The number at a place of a line, counting from 1.
+/// The word at a place of a line, counting from 1; no bytes where there is no such word. Place 0 is the first too.
+/// Takes no memory.
+pub fn word_at<'a>(words: &[&'a [u8]], place: usize) -> &'a [u8]
+    ensures { result.now ≡ word_at place (map (λ w. w.now) words.now) }
+{
+    match words.get(place.saturating_sub(1)) {
+        Some(word) => word,
+        None => &[],
+    }
+}
+
+/// The number below 2^64 at a place of a line, counting from 1: decimal digits, leading zeros allowed.
+///
+/// A word that is none, or is missing, is a bad word at this place. Takes no memory.
 #[tactic(auto, unfolding(crate::specs::Words::number_in))]
-pub(crate) fn number_at(words: &[&[u8]], place: usize) -> Result<u64, LineFault>
-    requires { (1 ≤ place) × (place ≤ length words.now) }
+pub fn number_at(words: &[&[u8]], place: usize) -> Result<u64, LineFault>
     ensures { Gives (λ n. n) result (number_in place (map (λ w. w.now) words.now)) }
 {
-    match number(words[place - 1]) {
+    match number(word_at(words, place)) {
         Some(found) => Ok(found),
         None => Err(LineFault::Bad(Cause::BadWord(place as u64))),
     }
@@ -152,48 +163,46 @@ fn keep_between(found: Option<u64>, low: u64, high: u64) -> Option<u64>
     }
 }
 
-/// The number at a place, which is to be between these two or one of them.
+/// The number at a place, counting from 1, which is to be between these two or one of them.
+///
+/// A word that is none, or is missing, is a bad word at this place. Takes no memory.
 #[tactic(auto, unfolding(crate::specs::Words::number_between))]
-pub(crate) fn number_from_to(
-    words: &[&[u8]],
-    place: usize,
-    low: u64,
-    high: u64,
-) -> Result<u64, LineFault>
-    requires { (1 ≤ place) × (place ≤ length words.now) }
+pub fn number_from_to(words: &[&[u8]], place: usize, low: u64, high: u64) -> Result<u64, LineFault>
     ensures value { Gives (λ n. n) result (number_between low high place (map (λ w. w.now) words.now)) }
     ensures range { IfOk result (λ n. (low ≤ n) × (n ≤ high)) }
 {
-    match keep_between(number(words[place - 1]), low, high) {
+    match keep_between(number(word_at(words, place)), low, high) {
         Some(found) => Ok(found),
         None => Err(LineFault::Bad(Cause::BadWord(place as u64))),
     }
 }
 
-/// The bytes at a place of a line, counting from 1.
+/// The bytes at a place of a line, counting from 1: hex digits, two for each byte, or `-` for none.
+///
+/// A word that is neither is a bad word at this place.
 #[tactic(auto, unfolding(crate::specs::Words::bytes_in))]
-pub(crate) fn bytes_at(alloc: Global, words: &[&[u8]], place: usize) -> Result<Bytes, LineFault>
-    requires { (1 ≤ place) × (place ≤ length words.now) }
+pub fn bytes_at(alloc: Global, words: &[&[u8]], place: usize) -> Result<Bytes, LineFault>
     ensures { Gives (λ b. b) result (bytes_in place (map (λ w. w.now) words.now)) }
 {
-    match bytes(alloc, words[place - 1])? {
+    match bytes(alloc, word_at(words, place))? {
         Some(found) => Ok(found),
         None => Err(LineFault::Bad(Cause::BadWord(place as u64))),
     }
 }
 
-/// Which of two words stands at a place, counting from 1.
+/// Which of two words stands at a place, counting from 1: true for the second.
+///
+/// Another word, or none, is a bad word at this place. Takes no memory.
 #[tactic(auto, unfolding(crate::specs::Words::choice_in))]
-pub(crate) fn choice_at(
+pub fn choice_at(
     words: &[&[u8]],
     place: usize,
     first: &[u8],
     second: &[u8],
 ) -> Result<bool, LineFault>
-    requires { (1 ≤ place) × (place ≤ length words.now) }
     ensures { Gives (λ b. b) result (choice_in first.now second.now place (map (λ w. w.now) words.now)) }
 {
-    match choice(words[place - 1], first, second) {
+    match choice(word_at(words, place), first, second) {
         Some(found) => Ok(found),
         None => Err(LineFault::Bad(Cause::BadWord(place as u64))),
     }
@@ -202,10 +211,9 @@ pub(crate) fn choice_at(
 /// The call of a sink at a place, counting from 1.
 #[tactic(auto, unfolding(crate::specs::Words::sink_call_in))]
 pub(crate) fn sink_call_at(words: &[&[u8]], place: usize) -> Result<SinkCall, LineFault>
-    requires { (1 ≤ place) × (place ≤ length words.now) }
     ensures { Gives (λ c. c) result (sink_call_in place (map (λ w. w.now) words.now)) }
 {
-    match sink_call(words[place - 1]) {
+    match sink_call(word_at(words, place)) {
         Some(found) => Ok(found),
         None => Err(LineFault::Bad(Cause::BadWord(place as u64))),
     }

@@ -1,17 +1,29 @@
 //! What a command line asks for.
 
+use crate::conform_job::Comparison;
+use crate::random_job::{ask_of, random_command};
 use clap::{Arg, ArgAction, ArgMatches, Command, Error};
+use serf_conform::Rules;
+use serf_random::Ask;
 use std::alloc::{AllocError, Global};
 
 /// What is to be done.
-#[derive(Clone, Copy)]
+#[derive(Drop)]
 pub enum Job<'a> {
     /// Runs the schedule of a file, or of standard input, and writes its trace.
     Replay(Option<&'a str>),
-    /// Prints the message that bytes in hex spell.
-    Decode(&'a str),
+    /// Prints the message that bytes in hex spell; without them, of each line of standard input.
+    Decode(Option<&'a str>),
     /// Prints the clocks that the snapshot in a file keeps.
     Clocks(&'a str),
+    /// Writes a random schedule; `None` where the words name no kind.
+    Random(Option<Ask>),
+    /// Judges the log of a file, or of standard input, beside snapshots, each as `NODE=SNAPSHOT`.
+    Judge(Option<&'a str>, Vec<&'a str>),
+    /// Holds an agent on standard input and output against the reference.
+    Conform(Comparison<'a>),
+    /// The word of an option is none that it may have.
+    BadOption(&'a str),
 }
 
 const EXAMPLE: &str = "Example: serf-replay replay examples/deploy_gossiped_twice.schedule";
@@ -42,9 +54,10 @@ fn replay_command<'a>(alloc: Global) -> Result<Command<'a>, AllocError> {
 }
 
 fn decode_command<'a>(alloc: Global) -> Result<Command<'a>, AllocError> {
-    let hex = place(alloc, "HEX", "The packet in hex digits").required(true);
+    let help = "The packet in hex digits; where it is left out, each line of standard input is one";
+    let hex = place(alloc, "HEX", help);
     let about = "Prints the message that a packet spells";
-    let example = "Example: serf-replay decode 0381a44e616d65a178";
+    let example = "Example: serf-replay decode 0381a44e616d65a178, or serf-replay decode < packets";
     job_command(alloc, "decode", about, example, hex)
 }
 
@@ -54,6 +67,40 @@ fn clocks_command<'a>(alloc: Global) -> Result<Command<'a>, AllocError> {
     let example = "Example: serf-replay clocks local.snapshot";
     let file = place(alloc, "FILE", help).required(true);
     job_command(alloc, "clocks", about, example, file)
+}
+
+fn judge_command<'a>(alloc: Global) -> Result<Command<'a>, AllocError> {
+    let help = "The log; standard input where it is left out or `-`";
+    let about = "Judges the promises of events and queries on a log of any Serf";
+    let example =
+        "Example: serf-replay judge examples/incident/handlers.log --kept beta=examples/incident/beta.snapshot";
+    let log = place(alloc, "LOG", help);
+    let kept = Arg::new(alloc, "kept")
+        .long("kept")
+        .value_name("NODE=SNAPSHOT")
+        .help("What a node's snapshot keeps; may be given many times")
+        .action(ArgAction::Append);
+    job_command(alloc, "judge", about, example, log)?.arg(kept)
+}
+
+/// An option that takes one word.
+fn option<'a>(alloc: Global, name: &'a str, help: &'a str) -> Arg<'a> {
+    place(alloc, name, help).long(name)
+}
+
+fn conform_command<'a>(alloc: Global) -> Result<Command<'a>, AllocError> {
+    let help = "The schedule whose calls are made";
+    let about = "Holds an agent on standard input and output against the reference (docs/PIPE.md)";
+    let example =
+        "Example: mkfifo f; ./my-agent <f | serf-replay conform examples/what_is_refused.schedule >f";
+    let file = place(alloc, "FILE", help).required(true);
+    let agent = "The number of the only agent that is held; all of them where it is left out";
+    let rules =
+        "`serf` ends before the first turn that rests on a rule of this project's own; `own` (as when left out) \
+                 compares all";
+    job_command(alloc, "conform", about, example, file)?
+        .arg(option(alloc, "agent", agent))?
+        .arg(option(alloc, "rules", rules))
 }
 
 /// The program, without its jobs.
@@ -80,22 +127,59 @@ fn whole_command<'a>(alloc: Global) -> Result<Command<'a>, AllocError> {
     let program = bare_command(alloc)?;
     let program = with_job(program, replay_command(alloc))?;
     let program = with_job(program, decode_command(alloc))?;
-    with_job(program, clocks_command(alloc))
+    let program = with_job(program, clocks_command(alloc))?;
+    let program = with_job(program, random_command(alloc))?;
+    let program = with_job(program, judge_command(alloc))?;
+    with_job(program, conform_command(alloc))
 }
 
-fn job_of<'a>(matches: &ArgMatches<'a>) -> Option<Job<'a>> {
-    let (name, inner) = matches.subcommand()?;
-    match name {
-        "replay" => Some(Job::Replay(inner.get_str("FILE"))),
-        "decode" => Some(Job::Decode(inner.get_str("HEX")?)),
-        "clocks" => Some(Job::Clocks(inner.get_str("FILE")?)),
-        _ => None,
+/// The conform job of these words.
+fn conform_of<'a>(matches: &ArgMatches<'a>) -> Option<Job<'a>> {
+    let agent = match matches.get_str("agent") {
+        None => None,
+        Some(word) => match word.parse::<u64>() {
+            Ok(agent) => Some(agent),
+            Err(_) => return Some(Job::BadOption("agent")),
+        },
+    };
+    let rules = match matches.get_str("rules") {
+        None | Some("own") => Rules::Own,
+        Some("serf") => Rules::Serf,
+        Some(_) => return Some(Job::BadOption("rules")),
+    };
+    Some(Job::Conform(Comparison {
+        file: matches.get_str("FILE")?,
+        agent,
+        rules,
+    }))
+}
+
+/// The snapshots that are given, each as `NODE=SNAPSHOT`.
+fn kept_of<'a>(alloc: Global, matches: &ArgMatches<'a>) -> Result<Vec<&'a str>, AllocError> {
+    match matches.get_strs("kept") {
+        Some(kept) => Vec::from_slice(alloc, kept),
+        None => Ok(Vec::new(alloc)),
     }
+}
+
+fn job_of<'a>(alloc: Global, matches: &ArgMatches<'a>) -> Result<Option<Job<'a>>, AllocError> {
+    let Some((name, inner)) = matches.subcommand() else {
+        return Ok(None);
+    };
+    Ok(match name {
+        "replay" => Some(Job::Replay(inner.get_str("FILE"))),
+        "decode" => Some(Job::Decode(inner.get_str("HEX"))),
+        "clocks" => inner.get_str("FILE").map(|file| Job::Clocks(file)),
+        "random" => Some(Job::Random(ask_of(inner))),
+        "conform" => conform_of(inner),
+        "judge" => Some(Job::Judge(inner.get_str("LOG"), kept_of(alloc, inner)?)),
+        _ => None,
+    })
 }
 
 /// The job of these words, of which the first is the program's name; `None` where they name none, which clap
 /// refuses before. An `Err` is clap's: its text, where help or the version was asked for too.
 pub fn job_in<'a>(alloc: Global, words: &'a [String]) -> Result<Option<Job<'a>>, Error> {
     let matches = whole_command(alloc)?.try_get_matches_from(words)?;
-    Ok(job_of(&matches))
+    Ok(job_of(alloc, &matches)?)
 }

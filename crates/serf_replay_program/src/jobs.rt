@@ -1,10 +1,14 @@
-//! The three jobs, their statuses and their fault lines.
+//! The jobs, their statuses and their fault lines.
 
 use crate::command::{Job, job_in};
+use crate::conform_job::{Comparison, conform};
+use crate::decode_lines_job::run_decode_lines;
+use crate::judge_job::run_judge;
 use crate::progress::Progress;
 use clap::Error;
 use clap::error::ErrorKind;
 use hex::FromHexError;
+use serf_random::{Ask, random_schedule};
 use serf_replay::{
     DecodeTextFault, InputFault, ReplayFault, clocks_text, decode_text, read_input, replay,
     write_output,
@@ -15,10 +19,10 @@ use std::time::Clock;
 use std::{fs, io};
 
 /// The job is done, or help was asked for.
-const DONE: u8 = 0;
+pub const DONE: u8 = 0;
 
 /// The input was refused.
-const REFUSED: u8 = 1;
+pub const REFUSED: u8 = 1;
 
 /// The command line was refused.
 pub const COMMAND_LINE: u8 = 2;
@@ -26,30 +30,30 @@ pub const COMMAND_LINE: u8 = 2;
 /// A device failed, or memory ran out.
 pub const DEVICE: u8 = 3;
 
-fn no_memory(rt: &impl Eprint) -> u8 {
+pub(crate) fn no_memory(rt: &impl Eprint) -> u8 {
     let _ = eprintln!(rt; "no memory");
     DEVICE
 }
 
-fn read_failed(rt: &impl Eprint) -> u8 {
+pub(crate) fn read_failed(rt: &impl Eprint) -> u8 {
     let _ = eprintln!(rt; "read fault");
     DEVICE
 }
 
-fn too_long(rt: &impl Eprint) -> u8 {
+pub(crate) fn too_long(rt: &impl Eprint) -> u8 {
     let _ = eprintln!(rt; "too long");
     REFUSED
 }
 
 /// Writes a text to standard output, and gives the status.
-fn finish<R: Print + Eprint>(rt: &R, text: &[u8]) -> u8 {
+pub(crate) fn finish<R: Print + Eprint>(rt: &R, text: &[u8]) -> u8 {
     match write_output(&mut io::writer(rt), text) {
         Ok(()) => DONE,
         Err(_) => write_failed(rt),
     }
 }
 
-fn write_failed(rt: &impl Eprint) -> u8 {
+pub(crate) fn write_failed(rt: &impl Eprint) -> u8 {
     let _ = eprintln!(rt; "write fault");
     DEVICE
 }
@@ -134,6 +138,35 @@ fn run_clocks<F: Files, R: Input + Print + Eprint + AllocGlobal>(
     clocks_of(rt, input)
 }
 
+/// Writes a random schedule.
+fn run_random<R: Print + Eprint + AllocGlobal>(rt: &R, ask: Option<Ask>) -> u8 {
+    let Some(ask) = ask else {
+        let _ = eprintln!(rt; "error: there is no such kind");
+        return COMMAND_LINE;
+    };
+    match random_schedule(rt.alloc(), &ask) {
+        Ok(made) => finish(rt, &made.text),
+        Err(_) => no_memory(rt),
+    }
+}
+
+fn run_conform<F: Files, R: Input + Print + Eprint + AllocGlobal>(
+    files: &F,
+    rt: &R,
+    asked: &Comparison,
+) -> u8 {
+    let input = match fs::open(files, asked.file) {
+        Ok(mut reader) => read_input(rt.alloc(), &mut reader),
+        Err(_) => Err(InputFault::ReadFault),
+    };
+    match input {
+        Ok(text) => conform(rt, asked, &text),
+        Err(InputFault::ReadFault) => read_failed(rt),
+        Err(InputFault::ReadTooLong) => too_long(rt),
+        Err(InputFault::OutOfMemory) => no_memory(rt),
+    }
+}
+
 /// Prints clap's text, and gives its status: help and the version go to standard output.
 fn refuse_command_line<R: Print + Eprint>(rt: &R, error: &Error) -> u8 {
     if error.kind() == ErrorKind::OutOfMemory {
@@ -159,8 +192,16 @@ pub fn run<F: Files, R: Clock + Input + Print + Eprint + AllocGlobal>(
 ) -> u8 {
     match job_in(rt.alloc(), words) {
         Ok(Some(Job::Replay(file))) => run_replay(files, rt, is_terminal, file),
-        Ok(Some(Job::Decode(text))) => run_decode(rt, text),
+        Ok(Some(Job::Decode(Some(text)))) => run_decode(rt, text),
+        Ok(Some(Job::Decode(None))) => run_decode_lines(rt),
         Ok(Some(Job::Clocks(file))) => run_clocks(files, rt, file),
+        Ok(Some(Job::Random(ask))) => run_random(rt, ask),
+        Ok(Some(Job::Judge(file, kept))) => run_judge(files, rt, file, &kept),
+        Ok(Some(Job::Conform(asked))) => run_conform(files, rt, &asked),
+        Ok(Some(Job::BadOption(name))) => {
+            let _ = eprintln!(rt; "error: a bad word for --{name}");
+            COMMAND_LINE
+        }
         Ok(None) => COMMAND_LINE,
         Err(error) => refuse_command_line(rt, &error),
     }

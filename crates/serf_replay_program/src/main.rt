@@ -2,8 +2,13 @@
 #![tactic(auto)]
 
 mod command;
+mod conform_job;
+mod decode_lines_job;
 mod jobs;
+mod judge_job;
+mod judge_text;
 mod progress;
+mod random_job;
 
 use jobs::{COMMAND_LINE, DEVICE, run};
 use std::io::{self, IsTerminal};

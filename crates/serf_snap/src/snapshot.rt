@@ -4,7 +4,7 @@ ghost use Rattle.std.specs.Prelude.{◌≡◌, ◌↔◌, ◌⊎◌, ◌<◌, �
 ghost use Rattle.std.specs.Option.{option_map};
 ghost use Rattle.std.specs.Vec.{vec_len};
 ghost use Rattle.serf_snap.specs.Clocks.{clock_line, compacted_text, is_whole, line_above_zero, seal_line, sealed};
-ghost use Rattle.serf_snap.specs.Device.{Observable, Fails, FailsReplace, HasFailed, HasText, IsClean, append_failing, appended, flush_failing, flushed, durable_of, replace_called, replace_failing, replaced, unreplaced};
+ghost use Rattle.serf_snap.specs.Device.{Observable, Fails, FailsReplace, HasFailed, HasText, IsClean, append_failing, appended, flush_failing, flushed, durable_of, replace_called, replace_decremented, replace_failing, replaced, unreplaced};
 ghost use Rattle.serf_snap.specs.Notes.{AreTimes, Failed, HasTriedNote, Kept, MayReplace, MayWrite, compacted, compaction_of, last_line, note_fails, note_decremented, noted, opened, opened_device, with_new_plan, written};
 
 use crate::clocks::{Clocks, ends_whole, read_clocks};
@@ -142,10 +142,12 @@ fn seal<S: Sink>(alloc: Global, text: &[u8], sink: &mut S) -> Result<(), OpenFau
     ensures durable { OnOk result (durable_of (S.device sink.new) ≡ option_map (λ (t : Observable). sealed text.now) (S.device sink.old).observed_bytes) }
     ensures plan { OnOk result ((S.device sink.new).plan ≡ (if is_whole text.now then (S.device sink.old).plan else option_map note_decremented (S.device sink.old).plan)) }
     ensures clean { OnOk result (IsClean (S.device sink.new)) }
+    ensures ok_planned { OnOk result (is_whole text.now ≡ false → IfSome (S.device sink.old).plan (λ p. note_fails p ≡ false)) }
     ensures whole { is_whole text.now ≡ true → IsOk result }
     ensures fault { IsErrOf result OpenFault.SinkFault → Fails (S.device sink.old) (S.device sink.new) seal_line }
     ensures fault_called { IsErrOf result OpenFault.SinkFault → HasTriedNote (S.device sink.old).calls (S.device sink.new).calls }
     ensures fault_planned { IsErrOf result OpenFault.SinkFault → IfSome (S.device sink.old).plan (λ p. note_fails p ≡ true) }
+    ensures fault_decremented { IsErrOf result OpenFault.SinkFault → (S.device sink.new).plan ≡ option_map note_decremented (S.device sink.old).plan }
     ensures memory { IsErrOf result OpenFault.OutOfMemory → S.device sink.new ≡ S.device sink.old }
 {
     if ends_whole(text) {
@@ -167,15 +169,20 @@ impl<S: Sink> Snapshot<S> {
     /// The last lines are the clocks that the text has. A torn last line, one without its newline, is ended by
     /// `#` and a newline, appended and flushed, so it never becomes a clock line. The sink comes back with a
     /// fault. Takes no memory, and succeeds, where the text is empty or ends in a newline.
+    ///
+    /// A sink with a plan fails just where the plan fails this append or this flush, and what is left of the plan is
+    /// that of the sink which comes back.
     pub fn open(alloc: Global, text: &[u8], sink: S) -> Result<Self, (S, OpenFault)>
         requires { HasText text.now (S.device sink) }
         ensures ok { IfOk result (λ s. s.snapshot ≡ opened text.now (S.device sink)) }
         ensures device { IfOk result (λ s. s.device ≡ opened_device text.now (S.device sink)) }
         ensures times { IfOk result (λ s. AreTimes s.snapshot) }
+        ensures ok_planned { OnOk result (is_whole text.now ≡ false → IfSome (S.device sink).plan (λ p. note_fails p ≡ false)) }
         ensures whole { is_whole text.now ≡ true → IsOk result }
         ensures fault { IfErr result (λ e. e.1 ≡ OpenFault.SinkFault → Fails (S.device sink) (S.device e.0) seal_line) }
         ensures fault_called { IfErr result (λ e. e.1 ≡ OpenFault.SinkFault → HasTriedNote (S.device sink).calls (S.device e.0).calls) }
         ensures fault_planned { IfErr result (λ e. e.1 ≡ OpenFault.SinkFault → IfSome (S.device sink).plan (λ p. note_fails p ≡ true)) }
+        ensures fault_decremented { IfErr result (λ e. e.1 ≡ OpenFault.SinkFault → (S.device e.0).plan ≡ option_map note_decremented (S.device sink).plan) }
         ensures memory { IfErr result (λ e. e.1 ≡ OpenFault.OutOfMemory → S.device e.0 ≡ S.device sink) }
     {
         let mut sink = sink;
@@ -210,6 +217,7 @@ impl<S: Sink> Snapshot<S> {
         ensures fault_device { IsErrOf result NoteFault.SinkFault → Fails self.old.device self.new.device (clock_line kind time) }
         ensures fault_cause { IsErrOf result NoteFault.SinkFault → HasFailed self.old.device.failures self.new.device.failures }
         ensures fault_called { IsErrOf result NoteFault.SinkFault → HasTriedNote self.old.device.calls self.new.device.calls }
+        ensures fault_decremented { IsErrOf result NoteFault.SinkFault → self.new.device.plan ≡ option_map note_decremented self.old.device.plan }
 
         ensures stays { IsErrOf result NoteFault.Stopped → self.new ≡ self.old }
         ensures memory { IsErrOf result NoteFault.OutOfMemory → self.new ≡ self.old }
@@ -285,6 +293,7 @@ impl<S: ReplaceSink> Snapshot<S> {
         ensures fault_device { IsErrOf result NoteFault.SinkFault → FailsReplace self.old.device self.new.device (compaction_of self.old.snapshot) }
         ensures fault_cause { IsErrOf result NoteFault.SinkFault → HasFailed self.old.device.failures self.new.device.failures }
         ensures fault_called { IsErrOf result NoteFault.SinkFault → self.new.device.calls ≡ replace_called self.old.device.calls }
+        ensures fault_decremented { IsErrOf result NoteFault.SinkFault → self.new.device.plan ≡ option_map replace_decremented self.old.device.plan }
 
         ensures stays { IsErrOf result NoteFault.Stopped → self.new ≡ self.old }
         ensures memory { IsErrOf result NoteFault.OutOfMemory → self.new.snapshot ≡ self.old.snapshot }

@@ -1,3 +1,4 @@
 pub mod SlotLemmas
 pub mod WindowLemmas
+pub mod AllSlots
 pub mod WindowLaws

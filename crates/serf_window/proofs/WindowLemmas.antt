@@ -1,6 +1,7 @@
-use Rattle.std.proofs.Common.{◌≡◌, ◌≢◌, ℕ, ◌+◌, ◌*◌, ◌%◌, ◌<◌, ◌≤◌, inl, inr, cond, Bool, List, [], ◌∷◌, ◌++◌, length, map, refl, sym, ◌∙◌, ap, subst, arith, get_or, set, nat_le, length-append, sum_by}
+use Rattle.std.proofs.Common.{◌≡◌, ◌≢◌, ℕ, ◌+◌, ◌*◌, ◌%◌, ◌<◌, ◌≤◌, inl, inr, cond, Bool, true, false, List, [], ◌∷◌, ◌++◌, length, map, refl, sym, ◌∙◌, ap, subst, arith, get_or, set, nat_le, length-append, sum_by}
 use Rattle.std.specs.List.{list_any, range_with_len}
 use Rattle.std.proofs.lemmas.Bool.{cases_eq, cases_order, le-ltb, lt-ltb, lt-leb, eq-eqb, ne_eqb}
+use Rattle.std.proofs.lemmas.Bool.Decides.{nat_tests}
 use Rattle.std.proofs.lemmas.List.{get_or-map, get_or-set_same, get_or-set_other, map-set, length-set, length-map}
 use Rattle.std.proofs.lemmas.List.Elements.{All-map, All-set}
 use Rattle.std.proofs.lemmas.List.Folds.{fold-map}
@@ -32,6 +33,24 @@ slot_verdict-held same k t what slot some not_later = elim (cases_order t slot.t
   | inr other ↦ elim other [
     | inl before ↦ absurd (omega arith)
     | inr after ↦ rw (le-ltb t slot.time (omega arith), lt-ltb slot.time t after, ne_eqb slot.time t (λ q. omega arith), lt-leb k 0 some) refl
+  ]
+]
+
+not_full : (seen full : Bool) → cond seen Seen (cond full TimeFull New) ≡ New → full ≡ false
+not_full true full is = absurd cc
+not_full false true is = absurd cc
+not_full false false is = refl
+
+-- what is new may enter its slot
+pub slot_verdict-new : {K : Type 0} (same : K → K → Bool) (k t : ℕ) (what : K) (slot : SlotOf K) → 0 < k → slot_verdict same k slot t what ≡ New → (slot.time ≤ t) × (length (held_of slot t) < k)
+slot_verdict-new same k t what slot some new = elim (cases_order t slot.time) [
+  | inl now ↦
+      let tests = rw (le-ltb t slot.time (omega arith), le-ltb slot.time t (omega arith)) at new in
+      let free : nat_le k (length slot.held) ≡ false = not_full (list_any (λ h. same h what) slot.held) (nat_le k (length slot.held)) tests in
+      (omega arith, rw (eq-eqb slot.time t (sym now)) (grind (arith, nat_tests, free)))
+  | inr other ↦ elim other [
+    | inl before ↦ absurd (let old = rw (lt-ltb t slot.time before) at new in cc)
+    | inr after ↦ (omega arith, rw (ne_eqb slot.time t (λ q. omega arith)) some)
   ]
 ]
 

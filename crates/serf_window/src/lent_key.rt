@@ -1,6 +1,6 @@
 //! What is offered to a window: a key where it lies, before any memory is taken for it.
 
-ghost use Rattle.std.specs.Prelude.{◌≡◌, Bool, IfOk};
+ghost use Rattle.std.specs.Prelude.{◌≡◌, Bool, false, true, IfOk, OnErr};
 ghost use Rattle.serf_window.specs.Queries.{same_id};
 ghost use Rattle.serf_window.specs.Texts.{event_of, same_texts};
 
@@ -15,19 +15,25 @@ pub trait LentKey<K> {
     /// The key that this is.
     ghost key: { Self → K };
 
+    /// Whether a copy of this takes memory.
+    ghost takes_memory: { Self → Bool };
+
     /// Whether a key is the same as this. Takes no memory.
     fn is(&self, held: &K) -> bool
         ensures { result ≡ same held.now (key self.now) };
 
     /// A copy of the key, or `AllocError` where there is no memory for it.
     fn copy_of(&self, alloc: Global) -> Result<K, AllocError>
-        ensures { IfOk result (λ copy. copy ≡ key self.now) };
+        ensures copy { IfOk result (λ copy. copy ≡ key self.now) }
+        ensures free { OnErr result (takes_memory self.now ≡ true) };
 }
 
 impl<'a> LentKey<EventBody> for EventView<'a> {
     ghost same = { same_texts };
 
     ghost key = { λ event. event_of event.name.now event.payload.now };
+
+    ghost takes_memory = { λ _. true };
 
     /// The lengths and the payload, which mostly differ, come first.
     fn is(&self, held: &EventBody) -> bool {
@@ -50,6 +56,8 @@ impl LentKey<u32> for u32 {
     ghost same = { same_id };
 
     ghost key = { λ id. id };
+
+    ghost takes_memory = { λ _. false };
 
     fn is(&self, held: &u32) -> bool {
         *held == *self

@@ -1,6 +1,7 @@
 //! The buffers of recent events and queries: what an agent has seen of late, in slots by time.
 //!
-//! A window has N slots, and an entry of time t goes into slot t modulo N. An entry of a later time takes the
+//! A window has N slots, and an entry of time t goes into slot t modulo N. A slot is made when a time first
+//! enters it or one above it, so a window that holds nothing takes no memory. An entry of a later time takes the
 //! slot over, so a window forgets; yet it decides as if it had forgotten nothing, since a time that a slot
 //! gave up is always too old. These are the buffers of Serf's `handleUserEvent` and `handleQuery`
 //! (`serf.go`). At most M entries of one time are taken, which is a rule of this project's own: a window
@@ -11,6 +12,7 @@
 //! copies only where it is to enter.
 #![tactic(auto)]
 
+mod growth;
 mod laws;
 mod lent_key;
 mod place;

@@ -1,16 +1,18 @@
 //! The window of what came last.
 
-ghost use Rattle.std.specs.Prelude.{◌≡◌, ◌≢◌, ℕ, ◌<◌, ◌≤◌, ◌*◌, ◌%◌, ◌^◌, ◌↔◌, ◌⊎◌, List, [], ◌∷◌, ◌++◌, map, length, sum_by, OnOk, OnErr, IfOk, IsErrOf, vec_len};
+ghost use Rattle.std.specs.Prelude.{◌≡◌, ◌≢◌, false, ℕ, ◌<◌, ◌≤◌, ◌*◌, ◌%◌, ◌^◌, ◌↔◌, ◌⊎◌, List, [], ◌∷◌, ◌++◌, map, length, sum_by, OnOk, OnErr, IfOk, IsErr, slice_index_or};
 ghost use Rattle.std.specs.List.{list_any};
 ghost use Rattle.serf_window.specs.OneSlot.{slot_verdict};
+ghost use Rattle.serf_wire.specs.Buffers.{slots_lent, unused_slot};
 ghost use Rattle.serf_window.specs.Slots.{slot_view};
-ghost use Rattle.serf_window.specs.Window.{IsBadSize, IsWindow, TimesBelow, TimedEntry, count_in, empty_slot, held_count, room_for, slot_after, slots_after, slots_of, time_in, verdict_of};
+ghost use Rattle.serf_window.specs.Window.{IsBadSize, IsWindow, TimesBelow, TimedEntry, count_in, held_count, room_for, slot_after, slots_after, slots_of, time_in, verdict_of};
 
+use crate::growth::reach;
 use crate::lent_key::LentKey;
 use crate::place::place_of;
 use crate::verdict::{MAX_PER_TIME, MAX_SLOTS, NewWindowFault, Verdict};
 use serf_lamport::Time;
-use serf_wire::{EventBody, RoomyList, TimeSlot};
+use serf_wire::{EventBody, LentSlots, RoomyList, TimeSlot};
 use std::alloc::{AllocError, Global};
 use std::marker::Model;
 
@@ -31,25 +33,32 @@ impl<K> Model for Entry<K> {
 
 /// The keys of the last times, in slots by time modulo their number, at most `per_time` of one time.
 ///
-/// Contracts see the slots, the room in each, and `per_time`.
+/// Slots are made when a time enters them, so a window that holds nothing takes no memory. Contracts see all
+/// slots, the room in each, and `per_time`.
 #[derive(Debug, Drop)]
 pub struct Window<K> {
-    slots: Vec<TimeSlot<K>>,
+    /// The first slots: those up to the last that was ever used, and as many again at most.
+    made: Vec<TimeSlot<K>>,
+    slot_count: u64,
     per_time: u64,
 }
 
 impl<K> Model for Window<K> {
-    ghost use Rattle.std.specs.Prelude.{map};
+    ghost use Rattle.std.specs.Prelude.{◌≤◌, map};
     ghost use Rattle.std.specs.Vec.{vec_len};
     ghost use Rattle.serf_window.specs.Window.{IsWindow, WindowOf};
 
     ghost Value = { WindowOf K };
 
-    ghost use Rattle.serf_window.specs.Slots.{slot_view, room_in};
+    ghost use Rattle.serf_window.specs.Slots.{all_slots, slot_view, room_in};
 
-    ghost view = { λ w. record { slots = map slot_view w.slots.items; rooms = map room_in w.slots.items; per_time = w.per_time } };
+    ghost view = { λ w. record {
+      slots = map slot_view (all_slots w.slot_count w.made.items);
+      rooms = map room_in (all_slots w.slot_count w.made.items);
+      per_time = w.per_time;
+    } };
 
-    ghost invariant = { λ w. IsWindow (vec_len w.slots) w.per_time (map slot_view w.slots.items) };
+    ghost invariant = { λ w. IsWindow w.slot_count w.per_time (map slot_view (all_slots w.slot_count w.made.items)) × (vec_len w.made ≤ w.slot_count) };
 }
 
 /// The window of events: an event is known by its time, name and payload.
@@ -90,6 +99,23 @@ fn verdict_in<K, L: LentKey<K>>(slot: &TimeSlot<K>, per_time: u64, time: Time, k
     }
 }
 
+/// The verdict of the slot of this place. Where that was never used, nothing was entered.
+fn verdict_at<K, L: LentKey<K>>(
+    made: &[TimeSlot<K>],
+    place: usize,
+    per_time: u64,
+    time: Time,
+    key: &L,
+) -> Verdict
+    requires { 0 < per_time }
+    ensures { result ≡ slot_verdict L.same per_time (slot_view (slice_index_or made.now place unused_slot)) time (L.key key.now) }
+{
+    match made.get(place) {
+        Some(slot) => verdict_in(slot, per_time, time, key),
+        None => Verdict::New,
+    }
+}
+
 /// Takes a key into the slot of its time. A slot of an older time begins anew, and keeps its memory.
 fn take_in<K: Drop>(slot: &mut TimeSlot<K>, time: Time, key: K)
     requires room { 0 < slot.old.held.room }
@@ -114,44 +140,24 @@ fn count_held<K>(slots: &[TimeSlot<K>]) -> u64
         .sum()
 }
 
-/// A slot that holds nothing.
-fn empty_slot<K>(alloc: Global) -> TimeSlot<K>
-    ensures { slot_view result ≡ empty_slot }
-{
-    let Some(time) = Time::new(0) else {
-        unreachable!()
-    };
-    TimeSlot {
-        time,
-        held: RoomyList::new(alloc),
-    }
-}
-
-/// The slots of a window that holds nothing.
-fn empty_slots<K: Drop>(alloc: Global, n: u64) -> Result<Vec<TimeSlot<K>>, AllocError>
-    ensures size { IfOk result (λ slots. vec_len slots ≡ n) }
-    ensures empty { IfOk result (λ slots. map slot_view slots.items ≡ slots_of n []) }
-{
-    let mut slots = Vec::with_capacity(alloc, n as usize)?;
-    for _ in 0..n {
-        slots.push(empty_slot(alloc))?;
-    }
-    Ok(slots)
-}
-
 impl<K: Drop> Window<K> {
-    /// A window of `slot_count` empty slots, which takes `per_time` keys of one time at most. `BadSize` where one
-    /// of the two is 0 or above 65,536, and `OutOfMemory` where there is no memory for the slots.
+    /// A window of `slot_count` slots that were never used, which takes `per_time` keys of one time at most.
+    /// `BadSize` where one of the two is 0 or above 65,536. Takes no memory.
     pub fn new(alloc: Global, slot_count: u64, per_time: u64) -> Result<Self, NewWindowFault>
         ensures slots { IfOk result (λ window. window.slots ≡ slots_of slot_count []) }
+        ensures size { IfOk result (λ window. length window.slots ≡ slot_count) }
+        ensures below { IfOk result (λ window. (clock : ℕ) → 0 < clock → TimesBelow clock window.slots) }
         ensures per_time { IfOk result (λ window. window.per_time ≡ per_time) }
-        ensures bad { IsErrOf result NewWindowFault.BadSize ↔ (IsBadSize slot_count ⊎ IsBadSize per_time) }
+        ensures bad { IsErr result ↔ (IsBadSize slot_count ⊎ IsBadSize per_time) }
     {
         if slot_count == 0 || slot_count > MAX_SLOTS || per_time == 0 || per_time > MAX_PER_TIME {
             return Err(NewWindowFault::BadSize);
         }
-        let slots = empty_slots(alloc, slot_count).map_err(|_| NewWindowFault::OutOfMemory)?;
-        Ok(Window { slots, per_time })
+        Ok(Window {
+            made: Vec::new(alloc),
+            slot_count,
+            per_time,
+        })
     }
 
     /// The verdict on what is offered, by all that was ever entered, though the window holds the last of it
@@ -176,11 +182,11 @@ impl<K: Drop> Window<K> {
         if time.get() < minimum {
             return Verdict::BelowMinimum;
         }
-        if time.get() < clock_after.saturating_sub(self.slots.len() as u64) {
+        if time.get() < clock_after.saturating_sub(self.slot_count) {
             return Verdict::TooOld;
         }
-        let slot = &self.slots[place_of(time, self.slots.len())];
-        verdict_in(slot, self.per_time, time, key)
+        let place = place_of(time, self.slot_count as usize);
+        verdict_at(self.made.as_slice(), place, self.per_time, time, key)
     }
 
     /// Copies what is offered and makes room for it, so that it enters without memory. What the window holds
@@ -197,10 +203,15 @@ impl<K: Drop> Window<K> {
         ensures per_time { self.new.per_time ≡ self.old.per_time }
         ensures others { (t : ℕ) → 0 < room_for self.old t → 0 < room_for self.new t }
         ensures err { OnErr result (self.new ≡ self.old) }
+
+        // A key whose copy takes no memory is refused only where there was no room for its time.
+        ensures full { OnErr result (L.takes_memory key.now ≡ false → room_for self.old time ≡ 0) }
     {
         let key = key.copy_of(alloc)?;
-        let place = place_of(time, self.slots.len());
-        let slot = &mut self.slots[place];
+        let n = self.slot_count as usize;
+        let place = place_of(time, n);
+        reach(&mut self.made, alloc, place, n)?;
+        let slot = &mut self.made[place];
         slot.held.make_room()?;
         Ok(Entry { time, key })
     }
@@ -221,16 +232,17 @@ impl<K: Drop> Window<K> {
         ensures per_time { self.new.per_time ≡ self.old.per_time }
     {
         let Entry { time, key } = entry;
-        let place = place_of(time, self.slots.len());
-        take_in(&mut self.slots[place], time, key);
+        let place = place_of(time, self.slot_count as usize);
+        take_in(&mut self.made[place], time, key);
     }
 
-    /// All slots, in order. Takes no memory.
-    pub fn slots(&self) -> &[TimeSlot<K>]
-        ensures slots { map slot_view result.now ≡ self.now.slots }
+    /// All slots, in order; one that was never used is empty. Takes no memory.
+    pub fn slots(&self) -> LentSlots<'_, K>
+        ensures slots { map slot_view (slots_lent result) ≡ self.now.slots }
         ensures bounds { IsWindow (length self.now.slots) self.now.per_time self.now.slots }
     {
-        self.slots.as_slice()
+        let unused = self.slot_count - self.made.len() as u64;
+        LentSlots::of(self.made.as_slice(), unused as u32)
     }
 
     /// The number of keys that the window holds: never more than its slots times `per_time`. Takes no
@@ -239,6 +251,6 @@ impl<K: Drop> Window<K> {
         ensures count { result ≡ held_count self.now.slots }
         ensures bound { result ≤ length self.now.slots * self.now.per_time }
     {
-        count_held(self.slots.as_slice())
+        count_held(self.made.as_slice())
     }
 }

@@ -1,13 +1,12 @@
 -- Pair after pair of a map in compact spellings.
-use Rattle.std.proofs.Common.{◌≡◌, ℕ, suc, ℤ, pos, negsuc, ◌+◌, ◌-◌, ◌<◌, ◌≤◌, List, [], ◌∷◌, ◌++◌, length, lit<, Bool, true, false, cond, nat_le, nat_lt, Option, Some, None, IfSome, unwrap_or, refl, sym, ap, subst, ◌∙◌, arith, append_assoc, append-nil}
-use Rattle.std.proofs.lemmas.Bool.Decides.{nat_tests}
+use Rattle.std.proofs.Common.{◌≡◌, ℕ, suc, ◌+◌, ◌-◌, ◌<◌, ◌≤◌, List, [], ◌∷◌, ◌++◌, length, lit<, true, false, cond, Option, Some, None, IfSome, unwrap_or, refl, sym, ap, subst, ◌∙◌, arith, append_assoc, append-nil}
 use Rattle.serf_pack.specs.declared.head.Head.TheVariants as heads
-use Rattle.serf_pack.specs.Tree.{Tree, nil, flag, int, raw, array, pairs, Pairs, no_pairs, pair}
+use Rattle.serf_pack.specs.Tree.{Tree, nil, raw, pairs, Pairs, no_pairs, pair}
 use Rattle.serf_pack.specs.Packs.{Packs, PackPairs, IsHead, pair_count}
 use Rattle.serf_pack.specs.View.{pair_list}
 use Rattle.serf_pack.specs.Canonical.{raw_head, raw_bytes}
 use Rattle.serf_pack.proofs.Canonical.{raw_head_is}
-use Rattle.serf_wire.specs.Fields.{number, signed, up_to, fits, is_key, values_of, sole}
+use Rattle.serf_wire.specs.Fields.{number, is_key, values_of, sole}
 use Rattle.serf_wire.specs.Fast.{Reads, ReadsIn, Shows, Extends, IsReadSoFar}
 use Rattle.serf_wire.specs.Spells.{HasRawKeys}
 use Rattle.serf_wire.proofs.FastReading.{narrower, anywhere, map_row}
@@ -112,30 +111,6 @@ pub narrow_sole : (max n limit : ℕ) (vs : List Tree) → sole (number max) vs 
 narrow_sole max n limit [] e le = e
 narrow_sole max n limit (v ∷ []) e le = narrower v max n limit e le
 narrow_sole max n limit (v ∷ w ∷ vs) e le = absurd cc
-
-signed_int : (z : ℤ) (max n : ℕ) → up_to max z ≡ Some n → n ≤ 0x7fff_ffff_ffff_ffff → fits z ≡ Some (pos n)
-signed_int (pos m) max n e le =
-    let same : m ≡ n = up_to_is m max n _ refl e in
-    let yes : nat_lt m 9223372036854775808 ≡ true = grind (arith, nat_tests) in
-    rw yes (ap (λ k. Some (pos k)) same)
-  where
-    up_to_is : (m max n : ℕ) (b : Bool) → nat_le m max ≡ b → cond b (Some m) None ≡ Some n → m ≡ n
-    up_to_is m max n true is e = cc
-    up_to_is m max n false is e = absurd cc
-signed_int (negsuc k) max n e le = absurd cc
-
-signed_number : (v : Tree) (max n : ℕ) → number max v ≡ Some n → n ≤ 0x7fff_ffff_ffff_ffff → signed v ≡ Some (pos n)
-signed_number (nil p) max n e le = let zero_is : 0 ≡ n = cc in ap (λ k. Some (pos k)) zero_is
-signed_number (flag p b) max n e le = absurd cc
-signed_number (int p z) max n e le = signed_int z max n e le
-signed_number (raw p s) max n e le = absurd cc
-signed_number (array p vs) max n e le = absurd cc
-signed_number (pairs p ps) max n e le = absurd cc
-
-pub signed_sole : (max n : ℕ) (vs : List Tree) → sole (number max) vs ≡ Some n → n ≤ 0x7fff_ffff_ffff_ffff → sole signed vs ≡ Some (pos n)
-signed_sole max n [] e le = signed_number (nil 0) max n e le
-signed_sole max n (v ∷ []) e le = signed_number v max n e le
-signed_sole max n (v ∷ w ∷ vs) e le = absurd cc
 
 pub map_packs : (n : ℕ) (bytes : List ℕ) (ps : Pairs) → n < 16 → pair_count ps ≡ n → PackPairs ps 1 1 bytes → Packs (pairs 0 ps) 0 0 ((128 + n) ∷ bytes)
 map_packs n bytes ps lt count packs =

@@ -1,9 +1,12 @@
+pub mod Finding
 pub mod Stepping
 pub mod Sound
 pub mod Meanings
 pub mod MessageFields
 pub mod Packets
+pub mod FaultOrder
 pub mod SpelledRanges
+pub mod Unused
 pub mod Mapped
 pub mod Ranged
 pub mod Short
@@ -14,8 +17,6 @@ pub mod NodeFilters
 pub mod FastReading
 pub mod FastPairs
 pub mod FastEvent
-pub mod FastResponse
-pub mod FastQuery
 pub mod FastLists
 pub mod FastStatus
 pub mod FastSlots

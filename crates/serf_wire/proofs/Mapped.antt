@@ -4,11 +4,13 @@ use Rattle.std.specs.List.{list_any, flat_map}
 use Rattle.std.proofs.lemmas.List.{length-map}
 use Rattle.serf_pack.specs.Canonical.{raw_bytes}
 use Rattle.serf_wire.specs.declared.parts.PushPullParts.{PushPullParts}
+use Rattle.serf_wire.specs.Buffers.{slots_lent}
 use Rattle.serf_wire.specs.Canonical.{is_long, is_long_slot, has_long, canonical, status_time_bytes, slot_bytes}
 use Rattle.serf_wire.specs.Message.{push_pull}
 use Rattle.serf_wire.specs.Lists.{status_of}
 use Rattle.serf_wire.specs.Parts.{push_pull_of, parts_bytes, slot_content}
 use Rattle.serf_wire.proofs.Short.{short, neither}
+use Rattle.serf_wire.proofs.Unused.{any_lent}
 
 pub any_mapped : {X Y : Type 0} (test : Y → Bool) (f : X → Y) (xs : List X) → list_any test (map f xs) ≡ list_any (λ x. test (f x)) xs
 any_mapped test f [] = refl
@@ -18,7 +20,7 @@ pub joined_mapped : {X Y A : Type 0} (g : Y → List A) (f : X → Y) (xs : List
 joined_mapped g f [] = refl
 joined_mapped g f (x ∷ xs) = ap (λ r. g (f x) ++ r) (joined_mapped g f xs)
 
-pub long_parts : (p : PushPullParts) → has_long (push_pull (push_pull_of p)) ≡ (is_long p.status.now || list_any (λ s. is_long s.name.now) p.status.now || is_long p.left.now || list_any (λ t. is_long t.now) p.left.now || is_long p.slots.now || list_any (λ s. is_long_slot (slot_content s)) p.slots.now)
+pub long_parts : (p : PushPullParts) → has_long (push_pull (push_pull_of p)) ≡ (is_long p.status.now || list_any (λ s. is_long s.name.now) p.status.now || is_long p.left.now || list_any (λ t. is_long t.now) p.left.now || is_long (slots_lent p.slots) || list_any (λ s. is_long_slot (slot_content s)) p.slots.used.now)
 unfolding has_long
 long_parts p =
     rw (
@@ -26,8 +28,9 @@ long_parts p =
       any_mapped (λ q. is_long q.0) status_of p.status.now,
       length-map p.left.now (λ t. t.now),
       any_mapped is_long (λ t. t.now) p.left.now,
-      length-map p.slots.now slot_content,
-      any_mapped is_long_slot slot_content p.slots.now,
+      length-map (slots_lent p.slots) slot_content,
+      any_mapped is_long_slot slot_content (slots_lent p.slots),
+      any_lent (λ s. is_long_slot (slot_content s)) p.slots refl,
     ) refl
 
 -- what the parts of a push/pull are where none is too long
@@ -36,8 +39,8 @@ pub record AreShort (p : PushPullParts) : Type 0 where
   pub names : list_any (λ s. is_long s.name.now) p.status.now ≡ false
   pub left : length p.left.now < 4294967296
   pub each : list_any (λ t. is_long t.now) p.left.now ≡ false
-  pub slots : length p.slots.now < 4294967296
-  pub contents : list_any (λ s. is_long_slot (slot_content s)) p.slots.now ≡ false
+  pub slots : length (slots_lent p.slots) < 4294967296
+  pub contents : list_any (λ s. is_long_slot (slot_content s)) p.slots.used.now ≡ false
 
 pub short_parts : (p : PushPullParts) → has_long (push_pull (push_pull_of p)) ≡ false → AreShort p
 short_parts p none =
@@ -58,6 +61,6 @@ canonical_parts p =
       joined_mapped status_time_bytes status_of p.status.now,
       length-map p.left.now (λ t. t.now),
       joined_mapped raw_bytes (λ t. t.now) p.left.now,
-      length-map p.slots.now slot_content,
-      joined_mapped slot_bytes slot_content p.slots.now,
+      length-map (slots_lent p.slots) slot_content,
+      joined_mapped slot_bytes slot_content (slots_lent p.slots),
     ) refl

@@ -1,9 +1,8 @@
 -- What packets are, exactly.
-use Rattle.std.proofs.Common.{◌≡◌, ℕ, ◌+◌, ◌≤◌, List, [], ◌∷◌, ◌++◌, length, Option, Some, None, Result, Ok, Err, MatchResult, IfOk, IfErr, IsOkAnd, refl, sym, ap, subst, ◌∙◌, arith, length-append}
+use Rattle.std.proofs.Common.{◌≡◌, ℕ, List, [], ◌∷◌, Option, Some, None, Result, Ok, Err, MatchResult, IfOk, IfErr, IsOkAnd, refl, sym, ap, subst, ◌∙◌}
 use Rattle.serf_pack.specs.declared.fault.PackFault.{PackFault}
 use Rattle.serf_pack.specs.Tree.{Tree, nil, flag, int, raw, array, pairs, Pairs}
 use Rattle.serf_pack.specs.Packs.{Packs}
-use Rattle.serf_pack.specs.Breaks.{Breaks, at_end, unsupported, short_number, short_raw, deep_array, deep_map, in_array, in_key, in_value, IsFaulty, breaks, trails}
 use Rattle.serf_pack.specs.Reading.{Gives, whole_at}
 use Rattle.serf_pack.specs.View.{pair_list, kind_of}
 use Rattle.serf_pack.specs.declared.view.Kind.TheVariants.{Map}
@@ -19,36 +18,10 @@ use Rattle.serf_wire.specs.Layout.{class_of}
 use Rattle.serf_wire.specs.Faults.{message_faults, first}
 use Rattle.serf_wire.specs.Message.{Message, user_event, query, query_response, push_pull, foreign, message_of}
 use Rattle.serf_wire.specs.Reading.{message_in, read_tree, unless_fault}
-use Rattle.serf_wire.specs.Spells.{HasFields, SpellsMap, SpellsBehind, Spells, IsFirstMapFault, IsFirstFaultBehind, IsFirstFault, no_value, no_map, in_map, fault_place}
+use Rattle.serf_wire.specs.Spells.{HasFields, SpellsMap, SpellsBehind, Spells, IsFirstMapFault, IsFirstFaultBehind, IsFirstFault, no_value, no_map, in_map}
 use Rattle.serf_wire.specs.Decoded.{read_value, decoded_behind, decoded}
 use Rattle.serf_wire.proofs.Stepping.{no_first}
 use Rattle.serf_wire.proofs.MessageFields.{event_there, event_clean, event_is, query_there, query_clean, query_is, response_there, response_clean, response_is, push_pull_there, push_pull_clean, push_pull_is}
-
--- ---- a fault's place lies within the bytes
-
-pub break_within : (d p : ℕ) (bytes : List ℕ) (f : PackFault) → Breaks d p bytes f → fault_place f ≤ p + length bytes
-break_within d p bytes f (at_end _ _ _ _ e fault) = rw fault (omega arith)
-break_within d p bytes f (unsupported _ _ _ _ b rest e row fault) = rw fault (omega arith)
-break_within d p bytes f (short_number _ _ _ _ b rest field w e row lt fault) = rw fault (omega arith)
-break_within d p bytes f (short_raw _ _ _ _ head rest n e is lt fault) = rw fault (omega arith)
-break_within d p bytes f (deep_array _ _ _ _ head rest n e is full fault) = rw fault (omega arith)
-break_within d p bytes f (deep_map _ _ _ _ head rest n e is full fault) = rw fault (omega arith)
-break_within d p bytes f (in_array _ _ _ _ head front rest n vs e is lt packs count inner) =
-    let lengths : length bytes ≡ length head + (length front + length rest) = ap length e ∙ length-append head (front ++ rest) ∙ ap (λ n. length head + n) (length-append front rest) in
-    omega (arith, break_within (d + 1) (p + length head + length front) rest f inner)
-break_within d p bytes f (in_key _ _ _ _ head front rest n ps e is lt packs count inner) =
-    let lengths : length bytes ≡ length head + (length front + length rest) = ap length e ∙ length-append head (front ++ rest) ∙ ap (λ n. length head + n) (length-append front rest) in
-    omega (arith, break_within (d + 1) (p + length head + length front) rest f inner)
-break_within d p bytes f (in_value _ _ _ _ head front key rest n ps k e is lt packs count packed inner) =
-    let tail : length (front ++ (key ++ rest)) ≡ length front + (length key + length rest) = length-append front (key ++ rest) ∙ ap (λ n. length front + n) (length-append key rest) in
-    let lengths : length bytes ≡ length head + (length front + (length key + length rest)) = ap length e ∙ length-append head (front ++ (key ++ rest)) ∙ ap (λ n. length head + n) tail in
-    omega (arith, break_within (d + 1) (p + length head + length front + length key) rest f inner)
-
-pub fault_within : (bytes : List ℕ) (f : PackFault) → IsFaulty bytes f → fault_place f ≤ length bytes
-fault_within bytes f (breaks _ _ b) = omega (arith, break_within 0 0 bytes f b)
-fault_within bytes f (trails _ _ front rest v e packs lt fault) =
-    let lengths : length bytes ≡ length front + length rest = ap length e ∙ length-append front rest in
-    rw fault (omega arith)
 
 -- ---- a map's message
 

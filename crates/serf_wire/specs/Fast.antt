@@ -1,5 +1,5 @@
 -- A map that is read in one pass: what was found of its fields so far.
-use Rattle.std.specs.Prelude.{◌≡◌, ◌<◌, ◌≤◌, ℕ, pos, unwrap_or, List, [], ◌∷◌, ◌++◌, length, codes, Option, Some, None}
+use Rattle.std.specs.Prelude.{◌≡◌, ◌<◌, ℕ, unwrap_or, List, [], ◌∷◌, ◌++◌, length, codes, Option, Some, None}
 use Rattle.std.specs.Option.{option_copied, option_map}
 use Rattle.std.specs.List.{flat_map}
 use Rattle.serf_pack.specs.Tree.{Tree, raw, Pairs}
@@ -7,12 +7,9 @@ use Rattle.serf_pack.specs.Packs.{Packs, PackPairs, pair_count}
 use Rattle.serf_pack.specs.View.{raw_of, pair_list}
 use Rattle.serf_pack.specs.Canonical.{raw_bytes}
 use Rattle.serf_wire.specs.declared.fast.event.EventFields.{EventFields}
-use Rattle.serf_wire.specs.declared.fast.response.ResponseFields.{ResponseFields}
-use Rattle.serf_wire.specs.declared.fast.query.QueryFields.{QueryFields}
-use Rattle.serf_wire.specs.declared.fast.query.QueryNumbers.{QueryNumbers}
 use Rattle.serf_wire.specs.declared.fast.state.StateFields.{StateFields}
 use Rattle.serf_wire.specs.Lists.{texts_left, status_left, slots_left}
-use Rattle.serf_wire.specs.Message.{Message, Query, QueryResponse, PushPull, query}
+use Rattle.serf_wire.specs.Message.{PushPull}
 use Rattle.serf_wire.specs.Fields.{text, truth, number, list, status, slot, values_of}
 use Rattle.serf_wire.specs.Spells.{HasRawKeys}
 
@@ -87,30 +84,6 @@ pub record IsEventSoFar (found : EventFields) (ps : List (Tree × Tree)) : Type 
   pub payload : Shows text (option_copied found.payload) (values_of (codes "Payload") ps)
   pub coalesce : Shows truth found.coalesce (values_of (codes "CC") ps)
 
--- what was found of a response, whose pairs these are
-pub record IsResponseSoFar (found : ResponseFields) (ps : List (Tree × Tree)) : Type 0 where
-  pub keys : HasRawKeys ps
-  pub time : Shows (number 0xffff_ffff_ffff_ffff) found.time (values_of (codes "LTime") ps)
-  pub id : Shows (number 0xffff_ffff_ffff_ffff) found.id (values_of (codes "ID") ps)
-  pub from : Shows text (option_copied found.from) (values_of (codes "From") ps)
-  pub flags : Shows (number 0xffff_ffff_ffff_ffff) found.flags (values_of (codes "Flags") ps)
-  pub payload : Shows text (option_copied found.payload) (values_of (codes "Payload") ps)
-
--- what was found of a query, whose pairs these are
-pub record IsQuerySoFar (found : QueryFields) (ps : List (Tree × Tree)) : Type 0 where
-  pub keys : HasRawKeys ps
-  pub time : Shows (number 0xffff_ffff_ffff_ffff) found.time (values_of (codes "LTime") ps)
-  pub id : Shows (number 0xffff_ffff_ffff_ffff) found.id (values_of (codes "ID") ps)
-  pub addr : Shows text (option_copied found.addr) (values_of (codes "Addr") ps)
-  pub port : Shows (number 0xffff_ffff_ffff_ffff) found.port (values_of (codes "Port") ps)
-  pub source : Shows text (option_copied found.source) (values_of (codes "SourceNode") ps)
-  pub filters : Shows (list text) (option_map texts_left found.filters) (values_of (codes "Filters") ps)
-  pub flags : Shows (number 0xffff_ffff_ffff_ffff) found.flags (values_of (codes "Flags") ps)
-  pub relay_factor : Shows (number 0xffff_ffff_ffff_ffff) found.relay_factor (values_of (codes "RelayFactor") ps)
-  pub timeout : Shows (number 0xffff_ffff_ffff_ffff) found.timeout (values_of (codes "Timeout") ps)
-  pub name : Shows text (option_copied found.name) (values_of (codes "Name") ps)
-  pub payload : Shows text (option_copied found.payload) (values_of (codes "Payload") ps)
-
 -- what was found of a state, whose pairs these are
 pub record IsStateSoFar (found : StateFields) (ps : List (Tree × Tree)) : Type 0 where
   pub keys : HasRawKeys ps
@@ -142,30 +115,6 @@ pub record IsReadSoFar {F : Type 0} (IsSoFar : F → List (Tree × Tree) → Typ
 
 -- ---- the message of what was found
 
-abbrev pub found_response : ResponseFields → QueryResponse
-found_response f = record {
-  time = unwrap_or f.time 0;
-  id = unwrap_or f.id 0;
-  from = unwrap_or (option_copied f.from) [];
-  flags = unwrap_or f.flags 0;
-  payload = unwrap_or (option_copied f.payload) [];
-}
-
-abbrev pub found_query : QueryFields → Query
-found_query f = record {
-  time = unwrap_or f.time 0;
-  id = unwrap_or f.id 0;
-  addr = unwrap_or (option_copied f.addr) [];
-  port = unwrap_or f.port 0;
-  source = unwrap_or (option_copied f.source) [];
-  filters = unwrap_or (option_map texts_left f.filters) [];
-  flags = unwrap_or f.flags 0;
-  relay_factor = unwrap_or f.relay_factor 0;
-  timeout = pos (unwrap_or f.timeout 0);
-  name = unwrap_or (option_copied f.name) [];
-  payload = unwrap_or (option_copied f.payload) [];
-}
-
 abbrev pub found_state : StateFields → PushPull
 found_state f = record {
   member_clock = unwrap_or f.member_clock 0;
@@ -175,24 +124,3 @@ found_state f = record {
   slots = unwrap_or (option_map slots_left f.slots) [];
   query_clock = unwrap_or f.query_clock 0;
 }
-
--- the numbers that were found, each in its range
-pub record AreNumbers (f : QueryFields) (n : QueryNumbers) : Type 0 where
-  pub time : n.time ≡ unwrap_or f.time 0
-  pub real_time : n.time < 18446744073709551615
-  pub id : n.id ≡ unwrap_or f.id 0
-  pub short_id : n.id ≤ 0xffff_ffff
-  pub port : n.port ≡ unwrap_or f.port 0
-  pub short_port : n.port ≤ 0xffff
-  pub flags : n.flags ≡ unwrap_or f.flags 0
-  pub short_flags : n.flags ≤ 0xffff_ffff
-  pub relay_factor : n.relay_factor ≡ unwrap_or f.relay_factor 0
-  pub short_relay_factor : n.relay_factor ≤ 0xff
-  pub timeout : n.timeout ≡ unwrap_or f.timeout 0
-  pub short_timeout : n.timeout ≤ 0x7fff_ffff_ffff_ffff
-
--- the message is the query that was found
-pub record IsQueryOf (f : QueryFields) (m : Message) : Type 0 where
-  pub numbers : QueryNumbers
-  pub are : AreNumbers f numbers
-  pub is : m ≡ query (found_query f)

@@ -1,24 +1,20 @@
 -- The names of keys.
 use Rattle.std.specs.Prelude.{ℕ, List, codes}
-use Rattle.serf_wire.specs.declared.key.Key.{Key}
-use Rattle.serf_wire.specs.declared.key.Key.TheVariants as keys
+use Rattle.serf_wire.specs.declared.key.EventKey.{EventKey}
+use Rattle.serf_wire.specs.declared.key.EventKey.TheVariants as event_keys
+use Rattle.serf_wire.specs.declared.key.StateKey.{StateKey}
+use Rattle.serf_wire.specs.declared.key.StateKey.TheVariants as state_keys
 
-abbrev pub name_of : Key → List ℕ
-name_of keys.Time = codes "LTime"
-name_of keys.Id = codes "ID"
-name_of keys.Addr = codes "Addr"
-name_of keys.Port = codes "Port"
-name_of keys.Source = codes "SourceNode"
-name_of keys.Filters = codes "Filters"
-name_of keys.Flags = codes "Flags"
-name_of keys.RelayFactor = codes "RelayFactor"
-name_of keys.Timeout = codes "Timeout"
-name_of keys.Name = codes "Name"
-name_of keys.Payload = codes "Payload"
-name_of keys.Cc = codes "CC"
-name_of keys.From = codes "From"
-name_of keys.StatusTimes = codes "StatusLTimes"
-name_of keys.LeftMembers = codes "LeftMembers"
-name_of keys.EventTime = codes "EventLTime"
-name_of keys.Events = codes "Events"
-name_of keys.QueryTime = codes "QueryLTime"
+abbrev pub event_name : EventKey → List ℕ
+event_name event_keys.Time = codes "LTime"
+event_name event_keys.Name = codes "Name"
+event_name event_keys.Payload = codes "Payload"
+event_name event_keys.Cc = codes "CC"
+
+abbrev pub state_name : StateKey → List ℕ
+state_name state_keys.Time = codes "LTime"
+state_name state_keys.StatusTimes = codes "StatusLTimes"
+state_name state_keys.LeftMembers = codes "LeftMembers"
+state_name state_keys.EventTime = codes "EventLTime"
+state_name state_keys.Events = codes "Events"
+state_name state_keys.QueryTime = codes "QueryLTime"

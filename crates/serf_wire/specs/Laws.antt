@@ -1,6 +1,12 @@
 -- Laws of packets.
-use Rattle.std.specs.Prelude.{◌≡◌, ◌↔◌, ℕ, List, true, false, Ok, Err}
+use Rattle.std.specs.Prelude.{◌≡◌, ◌↔◌, ◌≤◌, ◌+◌, ℕ, List, [], ◌∷◌, length, true, false, Ok, Err}
+use Rattle.serf_pack.specs.Tree.{Pairs, pairs}
+use Rattle.serf_pack.specs.Packs.{Packs}
+use Rattle.serf_pack.specs.View.{pair_list}
 use Rattle.serf_wire.specs.declared.fault.WireFault.{WireFault}
+use Rattle.serf_wire.specs.declared.fault.WireFault.TheVariants as faults
+use Rattle.serf_wire.specs.declared.layout.MessageType.{MessageType}
+use Rattle.serf_wire.specs.Faults.{message_faults}
 use Rattle.serf_wire.specs.Message.{Message}
 use Rattle.serf_wire.specs.Spells.{Spells, IsFirstFault}
 use Rattle.serf_wire.specs.Decoded.{decoded}
@@ -27,3 +33,24 @@ CanonicalSpells = (m : Message) → InRange m → has_long m ≡ false → Spell
 -- a filter's reading lets a node pass just where the filter does
 abbrev pub PassesExactly : Type 0
 PassesExactly = (filter node : List ℕ) → (passes_of filter node ≡ true) ↔ Passes filter node
+
+-- where in the packet a fault of a map lies, and 0 of another
+abbrev pub map_place : WireFault → ℕ
+map_place faults.Empty = 0
+map_place (faults.UnknownType kind) = 0
+map_place (faults.Pack f) = 0
+map_place faults.NotAMap = 0
+map_place (faults.BadKey p) = p
+map_place (faults.Twice p) = p
+map_place (faults.WrongKind p) = p
+map_place (faults.OutOfRange p) = p
+map_place (faults.GreatestTime p) = p
+
+-- the places of the faults never fall, and lie between these two
+abbrev pub InOrder : ℕ → List WireFault → ℕ → Type 0
+InOrder from [] to = from ≤ to
+InOrder from (f ∷ fs) to = (from ≤ map_place f) × InOrder (map_place f) fs to
+
+-- the faults of a message's map stand in reading order, behind the packet's first byte
+abbrev pub FaultsInOrder : Type 0
+FaultsInOrder = (message : MessageType) (ps : Pairs) (bytes : List ℕ) → Packs (pairs 0 ps) 0 0 bytes → InOrder 1 (message_faults message (pair_list ps)) (length bytes + 1)

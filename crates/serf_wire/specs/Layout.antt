@@ -1,5 +1,5 @@
 -- The fields of each map, in canonical order (Serf's messages.go: the structs that go-msgpack writes).
-use Rattle.std.specs.Prelude.{ℕ, List, [], ◌∷◌, Option, Some, None, codes, nat_lt, ◌==◌, if◌then◌else◌}
+use Rattle.std.specs.Prelude.{ℕ, ◌+◌, List, [], ◌∷◌, Option, Some, None, codes, nat_lt, ◌==◌, if◌then◌else◌}
 use Rattle.std.specs.Str.{bytes_eq}
 use Rattle.serf_wire.specs.declared.layout.MessageType.{MessageType}
 use Rattle.serf_wire.specs.declared.layout.MessageType.TheVariants as types
@@ -7,6 +7,7 @@ use Rattle.serf_wire.specs.declared.layout.Class.{Class}
 use Rattle.serf_wire.specs.declared.layout.Class.TheVariants as classes
 use Rattle.serf_wire.specs.declared.layout.Layout.{Layout}
 use Rattle.serf_wire.specs.declared.layout.Layout.TheVariants as layouts
+use Rattle.serf_wire.specs.declared.layout.Field.{Field}
 use Rattle.serf_wire.specs.declared.layout.Kind.{Kind}
 use Rattle.serf_wire.specs.declared.layout.Kind.TheVariants as kinds
 
@@ -44,3 +45,11 @@ fields_of layouts.Event = (codes "Name", kinds.Text) ∷ (codes "Payload", kinds
 abbrev pub kind_in : List ℕ → List (List ℕ × Kind) → Option Kind
 kind_in name [] = None
 kind_in name (e ∷ es) = if bytes_eq name e.0 then Some e.1 else kind_in name es
+
+abbrev pub field_at : ℕ → Kind → Field
+field_at place kind = record { place = place; kind = kind }
+
+-- the field with this name, with its place, where the places begin at this one
+abbrev pub field_in : ℕ → List ℕ → List (List ℕ × Kind) → Option Field
+field_in place name [] = None
+field_in place name (e ∷ es) = if bytes_eq name e.0 then Some (field_at place e.1) else field_in (place + 1) name es

@@ -1,9 +1,11 @@
 pub mod Roomy
 pub mod Layout
 pub mod Slots
+pub mod Buffers
 pub mod Fields
 pub mod Faults
 pub mod Lookups
+pub mod Found
 pub mod Lists
 pub mod Message
 pub mod Reading

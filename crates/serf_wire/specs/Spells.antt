@@ -90,12 +90,6 @@ shifted (pack.Unsupported b p) = pack.Unsupported b (p + 1)
 shifted (pack.TooDeep p) = pack.TooDeep (p + 1)
 shifted (pack.Trailing p) = pack.Trailing (p + 1)
 
-abbrev pub fault_place : PackFault → ℕ
-fault_place (pack.Truncated p) = p
-fault_place (pack.Unsupported b p) = p
-fault_place (pack.TooDeep p) = p
-fault_place (pack.Trailing p) = p
-
 -- The first fault of bytes that are to be a map of such fields.
 pub data IsFirstMapFault : MessageType → List ℕ → WireFault → Type 0 where
   -- they are no value

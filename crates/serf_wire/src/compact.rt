@@ -320,17 +320,6 @@ pub fn once_texts<'a>(found: Option<Texts<'a>>, bytes: &'a [u8]) -> Option<(Text
     }
 }
 
-/// The text that was found, or the empty one.
-#[inline(always)]
-pub fn or_empty<'a>(found: Option<&'a [u8]>) -> &'a [u8]
-    ensures { result.now ≡ unwrap_or (option_copied found.entry) [] }
-{
-    match found {
-        None => b"",
-        Some(text) => text,
-    }
-}
-
 /// The number that was found, or 0.
 #[inline(always)]
 pub fn or_zero(found: Option<u64>) -> u64
@@ -340,19 +329,6 @@ pub fn or_zero(found: Option<u64>) -> u64
         None => 0,
         Some(number) => number,
     }
-}
-
-/// The number that was found, or 0, where it is at most max.
-#[inline(always)]
-pub fn up_to(found: Option<u64>, max: u64) -> Option<u64>
-    ensures value { IfSome result (λ n. n ≡ unwrap_or found 0) }
-    ensures within { IfSome result (λ n. n ≤ max) }
-{
-    let number = or_zero(found);
-    if number > max {
-        return None;
-    }
-    Some(number)
 }
 
 /// The list of texts that was found, or the empty one.

@@ -157,7 +157,7 @@ fn write_push_pull(alloc: Global, parts: &PushPullParts) -> Result<Vec<u8>, Allo
     put_status_field(&mut out, b"StatusLTimes", parts.status)?;
     put_texts_field(&mut out, b"LeftMembers", parts.left)?;
     put_number_field(&mut out, b"EventLTime", parts.event_clock)?;
-    put_slots_field(&mut out, b"Events", parts.slots)?;
+    put_slots_field(&mut out, b"Events", &parts.slots)?;
     put_number_field(&mut out, b"QueryLTime", parts.query_clock)?;
     Ok(out)
 }

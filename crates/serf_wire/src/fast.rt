@@ -4,14 +4,10 @@
 //! way gives up.
 
 mod event;
-mod query;
-mod response;
 mod slots;
 mod state;
 mod status;
 
 pub use event::read_user_event;
-pub use query::read_query;
-pub use response::read_response;
 pub use slots::{read_event, read_slot};
 pub use state::read_push_pull;

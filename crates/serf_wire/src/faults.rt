@@ -1,12 +1,16 @@
 //! The first fault of a map.
 
-ghost use Rattle.std.specs.Prelude.{◌≡◌, ◌≤◌, ◌<◌, [], length, take, drop};
+ghost use Rattle.std.specs.Prelude.{◌≡◌, ◌++◌, ◌∷◌, [], List, Some, None, IfOk, IfErr, OnOk, IfNone};
+ghost use Rattle.serf_pack.specs.Tree.{Tree};
 ghost use Rattle.serf_pack.specs.View.{tree_of, pairs_of, raw_of};
-ghost use Rattle.serf_wire.specs.Fields.{has_key, is_text};
+ghost use Rattle.serf_wire.specs.Fields.{is_text};
+ghost use Rattle.serf_wire.specs.Found.{Finds};
+ghost use Rattle.serf_wire.specs.Layout.{layout_of};
 ghost use Rattle.serf_wire.specs.Faults.{value_faults, number_faults, time_faults, signed_faults, text_faults, truth_faults, list_faults, name_faults, status_time_faults, status_faults, key_faults, map_faults, faults_behind, message_faults, first};
 
 use crate::fault::WireFault;
-use crate::layout::{Kind, Layout, MessageType, kind_of, layout_for};
+use crate::found::FoundFields;
+use crate::layout::{Kind, Layout, MessageType, field_of, layout_for};
 use serf_pack::View;
 
 /// Whether a key is this name.
@@ -17,23 +21,6 @@ pub fn is_name(key: &View, name: &[u8]) -> bool
         Some(bytes) => bytes == name,
         None => false,
     }
-}
-
-/// Whether one of the first pairs has this key.
-fn is_among(map: &View, count: usize, name: &[u8]) -> bool
-    ensures { result ≡ has_key name.now (take count (pairs_of (tree_of map.now))) }
-{
-    let mut left = count;
-    for (key, _) in map.pairs() {
-        if left == 0 {
-            return false;
-        }
-        if is_name(&key, name) {
-            return true;
-        }
-        left -= 1;
-    }
-    false
 }
 
 fn natural_fault(value: &View, max: u64) -> Option<WireFault>
@@ -189,51 +176,66 @@ fn map_fault(depth_left: u8, layout: Layout, value: &View) -> Option<WireFault>
 {
     match value.kind() {
         serf_pack::Kind::Nil => None,
-        serf_pack::Kind::Map => pairs_fault(depth_left, layout, value),
+        serf_pack::Kind::Map => match find_fields(depth_left, layout, value) {
+            Ok(_) => None,
+            Err(fault) => Some(fault),
+        },
         _ => Some(WireFault::WrongKind(value.offset() + 1)),
     }
 }
 
-/// The first fault of a pair of the map, of which `before` pairs stand in front of it.
+/// The first fault of a pair, or its value is found too.
 #[cycle(faults)]
-fn pair_fault(
+fn find_pair<'a>(
     depth_left: u8,
     layout: Layout,
-    map: &View,
-    before: usize,
-    key: &View,
-    value: &View,
+    found: &mut FoundFields<'a>,
+    key: &View<'a>,
+    value: &View<'a>,
 ) -> Option<WireFault>
-    ensures { result ≡ first (key_faults (value_faults depth_left) layout (take before (pairs_of (tree_of map.now))) (tree_of key.now, tree_of value.now) (raw_of (tree_of key.now))) }
+    ensures fault { (earlier : List (Tree × Tree)) → Finds layout found.old earlier
+        → result ≡ first (key_faults (value_faults depth_left) layout earlier (tree_of key.now, tree_of value.now) (raw_of (tree_of key.now))) }
+    ensures found { (earlier : List (Tree × Tree)) → Finds layout found.old earlier
+        → IfNone result (Finds layout found.new (earlier ++ (tree_of key.now, tree_of value.now) ∷ [])) }
 {
     let Some(name) = key.raw() else {
         return Some(WireFault::BadKey(key.offset() + 1));
     };
-    let kind = kind_of(layout, name)?;
-    if is_among(map, before, name) {
+    let Some(field) = field_of(layout, name) else {
+        return None;
+    };
+    if found.at(field.place).is_some() {
         return Some(WireFault::Twice(key.offset() + 1));
     }
-    value_fault(depth_left, kind, value)
+    found.put(field.place, *value);
+    value_fault(depth_left, field.kind, value)
 }
 
-/// The first fault of a map's pairs.
+/// The values of a map's fields, or the first fault of its pairs.
 #[cycle(faults)]
-fn pairs_fault(depth_left: u8, layout: Layout, map: &View) -> Option<WireFault>
-    ensures { result ≡ first (faults_behind (value_faults depth_left) layout [] (pairs_of (tree_of map.now))) }
+fn find_fields<'a>(
+    depth_left: u8,
+    layout: Layout,
+    map: &View<'a>,
+) -> Result<FoundFields<'a>, WireFault>
+    ensures found { IfOk result (λ found. Finds layout found (pairs_of (tree_of map.now))) }
+    ensures none { OnOk result (first (faults_behind (value_faults depth_left) layout [] (pairs_of (tree_of map.now))) ≡ None) }
+    ensures fault { IfErr result (λ f. first (faults_behind (value_faults depth_left) layout [] (pairs_of (tree_of map.now))) ≡ Some f) }
 {
-    let mut before = 0;
+    let mut found = FoundFields::new();
     'pairs: for (key, value) in map.pairs() {
-        if let Some(fault) = pair_fault(depth_left, layout, map, before, &key, &value) {
-            return Some(fault);
+        if let Some(fault) = find_pair(depth_left, layout, &mut found, &key, &value) {
+            return Err(fault);
         }
-        before += 1;
     }
-    None
+    Ok(found)
 }
 
-/// The first fault of a message's map.
-pub fn find_fault(message: MessageType, map: &View) -> Option<WireFault>
-    ensures { result ≡ first (message_faults message (pairs_of (tree_of map.now))) }
+/// The values of the fields of a message's map, or the map's first fault.
+pub fn find_message<'a>(message: MessageType, map: &View<'a>) -> Result<FoundFields<'a>, WireFault>
+    ensures found { IfOk result (λ found. Finds (layout_of message) found (pairs_of (tree_of map.now))) }
+    ensures none { OnOk result (first (message_faults message (pairs_of (tree_of map.now))) ≡ None) }
+    ensures fault { IfErr result (λ f. first (message_faults message (pairs_of (tree_of map.now))) ≡ Some f) }
 {
-    pairs_fault(2, layout_for(message), map)
+    find_fields(2, layout_for(message), map)
 }

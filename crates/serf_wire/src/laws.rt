@@ -1,6 +1,6 @@
 //! What holds of packets, whichever they are.
 
-ghost use Rattle.serf_wire.specs.Laws.{DecodesSpelled, DecodesFaulty, OneMessage, CanonicalSpells, PassesExactly};
+ghost use Rattle.serf_wire.specs.Laws.{DecodesSpelled, DecodesFaulty, OneMessage, CanonicalSpells, PassesExactly, FaultsInOrder};
 
 /// Decoding, as a function of a byte list, is exact: it gives just the message that the bytes spell, and just
 /// the first fault of bytes that spell none. So a byte list spells at most one message.
@@ -18,4 +18,10 @@ pub fn canonical_packets()
 /// The reading of a filter, by which contracts above say whom a query asks, is the relation `Passes`.
 pub fn exact_filters()
     ensures { PassesExactly }
+{}
+
+/// A map's list of faults, whose first one `decode` answers, is in reading order: their places in the packet never
+/// fall. So no place before the first fault's has one.
+pub fn ordered_faults()
+    ensures { FaultsInOrder }
 {}

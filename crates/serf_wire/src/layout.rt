@@ -1,9 +1,9 @@
 //! Which messages there are, and which fields their maps have (Serf's `messages.go`).
 
-ghost use Rattle.std.specs.Prelude.{◌≡◌};
+ghost use Rattle.std.specs.Prelude.{◌≡◌, Some};
 ghost use Rattle.std.specs.Str.{bytes_eq};
 ghost use Rattle.serf_wire.specs.declared.layout.Layout.TheVariants as layouts;
-ghost use Rattle.serf_wire.specs.Layout.{class_of, fields_of, kind_in, layout_of};
+ghost use Rattle.serf_wire.specs.Layout.{class_of, fields_of, field_at, field_in, layout_of};
 
 /// A map with known keys.
 #[derive(Clone, Copy)]
@@ -57,6 +57,13 @@ pub enum Kind {
     Maps(Layout),
 }
 
+/// A field of a map: its place in the layout, and what stands in it.
+#[derive(Clone, Copy)]
+pub struct Field {
+    pub place: usize,
+    pub kind: Kind,
+}
+
 pub fn class_for(kind: u8) -> Class
     ensures { result ≡ class_of kind }
 {
@@ -87,130 +94,137 @@ fn is_name(name: &[u8], known: &[u8]) -> bool
     name == known
 }
 
-/// The kind of the field of a user event with this name.
-fn user_event_kind(name: &[u8]) -> Option<Kind>
-    ensures { result ≡ kind_in name.now (fields_of layouts.UserEvent) }
+/// A field of a layout.
+fn known(place: usize, kind: Kind) -> Option<Field>
+    ensures { result ≡ Some (field_at place kind) }
+{
+    Some(Field { place, kind })
+}
+
+/// The field of a user event with this name.
+fn user_event_field(name: &[u8]) -> Option<Field>
+    ensures { result ≡ field_in 0 name.now (fields_of layouts.UserEvent) }
 {
     if is_name(name, b"LTime") {
-        Some(Kind::Time)
+        known(0, Kind::Time)
     } else if is_name(name, b"Name") {
-        Some(Kind::Text)
+        known(1, Kind::Text)
     } else if is_name(name, b"Payload") {
-        Some(Kind::Text)
+        known(2, Kind::Text)
     } else if is_name(name, b"CC") {
-        Some(Kind::Flag)
+        known(3, Kind::Flag)
     } else {
         None
     }
 }
 
-/// The kind of the field of a query with this name.
-fn query_kind(name: &[u8]) -> Option<Kind>
-    ensures { result ≡ kind_in name.now (fields_of layouts.Query) }
+/// The field of a query with this name.
+fn query_field(name: &[u8]) -> Option<Field>
+    ensures { result ≡ field_in 0 name.now (fields_of layouts.Query) }
 {
     if is_name(name, b"LTime") {
-        Some(Kind::Time)
+        known(0, Kind::Time)
     } else if is_name(name, b"ID") {
-        Some(Kind::Natural(0xffff_ffff))
+        known(1, Kind::Natural(0xffff_ffff))
     } else if is_name(name, b"Addr") {
-        Some(Kind::Text)
+        known(2, Kind::Text)
     } else if is_name(name, b"Port") {
-        Some(Kind::Natural(0xffff))
+        known(3, Kind::Natural(0xffff))
     } else if is_name(name, b"SourceNode") {
-        Some(Kind::Text)
+        known(4, Kind::Text)
     } else if is_name(name, b"Filters") {
-        Some(Kind::Texts)
+        known(5, Kind::Texts)
     } else if is_name(name, b"Flags") {
-        Some(Kind::Natural(0xffff_ffff))
+        known(6, Kind::Natural(0xffff_ffff))
     } else if is_name(name, b"RelayFactor") {
-        Some(Kind::Natural(0xff))
+        known(7, Kind::Natural(0xff))
     } else if is_name(name, b"Timeout") {
-        Some(Kind::Signed)
+        known(8, Kind::Signed)
     } else if is_name(name, b"Name") {
-        Some(Kind::Text)
+        known(9, Kind::Text)
     } else if is_name(name, b"Payload") {
-        Some(Kind::Text)
+        known(10, Kind::Text)
     } else {
         None
     }
 }
 
-/// The kind of the field of a response with this name.
-fn response_kind(name: &[u8]) -> Option<Kind>
-    ensures { result ≡ kind_in name.now (fields_of layouts.QueryResponse) }
+/// The field of a response with this name.
+fn response_field(name: &[u8]) -> Option<Field>
+    ensures { result ≡ field_in 0 name.now (fields_of layouts.QueryResponse) }
 {
     if is_name(name, b"LTime") {
-        Some(Kind::Natural(u64::MAX))
+        known(0, Kind::Natural(u64::MAX))
     } else if is_name(name, b"ID") {
-        Some(Kind::Natural(0xffff_ffff))
+        known(1, Kind::Natural(0xffff_ffff))
     } else if is_name(name, b"From") {
-        Some(Kind::Text)
+        known(2, Kind::Text)
     } else if is_name(name, b"Flags") {
-        Some(Kind::Natural(0xffff_ffff))
+        known(3, Kind::Natural(0xffff_ffff))
     } else if is_name(name, b"Payload") {
-        Some(Kind::Text)
+        known(4, Kind::Text)
     } else {
         None
     }
 }
 
-/// The kind of the field of a push/pull with this name.
-fn push_pull_kind(name: &[u8]) -> Option<Kind>
-    ensures { result ≡ kind_in name.now (fields_of layouts.PushPull) }
+/// The field of a push/pull with this name.
+fn push_pull_field(name: &[u8]) -> Option<Field>
+    ensures { result ≡ field_in 0 name.now (fields_of layouts.PushPull) }
 {
     if is_name(name, b"LTime") {
-        Some(Kind::Natural(u64::MAX))
+        known(0, Kind::Natural(u64::MAX))
     } else if is_name(name, b"StatusLTimes") {
-        Some(Kind::Status)
+        known(1, Kind::Status)
     } else if is_name(name, b"LeftMembers") {
-        Some(Kind::Texts)
+        known(2, Kind::Texts)
     } else if is_name(name, b"EventLTime") {
-        Some(Kind::Natural(u64::MAX))
+        known(3, Kind::Natural(u64::MAX))
     } else if is_name(name, b"Events") {
-        Some(Kind::Maps(Layout::Slot))
+        known(4, Kind::Maps(Layout::Slot))
     } else if is_name(name, b"QueryLTime") {
-        Some(Kind::Natural(u64::MAX))
+        known(5, Kind::Natural(u64::MAX))
     } else {
         None
     }
 }
 
-/// The kind of the field of a slot with this name.
-fn slot_kind(name: &[u8]) -> Option<Kind>
-    ensures { result ≡ kind_in name.now (fields_of layouts.Slot) }
+/// The field of a slot with this name.
+fn slot_field(name: &[u8]) -> Option<Field>
+    ensures { result ≡ field_in 0 name.now (fields_of layouts.Slot) }
 {
     if is_name(name, b"LTime") {
-        Some(Kind::Time)
+        known(0, Kind::Time)
     } else if is_name(name, b"Events") {
-        Some(Kind::Maps(Layout::Event))
+        known(1, Kind::Maps(Layout::Event))
     } else {
         None
     }
 }
 
-/// The kind of the field of an event in a slot with this name.
-fn event_kind(name: &[u8]) -> Option<Kind>
-    ensures { result ≡ kind_in name.now (fields_of layouts.Event) }
+/// The field of an event in a slot with this name.
+fn event_field(name: &[u8]) -> Option<Field>
+    ensures { result ≡ field_in 0 name.now (fields_of layouts.Event) }
 {
     if is_name(name, b"Name") {
-        Some(Kind::Text)
+        known(0, Kind::Text)
     } else if is_name(name, b"Payload") {
-        Some(Kind::Text)
+        known(1, Kind::Text)
     } else {
         None
     }
 }
 
-/// The kind of the field with this name.
-pub fn kind_of(layout: Layout, name: &[u8]) -> Option<Kind>
-    ensures { result ≡ kind_in name.now (fields_of layout) }
+/// The field with this name.
+pub fn field_of(layout: Layout, name: &[u8]) -> Option<Field>
+    ensures { result ≡ field_in 0 name.now (fields_of layout) }
 {
     match layout {
-        Layout::UserEvent => user_event_kind(name),
-        Layout::Query => query_kind(name),
-        Layout::QueryResponse => response_kind(name),
-        Layout::PushPull => push_pull_kind(name),
-        Layout::Slot => slot_kind(name),
-        Layout::Event => event_kind(name),
+        Layout::UserEvent => user_event_field(name),
+        Layout::Query => query_field(name),
+        Layout::QueryResponse => response_field(name),
+        Layout::PushPull => push_pull_field(name),
+        Layout::Slot => slot_field(name),
+        Layout::Event => event_field(name),
     }
 }

@@ -5,7 +5,7 @@ ghost use Rattle.serf_pack.specs.View.{tree_of};
 ghost use Rattle.serf_wire.specs.Lookups.{status_time_in};
 ghost use Rattle.serf_wire.specs.Lists.{status_of};
 
-use crate::fields::{find_value, natural_of, text_at, text_of, time_at};
+use crate::fields::{find_value, natural_of, text_of, text_or_empty, time_or_zero};
 use crate::steps::{next_event, next_slot};
 use serf_lamport::Time;
 use serf_pack::{Items, Kind, Pairs, View};
@@ -146,8 +146,8 @@ impl<'a> EventView<'a> {
         ensures { event_of result ≡ event_body_in (tree_of value.now) }
     {
         EventView {
-            name: text_at(value, b"Name"),
-            payload: text_at(value, b"Payload"),
+            name: text_or_empty(find_value(value, b"Name")),
+            payload: text_or_empty(find_value(value, b"Payload")),
         }
     }
 }
@@ -164,7 +164,7 @@ impl<'a> SlotView<'a> {
     {
         match value.kind() {
             Kind::Map => SlotView::Held(
-                time_at(value, b"LTime"),
+                time_or_zero(find_value(value, b"LTime")),
                 EventViews::of(find_value(value, b"Events")),
             ),
             _ => SlotView::Empty,

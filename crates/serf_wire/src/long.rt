@@ -100,5 +100,5 @@ pub fn is_long_push_pull(parts: &PushPullParts) -> bool
         || parts.left.len() > LONGEST
         || has_long_text(parts.left)
         || parts.slots.len() > LONGEST
-        || has_long_slot(parts.slots)
+        || has_long_slot(parts.slots.used)
 }

@@ -1,21 +1,25 @@
 //! Packets to messages.
 
-ghost use Rattle.std.specs.Prelude.{◌≡◌, ◌<◌, ◌^◌, Err, IfOk, IfErr, IfSome, IsOkAnd};
+ghost use Rattle.std.specs.Prelude.{◌≡◌, ◌<◌, ◌^◌, List, Err, IfOk, IfErr, IfSome, IsOkAnd};
+ghost use Rattle.serf_pack.specs.Breaks.{fault_place};
 ghost use Rattle.serf_pack.specs.Reading.{Gives, whole_at};
-ghost use Rattle.serf_pack.specs.View.{tree_of, pairs_of};
+ghost use Rattle.serf_pack.specs.Tree.{Tree};
+ghost use Rattle.serf_pack.specs.View.{tree_of};
+ghost use Rattle.serf_wire.specs.Found.{Finds};
+ghost use Rattle.serf_wire.specs.Layout.{layout_of};
 ghost use Rattle.serf_wire.specs.Message.{Message as Meaning, message_of};
 ghost use Rattle.serf_wire.specs.declared.fault.WireFault.{WireFault as Fault};
 ghost use Rattle.serf_wire.specs.Reading.{message_in, read_tree};
-ghost use Rattle.serf_wire.specs.Spells.{Spells, SpellsMap, IsFirstFault, shifted, fault_place};
+ghost use Rattle.serf_wire.specs.Spells.{Spells, SpellsMap, IsFirstFault, shifted};
 ghost use Rattle.serf_wire.specs.Decoded.{read_value, decoded};
 
-use crate::fast::{read_push_pull, read_query, read_response, read_user_event};
+use crate::fast::{read_push_pull, read_user_event};
 use crate::fault::WireFault;
-use crate::faults::find_fault;
-use crate::fields::{
-    flag_at, natural_at, signed_at, slots_at, status_at, text_at, texts_at, time_at,
-};
+use crate::faults::find_message;
+use crate::fields::{flag_or_false, natural_or_zero, signed_or_zero, text_or_empty, time_or_zero};
+use crate::found::FoundFields;
 use crate::layout::{Class, MessageType, class_for};
+use crate::lists::{SlotViews, StatusTimes, Texts};
 use crate::message::Message;
 use serf_pack::{Kind, PackFault, View, check};
 
@@ -32,44 +36,44 @@ fn shift(fault: PackFault) -> PackFault
     }
 }
 
-/// The message of a sound map.
-fn message_at<'a>(message: MessageType, map: &View<'a>) -> Message<'a>
-    ensures { message_of result ≡ message_in message (pairs_of (tree_of map.now)) }
+/// The message of the fields of a sound map.
+fn message_of_fields<'a>(message: MessageType, found: &FoundFields<'a>) -> Message<'a>
+    ensures { (ps : List (Tree × Tree)) → Finds (layout_of message) found.now ps → message_of result ≡ message_in message ps }
 {
     match message {
         MessageType::UserEvent => Message::UserEvent {
-            time: time_at(map, b"LTime"),
-            name: text_at(map, b"Name"),
-            payload: text_at(map, b"Payload"),
-            coalesce: flag_at(map, b"CC"),
+            time: time_or_zero(found.at(0)),
+            name: text_or_empty(found.at(1)),
+            payload: text_or_empty(found.at(2)),
+            coalesce: flag_or_false(found.at(3)),
         },
         MessageType::Query => Message::Query {
-            time: time_at(map, b"LTime"),
-            id: natural_at(map, b"ID", 0xffff_ffff) as u32,
-            addr: text_at(map, b"Addr"),
-            port: natural_at(map, b"Port", 0xffff) as u16,
-            source: text_at(map, b"SourceNode"),
-            filters: texts_at(map, b"Filters"),
-            flags: natural_at(map, b"Flags", 0xffff_ffff) as u32,
-            relay_factor: natural_at(map, b"RelayFactor", 0xff) as u8,
-            timeout: signed_at(map, b"Timeout"),
-            name: text_at(map, b"Name"),
-            payload: text_at(map, b"Payload"),
+            time: time_or_zero(found.at(0)),
+            id: natural_or_zero(found.at(1), 0xffff_ffff) as u32,
+            addr: text_or_empty(found.at(2)),
+            port: natural_or_zero(found.at(3), 0xffff) as u16,
+            source: text_or_empty(found.at(4)),
+            filters: Texts::of(found.at(5)),
+            flags: natural_or_zero(found.at(6), 0xffff_ffff) as u32,
+            relay_factor: natural_or_zero(found.at(7), 0xff) as u8,
+            timeout: signed_or_zero(found.at(8)),
+            name: text_or_empty(found.at(9)),
+            payload: text_or_empty(found.at(10)),
         },
         MessageType::QueryResponse => Message::QueryResponse {
-            time: natural_at(map, b"LTime", u64::MAX),
-            id: natural_at(map, b"ID", 0xffff_ffff) as u32,
-            from: text_at(map, b"From"),
-            flags: natural_at(map, b"Flags", 0xffff_ffff) as u32,
-            payload: text_at(map, b"Payload"),
+            time: natural_or_zero(found.at(0), u64::MAX),
+            id: natural_or_zero(found.at(1), 0xffff_ffff) as u32,
+            from: text_or_empty(found.at(2)),
+            flags: natural_or_zero(found.at(3), 0xffff_ffff) as u32,
+            payload: text_or_empty(found.at(4)),
         },
         MessageType::PushPull => Message::PushPull {
-            member_clock: natural_at(map, b"LTime", u64::MAX),
-            status: status_at(map, b"StatusLTimes"),
-            left: texts_at(map, b"LeftMembers"),
-            event_clock: natural_at(map, b"EventLTime", u64::MAX),
-            slots: slots_at(map, b"Events"),
-            query_clock: natural_at(map, b"QueryLTime", u64::MAX),
+            member_clock: natural_or_zero(found.at(0), u64::MAX),
+            status: StatusTimes::of(found.at(1)),
+            left: Texts::of(found.at(2)),
+            event_clock: natural_or_zero(found.at(3), u64::MAX),
+            slots: SlotViews::of(found.at(4)),
+            query_clock: natural_or_zero(found.at(5), u64::MAX),
         },
     }
 }
@@ -81,10 +85,10 @@ fn read<'a>(message: MessageType, value: &View<'a>) -> Result<Message<'a>, WireF
     if value.kind() != Kind::Map {
         return Err(WireFault::NotAMap);
     }
-    if let Some(fault) = find_fault(message, value) {
-        return Err(fault);
+    match find_message(message, value) {
+        Ok(found) => Ok(message_of_fields(message, &found)),
+        Err(fault) => Err(fault),
     }
-    Ok(message_at(message, value))
 }
 
 /// The message of a map with such fields, or the bytes' first fault.
@@ -97,16 +101,15 @@ fn read_checked(message: MessageType, bytes: &[u8]) -> Result<Message<'_>, WireF
     }
 }
 
-/// The message of a map in compact spellings, which is read in one pass. Every other map is left to
-/// `read_checked`.
+/// The user event or the state of a map in compact spellings, which is read in one pass. Every other map is left
+/// to `read_checked`.
 fn read_fast(message: MessageType, bytes: &[u8]) -> Option<Message<'_>>
     ensures { IfSome result (λ m. SpellsMap message (message_of m) bytes.now) }
 {
     match message {
         MessageType::UserEvent => read_user_event(bytes),
-        MessageType::Query => read_query(bytes),
-        MessageType::QueryResponse => read_response(bytes),
         MessageType::PushPull => read_push_pull(bytes),
+        MessageType::Query | MessageType::QueryResponse => None,
     }
 }
 

@@ -1,7 +1,8 @@
 //! What is handed in for writing a query or a push/pull.
 
+use crate::lent_slots::LentEventSlots;
 use crate::lists::StatusTime;
-use crate::texts::{Bytes, Slot};
+use crate::texts::Bytes;
 use serf_lamport::Time;
 
 /// What a query says.
@@ -37,7 +38,7 @@ pub struct PushPullParts<'a> {
     /// The event clock.
     pub event_clock: u64,
     /// The event buffer.
-    pub slots: &'a [Slot],
+    pub slots: LentEventSlots<'a>,
     /// The query clock.
     pub query_clock: u64,
 }

@@ -1,13 +1,15 @@
 //! Fields and lists of canonical packets, at the end of a vector.
 
-ghost use Rattle.std.specs.Prelude.{◌≡◌, ◌<◌, ◌^◌, ◌++◌, false, true, length, nat_lt, codes, map, OnOk, Some};
+ghost use Rattle.std.specs.Prelude.{◌≡◌, ◌<◌, ◌^◌, ◌++◌, false, true, length, nat_lt, codes, map, replicate, OnOk, Some};
 ghost use Rattle.std.specs.List.{flat_map, list_any, list_all};
 ghost use Rattle.serf_pack.specs.Canonical.{map_head, raw_bytes, uint_bytes, int_bytes, flag_bytes};
 ghost use Rattle.serf_wire.specs.Lists.{status_of};
+ghost use Rattle.serf_wire.specs.Buffers.{slots_lent, unused_slot};
 ghost use Rattle.serf_wire.specs.Parts.{slot_content};
 ghost use Rattle.serf_wire.specs.Fields.{fits};
 ghost use Rattle.serf_wire.specs.Canonical.{entry, list_bytes, status_bytes, event_bytes, slot_bytes, status_time_bytes, is_long, is_long_event, is_long_slot};
 
+use crate::lent_slots::LentEventSlots;
 use crate::lists::StatusTime;
 use crate::parts::QueryParts;
 use crate::texts::{Bytes, EventBody, Slot};
@@ -186,15 +188,30 @@ fn put_slots(out: &mut Vec<u8>, slots: &[Slot]) -> Result<(), AllocError>
     Ok(())
 }
 
+/// So many slots that were never used, which are nil.
+fn put_unused(out: &mut Vec<u8>, count: u32) -> Result<(), AllocError>
+    ensures { OnOk result (out.new.items ≡ out.old.items ++ flat_map (λ s. slot_bytes (slot_content s)) (replicate count unused_slot)) }
+{
+    for _ in 0..count {
+        put_nil(out)?;
+    }
+    Ok(())
+}
+
 /// A field that is a list of slots.
-pub fn put_slots_field(out: &mut Vec<u8>, name: &[u8], slots: &[Slot]) -> Result<(), AllocError>
+pub fn put_slots_field(
+    out: &mut Vec<u8>,
+    name: &[u8],
+    slots: &LentEventSlots,
+) -> Result<(), AllocError>
     requires name { length name.now < 2 ^ 32 }
-    requires list { length slots.now < 2 ^ 32 }
-    requires items { list_any (λ s. is_long_slot (slot_content s)) slots.now ≡ false }
-    ensures bytes { OnOk result (out.new.items ≡ out.old.items ++ entry name.now (list_bytes (λ s. slot_bytes (slot_content s)) slots.now)) }
-    ensures times { OnOk result (list_all (λ s. nat_lt s.time 18446744073709551615) slots.now ≡ true) }
+    requires list { length (slots_lent slots.now) < 2 ^ 32 }
+    requires items { list_any (λ s. is_long_slot (slot_content s)) slots.now.used.now ≡ false }
+    ensures bytes { OnOk result (out.new.items ≡ out.old.items ++ entry name.now (list_bytes (λ s. slot_bytes (slot_content s)) (slots_lent slots.now))) }
+    ensures times { OnOk result (list_all (λ s. nat_lt s.time 18446744073709551615) (slots_lent slots.now) ≡ true) }
 {
     put_raw(out, name)?;
     put_array(out, slots.len() as u32)?;
-    put_slots(out, slots)
+    put_slots(out, slots.used)?;
+    put_unused(out, slots.unused)
 }

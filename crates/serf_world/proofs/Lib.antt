@@ -2,3 +2,5 @@ pub mod NodeLaws
 pub mod MergeLaws
 pub mod ResultLaws
 pub mod RosterLaws
+pub mod DoneLaws
+pub mod SizeLaws

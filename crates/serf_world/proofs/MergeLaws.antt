@@ -5,8 +5,8 @@ use Rattle.serf_wire.specs.declared.fault.WireFault.{WireFault}
 use Rattle.serf_wire.specs.declared.texts.EventBody.{EventBody}
 use Rattle.serf_wire.specs.Decoded.{decoded}
 use Rattle.serf_wire.specs.Message.{Message, PushPull, user_event, query, query_response, push_pull, foreign}
-use Rattle.serf_wire.proofs.SpelledRanges.{decoded_ranged}
 use Rattle.serf_window.specs.Window.{TimedEntry}
+use Rattle.serf_snap.specs.Device.{Device}
 use Rattle.serf_snap.specs.Notes.{Kept}
 use Rattle.serf_agent.specs.declared.outcome.EventOut.{EventOut}
 use Rattle.serf_agent.specs.declared.outcome.MergeFault.{MergeFault}
@@ -16,19 +16,24 @@ use Rattle.serf_agent.specs.declared.outcome.Reason.{Reason}
 use Rattle.serf_agent.specs.declared.outcome.ReceiveFault.{ReceiveFault}
 use Rattle.serf_agent.specs.declared.outcome.ReceiveFault.TheVariants.{SinkFault}
 use Rattle.serf_agent.specs.Calls.{Step, planned, ended, will}
+use Rattle.serf_agent.specs.Devices.{device_after}
 use Rattle.serf_agent.specs.Events.{admission, received_as}
 use Rattle.serf_agent.specs.Ideal.{IdealAgent}
 use Rattle.serf_agent.specs.States.{Receives, EndsAt, Merges, receive_one, after_event, delivered, handed_by, joined, events_of, merge_refusal}
-use Rattle.serf_agent.specs.View.{ConcreteState, view_of}
+use Rattle.serf_agent.specs.View.{AgentState, ConcreteState, view_of}
 use Rattle.serf_world.specs.declared.done.Done.{Done as Made}
 use Rattle.serf_model.specs.declared.line.Answer.TheVariants as answers
 use Rattle.serf_model.specs.declared.line.Refusal.TheVariants.{SinkFault as FailedSink}
 use Rattle.serf_model.specs.Cluster.{IdealNode, Merged, merges_as, merges_events, merges_on, merges_packet}
 use Rattle.serf_world.specs.Nodes.{DoesCall, done_of, merge_answer}
+use Rattle.serf_model.specs.Merging.{MergesRepresentable}
 use Rattle.serf_model.specs.Ready.{IsRepresentable}
-use Rattle.serf_model.proofs.CallsKept.{none-if, representable-received}
-use Rattle.serf_model.proofs.InvariantKept.{representable-joined, runs-on, times-of}
 use Rattle.serf_world.proofs.NodeLaws.{may-will, steps-planned}
+
+-- a reason that isn't given
+none-if : {X : Type 0} (b : Bool) (x : X) (r : Option X) → cond b (Some x) r ≡ None → (b ≡ false) × (r ≡ None)
+none-if true x r e = absurd (cc e)
+none-if false x r e = (refl, e)
 
 -- what a merge came to
 pub record Merging (o : Merged) (deliveries : List EventOut) (new : ConcreteState) (fault : Option MergeFault) : Type 0 where
@@ -56,69 +61,68 @@ merging-err o rest new is state = by o.answer is
     by (Ok x) e = absurd (cc e)
     by (Err f) e = record { events = refl; state = state; failed = refl }
 
-pub receives-planned : (es : List (TimedEntry EventBody)) (i : IdealAgent) (deliveries : List EventOut) (new : ConcreteState) (fault : Option MergeFault) → IsRepresentable i → i.snapshot.stopped ≡ false → AllByRecursion (λ e. e.time < 2 ^ 64 - 1) es → fault ≢ Some merges.OutOfMemory
-    → Receives i es deliveries new fault → Merging (merges_events es i) deliveries new fault
-receives-planned [] i deliveries new fault representable runs times memory h = record { events = h.0; state = h.1; failed = h.3 }
-receives-planned (e ∷ es) i deliveries new fault representable runs times memory (inl h) =
+receives-planned : MergesRepresentable → (es : List (TimedEntry EventBody)) (i : IdealAgent) (old : Device) (deliveries : List EventOut) (new : AgentState) (fault : Option MergeFault) → IsRepresentable i → i.snapshot.stopped ≡ false → AllByRecursion (λ e. e.time < 2 ^ 64 - 1) es → fault ≢ Some merges.OutOfMemory
+    → Receives i es old deliveries new fault → Merging (merges_events es i) deliveries new.concrete fault
+receives-planned laws [] i old deliveries new fault representable runs times memory h = record { events = h.0; state = h.1; failed = h.4 }
+receives-planned laws (e ∷ es) i old deliveries new fault representable runs times memory (inl h) =
     let kept : Kept ≡ will i (receive_one i e) = may-will i (receive_one i e) Kept representable.consistent.observable h.0 in
     let same : ended i (receive_one i e) Kept ≡ planned i (receive_one i e) = ap (ended i (receive_one i e)) kept in
     let answer = kept-answer i e.time e.key (admission i e.time e.key) in
     let planned_is : (planned i (receive_one i e)).answer ≡ Ok answer.0 = ap (λ (o : Step (Result Outcome ReceiveFault)). o.answer) (sym same) ∙ answer.1 in
-    let first : IsRepresentable (planned i (receive_one i e)).agent = representable-received i e.time e.key false (admission i e.time e.key) representable runs times.0 refl in
+    let first : IsRepresentable (planned i (receive_one i e)).agent = laws.received i e representable runs times.0 in
     let next : IsRepresentable (after_event i e) = subst (λ (o : Step (Result Outcome ReceiveFault)). IsRepresentable o.agent) (sym same) first in
-    let going = subst (λ (o : Step (Result Outcome ReceiveFault)). o.agent.snapshot.stopped ≡ false) (sym same) (runs-on i e.time e.key false (admission i e.time e.key) answer.0 runs planned_is) in
-    let rest = receives-planned es (after_event i e) h.1.0 new fault next going times.1 memory h.1.2 in
-    let all : Merging (merges_on (ended i (receive_one i e) Kept) (merges_events es)) (handed_by (ended i (receive_one i e) Kept).answer ++ h.1.0) new fault =
-    merging-ok (ended i (receive_one i e) Kept) (merges_events es) answer.0 h.1.0 new fault answer.1 rest in
-    subst (λ (l : List EventOut). Merging (merges_events (e ∷ es) i) l new fault) (sym h.1.1)
-    (subst (λ (o : Step (Result Outcome ReceiveFault)). Merging (merges_on o (merges_events es)) (delivered i e ++ h.1.0) new fault) same all)
-receives-planned (e ∷ es) i deliveries new fault representable runs times memory (inr h) = by h.1.0 h.1.1 h.1.2
+    let going = subst (λ (o : Step (Result Outcome ReceiveFault)). o.agent.snapshot.stopped ≡ false) (sym same) (laws.goes_on i e answer.0 runs planned_is) in
+    let rest = receives-planned laws es (after_event i e) (device_after i (receive_one i e) old) h.1.0 new fault next going times.1 memory h.1.2 in
+    let all : Merging (merges_on (ended i (receive_one i e) Kept) (merges_events es)) (handed_by (ended i (receive_one i e) Kept).answer ++ h.1.0) new.concrete fault =
+    merging-ok (ended i (receive_one i e) Kept) (merges_events es) answer.0 h.1.0 new.concrete fault answer.1 rest in
+    subst (λ (l : List EventOut). Merging (merges_events (e ∷ es) i) l new.concrete fault) (sym h.1.1)
+    (subst (λ (o : Step (Result Outcome ReceiveFault)). Merging (merges_on o (merges_events es)) (delivered i e ++ h.1.0) new.concrete fault) same all)
+receives-planned laws (e ∷ es) i old deliveries new fault representable runs times memory (inr h) = by h.1.0 h.1.1 h.1.2
   where
-    by : (f : MergeFault) → fault ≡ Some f → EndsAt i e new f → Merging (merges_events (e ∷ es) i) deliveries new fault
+    by : (f : MergeFault) → fault ≡ Some f → EndsAt i e old new f → Merging (merges_events (e ∷ es) i) deliveries new.concrete fault
     by merges.OutOfMemory is ends = absurd (memory is)
     by merges.SinkFault is ends =
-        let p = steps-planned i (receive_one i e) (Err SinkFault) new representable.consistent.observable ends in
-        subst (λ (f : Option MergeFault). Merging (merges_events (e ∷ es) i) deliveries new f) (sym is)
-        (subst (λ (l : List EventOut). Merging (merges_events (e ∷ es) i) l new (Some merges.SinkFault)) (sym h.0)
-        (merging-err (planned i (receive_one i e)) (merges_events es) new p.answers p.state))
+        let p = steps-planned i (receive_one i e) (Err SinkFault) old new representable.consistent.observable ends in
+        subst (λ (f : Option MergeFault). Merging (merges_events (e ∷ es) i) deliveries new.concrete f) (sym is)
+        (subst (λ (l : List EventOut). Merging (merges_events (e ∷ es) i) l new.concrete (Some merges.SinkFault)) (sym h.0)
+        (merging-err (planned i (receive_one i e)) (merges_events es) new.concrete p.answers p.state))
     by merges.Stopped is ends = absurd ends
     by (merges.Wire f) is ends = absurd ends
     by merges.NotPushPull is ends = absurd ends
 
 -- a whole merge
-pub merges-planned : (i : IdealAgent) (packet : List ℕ) (m : PushPull) (join : Bool) (deliveries : List EventOut) (new : ConcreteState) (fault : Option MergeFault) → IsRepresentable i → decoded packet ≡ Ok (push_pull m) → merge_refusal (view_of i) (Ok (push_pull m)) ≡ None → fault ≢ Some merges.OutOfMemory
-    → Receives (joined m join i) (events_of m.slots) deliveries new fault → Merging (merges_events (events_of m.slots) (joined m join i)) deliveries new fault
-merges-planned i packet m join deliveries new fault representable is refuses memory h =
-    let ranged = decoded_ranged packet (push_pull m) is in
+merges-planned : MergesRepresentable → (i : IdealAgent) (packet : List ℕ) (m : PushPull) (join : Bool) (old : Device) (deliveries : List EventOut) (new : AgentState) (fault : Option MergeFault) → IsRepresentable i → decoded packet ≡ Ok (push_pull m) → merge_refusal (view_of i) (Ok (push_pull m)) ≡ None → fault ≢ Some merges.OutOfMemory
+    → Receives (joined m join i) (events_of m.slots) old deliveries new fault → Merging (merges_events (events_of m.slots) (joined m join i)) deliveries new.concrete fault
+merges-planned laws i packet m join old deliveries new fault representable is refuses memory h =
     let runs = none-if i.snapshot.stopped merges.Stopped None refuses in
-    receives-planned (events_of m.slots) (joined m join i) deliveries new fault (representable-joined m join i representable ranged) runs.0 (times-of m.slots ranged.slots) memory h
+    receives-planned laws (events_of m.slots) (joined m join i) old deliveries new fault (laws.joined i packet m join representable is) runs.0 (laws.times packet m is) memory h
 
 not-state : (b : Bool) → cond b (Some merges.Stopped) (Some merges.NotPushPull) ≡ None → ⊥
 not-state true e = cc
 not-state false e = cc
 
 -- what a merge does, however its packet reads
-does-merge-read : (m : IdealNode) (join : Bool) (packet : List ℕ) (fault : Option MergeFault) (new : ConcreteState) (out : List EventOut) (d : Made) (f : Option MergeFault) (r : Result Message WireFault) → IsRepresentable m.agent → fault ≢ Some merges.OutOfMemory
+does-merge-read : MergesRepresentable → (m : IdealNode) (join : Bool) (packet : List ℕ) (fault : Option MergeFault) (old : Device) (new : AgentState) (out : List EventOut) (d : Made) (f : Option MergeFault) (r : Result Message WireFault) → IsRepresentable m.agent → fault ≢ Some merges.OutOfMemory
     → decoded packet ≡ r → merge_refusal (view_of m.agent) r ≡ f
-    → ((g : MergeFault) → f ≡ Some g → (fault ≡ Some g) × (new ≡ view_of m.agent) × (out ≡ []))
-    → ((p : PushPull) → f ≡ None → r ≡ Ok (push_pull p) → Merges m.agent p join [] out new fault)
-    → done_of d ≡ record { answer = merge_answer fault; packets = []; events = out; handed = None } → DoesCall (merges_as f m join r) new d
-does-merge-read m join packet fault new out d (Some g) r representable memory is refuses refused_as merged gives =
+    → ((g : MergeFault) → f ≡ Some g → (fault ≡ Some g) × (new.concrete ≡ view_of m.agent) × (out ≡ []))
+    → ((p : PushPull) → f ≡ None → r ≡ Ok (push_pull p) → Merges m.agent p join [] out old new fault)
+    → done_of d ≡ record { answer = merge_answer fault; packets = []; events = out; handed = None } → DoesCall (merges_as f m join r) new.concrete d
+does-merge-read laws m join packet fault old new out d (Some g) r representable memory is refuses refused_as merged gives =
     let h = refused_as g refl in
     record { state = h.1; gives = gives ∙ (λ k. record { answer = merge_answer (h.0 k); packets = []; events = h.2 k; handed = None }) }
-does-merge-read m join packet fault new out d None (Err e) representable memory is refuses refused_as merged gives = absurd (never m.agent.snapshot.stopped refuses)
+does-merge-read laws m join packet fault old new out d None (Err e) representable memory is refuses refused_as merged gives = absurd (never m.agent.snapshot.stopped refuses)
   where
     never : (b : Bool) → cond b (Some merges.Stopped) (Some (merges.Wire e)) ≡ None → ⊥
     never true e = cc
     never false e = cc
-does-merge-read m join packet fault new out d None (Ok (user_event e)) representable memory is refuses refused_as merged gives = absurd (not-state m.agent.snapshot.stopped refuses)
-does-merge-read m join packet fault new out d None (Ok (query e)) representable memory is refuses refused_as merged gives = absurd (not-state m.agent.snapshot.stopped refuses)
-does-merge-read m join packet fault new out d None (Ok (query_response e)) representable memory is refuses refused_as merged gives = absurd (not-state m.agent.snapshot.stopped refuses)
-does-merge-read m join packet fault new out d None (Ok (foreign e)) representable memory is refuses refused_as merged gives = absurd (not-state m.agent.snapshot.stopped refuses)
-does-merge-read m join packet fault new out d None (Ok (push_pull p)) representable memory is refuses refused_as merged gives =
+does-merge-read laws m join packet fault old new out d None (Ok (user_event e)) representable memory is refuses refused_as merged gives = absurd (not-state m.agent.snapshot.stopped refuses)
+does-merge-read laws m join packet fault old new out d None (Ok (query e)) representable memory is refuses refused_as merged gives = absurd (not-state m.agent.snapshot.stopped refuses)
+does-merge-read laws m join packet fault old new out d None (Ok (query_response e)) representable memory is refuses refused_as merged gives = absurd (not-state m.agent.snapshot.stopped refuses)
+does-merge-read laws m join packet fault old new out d None (Ok (foreign e)) representable memory is refuses refused_as merged gives = absurd (not-state m.agent.snapshot.stopped refuses)
+does-merge-read laws m join packet fault old new out d None (Ok (push_pull p)) representable memory is refuses refused_as merged gives =
     let h = merged p refl refl in
     let o : Merged = merges_events (events_of p.slots) (joined p join m.agent) in
-    let done = merges-planned m.agent packet p join h.deliveries new fault representable is refuses memory h.receives in
+    let done = merges-planned laws m.agent packet p join old h.deliveries new fault representable is refuses memory h.receives in
     let answer : merge_answer fault ≡ cond (merges_events (events_of p.slots) (joined p join m.agent)).failed (answers.Refused FailedSink) answers.Merged =
     ap merge_answer done.failed ∙ answers-as (merges_events (events_of p.slots) (joined p join m.agent)).failed in
     record { state = done.state; gives = gives ∙ (λ k. record { answer = answer k; packets = []; events = (h.out ∙ done.events) k; handed = None }) }
@@ -127,12 +131,12 @@ does-merge-read m join packet fault new out d None (Ok (push_pull p)) representa
     answers-as true = refl
     answers-as false = refl
 
-pub does-merge : (m : IdealNode) (join : Bool) (packet : List ℕ) (fault : Option MergeFault) (new : ConcreteState) (out : List EventOut) (d : Made) → IsRepresentable m.agent → fault ≢ Some merges.OutOfMemory
-    → ((g : MergeFault) → merge_refusal (view_of m.agent) (decoded packet) ≡ Some g → (fault ≡ Some g) × (new ≡ view_of m.agent) × (out ≡ []))
-    → ((p : PushPull) → merge_refusal (view_of m.agent) (decoded packet) ≡ None → decoded packet ≡ Ok (push_pull p) → Merges m.agent p join [] out new fault)
-    → done_of d ≡ record { answer = merge_answer fault; packets = []; events = out; handed = None } → DoesCall (merges_packet m join (decoded packet)) new d
-does-merge m join packet fault new out d representable memory refused_as merged gives =
-    does-merge-read m join packet fault new out d (merge_refusal (view_of m.agent) (decoded packet)) (decoded packet) representable memory refl refl refused_as merged gives
+pub does-merge : MergesRepresentable → (m : IdealNode) (join : Bool) (packet : List ℕ) (fault : Option MergeFault) (old : Device) (new : AgentState) (out : List EventOut) (d : Made) → IsRepresentable m.agent → fault ≢ Some merges.OutOfMemory
+    → ((g : MergeFault) → merge_refusal (view_of m.agent) (decoded packet) ≡ Some g → (fault ≡ Some g) × (new.concrete ≡ view_of m.agent) × (out ≡ []))
+    → ((p : PushPull) → merge_refusal (view_of m.agent) (decoded packet) ≡ None → decoded packet ≡ Ok (push_pull p) → Merges m.agent p join [] out old new fault)
+    → done_of d ≡ record { answer = merge_answer fault; packets = []; events = out; handed = None } → DoesCall (merges_packet m join (decoded packet)) new.concrete d
+does-merge laws m join packet fault old new out d representable memory refused_as merged gives =
+    does-merge-read laws m join packet fault old new out d (merge_refusal (view_of m.agent) (decoded packet)) (decoded packet) representable memory refl refl refused_as merged gives
 
 -- an agent that refuses no packet runs
 pub runs-merge : (i : IdealAgent) (r : Result Message WireFault) → merge_refusal (view_of i) r ≡ None → i.snapshot.stopped ≡ false

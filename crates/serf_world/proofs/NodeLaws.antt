@@ -4,24 +4,19 @@ use Rattle.std.specs.Prelude.{slice_get, IfOk}
 use Rattle.std.specs.List.{AllByRecursion}
 use Rattle.std.specs.declared.alloc.AllocError.{AllocError}
 use Rattle.std.proofs.lemmas.List.{length-map, map-set}
-use Rattle.std.proofs.lemmas.List.Elements.{All-from_recursion, All-nil, All-set, recursion_from_All}
+use Rattle.std.proofs.lemmas.List.Elements.{All-from_recursion, All-set, recursion_from_All}
 use Rattle.std.proofs.lemmas.Option.{get_or_from_slice_get, slice_get_within}
 use Rattle.serf_snap.specs.declared.kind.ClockKind.{ClockKind}
 use Rattle.serf_snap.specs.Clocks.{clock_line}
-use Rattle.serf_snap.specs.Device.{FailurePlan, fresh_device}
-use Rattle.serf_snap.specs.Notes.{SnapshotView, Writing, Kept, Failed, IsObservable, MayWrite, MayReplace, will_write, will_replace, left_by, compaction_of, last_line, opened}
+use Rattle.serf_snap.specs.Device.{Device, FailurePlan}
+use Rattle.serf_snap.specs.Notes.{SnapshotView, Writing, Kept, Failed, IsObservable, MayWrite, MayReplace, will_write, will_replace, left_by, compaction_of, last_line}
 use Rattle.serf_agent.specs.declared.outcome.RespondFault.{RespondFault}
 use Rattle.serf_agent.specs.Handed.{Handed}
 use Rattle.serf_agent.specs.Queries.{respond_fault}
 use Rattle.serf_agent.specs.Calls.{Call, Ends, Notes, Replaces, MayNote, MayEnd, planned, ended, will, will_note}
 use Rattle.serf_agent.specs.Ideal.{IdealAgent}
 use Rattle.serf_agent.specs.Steps.{Steps}
-use Rattle.serf_agent.specs.View.{ConcreteState, view_of}
-use Rattle.serf_agent.specs.declared.config.Config.{Config}
-use Rattle.serf_agent.specs.Config.{is_sound}
-use Rattle.serf_agent.specs.Restart.{IsInText, unopened}
-use Rattle.serf_agent.specs.Sound.{IsSound}
-use Rattle.serf_agent.proofs.SoundLaws.{sound-unopened}
+use Rattle.serf_agent.specs.View.{AgentState, ConcreteState, view_of}
 use Rattle.serf_model.specs.declared.action.Action.{Action}
 use Rattle.serf_model.specs.declared.line.Line.{Line}
 use Rattle.serf_model.specs.declared.line.Answer.TheVariants as answers
@@ -64,8 +59,8 @@ pub record Plans {R : Type 0} (i : IdealAgent) (call : Call R) (result : R) (new
   pub answers : result ≡ (planned i call).answer
   pub state : new ≡ view_of (planned i call).agent
 
-pub steps-planned : {R : Type 0} (i : IdealAgent) (call : Call R) (result : R) (new : ConcreteState) → IsObservable i.snapshot → Steps i call result new → Plans i call result new
-steps-planned {R} i call result new observable steps =
+pub steps-planned : {R : Type 0} (i : IdealAgent) (call : Call R) (result : R) (old : Device) (new : AgentState) → IsObservable i.snapshot → Steps i call result old new → Plans i call result new.concrete
+steps-planned {R} i call result old new observable steps =
     let same : steps.writing ≡ will i call = may-will i call steps.writing observable steps.allowed in
     record {
       answers = steps.answers ∙ ap (λ w. (ended i call w).answer) same;
@@ -73,9 +68,9 @@ steps-planned {R} i call result new observable steps =
     }
 
 -- an agent made a call, and that gives this
-pub does-call : {R : Type 0} (m : IdealNode) (call : Call R) (result : R) (new : ConcreteState) (gives : R → Done) (d : Made) → IsRepresentable m.agent → Steps m.agent call result new → done_of d ≡ gives result → DoesCall (called m (planned m.agent call) gives) new d
-does-call m call result new gives d representable steps says =
-    let p = steps-planned m.agent call result new representable.consistent.observable steps in
+pub does-call : {R : Type 0} (m : IdealNode) (call : Call R) (result : R) (old : Device) (new : AgentState) (gives : R → Done) (d : Made) → IsRepresentable m.agent → Steps m.agent call result old new → done_of d ≡ gives result → DoesCall (called m (planned m.agent call) gives) new.concrete d
+does-call m call result old new gives d representable steps says =
+    let p = steps-planned m.agent call result old new representable.consistent.observable steps in
     record { state = p.state; gives = says ∙ ap gives p.answers }
 
 -- ---- answering a query
@@ -204,11 +199,3 @@ owes-none c w action a line v representable past is =
 pub map-map : {X Y Z : Type 0} (f : Y → Z) (g : X → Y) (xs : List X) → map f (map g xs) ≡ map (λ x. f (g x)) xs
 map-map f g [] = refl
 map-map f g (x ∷ xs) = ap (λ l. f (g x) ∷ l) (map-map f g xs)
-
--- ---- an agent before its first life
-
-pub born-sound : (config : Config) → is_sound config ≡ true → IsSound (unopened config (opened [] (fresh_device [])))
-born-sound config ok = sound-unopened config [] (fresh_device []) ok (omega arith)
-
-pub born-text : (config : Config) → IsInText (unopened config (opened [] (fresh_device []))) []
-born-text config = record { events = All-nil (λ p. p.entry.time ≤ 0); queries = All-nil (λ p. p.entry.time ≤ 0) }

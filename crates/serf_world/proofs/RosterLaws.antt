@@ -1,7 +1,8 @@
 -- Agents that can make a cluster, and one more.
-use Rattle.std.proofs.Common.{◌≡◌, ◌≤◌, ◌++◌, ◌∙◌, ℕ, List, [], ◌∷◌, Bool, true, false, Option, Some, None, refl, sym, ap, cond, length, length-append, arith}
+use Rattle.std.proofs.Common.{◌≡◌, ◌+◌, ◌≤◌, ◌++◌, ◌∙◌, ℕ, List, [], ◌∷◌, Bool, true, false, Option, Some, None, refl, sym, ap, cond, length, length-append, arith}
 use Rattle.std.specs.Prelude.{not, nat_lt}
-use Rattle.std.specs.List.{position_or_len}
+use Rattle.std.specs.List.{AllByRecursion, position_or_len}
+use Rattle.std.proofs.lemmas.Bool.{ltb-false}
 use Rattle.std.proofs.lemmas.Grind.{common_steps}
 use Rattle.std.proofs.lemmas.List.{append-nil, append_assoc}
 use Rattle.std.proofs.lemmas.List.Folds.{position_or_len_push}
@@ -37,6 +38,21 @@ bad-push xs c none sound =
     let all : k ≡ length xs = last k (length xs) (not-some (nat_lt k (length xs)) k None none) (prefix_len-le-length (λ c. not (not (is_sound c))) xs) in
     let more : position_or_len (λ c. not (is_sound c)) (xs ++ c ∷ []) ≡ length (xs ++ c ∷ []) = grind (arith, common_steps, position_or_len_push (λ c. not (is_sound c)) xs c, length-append xs (c ∷ [])) in
     rw (not-below (length (xs ++ c ∷ [])) (position_or_len (λ c. not (is_sound c)) (xs ++ c ∷ [])) more) refl
+
+-- settings of which none is bad are within their bounds
+none-bad : (configs : List Config) → length configs ≤ position_or_len (λ c. not (is_sound c)) configs → AllByRecursion (λ c. is_sound c ≡ true) configs
+none-bad [] h = tt
+none-bad (c ∷ cs) h = by (is_sound c) refl h (none-bad cs)
+  where
+    by : (b : Bool) → is_sound c ≡ b → length (c ∷ cs) ≤ cond (not (not b)) (1 + position_or_len (λ c. not (is_sound c)) cs) 0
+        → (length cs ≤ position_or_len (λ c. not (is_sound c)) cs → AllByRecursion (λ c. is_sound c ≡ true) cs) → (is_sound c ≡ true) × AllByRecursion (λ c. is_sound c ≡ true) cs
+    by true is h rest = (is, rest (omega arith))
+    by false is h rest = absurd (omega arith)
+
+pub all-sound : (configs : List Config) → AreConfigs configs → AllByRecursion (λ c. is_sound c ≡ true) configs
+all-sound configs ok =
+    let k = position_or_len (λ c. not (is_sound c)) configs in
+    none-bad configs (ltb-false k (length configs) (not-some (nat_lt k (length configs)) k None ok.sound))
 
 -- one more, within its bounds and of a name of its own
 pub one_more : (xs : List Config) (c : Config) → AreConfigs xs → is_sound c ≡ true → has_name xs c.name ≡ false → AreConfigs (xs ++ c ∷ [])

@@ -7,6 +7,7 @@ pub use Rattle.serf_model.specs.Promises
 pub use Rattle.serf_model.specs.Queried
 pub use Rattle.serf_model.specs.AnswerPromises
 pub use Rattle.serf_model.specs.Bounds
+pub use Rattle.serf_model.specs.Kept
 pub mod View
 pub mod Nodes
 pub mod Turns

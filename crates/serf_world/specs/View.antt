@@ -1,11 +1,19 @@
 -- What a world stores of a cluster.
-use Rattle.std.specs.Prelude.{◌≡◌, ℕ, Bool, List, [], ◌∷◌, ◌++◌, map, Option, slice_get}
+use Rattle.std.specs.Prelude.{◌≡◌, ℕ, Bool, List, [], ◌∷◌, ◌++◌, map, Option, Some, All, slice_get}
 use Rattle.std.specs.Option.{option_map}
 use Rattle.serf_agent.specs.Handed.{Handed}
 use Rattle.serf_agent.specs.View.{ConcreteState, view_of}
+use Rattle.serf_agent.specs.declared.config.Config.{Config}
+use Rattle.serf_agent.specs.declared.open_query.OpenQuery.{OpenQuery}
+use Rattle.serf_model.specs.declared.action.Action.{Action}
 use Rattle.serf_model.specs.declared.line.Line.{Line}
-use Rattle.serf_model.specs.Cluster.{IdealNode, Cluster, Run, Stepped}
+use Rattle.serf_model.specs.AnswerPromises.{HoldsCounted, HoldsSent}
+use Rattle.serf_model.specs.Cluster.{IdealNode, Cluster, Run, Stepped, run_of}
+use Rattle.serf_model.specs.Kept.{KeepsPromises}
 use Rattle.serf_model.specs.Ready.{AreRepresentable}
+use Rattle.serf_model.specs.Runs.{AreConfigs}
+use Rattle.serf_model.specs.Sizes.{HasSizes}
+use Rattle.serf_model.specs.Trace.{turns_of}
 
 -- an agent's concrete state, and the queries that were handed to it in this life; one that was answered is gone
 pub record NodeState : Type 0 where
@@ -48,3 +56,21 @@ pub record IsAt (r : Run) (w : WorldState) (lines : List Line) : Type 0 where
   pub view : IsViewed r.cluster w
   pub representable : AreRepresentable r.cluster
   pub lines_are : lines ≡ map (λ t. t.line) r.turns
+
+-- what holds of each open query that an agent stores, with the agent's number
+abbrev pub StoresOpen : (ℕ → ℕ × OpenQuery → Type 0) → WorldState → Type 0
+StoresOpen P w = (a : ℕ) (s : ConcreteState) → agent_at w a ≡ Some s → All (P a) s.asked
+
+-- A world did these actions, one after another, in a cluster of agents of these settings, and answered these lines: the
+-- turns that actions and lines show are those of a run that keeps all promises, and the world stores what it came to.
+pub record HasDone (configs : List Config) (actions : List Action) (lines : List Line) (w : WorldState) : Type 0 where
+  pub settings : AreConfigs configs
+  pub sizes : All HasSizes actions
+  pub view : IsViewed (run_of configs actions).cluster w
+  pub representable : AreRepresentable (run_of configs actions).cluster
+  pub lines_are : lines ≡ map (λ t. t.line) (run_of configs actions).turns
+  pub turns : turns_of actions (record { lines = lines; sent = w.sent }) ≡ (run_of configs actions).turns
+  pub promises : KeepsPromises configs (run_of configs actions)
+  -- each open query that is stored holds what was counted, and what it holds was sent
+  pub open_queries : StoresOpen (λ a. HoldsCounted a (run_of configs actions).turns) w
+  pub open_queries_sent : StoresOpen (λ a. HoldsSent (run_of configs actions).turns) w

@@ -15,7 +15,7 @@ use crate::merging::merge_at;
 use crate::node::Node;
 use crate::respond::respond_at;
 use serf_agent::Agent;
-use serf_model::{Action, Answer, Refusal};
+use serf_model::{Action, Answer, Refusal, handed_queries};
 use serf_snap::MemSink;
 use serf_wire::Bytes;
 use std::alloc::{AllocError, Global};
@@ -69,6 +69,7 @@ pub(crate) fn apply_action(
 ) -> Result<Done, AllocError>
     ensures { (m : IdealNode) → IsRepresentable m.agent → node.old ≡ node_of m → IfOk result (IsApplied (apply m sent.now action.now) node.new) }
 {
+    handed_queries();
     let agent = &mut node.agent;
     match action {
         Action::Fire {

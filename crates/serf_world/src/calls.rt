@@ -3,7 +3,9 @@
 ghost use Rattle.std.specs.Prelude.{◌≡◌, ◌∷◌, ◌++◌, ℕ, [], IfOk, IfSome, OnOk, unwrap_or, true};
 ghost use Rattle.serf_window.specs.Texts.{event_of};
 ghost use Rattle.serf_agent.specs.Ideal.{IdealAgent};
-ghost use Rattle.serf_agent.specs.Restart.{IsInText};
+ghost use Rattle.serf_snap.specs.Device.{fresh_device};
+ghost use Rattle.serf_snap.specs.Notes.{opened};
+ghost use Rattle.serf_agent.specs.Restart.{IsInText, unopened};
 ghost use Rattle.serf_agent.specs.Config.{is_sound};
 ghost use Rattle.serf_agent.specs.Sound.{IsSound};
 ghost use Rattle.serf_agent.specs.View.{view_of};
@@ -12,7 +14,7 @@ ghost use Rattle.serf_model.specs.Ready.{IsRepresentable};
 ghost use Rattle.serf_world.specs.Nodes.{DoesCall, done_of};
 
 use crate::done::{Done, fire_done, note_done, only_answer, query_done, receive_done, state_done};
-use serf_agent::{Agent, Config, QueryParams};
+use serf_agent::{Agent, Config, OpenFault, QueryParams};
 use serf_model::{Answer, SinkCall, representable_agents};
 use serf_snap::MemSink;
 use serf_wire::Bytes;
@@ -124,19 +126,23 @@ pub(crate) fn copy_of(alloc: Global, config: &Config) -> Result<Config, AllocErr
     })
 }
 
-/// An agent over a new sink that keeps this text.
+/// An agent over a new sink that keeps this text, and that fails nowhere: only memory can be wanting.
 pub(crate) fn open_on(
     alloc: Global,
     config: Config,
     text: &[u8],
 ) -> Result<Agent<MemSink>, AllocError>
+    requires { is_sound config ≡ true }
     ensures opened { (i : IdealAgent) → IsSound i → i.config ≡ config → IsInText i text.now → IfOk result (λ agent. agent.concrete ≡ view_of (reopened i text.now)) }
-    ensures sound { OnOk result (is_sound config ≡ true) }
+    ensures first { IfOk result (λ agent. agent.concrete ≡ view_of (reopened (unopened config (opened text.now (fresh_device text.now))) text.now)) }
 {
     let sink = MemSink::with(alloc, text)?;
     match Agent::open(alloc, config, text, sink) {
         Ok(agent) => Ok(agent),
-        Err(_) => Err(AllocError),
+        Err(not_opened) => match not_opened.fault {
+            OpenFault::OutOfMemory => Err(AllocError),
+            OpenFault::BadConfig | OpenFault::SinkFault => unreachable!(),
+        },
     }
 }
 

@@ -10,7 +10,7 @@ ghost use Rattle.serf_world.specs.Nodes.{DoesCall, done_of, merge_answer};
 
 use crate::done::Done;
 use serf_agent::{Agent, BytesList, EventOut, MergeFault, PushPull};
-use serf_model::{Answer, Refusal};
+use serf_model::{Answer, Refusal, merged_agents};
 use serf_snap::MemSink;
 use std::alloc::{AllocError, Global};
 
@@ -37,6 +37,7 @@ pub(crate) fn merge_at(
 ) -> Result<Done, AllocError>
     ensures { (m : IdealNode) → IsRepresentable m.agent → agent.old.concrete ≡ view_of m.agent → IfOk result (DoesCall (merges_packet m join (decoded packet.now)) agent.new.concrete) }
 {
+    merged_agents();
     let mut events: Vec<EventOut> = Vec::new(alloc);
     let merged = agent.merge_remote_state(alloc, packet, join, &mut events);
     let answer = merge_answer(&merged)?;

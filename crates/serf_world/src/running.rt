@@ -1,15 +1,10 @@
 //! A whole run.
 
-ghost use Rattle.std.specs.Prelude.{◌≡◌, ◌≤◌, ◌++◌, ◌∷◌, ℕ, [], IfErr, IfOk, OnErr, OnOk, length, take};
+ghost use Rattle.std.specs.Prelude.{◌≡◌, ◌<◌, ◌++◌, ◌∷◌, ℕ, [], IfErr, IfOk, OnErr, OnOk, length, take};
 ghost use Rattle.std.specs.List.{fold};
-ghost use Rattle.serf_model.specs.AnswerPromises.{AckedOnce, AnswersMade, CountedInTime, CountedOnce, CountedSent, OpenQueriesHold, RepliedOnce};
-ghost use Rattle.serf_model.specs.Bounds.{EventsBounded, QueriesBounded};
 ghost use Rattle.serf_model.specs.Cluster.{Cluster, Run, after, run_of, step, trace_of};
-ghost use Rattle.serf_model.specs.HandOuts.{HandsOutEntered, HandsOutGiven, MessagesFired, NewIsHanded, OnlyToActor};
-ghost use Rattle.serf_model.specs.Promises.{Held, Later, Once, OnlyFired, QueryFired, QueryHandedOnce, QueryLater, QueryOnce};
-ghost use Rattle.serf_model.specs.Queried.{QueryOnlyFired};
 ghost use Rattle.serf_model.specs.Ready.{AreRepresentable};
-ghost use Rattle.serf_model.specs.Runs.{AreConfigs, IsRun, OfTurns};
+ghost use Rattle.serf_model.specs.Runs.{IsRun, ShowsKept};
 ghost use Rattle.serf_model.specs.Trace.{outcome_of};
 ghost use Rattle.serf_world.specs.View.{AddsLine, IsViewed};
 
@@ -45,7 +40,7 @@ fn step_to(
 fn run_in(alloc: Global, world: World, actions: &[Action]) -> Result<Trace, Trace>
     ensures done { (r : Run) → IsViewed r.cluster world → AreRepresentable r.cluster → r.turns ≡ [] → IfOk result (λ trace. outcome_of trace ≡ trace_of (fold after r actions.now)) }
     ensures memory { (r : Run) → IsViewed r.cluster world → AreRepresentable r.cluster → r.turns ≡ []
-        → IfErr result (λ trace. (n : ℕ) × (n ≤ length actions.now) × (outcome_of trace ≡ trace_of (fold after r (take n actions.now)))) }
+        → IfErr result (λ trace. (n : ℕ) × (n < length actions.now) × (outcome_of trace ≡ trace_of (fold after r (take n actions.now)))) }
 {
     let mut world = world;
     let mut lines = Vec::new(alloc);
@@ -96,43 +91,13 @@ fn run_exactly(alloc: Global, configs: Vec<Config>, actions: &[Action]) -> Resul
 ///
 /// A refused action is a line of the trace, and the run goes on. `NameTwice` is looked at first, then `BadConfig`; after
 /// both nothing was done. `OutOfMemory` hands back the trace of the actions that were done before. Every run of the model
-/// keeps these promises ([`serf_model::run_promises`]), and this is the run of the model.
+/// keeps all promises ([`serf_model::run_promises`]), and this is the run of the model.
 pub fn run(alloc: Global, configs: Vec<Config>, actions: &[Action]) -> Result<Trace, RunFault>
     // The trace is that of the ideal cluster.
     ensures exactly { IsRun configs.items actions.now result }
 
-    // What the turns of every run keep, which its actions and its trace show.
-    ensures once { OfTurns Once actions.now result }
-    ensures fired { OfTurns OnlyFired actions.now result }
-    ensures later { OfTurns Later actions.now result }
-    ensures held { OfTurns Held actions.now result }
-    ensures query_once { OfTurns QueryOnce actions.now result }
-    ensures query_later { OfTurns QueryLater actions.now result }
-    ensures query_handed { OfTurns QueryHandedOnce actions.now result }
-    ensures query_fired { OfTurns QueryFired actions.now result }
-    ensures query_only_fired { OfTurns QueryOnlyFired actions.now result }
-
-    // What they keep of what is handed out, and of queries as messages.
-    ensures only_to_actor { OfTurns OnlyToActor actions.now result }
-    ensures hands_out_given { OfTurns HandsOutGiven actions.now result }
-    ensures new_is_handed { OfTurns NewIsHanded actions.now result }
-    ensures hands_out_entered { OfTurns (HandsOutEntered configs.items) actions.now result }
-    ensures messages_fired { OfTurns (MessagesFired configs.items) actions.now result }
-
-    // What they keep of acks and responses.
-    ensures counted_once { OfTurns CountedOnce actions.now result }
-    ensures counted_in_time { OfTurns CountedInTime actions.now result }
-    ensures counted_sent { OfTurns CountedSent actions.now result }
-    ensures answers_made { OfTurns (AnswersMade configs.items) actions.now result }
-    ensures replied_once { OfTurns RepliedOnce actions.now result }
-    ensures acked_once { OfTurns AckedOnce actions.now result }
-
-    // What each agent's windows hold, by its settings.
-    ensures events_bounded { OfTurns (EventsBounded configs.items) actions.now result }
-    ensures queries_bounded { OfTurns (QueriesBounded configs.items) actions.now result }
-
-    // After each action the ideal agents' open queries hold what was counted.
-    ensures open_queries { (n : ℕ) → AreConfigs configs.items → OpenQueriesHold (run_of configs.items (take n actions.now)) }
+    // It shows a run that keeps all promises.
+    ensures promises { ShowsKept configs.items actions.now result }
 {
     run_promises();
     turns_shown();

@@ -6,13 +6,13 @@ ghost use Rattle.serf_model.specs.Sizes.{HasSizes, IsSized};
 use serf_model::Action;
 
 /// Numbers have their types' sizes. Does nothing.
-#[tactic(auto, using(serf_wire::proofs::Ranged::fits_signed))]
+#[tactic(auto, using(crate::proofs::SizeLaws::fits_signed))]
 fn know_sizes(id: u32, port: u16, relay_factor: u8, timeout: i64)
     ensures { IsSized id port relay_factor timeout }
 {}
 
 /// Reads the numbers of an action, so that contracts know their sizes. Does nothing.
-fn read_numbers(action: &Action)
+pub(crate) fn read_numbers(action: &Action)
     ensures { HasSizes action.now }
 {
     match action {

@@ -1,20 +1,29 @@
 //! A cluster that does one action after another.
 
-ghost use Rattle.std.specs.Prelude.{◌≡◌, ◌↔◌, ℕ, [], false, true, map, slice_get, IfOk, IsErrOf, IsTrue, OnErr, OnOk};
+ghost use Rattle.std.specs.Prelude.{◌≡◌, ◌↔◌, ◌++◌, ◌∷◌, ℕ, List, [], false, true, map, slice_get, IfOk, IsErrOf, IsTrue, OnErr, OnOk};
+ghost use Rattle.std.specs.List.{AllByRecursion};
 ghost use Rattle.std.specs.Option.{option_map};
+ghost use Rattle.serf_agent.specs.Config.{is_sound};
+ghost use Rattle.serf_agent.specs.declared.config.Config.{Config};
+ghost use Rattle.serf_model.specs.declared.action.Action.{Action};
+ghost use Rattle.serf_model.specs.declared.line.Line.{Line};
 ghost use Rattle.serf_model.specs.Cluster.{Cluster, first_node, on_agent, start, step};
 ghost use Rattle.serf_model.specs.Ready.{AreRepresentable};
 ghost use Rattle.serf_model.specs.Runs.{AreConfigs};
 ghost use Rattle.serf_model.specs.Trace.{actor_of, injects_of};
-ghost use Rattle.serf_world.specs.View.{IsViewed, TakesStep, agent_at, node_of};
+ghost use Rattle.serf_world.specs.View.{HasDone, IsViewed, TakesStep, agent_at, node_of};
 
 use crate::calls::open_on;
 use crate::fault::StepFault;
 use crate::node::Node;
 use crate::roster::Roster;
+use crate::sizes::read_numbers;
 use crate::turn::{Turn, send, take_turn};
 use serf_agent::{Agent, BytesList, Config};
-use serf_model::{Action, Answer, EventLines, Line, Numbers, Refusal, representable_agents};
+use serf_model::{
+    Action, Answer, EventLines, Line, Numbers, Refusal, representable_agents, run_promises,
+    turns_shown,
+};
 use serf_snap::MemSink;
 use serf_wire::Bytes;
 use std::alloc::{AllocError, Global};
@@ -72,6 +81,7 @@ fn injected(alloc: Global, action: &Action) -> Result<BytesList, AllocError>
 
 /// Agents of these settings that have done nothing.
 fn open_all(alloc: Global, configs: Vec<Config>) -> Result<Vec<Node>, AllocError>
+    requires { AllByRecursion (λ c. is_sound c ≡ true) configs.items }
     ensures { IfOk result (λ nodes. nodes.items ≡ map (λ c. node_of (first_node c)) configs.items) }
 {
     let mut nodes = Vec::with_capacity(alloc, configs.len())?;
@@ -104,8 +114,11 @@ impl World {
         ensures fresh { IfOk result (λ world. world.poisoned ≡ false) }
         ensures configs { OnOk result (AreConfigs roster) }
         ensures representable { OnOk result (AreRepresentable (start roster).cluster) }
+        ensures done { IfOk result (λ world. HasDone roster [] [] world) }
     {
         representable_agents();
+        run_promises();
+        turns_shown();
         Ok(World {
             nodes: open_all(alloc, roster.into_vec())?,
             sent: Vec::new(alloc),
@@ -118,6 +131,9 @@ impl World {
     /// `OutOfMemory` where it found no memory: the cluster is poisoned then, and answers `Spent` from then on, which
     /// changes nothing. The agent may have done the action, with no line of it; what [`World::agent`] lends of a poisoned
     /// cluster is of no run.
+    ///
+    /// Where each step so far answered a line, these lines are those of a run that keeps all promises, and the agents
+    /// that are stored hold of their open queries what was counted (`done`).
     pub fn step(&mut self, alloc: Global, action: &Action) -> Result<Line, StepFault>
         ensures step { (c : Cluster) → IsViewed c self.old → AreRepresentable c → IfOk result (TakesStep (step c action.now) self.new) }
         ensures spent { IsErrOf result StepFault.Spent ↔ IsTrue self.old.poisoned }
@@ -125,7 +141,14 @@ impl World {
         ensures ok { OnOk result (self.new.poisoned ≡ false) }
         ensures err { OnErr result (self.new.poisoned ≡ true) }
         ensures kept { OnErr result (self.new.sent ≡ self.old.sent) }
+        ensures done { (configs : List Config) (actions : List Action) (lines : List Line)
+            → HasDone configs actions lines self.old
+            → IfOk result (λ line.
+            HasDone configs (actions ++ action.now ∷ []) (lines ++ line ∷ []) self.new) }
     {
+        run_promises();
+        turns_shown();
+        read_numbers(action);
         if self.poisoned {
             return Err(StepFault::Spent);
         }

@@ -8,7 +8,7 @@ ghost use Rattle.serf_wire.specs.Spells.{SpellsMap};
 ghost use Rattle.serf_wire.specs.declared.layout.MessageType.TheVariants as types;
 
 use crate::compact::{once_flag, once_number, once_text, read_map_head};
-use crate::key::{Key, read_key};
+use crate::key::{EventKey, read_event_key};
 use crate::message::Message;
 use serf_lamport::Time;
 
@@ -25,29 +25,28 @@ struct EventFields<'a> {
 fn read_pair<'a>(found: &mut EventFields<'a>, bytes: &'a [u8]) -> Option<&'a [u8]>
     ensures { IfSome result (λ rest. Extends IsEventSoFar found.old found.new bytes.now rest.now) }
 {
-    let (key, value) = read_key(bytes)?;
+    let (key, value) = read_event_key(bytes)?;
     match key {
-        Key::Time => {
+        EventKey::Time => {
             let (time, rest) = once_number(found.time, value)?;
             found.time = Some(time);
             Some(rest)
         }
-        Key::Name => {
+        EventKey::Name => {
             let (name, rest) = once_text(found.name, value)?;
             found.name = Some(name);
             Some(rest)
         }
-        Key::Payload => {
+        EventKey::Payload => {
             let (payload, rest) = once_text(found.payload, value)?;
             found.payload = Some(payload);
             Some(rest)
         }
-        Key::Cc => {
+        EventKey::Cc => {
             let (coalesce, rest) = once_flag(found.coalesce, value)?;
             found.coalesce = Some(coalesce);
             Some(rest)
         }
-        _ => None,
     }
 }
 

@@ -11,7 +11,7 @@ ghost use Rattle.serf_wire.specs.declared.layout.MessageType.TheVariants as type
 use super::slots::once_slots;
 use super::status::once_status;
 use crate::compact::{once_number, once_texts, or_none, or_zero, read_map_head};
-use crate::key::{Key, read_state_key};
+use crate::key::{StateKey, read_state_key};
 use crate::lists::{SlotViews, StatusTimes, Texts};
 use crate::message::Message;
 
@@ -32,37 +32,36 @@ fn read_pair<'a>(found: &mut StateFields<'a>, bytes: &'a [u8]) -> Option<&'a [u8
 {
     let (key, value) = read_state_key(bytes)?;
     match key {
-        Key::Time => {
+        StateKey::Time => {
             let (member_clock, rest) = once_number(found.member_clock, value)?;
             found.member_clock = Some(member_clock);
             Some(rest)
         }
-        Key::StatusTimes => {
+        StateKey::StatusTimes => {
             let (status, rest) = once_status(found.status, value)?;
             found.status = Some(status);
             Some(rest)
         }
-        Key::LeftMembers => {
+        StateKey::LeftMembers => {
             let (left, rest) = once_texts(found.left, value)?;
             found.left = Some(left);
             Some(rest)
         }
-        Key::EventTime => {
+        StateKey::EventTime => {
             let (event_clock, rest) = once_number(found.event_clock, value)?;
             found.event_clock = Some(event_clock);
             Some(rest)
         }
-        Key::Events => {
+        StateKey::Events => {
             let (slots, rest) = once_slots(found.slots, value)?;
             found.slots = Some(slots);
             Some(rest)
         }
-        Key::QueryTime => {
+        StateKey::QueryTime => {
             let (query_clock, rest) = once_number(found.query_clock, value)?;
             found.query_clock = Some(query_clock);
             Some(rest)
         }
-        _ => None,
     }
 }
 

@@ -4,9 +4,16 @@ use Rattle.serf_model.proofs.AnswerPromiseLaws.{counting-run, served-run}
 use Rattle.serf_model.proofs.BoundLaws.{events-bounded, queries-bounded}
 use Rattle.serf_model.proofs.CountingPromises.{counted-once, open-hold}
 use Rattle.serf_model.proofs.HandOutLaws.{entering-run, handing-out, messaging-run}
+use Rattle.serf_model.proofs.KeptLaws.{kept, kept-start}
 use Rattle.serf_model.proofs.PromiseLaws.{promised, query-fired}
 use Rattle.serf_model.proofs.QueriesEntered.{query-only-fired}
 use Rattle.serf_model.proofs.laws.run_promises.Goals as goal
+
+pub returns-clause-promises : goal.returns-clause-promises
+returns-clause-promises c = kept c.slot_laws.ensures.events c.slot_laws.ensures.queries
+
+pub returns-clause-start : goal.returns-clause-start
+returns-clause-start c = kept-start
 
 pub returns-clause-once : goal.returns-clause-once
 returns-clause-once c = λ configs actions ok. (promised configs actions ok).once
@@ -69,10 +76,10 @@ pub returns-clause-replied_once : goal.returns-clause-replied_once
 returns-clause-replied_once c = λ configs actions sized ok. replied-once configs (run_of configs actions).cluster (run_of configs actions).turns (served-run configs actions sized ok)
 
 pub returns-clause-events_bounded : goal.returns-clause-events_bounded
-returns-clause-events_bounded c = events-bounded
+returns-clause-events_bounded c = events-bounded c.slot_laws.ensures.events c.slot_laws.ensures.queries
 
 pub returns-clause-queries_bounded : goal.returns-clause-queries_bounded
-returns-clause-queries_bounded c = queries-bounded
+returns-clause-queries_bounded c = queries-bounded c.slot_laws.ensures.events c.slot_laws.ensures.queries
 
 pub returns-clause-open_queries : goal.returns-clause-open_queries
 returns-clause-open_queries c = λ configs actions ok. open-hold (run_of configs actions) (counting-run configs actions ok)

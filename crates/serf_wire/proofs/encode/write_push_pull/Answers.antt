@@ -1,4 +1,5 @@
 use Rattle.std.proofs.Common.{lit<}
+use Rattle.serf_wire.specs.Buffers.{slots_lent}
 use Rattle.serf_wire.proofs.Ranged.{status_ranged, slots_timed}
 use Rattle.serf_wire.proofs.Mapped.{short_parts}
 use Rattle.serf_wire.proofs.encode.write_push_pull.Goals as goal
@@ -23,6 +24,6 @@ returns-clause-ranged c = record {
   member_clock = assumption;
   status = status_ranged c.args.parts.now.status.now c.in_ok-put_status_field.ensures.times;
   event_clock = assumption;
-  slots = slots_timed c.args.parts.now.slots.now c.in_ok-put_slots_field.ensures.times;
+  slots = slots_timed (slots_lent c.args.parts.now.slots) c.in_ok-put_slots_field.ensures.times;
   query_clock = assumption;
 }

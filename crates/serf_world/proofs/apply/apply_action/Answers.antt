@@ -2,7 +2,6 @@ use Rattle.std.proofs.Common.{ap, sym, ◌∙◌}
 use Rattle.std.specs.Prelude.{slice_get}
 use Rattle.serf_agent.specs.View.{view_of}
 use Rattle.serf_model.specs.Cluster.{delivers, merges_given}
-use Rattle.serf_model.proofs.HistoryGrowth.{delivers-handed, merges-handed}
 use Rattle.serf_world.specs.View.{NodeState}
 use Rattle.serf_world.proofs.NodeLaws.{is-applied, does-one, does-respond, responds-agent}
 use Rattle.serf_world.proofs.apply.apply_action.Goals as goal
@@ -17,7 +16,7 @@ pub returns-in-Deliver : goal.returns-in-Deliver
 returns-in-Deliver c = λ m representable is.
     let was = c.node.view_is ∙ is in
     rw (c.in-Deliver.is) (is-applied (delivers m c.in-Deliver.now (slice_get c.args.sent.now c.in-Deliver.packet)) c.deliver_at.result c.deliver_at.new.agent.concrete _
-    (ap (λ (s : NodeState). s.handed) was ∙ sym (delivers-handed m c.in-Deliver.now (slice_get c.args.sent.now c.in-Deliver.packet))) (c.deliver_at.ensures m representable (ap (λ (s : NodeState). s.concrete) was)))
+    (ap (λ (s : NodeState). s.handed) was ∙ sym (c.handed_queries.ensures.delivers m c.in-Deliver.now (slice_get c.args.sent.now c.in-Deliver.packet))) (c.deliver_at.ensures m representable (ap (λ (s : NodeState). s.concrete) was)))
 
 pub returns-in-State : goal.returns-in-State
 returns-in-State c = λ m representable is.
@@ -28,7 +27,7 @@ pub returns-in-Merge : goal.returns-in-Merge
 returns-in-Merge c = λ m representable is.
     let was = c.node.view_is ∙ is in
     rw (c.in-Merge.is) (is-applied (merges_given m c.in-Merge.join (slice_get c.args.sent.now c.in-Merge.packet)) c.merge_given.result c.merge_given.new.agent.concrete _
-    (ap (λ (s : NodeState). s.handed) was ∙ sym (merges-handed m c.in-Merge.join (slice_get c.args.sent.now c.in-Merge.packet))) (c.merge_given.ensures m representable (ap (λ (s : NodeState). s.concrete) was)))
+    (ap (λ (s : NodeState). s.handed) was ∙ sym (c.handed_queries.ensures.merges m c.in-Merge.join (slice_get c.args.sent.now c.in-Merge.packet))) (c.merge_given.ensures m representable (ap (λ (s : NodeState). s.concrete) was)))
 
 pub returns-in-Query : goal.returns-in-Query
 returns-in-Query c = λ m representable is.

@@ -12,7 +12,7 @@ returns c = λ m representable is.
     let j : IdealAgent = reopened m.agent text in
     let same : c.as_slice.result.now ≡ text_after m.agent c.args.tail.now =
     c.as_slice.ensures.value ∙ c.in_ok-text.ensures ∙ ap (λ (s : ConcreteState). unwrap_or s.snapshot.durable [] ++ c.args.tail.now) is in
-    let config = sym (c.in_ok-config.ensures ∙ c.config.ensures ∙ ap (λ (s : ConcreteState). s.config) is) in
+    let config = sym (c.in_ok-config.ensures ∙ c.config.ensures.config ∙ ap (λ (s : ConcreteState). s.config) is) in
     let within = subst (IsInText m.agent) (sym same) (c.representable_agents.ensures.text m c.args.tail.now representable) in
     let opened : c.in_ok-opened.opened.concrete ≡ view_of (reopened m.agent (text_after m.agent c.args.tail.now)) =
     c.in_ok-opened.ensures.opened m.agent representable.consistent.sound config within ∙ ap (λ (t : List ℕ). view_of (reopened m.agent t)) same in

@@ -11,4 +11,4 @@ pub returns-in-Err : goal.returns-in-Err
 returns-in-Err c =
     let world = c.in-Ok-new.ensures in
     let m = c.in-Err.ensures.memory (start c.in-Ok.roster) world.start world.representable refl in
-    rw (← c.in-Ok.ensures.agents) (m.0, m.1, inr world.configs, m.2)
+    rw (← c.in-Ok.ensures.agents) (m.0, inr m.1, inr world.configs, m.2)

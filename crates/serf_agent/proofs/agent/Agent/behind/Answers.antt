@@ -3,9 +3,7 @@ use Rattle.std.specs.Prelude.{All}
 use Rattle.std.proofs.lemmas.List.Elements.{All-nil}
 use Rattle.serf_wire.specs.declared.texts.EventBody.{EventBody}
 use Rattle.serf_window.specs.Window.{WindowOf}
-use Rattle.serf_window.proofs.WindowLaws.{length-slots_of}
 use Rattle.serf_agent.specs.declared.open_query.OpenQuery.{OpenQuery}
-use Rattle.serf_agent.specs.Tracks.{ConcreteTrack}
 use Rattle.serf_agent.proofs.agent.Agent.behind.Goals as goal
 
 pub invariant_of-result : goal.invariant_of-result
@@ -14,9 +12,9 @@ invariant_of-result g c =
     let queries = c.raise-2.ensures.window in
     record {
       config_sound = c.requires.config_sound;
-      event_size = ap (λ (w : WindowOf EventBody). length w.slots) events ∙ ap (λ (s : ConcreteTrack EventBody). length s.slots) c.requires.events ∙ length-slots_of c.args.config.event_buffer [];
+      event_size = ap (λ (w : WindowOf EventBody). length w.slots) events ∙ c.requires.event_size;
       event_per_time = ap (λ (w : WindowOf EventBody). w.per_time) events ∙ c.requires.event_per_time;
-      query_size = ap (λ (w : WindowOf ℕ). length w.slots) queries ∙ ap (λ (s : ConcreteTrack ℕ). length s.slots) c.requires.queries ∙ length-slots_of c.args.config.query_buffer [];
+      query_size = ap (λ (w : WindowOf ℕ). length w.slots) queries ∙ c.requires.query_size;
       query_per_time = ap (λ (w : WindowOf ℕ). w.per_time) queries ∙ c.requires.query_per_time;
       asked_below = subst (λ (l : List (ℕ × OpenQuery)). All (λ q. q.0 < c.raise-2.new.self.clock) l) (sym c.new.ensures) (All-nil (λ q. q.0 < c.raise-2.new.self.clock));
     }

@@ -1,8 +1,10 @@
-use Rattle.std.proofs.Common.{arith, rules, ◌≡◌, ◌<◌, ◌-◌, ◌^◌, ℕ, false, ap, sym, subst, refl, ◌∙◌, Ok, Err}
+use Rattle.std.proofs.Common.{◌≡◌, ◌<◌, ◌-◌, ◌^◌, ℕ, ap, sym, subst, refl, ◌∙◌, Ok, Err}
 use Rattle.serf_window.specs.Texts.{event_of}
 use Rattle.serf_snap.specs.declared.kind.ClockKind.TheVariants as kinds
+use Rattle.serf_snap.specs.Clocks.{clock_line}
 use Rattle.serf_snap.specs.Notes.{Kept, Failed, noted, written}
 use Rattle.serf_agent.specs.Calls.{MayNote}
+use Rattle.serf_agent.specs.Devices.{FailsLine, device_noted}
 use Rattle.serf_agent.specs.declared.outcome.LineFault.{LineFault}
 use Rattle.serf_agent.specs.Events.{is_too_large, drawn, event_entered, event_out, event_packet}
 use Rattle.serf_agent.specs.Ideal.{with_snapshot}
@@ -24,9 +26,10 @@ returns-in-Ok-take_in-clause-step g c = λ i sound is _.
     let may = subst (λ (t : ℕ). MayNote kinds.Event t i.snapshot Kept) at (subst (λ (s : ConcreteState). MayNote kinds.Event c.in-Some.time s.snapshot Kept) is e.allowed) in
     let packet = c.in-Ok.ensures ∙ ap (λ (t : ℕ). event_packet t what c.args.coalesce) at in
     let handed = e.out ∙ ap (λ (t : ℕ). event_out t what c.args.coalesce) at in
-    steps-fire_entered i what c.args.coalesce _ c.take_in.new.self.concrete sound runs time (small-short i (drawn i.events.clock) what c.args.coalesce sound small) (fire-allowed i what c.args.coalesce runs small time) may
+    let device = e.device ∙ ap (λ (s : ConcreteState). device_noted kinds.Event c.in-Some.time s.snapshot c.args.self.now.device) is ∙ ap (λ (t : ℕ). device_noted kinds.Event t i.snapshot c.args.self.now.device) at in
+    steps-fire_entered i what c.args.coalesce _ c.args.self.now.device c.take_in.new.self sound runs time (small-short i (drawn i.events.clock) what c.args.coalesce sound small) (fire-allowed i what c.args.coalesce runs small time) may
     (λ k. Ok record { packet = packet k; handed = handed k })
-    (e.entered i is ∙ ap (λ (t : ℕ). view_of (with_snapshot (noted kinds.Event t i.snapshot Kept) (event_entered t what i))) at)
+    (e.entered i is ∙ ap (λ (t : ℕ). view_of (with_snapshot (noted kinds.Event t i.snapshot Kept) (event_entered t what i))) at) device
 
 pub returns-clause-step : goal.returns-clause-step
 returns-clause-step g c = λ i sound is _.
@@ -42,5 +45,12 @@ returns-clause-step g c = λ i sound is _.
     let durable = c.take_in.new.self.concrete.snapshot.durable in
     let may = subst (λ (t : ℕ). MayNote kinds.Event t i.snapshot (Failed durable)) at (subst (λ (s : ConcreteState). MayNote kinds.Event c.in-Some.time s.snapshot (Failed durable)) is (e.fault_allowed err)) in
     let state = failed-view i c.args.self.now.concrete c.take_in.new.self.concrete kinds.Event c.in-Some.time durable is (e.failed err) in
-    steps-fire_failed i what c.args.coalesce durable _ c.take_in.new.self.concrete sound (fire-allowed i what c.args.coalesce runs small time) may refl
-    (state ∙ ap (λ (t : ℕ). view_of (with_snapshot (written kinds.Event t i.snapshot (Failed durable)) i)) at)
+    let device = subst (λ (t : ℕ). FailsLine c.args.self.now.device c.take_in.new.self.device (clock_line kinds.Event t)) at (e.fault_device err) in
+    steps-fire_failed i what c.args.coalesce durable _ c.args.self.now.device c.take_in.new.self sound (fire-allowed i what c.args.coalesce runs small time) may refl
+    (state ∙ ap (λ (t : ℕ). view_of (with_snapshot (written kinds.Event t i.snapshot (Failed durable)) i)) at) device
+
+pub returns-clause-fault_device : goal.returns-clause-fault_device
+returns-clause-fault_device g c = λ _.
+    let err = ap (λ (x : LineFault). Err x) c.in-Err-SinkFault.field-0-is in
+    let at = c.in-Some.ensures.some.1 ∙ ap (λ (a : AgentState). a.concrete.events.clock) c.self.view_is in
+    subst (λ (t : ℕ). FailsLine c.args.self.now.device c.take_in.new.self.device (clock_line kinds.Event t)) at (c.in-Err-SinkFault.ensures.fault_device err)

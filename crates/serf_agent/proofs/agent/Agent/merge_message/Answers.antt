@@ -1,7 +1,9 @@
-use Rattle.std.proofs.Common.{◌≡◌, None, Some, sym, subst, ◌∙◌}
+use Rattle.std.proofs.Common.{◌≡◌, None, Some, Ok, Err, sym, subst, ◌∙◌}
 use Rattle.serf_wire.specs.Message.{PushPull}
+use Rattle.serf_snap.specs.Device.{Device}
 use Rattle.serf_agent.specs.Lent.{push_pull_in}
-use Rattle.serf_agent.specs.States.{Merges, joined}
+use Rattle.serf_agent.specs.Merging.{Received}
+use Rattle.serf_agent.specs.States.{Merges, events_of, joined}
 use Rattle.serf_agent.proofs.MergeLaws.{merges-all, merges-wrong, same-push_pull}
 use Rattle.serf_agent.proofs.agent.Agent.merge_message.Goals as goal
 
@@ -10,15 +12,15 @@ returns-in-Ok-clause-merged g c = λ i m sound is says.
     let lent = push_pull_in c.in-Some.state in
     let same : lent ≡ m = same-push_pull lent m (sym c.in-Some.ensures.some ∙ says) in
     let join = c.join.ensures.joined i sound is in
-    let r = c.in-Ok.ensures.received (joined lent c.args.is_join i) join.1 join.0 in
-    subst (λ (p : PushPull). Merges i p c.args.is_join c.args.out.now.items c.receive_slots.new.out.items c.receive_slots.new.self.concrete None) same
-    (merges-all i lent c.args.is_join c.args.out.now.items c.receive_slots.new.out.items c.receive_slots.new.self.concrete c.in-Ok.field-0 r)
+    let r = subst (λ (d : Device). Received (joined lent c.args.is_join i) (events_of lent.slots) c.args.out.now.items c.receive_slots.new.out.items d c.receive_slots.new.self (Ok c.in-Ok.field-0)) c.join.ensures.snapshot.1 (c.in-Ok.ensures.received (joined lent c.args.is_join i) join.1 join.0) in
+    subst (λ (p : PushPull). Merges i p c.args.is_join c.args.out.now.items c.receive_slots.new.out.items c.args.self.now.device c.receive_slots.new.self None) same
+    (merges-all i lent c.args.is_join c.args.out.now.items c.receive_slots.new.out.items c.args.self.now.device c.receive_slots.new.self c.in-Ok.field-0 r)
 
 pub returns-in-Err-clause-merged : goal.returns-in-Err-clause-merged
 returns-in-Err-clause-merged g c = λ i m sound is says.
     let lent = push_pull_in c.in-Some.state in
     let same : lent ≡ m = same-push_pull lent m (sym c.in-Some.ensures.some ∙ says) in
     let join = c.join.ensures.joined i sound is in
-    let r = c.in-Err.ensures.received (joined lent c.args.is_join i) join.1 join.0 in
-    subst (λ (p : PushPull). Merges i p c.args.is_join c.args.out.now.items c.receive_slots.new.out.items c.receive_slots.new.self.concrete (Some c.in-Err.fault)) same
-    (merges-wrong i lent c.args.is_join c.args.out.now.items c.receive_slots.new.out.items c.receive_slots.new.self.concrete c.in-Err.fault r)
+    let r = subst (λ (d : Device). Received (joined lent c.args.is_join i) (events_of lent.slots) c.args.out.now.items c.receive_slots.new.out.items d c.receive_slots.new.self (Err c.in-Err.fault)) c.join.ensures.snapshot.1 (c.in-Err.ensures.received (joined lent c.args.is_join i) join.1 join.0) in
+    subst (λ (p : PushPull). Merges i p c.args.is_join c.args.out.now.items c.receive_slots.new.out.items c.args.self.now.device c.receive_slots.new.self (Some c.in-Err.fault)) same
+    (merges-wrong i lent c.args.is_join c.args.out.now.items c.receive_slots.new.out.items c.args.self.now.device c.receive_slots.new.self c.in-Err.fault r)

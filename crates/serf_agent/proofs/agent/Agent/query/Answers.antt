@@ -1,7 +1,9 @@
 use Rattle.std.proofs.Common.{◌≡◌, ◌<◌, ◌-◌, ◌^◌, ℕ, false, ap, sym, subst, refl, ◌∙◌, Ok, Err}
 use Rattle.serf_snap.specs.declared.kind.ClockKind.TheVariants as kinds
+use Rattle.serf_snap.specs.Clocks.{clock_line}
 use Rattle.serf_snap.specs.Notes.{Kept, Failed, noted, written}
 use Rattle.serf_agent.specs.Calls.{MayNote}
+use Rattle.serf_agent.specs.Devices.{FailsLine, device_noted}
 use Rattle.serf_agent.specs.declared.outcome.LineFault.{LineFault}
 use Rattle.serf_agent.specs.Ideal.{with_snapshot}
 use Rattle.serf_agent.specs.Queries.{fired_query, is_too_large_query, query_asked, query_at}
@@ -25,9 +27,10 @@ returns-in-Ok-clause-step g c = λ i sound is _.
     let some = sym c.has_no_time.ensures ∙ c.if-has_no_time.false in
     let may = subst (λ (t : ℕ). MayNote kinds.Query t i.snapshot Kept) at (subst (λ (s : ConcreteState). MayNote kinds.Query c.in-Some.time s.snapshot Kept) is e.allowed) in
     let fired = e.fired ∙ (λ k. fired_query (node k) c.args.now (query_at (at k) (node k) c.args.id name payload params)) in
-    steps-query_asked i c.args.now c.args.id name payload params _ c.ask.new.self.concrete sound runs time (query-allowed i c.args.id name payload params runs small some time) may
+    let device = e.device ∙ ap (λ (s : ConcreteState). device_noted kinds.Query c.in-Some.time s.snapshot c.args.self.now.device) is ∙ ap (λ (t : ℕ). device_noted kinds.Query t i.snapshot c.args.self.now.device) at in
+    steps-query_asked i c.args.now c.args.id name payload params _ c.args.self.now.device c.ask.new.self sound runs time (query-allowed i c.args.id name payload params runs small some time) may
     (λ k. Ok (fired k))
-    (e.entered i is ∙ (λ k. view_of (with_snapshot (noted kinds.Query (at k) i.snapshot Kept) (query_asked c.args.now (query_at (at k) (node k) c.args.id name payload params) i))))
+    (e.entered i is ∙ (λ k. view_of (with_snapshot (noted kinds.Query (at k) i.snapshot Kept) (query_asked c.args.now (query_at (at k) (node k) c.args.id name payload params) i)))) device
 
 pub returns-in-Err-SinkFault-clause-step : goal.returns-in-Err-SinkFault-clause-step
 returns-in-Err-SinkFault-clause-step g c = λ i sound is _.
@@ -45,5 +48,6 @@ returns-in-Err-SinkFault-clause-step g c = λ i sound is _.
     let durable = c.ask.new.self.concrete.snapshot.durable in
     let may = subst (λ (t : ℕ). MayNote kinds.Query t i.snapshot (Failed durable)) at (subst (λ (s : ConcreteState). MayNote kinds.Query c.in-Some.time s.snapshot (Failed durable)) is (e.fault_allowed err)) in
     let state = failed-view i c.args.self.now.concrete c.ask.new.self.concrete kinds.Query c.in-Some.time durable is (e.failed err) in
-    steps-query_fire_failed i c.args.now c.args.id name payload params durable _ c.ask.new.self.concrete sound (query-allowed i c.args.id name payload params runs small some time) may refl
-    (state ∙ ap (λ (t : ℕ). view_of (with_snapshot (written kinds.Query t i.snapshot (Failed durable)) i)) at)
+    let device = subst (λ (t : ℕ). FailsLine c.args.self.now.device c.ask.new.self.device (clock_line kinds.Query t)) at (e.fault_device err) in
+    steps-query_fire_failed i c.args.now c.args.id name payload params durable _ c.args.self.now.device c.ask.new.self sound (query-allowed i c.args.id name payload params runs small some time) may refl
+    (state ∙ ap (λ (t : ℕ). view_of (with_snapshot (written kinds.Query t i.snapshot (Failed durable)) i)) at) device

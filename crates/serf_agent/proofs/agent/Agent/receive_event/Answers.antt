@@ -1,10 +1,11 @@
-use Rattle.std.proofs.Common.{◌≡◌, ◌<◌, false, ap, sym, subst, refl, ◌∙◌, Ok, Err}
+use Rattle.std.proofs.Common.{ap, sym, subst, refl, ◌∙◌, Ok, Err}
 use Rattle.serf_window.specs.Texts.{event_of}
 use Rattle.serf_window.specs.Window.{WindowOf}
 use Rattle.serf_wire.specs.declared.texts.EventBody.{EventBody}
 use Rattle.serf_snap.specs.declared.kind.ClockKind.TheVariants as kinds
 use Rattle.serf_snap.specs.Notes.{Kept, Failed}
 use Rattle.serf_agent.specs.Calls.{MayNote}
+use Rattle.serf_agent.specs.Devices.{device_noted}
 use Rattle.serf_agent.specs.declared.outcome.EventOut.{EventOut}
 use Rattle.serf_agent.specs.declared.outcome.LineFault.{LineFault}
 use Rattle.serf_agent.specs.declared.outcome.Outcome.TheVariants.{Event}
@@ -17,8 +18,8 @@ pub returns-in-Some-clause-step : goal.returns-in-Some-clause-step
 returns-in-Some-clause-step g c = λ i sound is _.
     let was = ap (λ (a : AgentState). a.concrete) c.self.view_is ∙ is in
     let e = c.observe.ensures in
-    steps-event_ignored i c.args.time (event_of c.args.name.now c.args.payload.now) c.args.coalesce c.in-Some.reason _ sound (sym (c.in-Some.ensures.reason i sound is))
-    (event_observed-view i _ _ c.args.time was e.clock e.minimum (ap (λ (w : WindowOf EventBody). w.slots) e.window))
+    steps-event_ignored i c.args.time (event_of c.args.name.now c.args.payload.now) c.args.coalesce c.in-Some.reason c.args.self.now.device _ sound (sym (c.in-Some.ensures.reason i sound is))
+    (event_observed-view i _ _ c.args.time was e.clock e.minimum (ap (λ (w : WindowOf EventBody). w.slots) e.window)) (ap (λ (a : AgentState). a.device) c.self.view_is)
 
 pub returns-in-Ok-clause-step : goal.returns-in-Ok-clause-step
 returns-in-Ok-clause-step g c = λ i sound is _.
@@ -27,7 +28,8 @@ returns-in-Ok-clause-step g c = λ i sound is _.
     let e = c.in-Ok.ensures in
     let runs = sym (ap (λ (s : ConcreteState). s.snapshot.stopped) is) ∙ c.requires in
     let may = subst (λ (s : ConcreteState). MayNote kinds.Event c.args.time s.snapshot Kept) is e.allowed in
-    steps-event_entered i c.args.time what c.args.coalesce _ c.take_in.new.self.concrete sound runs (new.small refl) (sym (new.reason i sound is)) may (ap (λ (o : EventOut). Ok (Event o)) e.out) (e.entered i is)
+    let device = e.device ∙ ap (λ (s : ConcreteState). device_noted kinds.Event c.args.time s.snapshot c.args.self.now.device) is in
+    steps-event_entered i c.args.time what c.args.coalesce _ c.args.self.now.device c.take_in.new.self sound runs (new.small refl) (sym (new.reason i sound is)) may (ap (λ (o : EventOut). Ok (Event o)) e.out) (e.entered i is) device
 
 pub returns-in-Err-SinkFault-clause-step : goal.returns-in-Err-SinkFault-clause-step
 returns-in-Err-SinkFault-clause-step g c = λ i sound is _.
@@ -36,5 +38,5 @@ returns-in-Err-SinkFault-clause-step g c = λ i sound is _.
     let at = ap (λ (x : LineFault). Err x) c.in-Err-SinkFault.field-0-is in
     let durable = c.take_in.new.self.concrete.snapshot.durable in
     let may = subst (λ (s : ConcreteState). MayNote kinds.Event c.args.time s.snapshot (Failed durable)) is (e.fault_allowed at) in
-    steps-event_failed i c.args.time what c.args.coalesce durable _ c.take_in.new.self.concrete sound (sym (c.in-None.ensures.reason i sound is)) may refl
-    (failed-view i c.args.self.now.concrete c.take_in.new.self.concrete kinds.Event c.args.time durable is (e.failed at))
+    steps-event_failed i c.args.time what c.args.coalesce durable _ c.args.self.now.device c.take_in.new.self sound (sym (c.in-None.ensures.reason i sound is)) may refl
+    (failed-view i c.args.self.now.concrete c.take_in.new.self.concrete kinds.Event c.args.time durable is (e.failed at)) (e.fault_device at)

@@ -1,4 +1,4 @@
-use Rattle.std.proofs.Common.{◌≡◌, ◌∷◌, [], List, false, ap, sym, subst, refl, ◌∙◌}
+use Rattle.std.proofs.Common.{◌∷◌, [], List, ap, sym, subst, refl, ◌∙◌}
 use Rattle.serf_wire.specs.declared.lists.EventViews.{EventViews}
 use Rattle.serf_wire.specs.declared.texts.EventBody.{EventBody}
 use Rattle.serf_wire.specs.Lists.{event_of, events_left}
@@ -15,7 +15,7 @@ loop-event-init g c = record {
       let all = at_time c.args.time (events_left c.args.events) in
       let before = c.args.out.now.items in
       let runs = sym (ap (λ (s : ConcreteState). s.snapshot.stopped) is) ∙ c.requires in
-      subst (λ (it : EventViews). HasReceived i all (at_time c.args.time (events_left it)) before before c.args.self.now.concrete) (sym c.into_iter-event-iterator.ensures.into_iter_gives) (has-start i all before c.args.self.now.concrete sound runs is);
+      subst (λ (it : EventViews). HasReceived i all (at_time c.args.time (events_left it)) before before c.args.self.now.device c.args.self.now) (sym c.into_iter-event-iterator.ensures.into_iter_gives) (has-start i all before c.args.self.now sound runs is);
   runs = c.requires;
   calm = refl;
 }
@@ -26,10 +26,10 @@ loop-event-preserved g c = record {
       let all = at_time c.args.time (events_left c.args.events) in
       let before = c.args.out.now.items in
       let mid = c.loop-event.out.items in
-      let concrete = c.loop-event.self.concrete in
+      let old = c.args.self.now.device in
       let part : List (TimedEntry EventBody) = record { time = c.args.time; key = event_of c.in-Some.event } ∷ [] in
-      let has = subst (λ (l : List (TimedEntry EventBody)). HasReceived i all l before mid concrete) (ap (λ (l : List EventBody). at_time c.args.time l) c.in-Some.ensures.steps) (c.loop-event.invariant.received i sound is) in
-      has-more i all part (at_time c.args.time (events_left c.next.new.self)) before mid c.receive_one.new.out.items concrete c.receive_one.new.self.concrete has (c.in-Ok.ensures.received has.goes.agent has.goes.sound has.goes.state);
+      let has = subst (λ (l : List (TimedEntry EventBody)). HasReceived i all l before mid old c.loop-event.self) (ap (λ (l : List EventBody). at_time c.args.time l) c.in-Some.ensures.steps) (c.loop-event.invariant.received i sound is) in
+      has-more i all part (at_time c.args.time (events_left c.next.new.self)) before mid c.receive_one.new.out.items old c.loop-event.self c.receive_one.new.self has (c.in-Ok.ensures.received has.goes.agent has.goes.sound has.goes.state);
   runs = c.in-Ok.ensures.runs;
   calm = c.in-Ok.ensures.calm ∙ c.loop-event.invariant.calm;
 }
@@ -39,7 +39,7 @@ returns-in-Err-clause-received g c = λ i sound is.
     let all = at_time c.args.time (events_left c.args.events) in
     let before = c.args.out.now.items in
     let mid = c.loop-event.out.items in
-    let concrete = c.loop-event.self.concrete in
+    let old = c.args.self.now.device in
     let part : List (TimedEntry EventBody) = record { time = c.args.time; key = event_of c.in-Some.event } ∷ [] in
-    let has = subst (λ (l : List (TimedEntry EventBody)). HasReceived i all l before mid concrete) (ap (λ (l : List EventBody). at_time c.args.time l) c.in-Some.ensures.steps) (c.loop-event.invariant.received i sound is) in
-    has-wrong i all part (at_time c.args.time (events_left c.next.new.self)) before mid c.receive_one.new.out.items concrete c.receive_one.new.self.concrete c.in-Err.fault has (c.in-Err.ensures.received has.goes.agent has.goes.sound has.goes.state)
+    let has = subst (λ (l : List (TimedEntry EventBody)). HasReceived i all l before mid old c.loop-event.self) (ap (λ (l : List EventBody). at_time c.args.time l) c.in-Some.ensures.steps) (c.loop-event.invariant.received i sound is) in
+    has-wrong i all part (at_time c.args.time (events_left c.next.new.self)) before mid c.receive_one.new.out.items old c.loop-event.self c.receive_one.new.self c.in-Err.fault has (c.in-Err.ensures.received has.goes.agent has.goes.sound has.goes.state)

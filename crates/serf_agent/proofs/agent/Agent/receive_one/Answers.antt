@@ -1,4 +1,4 @@
-use Rattle.std.proofs.Common.{◌≡◌, ℕ, ap, sym, refl, ◌∙◌}
+use Rattle.std.proofs.Common.{ap, sym, refl, ◌∙◌}
 use Rattle.serf_window.specs.Window.{WindowOf}
 use Rattle.serf_wire.specs.declared.texts.EventBody.{EventBody}
 use Rattle.serf_wire.specs.Lists.{event_of}
@@ -13,4 +13,5 @@ returns-in-Some-clause-received g c = λ i sound is.
     let e = c.observe.ensures in
     let runs = sym (ap (λ (s : ConcreteState). s.snapshot.stopped) is) ∙ c.requires in
     let state = event_observed-view i _ _ c.args.time was e.clock e.minimum (ap (λ (w : WindowOf EventBody). w.slots) e.window) in
-    received-ignored i _ c.args.out.now.items _ _ refl (goes-ignored i c.args.time (event_of c.args.event.now) c.in-Some.field-0 _ sound runs (sym (c.in-Some.ensures.reason i sound is)) state)
+    received-ignored i _ c.args.out.now.items _ c.args.self.now.device _ refl
+    (goes-ignored i c.args.time (event_of c.args.event.now) c.in-Some.field-0 c.args.self.now.device _ sound runs (sym (c.in-Some.ensures.reason i sound is)) state (ap (λ (a : AgentState). a.device) c.self.view_is))

@@ -1,12 +1,12 @@
-use Rattle.std.proofs.Common.{◌≡◌, ◌<◌, ℕ, List, cond, Bool, Option, Some, None, not, false, ap, sym, subst, refl, ◌∙◌, Ok, Err}
+use Rattle.std.proofs.Common.{ℕ, List, cond, Some, None, not, ap, sym, subst, refl, ◌∙◌, Ok, Err}
 use Rattle.serf_window.specs.Window.{WindowOf}
 use Rattle.serf_wire.specs.Lists.{texts_left}
 use Rattle.serf_snap.specs.declared.kind.ClockKind.TheVariants as kinds
 use Rattle.serf_snap.specs.Notes.{Kept, Failed}
 use Rattle.serf_agent.specs.Calls.{MayNote}
+use Rattle.serf_agent.specs.Devices.{device_noted}
 use Rattle.serf_agent.specs.declared.outcome.LineFault.{LineFault}
 use Rattle.serf_agent.specs.declared.outcome.Outcome.TheVariants as outcomes
-use Rattle.serf_agent.specs.Handed.{Handed}
 use Rattle.serf_agent.specs.Lent.{query_in}
 use Rattle.serf_agent.specs.Queries.{ack_packet, all_pass, handed_query, has_flag}
 use Rattle.serf_agent.specs.View.{AgentState, ConcreteState}
@@ -19,8 +19,8 @@ returns-in-Some-clause-step g c = λ i sound is _.
     let was = ap (λ (a : AgentState). a.concrete) c.self.view_is ∙ is in
     let q = query_in c.args.query.now (texts_left c.args.filters) in
     let e = c.observe.ensures in
-    steps-query_ignored i c.args.now q c.in-Some.reason _ sound (sym (c.in-Some.ensures.reason i sound is))
-    (query_observed-view i _ _ q.time was e.clock e.minimum (ap (λ (w : WindowOf ℕ). w.slots) e.window))
+    steps-query_ignored i c.args.now q c.in-Some.reason c.args.self.now.device _ sound (sym (c.in-Some.ensures.reason i sound is))
+    (query_observed-view i _ _ q.time was e.clock e.minimum (ap (λ (w : WindowOf ℕ). w.slots) e.window)) (ap (λ (a : AgentState). a.device) c.self.view_is)
 
 pub returns-in-Ok-clause-step : goal.returns-in-Ok-clause-step
 returns-in-Ok-clause-step g c = λ i sound is _.
@@ -35,8 +35,9 @@ returns-in-Ok-clause-step g c = λ i sound is _.
     let broadcast = c.has_flag.ensures in
     let runs = sym (ap (λ (s : ConcreteState). s.snapshot.stopped) is) ∙ c.requires in
     let may = subst (λ (s : ConcreteState). MayNote kinds.Query q.time s.snapshot Kept) is e.allowed in
-    steps-query_entered i c.args.now q _ c.take_in_query.new.self.concrete sound runs new.small (sym (new.reason i sound is)) may
-    (λ k. Ok (outcomes.Query (handed k) (ack k) (not (broadcast k)))) (e.entered i is)
+    let device = e.device ∙ ap (λ (s : ConcreteState). device_noted kinds.Query q.time s.snapshot c.args.self.now.device) is in
+    steps-query_entered i c.args.now q _ c.args.self.now.device c.take_in_query.new.self sound runs new.small (sym (new.reason i sound is)) may
+    (λ k. Ok (outcomes.Query (handed k) (ack k) (not (broadcast k)))) (e.entered i is) device
 
 pub returns-in-Err-SinkFault-clause-step : goal.returns-in-Err-SinkFault-clause-step
 returns-in-Err-SinkFault-clause-step g c = λ i sound is _.
@@ -45,5 +46,5 @@ returns-in-Err-SinkFault-clause-step g c = λ i sound is _.
     let at = ap (λ (x : LineFault). Err x) c.in-Err-SinkFault.field-0-is in
     let durable = c.take_in_query.new.self.concrete.snapshot.durable in
     let may = subst (λ (s : ConcreteState). MayNote kinds.Query q.time s.snapshot (Failed durable)) is (e.fault_allowed at) in
-    steps-query_failed i c.args.now q durable _ c.take_in_query.new.self.concrete sound (sym (c.in-None.ensures.reason i sound is)) may refl
-    (failed-view i c.args.self.now.concrete c.take_in_query.new.self.concrete kinds.Query q.time durable is (e.failed at))
+    steps-query_failed i c.args.now q durable _ c.args.self.now.device c.take_in_query.new.self sound (sym (c.in-None.ensures.reason i sound is)) may refl
+    (failed-view i c.args.self.now.concrete c.take_in_query.new.self.concrete kinds.Query q.time durable is (e.failed at)) (e.fault_device at)

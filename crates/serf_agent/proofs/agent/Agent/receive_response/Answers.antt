@@ -1,4 +1,4 @@
-use Rattle.std.proofs.Common.{◌≡◌, ◌<◌, ℕ, List, All, Option, Some, None, IfSome, false, nat_eq, ap, sym, subst, refl, ◌∙◌, Ok}
+use Rattle.std.proofs.Common.{◌≡◌, ◌<◌, ℕ, List, All, Option, Some, None, IfSome, false, nat_eq, ap, sym, subst, ◌∙◌, Ok}
 use Rattle.std.specs.Option.{option_copied}
 use Rattle.serf_agent.specs.declared.open_query.OpenQuery.{OpenQuery}
 use Rattle.serf_agent.specs.declared.outcome.Outcome.{Outcome}
@@ -38,5 +38,5 @@ returns-clause-step g c = λ i sound is _.
     let none : answer_ignore_reason c.args.now r q ≡ None = sym c.ignore_reason.ensures ∙ c.in-None.is in
     let room : is_full i.config.responders r q ≡ false = ap (λ (s : ConcreteState). is_full s.config.responders r q) (sym was) ∙ sym c.if-is_full.ensures in
     let left = new ∙ ap (λ (l : List (ℕ × OpenQuery)). with_asked_at t (counted r q) l) asked in
-    steps-counted i c.args.now r q _ _ sound at none room (ap (λ (o : Outcome). Ok o) c.outcome_of.ensures)
-    (λ k. record { config = (was k).config; member_clock = (was k).member_clock; events = (was k).events; queries = (was k).queries; snapshot = (was k).snapshot; asked = left k })
+    steps-counted i c.args.now r q _ c.args.self.now.device _ sound at none room (ap (λ (o : Outcome). Ok o) c.outcome_of.ensures)
+    (λ k. record { config = (was k).config; member_clock = (was k).member_clock; events = (was k).events; queries = (was k).queries; snapshot = (was k).snapshot; asked = left k }) (ap (λ (a : AgentState). a.device) c.self.view_is)

@@ -1,4 +1,4 @@
-use Rattle.std.proofs.Common.{◌≡◌, [], Ok, ap, sym, subst, refl, ◌∙◌}
+use Rattle.std.proofs.Common.{[], Ok, ap, sym, subst, refl, ◌∙◌}
 use Rattle.serf_wire.specs.declared.lists.SlotView.{SlotView}
 use Rattle.serf_wire.specs.Lists.{slot_of}
 use Rattle.serf_agent.specs.Merging.{Received}
@@ -11,5 +11,5 @@ pub returns-in-Empty-clause-received : goal.returns-in-Empty-clause-received
 returns-in-Empty-clause-received g c = λ i sound is.
     let before = c.args.out.now.items in
     let runs = sym (ap (λ (s : ConcreteState). s.snapshot.stopped) is) ∙ c.requires in
-    subst (λ (s : SlotView). Received i (events_of_slot (slot_of s)) before before c.args.self.now.concrete (Ok tt)) (sym c.in-Empty.is)
-    (received-ignored i [] before before c.args.self.now.concrete refl (goes-start i c.args.self.now.concrete sound runs is))
+    subst (λ (s : SlotView). Received i (events_of_slot (slot_of s)) before before c.args.self.now.device c.args.self.now (Ok tt)) (sym c.in-Empty.is)
+    (received-ignored i [] before before c.args.self.now.device c.args.self.now refl (goes-start i c.args.self.now sound runs is))

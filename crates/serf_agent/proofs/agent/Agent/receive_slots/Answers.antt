@@ -1,4 +1,4 @@
-use Rattle.std.proofs.Common.{◌≡◌, List, false, ap, sym, subst, refl, ◌∙◌}
+use Rattle.std.proofs.Common.{List, ap, sym, subst, refl, ◌∙◌}
 use Rattle.serf_wire.specs.declared.lists.SlotViews.{SlotViews}
 use Rattle.serf_wire.specs.declared.texts.EventBody.{EventBody}
 use Rattle.serf_wire.specs.Lists.{slot_of, slots_left}
@@ -16,7 +16,7 @@ loop-slot-init g c = record {
       let all = events_of (slots_left c.args.slots) in
       let before = c.args.out.now.items in
       let runs = sym (ap (λ (s : ConcreteState). s.snapshot.stopped) is) ∙ c.requires in
-      subst (λ (it : SlotViews). HasReceived i all (events_of (slots_left it)) before before c.args.self.now.concrete) (sym c.into_iter-slot-iterator.ensures.into_iter_gives) (has-start i all before c.args.self.now.concrete sound runs is);
+      subst (λ (it : SlotViews). HasReceived i all (events_of (slots_left it)) before before c.args.self.now.device c.args.self.now) (sym c.into_iter-slot-iterator.ensures.into_iter_gives) (has-start i all before c.args.self.now sound runs is);
   runs = c.requires;
   calm = refl;
 }
@@ -27,10 +27,10 @@ loop-slot-preserved g c = record {
       let all = events_of (slots_left c.args.slots) in
       let before = c.args.out.now.items in
       let mid = c.loop-slot.out.items in
-      let concrete = c.loop-slot.self.concrete in
+      let old = c.args.self.now.device in
       let part : List (TimedEntry EventBody) = events_of_slot (slot_of c.in-Some.slot) in
-      let has = subst (λ (l : List (TimedEntry EventBody)). HasReceived i all l before mid concrete) (ap (λ (l : List SlotContent). events_of l) c.in-Some.ensures.steps) (c.loop-slot.invariant.received i sound is) in
-      has-more i all part (events_of (slots_left c.next.new.self)) before mid c.receive_slot.new.out.items concrete c.receive_slot.new.self.concrete has (c.in-Ok.ensures.received has.goes.agent has.goes.sound has.goes.state);
+      let has = subst (λ (l : List (TimedEntry EventBody)). HasReceived i all l before mid old c.loop-slot.self) (ap (λ (l : List SlotContent). events_of l) c.in-Some.ensures.steps) (c.loop-slot.invariant.received i sound is) in
+      has-more i all part (events_of (slots_left c.next.new.self)) before mid c.receive_slot.new.out.items old c.loop-slot.self c.receive_slot.new.self has (c.in-Ok.ensures.received has.goes.agent has.goes.sound has.goes.state);
   runs = c.in-Ok.ensures.runs;
   calm = c.in-Ok.ensures.calm ∙ c.loop-slot.invariant.calm;
 }
@@ -40,7 +40,7 @@ returns-in-Err-clause-received g c = λ i sound is.
     let all = events_of (slots_left c.args.slots) in
     let before = c.args.out.now.items in
     let mid = c.loop-slot.out.items in
-    let concrete = c.loop-slot.self.concrete in
+    let old = c.args.self.now.device in
     let part : List (TimedEntry EventBody) = events_of_slot (slot_of c.in-Some.slot) in
-    let has = subst (λ (l : List (TimedEntry EventBody)). HasReceived i all l before mid concrete) (ap (λ (l : List SlotContent). events_of l) c.in-Some.ensures.steps) (c.loop-slot.invariant.received i sound is) in
-    has-wrong i all part (events_of (slots_left c.next.new.self)) before mid c.receive_slot.new.out.items concrete c.receive_slot.new.self.concrete c.in-Err.fault has (c.in-Err.ensures.received has.goes.agent has.goes.sound has.goes.state)
+    let has = subst (λ (l : List (TimedEntry EventBody)). HasReceived i all l before mid old c.loop-slot.self) (ap (λ (l : List SlotContent). events_of l) c.in-Some.ensures.steps) (c.loop-slot.invariant.received i sound is) in
+    has-wrong i all part (events_of (slots_left c.next.new.self)) before mid c.receive_slot.new.out.items old c.loop-slot.self c.receive_slot.new.self c.in-Err.fault has (c.in-Err.ensures.received has.goes.agent has.goes.sound has.goes.state)

@@ -1,8 +1,9 @@
-use Rattle.std.proofs.Common.{◌≡◌, ◌++◌, ◌∷◌, [], List, false, ap, sym, subst, refl, ◌∙◌, Err}
+use Rattle.std.proofs.Common.{◌++◌, ◌∷◌, [], List, false, ap, sym, subst, refl, ◌∙◌, Err}
 use Rattle.serf_wire.specs.Lists.{event_of}
 use Rattle.serf_snap.specs.declared.kind.ClockKind.TheVariants as kinds
 use Rattle.serf_snap.specs.Notes.{Kept, Failed}
 use Rattle.serf_agent.specs.Calls.{MayNote}
+use Rattle.serf_agent.specs.Devices.{device_noted}
 use Rattle.serf_agent.specs.declared.outcome.EventOut.{EventOut}
 use Rattle.serf_agent.specs.declared.outcome.LineFault.{LineFault}
 use Rattle.serf_agent.specs.declared.outcome.MergeFault.TheVariants as merges
@@ -15,7 +16,7 @@ use Rattle.serf_agent.proofs.agent.Agent.take_one.Goals as goal
 
 pub returns-then-is_err-clause-received : goal.returns-then-is_err-clause-received
 returns-then-is_err-clause-received g c = λ i sound is says.
-    received-wrong i _ c.args.out.now.items _ c.args.self.now.concrete merges.OutOfMemory c.reserve.ensures.items (wrong-memory i c.args.time (event_of c.args.event.now) c.args.self.now.concrete sound says is)
+    received-wrong i _ c.args.out.now.items _ c.args.self.now.device c.args.self.now merges.OutOfMemory c.reserve.ensures.items (wrong-memory i c.args.time (event_of c.args.event.now) c.args.self.now.device c.args.self.now sound says is refl)
 
 pub returns-in-Ok-clause-received : goal.returns-in-Ok-clause-received
 returns-in-Ok-clause-received g c = λ i sound is says.
@@ -23,15 +24,17 @@ returns-in-Ok-clause-received g c = λ i sound is says.
     let e = c.in-Ok.ensures in
     let runs = sym (ap (λ (s : ConcreteState). s.snapshot.stopped) is) ∙ c.requires.runs in
     let may = subst (λ (s : ConcreteState). MayNote kinds.Event c.args.time s.snapshot Kept) is e.allowed in
-    let goes = goes-entered i c.args.time what c.take_in.new.self.concrete sound runs c.requires.small says may (e.entered i is) in
+    let device = e.device ∙ ap (λ (s : ConcreteState). device_noted kinds.Event c.args.time s.snapshot c.args.self.now.device) is in
+    let goes = goes-entered i c.args.time what c.args.self.now.device c.take_in.new.self sound runs c.requires.small says may (e.entered i is) device in
     let added = c.add.ensures ∙ ap (λ (l : List EventOut). l ++ c.in-Ok.handed ∷ []) c.reserve.ensures.items in
-    received-entered i _ c.args.out.now.items _ c.in-Ok.handed (event_out c.args.time what false) c.take_in.new.self.concrete added e.out goes
+    received-entered i _ c.args.out.now.items _ c.in-Ok.handed (event_out c.args.time what false) c.args.self.now.device c.take_in.new.self added e.out goes
 
 pub returns-in-Err-OutOfMemory-clause-received : goal.returns-in-Err-OutOfMemory-clause-received
 returns-in-Err-OutOfMemory-clause-received g c = λ i sound is says.
     let what = event_of c.args.event.now in
-    let same = ap (λ (a : AgentState). a.concrete) (c.in-Err-OutOfMemory.ensures.memory (ap (λ (x : LineFault). Err x) c.in-Err-OutOfMemory.field-0-is)) in
-    received-wrong i _ c.args.out.now.items _ c.take_in.new.self.concrete merges.OutOfMemory c.reserve.ensures.items (wrong-memory i c.args.time what c.take_in.new.self.concrete sound says (same ∙ is))
+    let same = c.in-Err-OutOfMemory.ensures.memory (ap (λ (x : LineFault). Err x) c.in-Err-OutOfMemory.field-0-is) in
+    received-wrong i _ c.args.out.now.items _ c.args.self.now.device c.take_in.new.self merges.OutOfMemory c.reserve.ensures.items
+    (wrong-memory i c.args.time what c.args.self.now.device c.take_in.new.self sound says (ap (λ (a : AgentState). a.concrete) same ∙ is) (ap (λ (a : AgentState). a.device) same))
 
 pub returns-in-Err-SinkFault-clause-received : goal.returns-in-Err-SinkFault-clause-received
 returns-in-Err-SinkFault-clause-received g c = λ i sound is says.
@@ -41,5 +44,5 @@ returns-in-Err-SinkFault-clause-received g c = λ i sound is says.
     let durable = c.take_in.new.self.concrete.snapshot.durable in
     let may = subst (λ (s : ConcreteState). MayNote kinds.Event c.args.time s.snapshot (Failed durable)) is (e.fault_allowed at) in
     let state = failed-view i c.args.self.now.concrete c.take_in.new.self.concrete kinds.Event c.args.time durable is (e.failed at) in
-    received-wrong i _ c.args.out.now.items _ c.take_in.new.self.concrete merges.SinkFault c.reserve.ensures.items
-    (wrong-line i c.args.time what c.take_in.new.self.concrete (steps-event_failed i c.args.time what false durable _ c.take_in.new.self.concrete sound says may refl state))
+    received-wrong i _ c.args.out.now.items _ c.args.self.now.device c.take_in.new.self merges.SinkFault c.reserve.ensures.items
+    (wrong-line i c.args.time what c.args.self.now.device c.take_in.new.self (steps-event_failed i c.args.time what false durable _ c.args.self.now.device c.take_in.new.self sound says may refl state (e.fault_device at)))

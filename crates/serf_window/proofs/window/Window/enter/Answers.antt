@@ -1,47 +1,101 @@
-use Rattle.std.proofs.Common.{rules, arith, ◌≡◌, ◌<◌, ◌%◌, length, map, refl, sym, ◌∙◌, subst, set}
-use Rattle.std.proofs.lemmas.List.{length-map}
-use Rattle.serf_window.specs.Slots.{room_in, slot_view}
-use Rattle.serf_window.specs.Window.{EachAtMost, TimesBelow, slots_after}
-use Rattle.serf_window.proofs.WindowLemmas.{EachAtMost-after, TimesBelow-after, room_for-set_other, slots_after-entered, slots_after-map}
+use Rattle.std.proofs.Common.{rules, arith, ◌≡◌, ◌<◌, ◌≤◌, ◌%◌, length, map, refl, sym, ◌∙◌, ap, subst, set, get_or}
+use Rattle.std.proofs.lemmas.List.{get_or_read, length-map}
+use Rattle.serf_wire.specs.Buffers.{unused_slot}
+use Rattle.serf_window.specs.Slots.{all_slots, slot_view}
+use Rattle.serf_window.specs.Window.{EachAtMost, room_for, slots_after, time_in}
+use Rattle.serf_window.proofs.AllSlots.{is_made, length-all_slots, room_for-made, room_for-other, shown, slot_for-made, slots_after-made}
+use Rattle.serf_window.proofs.WindowLemmas.{EachAtMost-after, TimesBelow-after, slots_after-entered}
 use Rattle.serf_window.proofs.window.Window.enter.Goals as goal
 
+pub index_mut-requires : goal.index_mut-requires
+index_mut-requires g c =
+    let le : length c.self.inside.made.items ≤ c.self.inside.slot_count = omega (arith, c.self.invariant.1) in
+    let below : c.place_of-place.result < c.self.inside.slot_count = omega arith in
+    let place : c.place_of-place.result ≡ c.entry.inside.time % c.self.inside.slot_count = search rules in
+    let some : 0 < room_for (shown c.self.inside.slot_count c.self.inside.per_time c.self.inside.made.items) c.entry.inside.time = rw (← c.self.view_is, ← c.entry.view_is) at c.requires.room in
+    let within : c.place_of-place.result < length c.self.inside.made.items = is_made c.self.inside.slot_count c.self.inside.per_time c.place_of-place.result c.entry.inside.time c.self.inside.made.items le below place some in
+    omega arith
+
+-- the slot that is written, and where it is
+slot_is : (g : _) (c : goal.After-index_mut g) → c.index_mut.result.now ≡ get_or c.self.inside.made.items c.place_of-place.result unused_slot
+slot_is g c =
+    let le : length c.self.inside.made.items ≤ c.self.inside.slot_count = omega (arith, c.self.invariant.1) in
+    let below : c.place_of-place.result < c.self.inside.slot_count = omega arith in
+    let place : c.place_of-place.result ≡ c.entry.inside.time % c.self.inside.slot_count = search rules in
+    let some : 0 < room_for (shown c.self.inside.slot_count c.self.inside.per_time c.self.inside.made.items) c.entry.inside.time = rw (← c.self.view_is, ← c.entry.view_is) at c.requires.room in
+    let within : c.place_of-place.result < length c.self.inside.made.items = is_made c.self.inside.slot_count c.self.inside.per_time c.place_of-place.result c.entry.inside.time c.self.inside.made.items le below place some in
+    get_or_read c.self.inside.made.items c.place_of-place.result c.index_mut.result.now within c.index_mut.ensures.value unused_slot
+
+pub take_in-requires-clause-room : goal.take_in-requires-clause-room
+take_in-requires-clause-room g c =
+    let le : length c.self.inside.made.items ≤ c.self.inside.slot_count = omega (arith, c.self.invariant.1) in
+    let within : c.place_of-place.result < c.self.inside.slot_count = omega arith in
+    let place : c.place_of-place.result ≡ c.entry.inside.time % c.self.inside.slot_count = search rules in
+    let some : 0 < room_for (shown c.self.inside.slot_count c.self.inside.per_time c.self.inside.made.items) c.entry.inside.time = rw (← c.self.view_is, ← c.entry.view_is) at c.requires.room in
+    let room = room_for-made c.self.inside.slot_count c.self.inside.per_time c.place_of-place.result c.entry.inside.time c.self.inside.made.items le within place in
+    rw (slot_is g c) (subst (λ r. 0 < r) room some)
+
+pub take_in-requires-clause-not_later : goal.take_in-requires-clause-not_later
+take_in-requires-clause-not_later g c =
+    let le : length c.self.inside.made.items ≤ c.self.inside.slot_count = omega (arith, c.self.invariant.1) in
+    let within : c.place_of-place.result < c.self.inside.slot_count = omega arith in
+    let place : c.place_of-place.result ≡ c.entry.inside.time % c.self.inside.slot_count = search rules in
+    let early : time_in (map slot_view (all_slots c.self.inside.slot_count c.self.inside.made.items)) c.entry.inside.time ≤ c.entry.inside.time = rw (← c.self.view_is, ← c.entry.view_is) at c.requires.not_later in
+    let mine = slot_for-made c.self.inside.slot_count c.place_of-place.result c.entry.inside.time c.self.inside.made.items le within place in
+    rw (slot_is g c) (subst (λ s. s.time ≤ c.entry.inside.time) mine early)
+
 -- the slots that were written
-entered : (g : _) (c : goal.After-self-1 g) → map slot_view (set c.self.inside.slots.items c.place_of-place.result c.take_in.new.slot) ≡ slots_after (map slot_view c.self.inside.slots.items) (record { time = c.entry.inside.time; key = c.entry.inside.key })
+entered : (g : _) (c : goal.After-self-1 g) → map slot_view (all_slots c.self.inside.slot_count (set c.self.inside.made.items c.place_of-place.result c.take_in.new.slot)) ≡ slots_after (map slot_view (all_slots c.self.inside.slot_count c.self.inside.made.items)) (record { time = c.entry.inside.time; key = c.entry.inside.key })
 entered g c =
-    let within : c.place_of-place.result < length c.self.inside.slots.items = omega arith in
-    let place : c.place_of-place.result ≡ c.entry.inside.time % length c.self.inside.slots.items = search rules in
-    slots_after-map slot_view c.self.inside.slots.items c.place_of-place.result (record { time = c.entry.inside.time; key = c.entry.inside.key }) c.index_mut.result.now c.take_in.new.slot within place c.index_mut.ensures.value c.take_in.ensures
+    let le : length c.self.inside.made.items ≤ c.self.inside.slot_count = omega (arith, c.self.invariant.1) in
+    let below : c.place_of-place.result < c.self.inside.slot_count = omega arith in
+    let place : c.place_of-place.result ≡ c.entry.inside.time % c.self.inside.slot_count = search rules in
+    let some : 0 < room_for (shown c.self.inside.slot_count c.self.inside.per_time c.self.inside.made.items) c.entry.inside.time = rw (← c.self.view_is, ← c.entry.view_is) at c.requires.room in
+    let within : c.place_of-place.result < length c.self.inside.made.items = is_made c.self.inside.slot_count c.self.inside.per_time c.place_of-place.result c.entry.inside.time c.self.inside.made.items le below place some in
+    slots_after-made c.self.inside.slot_count c.place_of-place.result (record { time = c.entry.inside.time; key = c.entry.inside.key }) c.self.inside.made.items c.index_mut.result.now c.take_in.new.slot le within place c.index_mut.ensures.value c.take_in.ensures
+
+-- how many slots there are
+size : (g : _) (c : goal.After-self-1 g) → length (map slot_view (all_slots c.self.inside.slot_count c.self.inside.made.items)) ≡ c.self.inside.slot_count
+size g c = length-map (all_slots c.self.inside.slot_count c.self.inside.made.items) slot_view ∙ length-all_slots c.self.inside.slot_count c.self.inside.made.items (omega (arith, c.self.invariant.1))
 
 pub returns-clause-after : goal.returns-clause-after
 returns-clause-after g c = rw (← c.self.view_is, ← c.entry.view_is) (entered g c)
 
 pub returns-clause-slots : goal.returns-clause-slots
 returns-clause-slots g c =
-    let count : length (map slot_view c.self.inside.slots.items) ≡ length c.self.inside.slots.items = length-map c.self.inside.slots.items slot_view in
-    let pos : 0 < length (map slot_view c.self.inside.slots.items) = omega arith in
+    let all = map slot_view (all_slots c.self.inside.slot_count c.self.inside.made.items) in
+    let count = size g c in
+    let pos : 0 < length (map slot_view (all_slots c.self.inside.slot_count c.self.inside.made.items)) = omega (arith, c.self.invariant.0.some_slot) in
     let not_later = rw (← c.self.view_is, ← c.entry.view_is) at c.requires.not_later in
     rw (← c.self.view_is, ← c.entry.view_is) (λ es is.
-    entered g c ∙ slots_after-entered (length (map slot_view c.self.inside.slots.items)) (map slot_view c.self.inside.slots.items) (record { time = c.entry.inside.time; key = c.entry.inside.key }) es refl pos is not_later)
+    entered g c ∙ slots_after-entered (length all) all (record { time = c.entry.inside.time; key = c.entry.inside.key }) es refl pos is not_later)
 
 pub returns-clause-below : goal.returns-clause-below
-returns-clause-below g c =
-    rw (← c.self.view_is, ← c.entry.view_is) (λ clock low below.
-    subst (TimesBelow clock) (sym (entered g c)) (TimesBelow-after clock (map slot_view c.self.inside.slots.items) (record { time = c.entry.inside.time; key = c.entry.inside.key }) low below))
+returns-clause-below g c = rw (← c.self.view_is, ← c.entry.view_is) (λ clock low below.
+    rw (entered g c) (TimesBelow-after clock (map slot_view (all_slots c.self.inside.slot_count c.self.inside.made.items)) (record { time = c.entry.inside.time; key = c.entry.inside.key }) low below))
 
 pub returns-clause-others : goal.returns-clause-others
 returns-clause-others g c =
-    let count : length (map slot_view c.self.inside.slots.items) ≡ length c.self.inside.slots.items = length-map c.self.inside.slots.items slot_view in
-    let place : c.place_of-place.result ≡ c.entry.inside.time % length (map slot_view c.self.inside.slots.items) = search rules in
+    let le : length c.self.inside.made.items ≤ c.self.inside.slot_count = omega (arith, c.self.invariant.1) in
+    let below : c.place_of-place.result < c.self.inside.slot_count = omega arith in
+    let place : c.place_of-place.result ≡ c.entry.inside.time % c.self.inside.slot_count = search rules in
+    let some : 0 < room_for (shown c.self.inside.slot_count c.self.inside.per_time c.self.inside.made.items) c.entry.inside.time = rw (← c.self.view_is, ← c.entry.view_is) at c.requires.room in
+    let within : c.place_of-place.result < length c.self.inside.made.items = is_made c.self.inside.slot_count c.self.inside.per_time c.place_of-place.result c.entry.inside.time c.self.inside.made.items le below place some in
+    let count = size g c in
     rw (← c.self.view_is, ← c.entry.view_is) (λ t other.
-    room_for-set_other slot_view room_in c.self.inside.slots.items c.self.inside.per_time c.place_of-place.result t c.take_in.new.slot (λ q. other (q ∙ place)))
+    room_for-other c.self.inside.slot_count c.self.inside.per_time c.place_of-place.result t c.self.inside.made.items c.take_in.new.slot le within
+    (λ q. other (ap (λ m. t % m) count ∙ q ∙ place ∙ ap (λ m. c.entry.inside.time % m) (sym count))))
 
 pub invariant_of-self : goal.invariant_of-self
 invariant_of-self g c =
     let free = rw (← c.self.view_is, ← c.entry.view_is) at c.requires.not_full in
-    record {
-      some_slot = c.self.invariant.some_slot;
-      most_slots = c.self.invariant.most_slots;
-      some_of_time = c.self.invariant.some_of_time;
-      most_of_time = c.self.invariant.most_of_time;
-      each = subst (EachAtMost c.self.inside.per_time) (sym (entered g c)) (EachAtMost-after c.self.inside.per_time (map slot_view c.self.inside.slots.items) (record { time = c.entry.inside.time; key = c.entry.inside.key }) free c.self.invariant.each);
-    }
+    let is = c.self.invariant.0 in (
+      record {
+        some_slot = is.some_slot;
+        most_slots = is.most_slots;
+        some_of_time = is.some_of_time;
+        most_of_time = is.most_of_time;
+        each = subst (EachAtMost c.self.inside.per_time) (sym (entered g c)) (EachAtMost-after c.self.inside.per_time (map slot_view (all_slots c.self.inside.slot_count c.self.inside.made.items)) (record { time = c.entry.inside.time; key = c.entry.inside.key }) free is.each);
+      },
+      c.self.invariant.1,
+    )

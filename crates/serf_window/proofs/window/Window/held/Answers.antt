@@ -1,24 +1,25 @@
-use Rattle.std.proofs.Common.{rules, arith, ◌≡◌, length, map, sym, sum_by}
+use Rattle.std.proofs.Common.{arith, ◌≡◌, ◌∙◌, length, map}
 use Rattle.std.proofs.lemmas.List.{length-map}
-use Rattle.serf_window.specs.Slots.{slot_view}
-use Rattle.serf_window.specs.Window.{held_count}
-use Rattle.serf_window.proofs.WindowLemmas.{held_count-le, held_count-map, held_count-most}
+use Rattle.serf_window.specs.Slots.{all_slots, slot_view}
+use Rattle.serf_window.proofs.AllSlots.{all_slots-held, length-all_slots}
+use Rattle.serf_window.proofs.WindowLemmas.{held_count-le, held_count-most}
 use Rattle.serf_window.proofs.window.Window.held.Goals as goal
 
 pub count_held-requires : goal.count_held-requires
 count_held-requires g c =
-    let items = c.self.inside.slots.items in
-    let size : length (map slot_view c.self.inside.slots.items) ≡ c.self.inside.slots.len = search (rules, length-map c.self.inside.slots.items slot_view) in
-    let same : sum_by (λ slot. length slot.held.items) c.self.inside.slots.items ≡ held_count (map slot_view c.self.inside.slots.items) = sym (held_count-map slot_view c.self.inside.slots.items) in
-    let most = held_count-most c.self.inside.slots.len c.self.inside.per_time (map slot_view items) c.self.invariant size in
-    rw (c.as_slice.ensures.value, same) (omega (arith, most))
+    let all = map slot_view (all_slots c.self.inside.slot_count c.self.inside.made.items) in
+    let size : length (map slot_view (all_slots c.self.inside.slot_count c.self.inside.made.items)) ≡ c.self.inside.slot_count =
+    length-map (all_slots c.self.inside.slot_count c.self.inside.made.items) slot_view ∙ length-all_slots c.self.inside.slot_count c.self.inside.made.items (omega (arith, c.self.invariant.1)) in
+    let most = held_count-most c.self.inside.slot_count c.self.inside.per_time all c.self.invariant.0 size in
+    rw (c.as_slice.ensures.value, all_slots-held c.self.inside.slot_count c.self.inside.made.items) (omega (arith, most))
 
 pub returns-clause-count : goal.returns-clause-count
-returns-clause-count g c = rw (← c.self.view_is, held_count-map slot_view c.self.inside.slots.items, ← c.as_slice.ensures.value) c.count_held.ensures
+returns-clause-count g c = rw (← c.self.view_is, ← all_slots-held c.self.inside.slot_count c.self.inside.made.items, ← c.as_slice.ensures.value) c.count_held.ensures
 
 pub returns-clause-bound : goal.returns-clause-bound
 returns-clause-bound g c =
-    let items = c.self.inside.slots.items in
-    let size : length (map slot_view c.self.inside.slots.items) ≡ c.self.inside.slots.len = search (rules, length-map c.self.inside.slots.items slot_view) in
-    let most = held_count-le c.self.inside.slots.len c.self.inside.per_time (map slot_view items) c.self.invariant size in
-    rw (← c.self.view_is, size, c.count_held.ensures, c.as_slice.ensures.value, ← held_count-map slot_view c.self.inside.slots.items) most
+    let all = map slot_view (all_slots c.self.inside.slot_count c.self.inside.made.items) in
+    let size : length (map slot_view (all_slots c.self.inside.slot_count c.self.inside.made.items)) ≡ c.self.inside.slot_count =
+    length-map (all_slots c.self.inside.slot_count c.self.inside.made.items) slot_view ∙ length-all_slots c.self.inside.slot_count c.self.inside.made.items (omega (arith, c.self.invariant.1)) in
+    let most = held_count-le c.self.inside.slot_count c.self.inside.per_time all c.self.invariant.0 size in
+    rw (← c.self.view_is, size, c.count_held.ensures, c.as_slice.ensures.value, all_slots-held c.self.inside.slot_count c.self.inside.made.items) most

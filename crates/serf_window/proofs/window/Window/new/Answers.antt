@@ -1,16 +1,29 @@
-use Rattle.std.proofs.Common.{rules, arith, ◌≡◌, map, [], sym, subst}
-use Rattle.serf_window.specs.Slots.{slot_view}
-use Rattle.serf_window.specs.Window.{EachAtMost, slots_of}
+use Rattle.std.proofs.Common.{arith, ◌≡◌, map, [], sym, subst, ◌∙◌, ap}
+use Rattle.serf_window.specs.Slots.{all_slots, slot_view}
+use Rattle.serf_window.specs.Window.{EachAtMost, TimesBelow, slots_of}
+use Rattle.serf_window.proofs.AllSlots.{all_slots-none}
+use Rattle.serf_window.proofs.WindowLaws.{starts_below}
 use Rattle.serf_window.proofs.WindowLemmas.{EachAtMost-none}
 use Rattle.serf_window.proofs.window.Window.new.Goals as goal
 
+-- no slot is made
+none : (g : _) (c : goal.After-new g) → map slot_view (all_slots c.args.slot_count c.new.result.items) ≡ slots_of c.args.slot_count []
+none g c = ap (λ made. map slot_view (all_slots c.args.slot_count made)) c.new.ensures.items ∙ all_slots-none c.args.slot_count
+
 pub invariant_of-result : goal.invariant_of-result
-invariant_of-result g c =
-    let empty : map slot_view c.in_ok-slots.slots.items ≡ slots_of c.args.slot_count [] = search rules in
-    record {
-      some_slot = search rules;
-      most_slots = search rules;
-      some_of_time = omega arith;
-      most_of_time = omega arith;
-      each = subst (EachAtMost c.args.per_time) (sym empty) (EachAtMost-none c.args.slot_count c.args.per_time);
-    }
+invariant_of-result g c = (
+  record {
+    some_slot = omega arith;
+    most_slots = omega arith;
+    some_of_time = omega arith;
+    most_of_time = omega arith;
+    each = subst (EachAtMost c.args.per_time) (sym (none g c)) (EachAtMost-none c.args.slot_count c.args.per_time);
+  },
+  omega (arith, c.new.ensures.len),
+)
+
+pub returns-clause-slots : goal.returns-clause-slots
+returns-clause-slots g c = none g c
+
+pub returns-clause-below : goal.returns-clause-below
+returns-clause-below g c = λ clock pos. subst (TimesBelow clock) (sym (none g c)) (starts_below c.args.slot_count clock pos)

@@ -1,0 +1,5 @@
+"""An agent of Serf's user events and queries, written from docs/FORMATS.md and docs/PIPE.md.
+
+It is plain Python 3 and needs no other package. Each of its named switches makes one of its bodies wrong, so that whoever
+writes an agent sees what a comparison with the reference finds.
+"""

@@ -1,0 +1,407 @@
+"""One agent: what it answers to each call."""
+
+from collections import namedtuple
+
+from . import messages
+from .messagepack import Fault
+from .messages import GREATEST, PushPull, Query, Response, Slot, Texts, UserEvent
+from .snapshot import SinkFault, Snapshot
+from .switches import wrong
+from .windows import Window
+
+# The greatest size of a received event's texts, and of the packets of queries and responses, in bytes.
+MAX_EVENT = 9216
+MAX_QUERY = 1024
+MAX_RESPONSE = 1024
+
+# Flags of a query: it asks for acks, and isn't to be sent on. Flag 1 of a response says that it is an ack.
+ACK = 1
+NO_BROADCAST = 2
+
+Config = namedtuple("Config", "name events queries limit responders ignore_old per_time")
+
+
+class Refusal(Exception):
+    """Why a call is refused, in the words of a trace."""
+
+
+class Reply:
+    """The lines of a reply."""
+
+    def __init__(self, *answer):
+        self.answer = " ".join(str(word) for word in answer)
+        self.counted, self.packets, self.events, self.handed, self.kept = [], [], [], [], []
+
+    def lines(self):
+        return [self.answer, *self.counted, *(f"sent {hexed(one)}" for one in self.packets), *self.events, *self.handed, *self.kept]
+
+
+def hexed(data):
+    return data.hex() or "-"
+
+
+class OpenQuery:
+    """A query that this agent fired, and who answered."""
+
+    def __init__(self, query_id, deadline, wants_acks):
+        self.id, self.deadline, self.wants_acks = query_id, deadline, wants_acks
+        self.acks, self.responses = set(), set()
+
+
+class HandedQuery:
+    """A query that was handed out, until it is answered."""
+
+    def __init__(self, time, query_id, deadline):
+        self.time, self.id, self.deadline = time, query_id, deadline
+
+
+class Agent:
+    """An agent over a snapshot's text, in its lives one after another."""
+
+    def __init__(self, config, text):
+        self.config = config
+        self.events = self.queries = None
+        self.handed = []
+        self.live(text)
+
+    # Lives
+
+    def live(self, text):
+        """Begins a life on a snapshot's text."""
+        before = self.events, self.queries
+        self.snapshot = Snapshot(text)
+        values = self.snapshot.values
+        self.member = self.clock_behind(values["clock"])
+        self.events = self.window(self.config.events, values["event-clock"])
+        self.queries = self.window(self.config.queries, values["query-clock"])
+        if wrong("restart_keeps_windows") and before[0]:
+            self.events.slots, self.queries.slots = before[0].slots, before[1].slots
+        self.open = {}
+        if not wrong("answers_survive_restart"):
+            self.handed = []
+
+    def clock_behind(self, value):
+        return max(value, 1) if wrong("restart_at_the_line") else value + 1
+
+    def window(self, slots, value):
+        return Window(slots, self.config.per_time, self.clock_behind(value), value + 1)
+
+    def clocks(self):
+        return self.member, self.events.clock, self.queries.clock
+
+    def restart(self, tail):
+        disk = self.snapshot.disk
+        self.live(disk.durable + (b"" if wrong("tail_is_lost") else tail))
+        if wrong("restart_keeps_the_plan"):
+            self.snapshot.disk.plan, self.snapshot.disk.keeps_new = disk.plan, disk.keeps_new
+        return Reply("restarted", *self.clocks())
+
+    def fail(self, call, count):
+        disk = self.snapshot.disk
+        if call.startswith("replace"):
+            disk.keeps_new = call == "replace-new"
+            call = "replace"
+        disk.plan[call] = count
+        return Reply("broken")
+
+    def look(self):
+        reply = Reply("looked", *self.clocks(), self.events.minimum, self.queries.minimum)
+        reply.kept.append(f"kept {hexed(self.snapshot.disk.durable)}")
+        return reply
+
+    def running(self):
+        if self.snapshot.stopped:
+            raise Refusal("Stopped")
+
+    # Events
+
+    def event_key(self, name, payload):
+        if wrong("seen_by_time_alone"):
+            return ()
+        if wrong("seen_by_name_alone"):
+            return (name,)
+        if wrong("seen_by_payload_alone"):
+            return (payload,)
+        return name, payload
+
+    def fire(self, name, payload, coalesce):
+        self.running()
+        time = self.events.clock + 1 if wrong("fires_at_the_next_time") else self.events.clock
+        packet = messages.encode_event(UserEvent(time, name, payload, coalesce))
+        limit = self.config.limit - 1 if wrong("limit_is_below") else self.config.limit
+        sizes = [len(name) + len(payload)]
+        if not wrong("limit_of_texts_alone"):
+            sizes.append(len(packet))
+        if max(sizes) > limit and not wrong("fires_without_limit"):
+            raise Refusal("TooLarge")
+        if time >= GREATEST:
+            raise Refusal("Exhausted")
+        self.keep_event(time, name, payload, enters=not wrong("own_event_not_kept"))
+        reply = Reply("fired", time)
+        reply.packets.append(packet)
+        if not wrong("own_event_not_handed_out"):
+            reply.events.append(event_line(time, name, payload, coalesce))
+        return reply
+
+    def keep_event(self, time, name, payload, enters=True):
+        """Takes an event: its line first, then its entry and the clock."""
+        clock = self.events.observed(time)
+        if not wrong("no_line_for_events"):
+            self.snapshot.note("event-clock", clock if wrong("line_of_the_clock") else time)
+        if enters:
+            self.events.enter(time, (self.event_key(name, payload), (name, payload)))
+        self.events.clock = clock
+
+    def judge_event(self, time, name, payload, clock):
+        """Why an event isn't taken, or None."""
+        most = MAX_EVENT - 1 if wrong("size_limit_one_less") else MAX_EVENT
+        if len(name) + len(payload) > most and not wrong("no_size_limit_on_receipt"):
+            return "Oversize"
+        key = self.event_key(name, payload)
+        taken = [kept for kept, _ in self.events.entries(time)]
+        entry = next(((kept, held) for kept, held in self.events.entries(time) if kept == key), None)
+        if wrong("never_seen") or key not in taken:
+            entry = object()
+        return self.events.judge(time, entry, clock)
+
+    def take_event(self, time, name, payload):
+        """Takes an event where it is new; why it isn't, else."""
+        clock = self.events.observed(time)
+        reason = self.judge_event(time, name, payload, clock)
+        if reason is None:
+            self.keep_event(time, name, payload)
+        elif not wrong("ignored_moves_no_clock"):
+            self.events.clock = clock
+        return reason
+
+    def receive_event(self, event, packet):
+        reason = self.take_event(event.LTime, event.Name, event.Payload)
+        if reason is not None:
+            return Reply("ignored", reason)
+        reply = Reply("new")
+        if wrong("event_sent_on_anew"):
+            packet = messages.encode_event(event)
+        if not wrong("event_not_sent_on"):
+            reply.packets.append(packet)
+        reply.events.append(event_line(event.LTime, event.Name, event.Payload, event.CC and not wrong("coalesce_lost")))
+        return reply
+
+    # States
+
+    def state(self):
+        self.running()
+        clock = self.events.clock - 1 if wrong("state_of_next_clock") else self.events.clock
+        slots = [None if held is None else Slot(held[0], [Texts(*texts) for _, texts in held[1]]) for held in self.events.slots]
+        if wrong("state_without_events"):
+            slots = [None for _ in slots]
+        reply = Reply("state")
+        reply.packets.append(messages.encode_state(PushPull(self.member, [], [], clock, slots, self.queries.clock)))
+        return reply
+
+    def merge(self, packet, join):
+        self.running()
+        state = self.message(packet)
+        if not isinstance(state, PushPull):
+            raise Refusal("NotPushPull")
+        return self.merged(state, join, Reply("merged"))
+
+    def merged(self, state, join, reply):
+        if not wrong("merge_moves_no_clock"):
+            self.member = max(self.member, state.LTime)
+            self.events.observe_before(state.EventLTime)
+            if not wrong("merge_moves_no_query_clock"):
+                self.queries.observe_before(state.QueryLTime)
+        self.lift_minimum(state, join)
+        try:
+            self.merge_slots(state.Events, reply)
+        except SinkFault:
+            reply.answer = "refused SinkFault"
+            if wrong("merge_forgets_what_it_handed_out"):
+                reply.events = []
+        return reply
+
+    def lift_minimum(self, state, join):
+        if not self.config.ignore_old or wrong("join_ignores_nothing"):
+            return
+        if not join and not wrong("every_merge_ignores"):
+            return
+        least = self.events.clock if wrong("minimum_of_own_clock") else state.EventLTime
+        self.events.minimum = least if wrong("join_sets_minimum") else max(self.events.minimum, least)
+
+    def merge_slots(self, slots, reply):
+        for held in slots:
+            events = held.Events[:1] if wrong("merge_takes_first_of_slot") else held.Events
+            for event in events:
+                reason = self.take_event(held.LTime, event.Name, event.Payload)
+                if reason is None and not wrong("merge_hands_out_nothing"):
+                    reply.events.append(event_line(held.LTime, event.Name, event.Payload, False))
+                if reason is not None and wrong("merge_stops_at_an_ignored_event"):
+                    return
+
+    def save(self):
+        self.running()
+        self.snapshot.note("clock", self.member if wrong("clock_line_of_the_clock") else self.member - 1)
+        return Reply("saved")
+
+    def compact(self):
+        self.running()
+        self.snapshot.compact()
+        return Reply("compacted")
+
+    # Queries
+
+    def query_key(self, query_id):
+        return 0 if wrong("query_same_by_time") else query_id
+
+    def query(self, now, query_id, name, payload, timeout, flags, filters):
+        self.running()
+        time = self.queries.clock
+        query = Query(time, query_id, b"", 0, self.config.name, filters, flags, 0, timeout, name, payload)
+        packet = messages.encode_query(query)
+        most = 512 if wrong("query_limit_512") else MAX_QUERY
+        if len(packet) > most and not wrong("query_of_any_size"):
+            raise Refusal("TooLarge")
+        if timeout == 0 and not wrong("zero_timeout_accepted"):
+            raise Refusal("ZeroTimeout")
+        if time >= GREATEST:
+            raise Refusal("Exhausted")
+        self.keep_query(time, query_id)
+        self.open[time] = OpenQuery(query_id, min(now + timeout, GREATEST), bool(flags & ACK))
+        reply = Reply("queried", time)
+        reply.packets.append(packet)
+        if not wrong("own_query_not_handed_out"):
+            self.hand_out(query, now, reply)
+        return reply
+
+    def keep_query(self, time, query_id):
+        """Takes a query: its line first, then its entry and the clock."""
+        self.snapshot.note("query-clock", time)
+        self.queries.enter(time, self.query_key(query_id))
+        self.move_query_clock(self.queries.observed(time))
+
+    def move_query_clock(self, clock):
+        window = self.events if wrong("query_moves_event_clock") else self.queries
+        window.clock = max(window.clock, clock) if wrong("query_moves_event_clock") else clock
+
+    def hand_out(self, query, now, reply):
+        """Hands a query out where its filters let this node pass, with an ack where one is asked for."""
+        if not messages.passes(query.Filters, self.config.name):
+            return
+        ack_id = (query.ID + 1) % (1 << 32) if wrong("ack_to_another_id") else query.ID
+        if (query.Flags & ACK or wrong("ack_always")) and not wrong("ack_never"):
+            ack = messages.encode_response(Response(query.LTime, ack_id, self.config.name, ACK, b""))
+            reply.packets.insert(0 if wrong("ack_before_the_query") else len(reply.packets), ack)
+        deadline = min(now + max(query.Timeout, 0), GREATEST)
+        self.handed.append(HandedQuery(query.LTime, query.ID, deadline))
+        number = len(self.handed) - 1
+        reply.handed.append(f"handed {number} {query.LTime} {query.ID} {hexed(query.Name)} {hexed(query.Payload)}")
+
+    def receive_query(self, query, packet, now):
+        clock = self.queries.observed(query.LTime)
+        reason = self.queries.judge(query.LTime, self.query_key(query.ID), clock)
+        if reason is not None:
+            self.move_query_clock(clock)
+            return Reply("ignored", reason)
+        passes = messages.passes(query.Filters, self.config.name)
+        if passes or not wrong("excluded_query_not_kept"):
+            self.keep_query(query.LTime, query.ID)
+        reply = Reply("query")
+        sends_on = not query.Flags & NO_BROADCAST or wrong("query_always_sent_on")
+        if sends_on and (passes or not wrong("excluded_query_not_sent_on")):
+            reply.packets.append(packet)
+        self.hand_out(query, now, reply)
+        return reply
+
+    # Answers
+
+    def respond(self, number, now, payload):
+        if number >= len(self.handed) or self.handed[number] is None:
+            raise Refusal("NoQuery")
+        query = self.handed[number]
+        packet = messages.encode_response(Response(query.time, query.id, self.config.name, 0, payload))
+        if is_past(now, query.deadline):
+            raise Refusal("PastDeadline")
+        if len(packet) > MAX_RESPONSE and not wrong("response_of_any_size"):
+            raise Refusal("TooLarge")
+        if not wrong("respond_twice"):
+            self.handed[number] = None
+        reply = Reply("replied")
+        reply.packets.append(packet)
+        return reply
+
+    def judge_answer(self, answer, is_ack, now):
+        """Why an answer doesn't count, or None."""
+        query = self.open.get(answer.LTime)
+        if query is None:
+            return "NotOpen"
+        if query.id != answer.ID and not wrong("answer_to_any_id"):
+            return "OtherId"
+        if is_past(now, query.deadline):
+            return "NotOpen" if wrong("closed_is_not_open") else "Closed"
+        if is_ack and not query.wants_acks and not wrong("ack_counts_unasked"):
+            return "AckNotAsked"
+        if is_ack and answer.From in query.acks and not wrong("ack_counts_twice"):
+            return "AckTwice"
+        others = query.acks | query.responses if wrong("acks_and_responses_are_one") else query.responses
+        if not is_ack and answer.From in others and not wrong("response_counts_twice"):
+            return "ResponseTwice"
+        return None
+
+    def receive_answer(self, answer, now):
+        is_ack = bool(answer.Flags & ACK)
+        reason = self.judge_answer(answer, is_ack, now)
+        if reason is not None:
+            return Reply("ignored", reason)
+        query = self.open[answer.LTime]
+        names = query.acks if is_ack else query.responses
+        counted = len(query.acks) + len(query.responses) if wrong("acks_fill_responses") else len(names)
+        if counted >= self.config.responders and not wrong("any_number_of_responders"):
+            raise Refusal("RespondersFull")
+        names.add(answer.From)
+        kind = "ack" if is_ack else "response"
+        reply = Reply(kind)
+        tail = "" if is_ack else f" {hexed(answer.Payload)}"
+        reply.counted.append(f"counted {kind} {answer.LTime} {answer.ID} {hexed(answer.From)}{tail}")
+        return reply
+
+    def close(self, now):
+        last = now + 1 if wrong("close_at_deadline") else now
+        due = [] if wrong("closes_nothing") else [time for time, query in self.open.items() if query.deadline < last]
+        for time in due:
+            del self.open[time]
+        return Reply("closed", len(due))
+
+    # Packets
+
+    def message(self, packet):
+        try:
+            return messages.decode(packet)
+        except Fault as fault:
+            raise Refusal(f"Wire {fault}") from None
+
+    def deliver(self, packet, now):
+        if not wrong("stopped_takes_packets"):
+            self.running()
+        message = self.message(packet)
+        if isinstance(message, UserEvent):
+            return self.receive_event(message, packet)
+        if isinstance(message, Query):
+            return self.receive_query(message, packet, now)
+        if isinstance(message, Response):
+            return self.receive_answer(message, now)
+        if isinstance(message, PushPull):
+            if wrong("push_pull_merged_as_packet"):
+                return self.merged(message, False, Reply("push-pull"))
+            return Reply("push-pull")
+        return Reply("foreign", message.type)
+
+
+def is_past(now, deadline):
+    """Whether a moment is behind a deadline."""
+    if wrong("no_deadline"):
+        return False
+    return now >= deadline if wrong("deadline_is_past") else now > deadline
+
+
+def event_line(time, name, payload, coalesce):
+    return f"event {time} {hexed(name)} {hexed(payload)} {int(coalesce)}"

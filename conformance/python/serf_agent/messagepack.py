@@ -1,0 +1,147 @@
+"""MessagePack, as Serf's packets use it: a check that tells the first fault, and a writer of the shortest spellings."""
+
+from .switches import wrong
+
+# How many arrays and maps may stand inside one another.
+DEEPEST = 8
+
+SIGNED = {0xD0: 1, 0xD1: 2, 0xD2: 4, 0xD3: 8}
+UNSIGNED = {0xCC: 1, 0xCD: 2, 0xCE: 4, 0xCF: 8}
+RAW = {0xC4: 1, 0xC5: 2, 0xC6: 4, 0xD9: 1, 0xDA: 2, 0xDB: 4}
+ARRAYS = {0xDC: 2, 0xDD: 4}
+MAPS = {0xDE: 2, 0xDF: 4}
+
+
+class Fault(Exception):
+    """Why a packet is no message, in the words of a trace."""
+
+
+class Value:
+    """A value and the place of its first byte: `kind` is nil, bool, int, raw, array or map."""
+
+    __slots__ = ("kind", "place", "of")
+
+    def __init__(self, kind, place, of):
+        self.kind, self.place, self.of = kind, place, of
+
+
+class Reader:
+    """Reads one value from left to right, and stops at the first fault."""
+
+    def __init__(self, data, place):
+        self.data, self.place = data, place
+
+    def number(self, first, width, signed=False):
+        if self.place + width > len(self.data):
+            raise Fault(f"Truncated {first}")
+        found = int.from_bytes(self.data[self.place : self.place + width], "big", signed=signed)
+        self.place += width
+        return found
+
+    def raw(self, first, length):
+        if self.place + length > len(self.data):
+            raise Fault(f"Truncated {first}")
+        found = self.data[self.place : self.place + length]
+        self.place += length
+        return Value("raw", first, found)
+
+    def deeper(self, first, depth):
+        if depth >= DEEPEST and not wrong("any_depth"):
+            raise Fault(f"TooDeep {first}")
+        return depth + 1
+
+    def array(self, first, count, depth):
+        """So many items; the first that isn't there ends the reading, whatever the count says."""
+        depth = self.deeper(first, depth)
+        return Value("array", first, [self.value(depth) for _ in range(count)])
+
+    def map(self, first, count, depth):
+        depth = self.deeper(first, depth)
+        return Value("map", first, [(self.value(depth), self.value(depth)) for _ in range(count)])
+
+    def value(self, depth=0):
+        first = self.place
+        if first >= len(self.data):
+            raise Fault(f"Truncated {first}")
+        byte = self.data[first]
+        self.place += 1
+        if byte < 0x80:
+            return Value("int", first, byte)
+        if byte < 0x90:
+            return self.map(first, byte - 0x80, depth)
+        if byte < 0xA0:
+            return self.array(first, byte - 0x90, depth)
+        if byte < 0xC0:
+            return self.raw(first, byte - 0xA0)
+        if byte >= 0xE0:
+            return Value("int", first, byte - 0x100)
+        return self.headed(first, byte, depth)
+
+    def headed(self, first, byte, depth):
+        """A value whose first byte says how wide a number behind it is."""
+        if byte == 0xC0:
+            return Value("nil", first, None)
+        if byte in (0xC2, 0xC3):
+            return Value("bool", first, byte == 0xC3)
+        if byte in (0xC4, 0xC5, 0xC6) and wrong("no_bin"):
+            raise Fault(f"Unsupported {byte} {first}")
+        if byte in UNSIGNED:
+            return Value("int", first, self.number(first, UNSIGNED[byte]))
+        if byte in SIGNED:
+            return Value("int", first, self.number(first, SIGNED[byte], signed=True))
+        if byte in RAW:
+            return self.raw(first, self.number(first, RAW[byte]))
+        if byte in ARRAYS:
+            return self.array(first, self.number(first, ARRAYS[byte]), depth)
+        if byte in MAPS:
+            return self.map(first, self.number(first, MAPS[byte]), depth)
+        raise Fault(f"Unsupported {byte} {first}")
+
+
+def whole(data, place):
+    """The one value that stands from a place to the end."""
+    reader = Reader(data, place)
+    found = reader.value()
+    if reader.place < len(data) and not wrong("trailing_bytes_accepted"):
+        raise Fault(f"Trailing {reader.place}")
+    return found
+
+
+def pack_int(n):
+    """An integer in its shortest spelling."""
+    if 0 <= n < 0x80:
+        return bytes([n])
+    if -32 <= n < 0:
+        return bytes([n + 0x100])
+    for head, width in (UNSIGNED if n >= 0 else SIGNED).items():
+        if n.bit_length() <= 8 * width if n >= 0 else -(1 << (8 * width - 1)) <= n:
+            return bytes([head]) + n.to_bytes(width, "big", signed=n < 0)
+    raise OverflowError(n)
+
+
+def pack_head(count, small, most, two, four):
+    """The head of a raw, an array or a map."""
+    if count <= most:
+        return bytes([small + count])
+    if count < 1 << 16:
+        return bytes([two]) + count.to_bytes(2, "big")
+    return bytes([four]) + count.to_bytes(4, "big")
+
+
+def pack_raw(text):
+    return pack_head(len(text), 0xA0, 31, 0xDA, 0xDB) + text
+
+
+def pack_array(items):
+    return pack_head(len(items), 0x90, 15, 0xDC, 0xDD) + b"".join(items)
+
+
+def pack_map(pairs):
+    return pack_head(len(pairs), 0x80, 15, 0xDE, 0xDF) + b"".join(pack_raw(key) + value for key, value in pairs)
+
+
+def pack_bool(flag):
+    return b"\xc3" if flag else b"\xc2"
+
+
+NIL = b"\xc0"

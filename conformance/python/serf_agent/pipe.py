@@ -1,0 +1,66 @@
+"""The pipe: calls as lines in, replies as lines out."""
+
+from .agent import Agent, Config, Refusal, Reply
+from .snapshot import SinkFault
+
+
+def unhexed(word):
+    return b"" if word == b"-" else bytes.fromhex(word.decode("ascii"))
+
+
+def settings(words):
+    """The settings of an `open` call, from its name on."""
+    numbers = [int(word) for word in words[1:5]]
+    return Config(unhexed(words[0]), *numbers, words[5] == b"ignore", int(words[6]))
+
+
+class Pipe:
+    """The agent that the calls drive: the one of the last `open`."""
+
+    def __init__(self):
+        self.agent = None
+
+    def reply(self, line):
+        """The lines that answer a call."""
+        words = line.split(b" ")
+        try:
+            return self.call(words[0].decode("latin-1"), words[1:]).lines()
+        except Refusal as refusal:
+            return [f"refused {refusal}"]
+        except SinkFault:
+            return ["refused SinkFault"]
+
+    def call(self, name, words):
+        if name == "open":
+            self.agent = Agent(settings(words), unhexed(words[7]))
+            return Reply("opened", *self.agent.clocks())
+        if self.agent is None or name not in CALLS:
+            return Reply("unsupported")
+        return CALLS[name](self.agent, words)
+
+
+CALLS = {
+    "fire": lambda agent, words: agent.fire(unhexed(words[0]), unhexed(words[1]), words[2] == b"1"),
+    "deliver": lambda agent, words: agent.deliver(unhexed(words[0]), int(words[1])),
+    "state": lambda agent, words: agent.state(),
+    "merge": lambda agent, words: agent.merge(unhexed(words[0]), words[1] == b"join"),
+    "query": lambda agent, words: agent.query(
+        int(words[0]), int(words[1]), unhexed(words[2]), unhexed(words[3]), int(words[4]), int(words[5]), [unhexed(word) for word in words[6:]]
+    ),
+    "respond": lambda agent, words: agent.respond(int(words[0]), int(words[1]), unhexed(words[2])),
+    "close": lambda agent, words: agent.close(int(words[0])),
+    "save": lambda agent, words: agent.save(),
+    "compact": lambda agent, words: agent.compact(),
+    "restart": lambda agent, words: agent.restart(unhexed(words[0])),
+    "break": lambda agent, words: agent.fail(words[0].decode("ascii"), int(words[1])),
+    "look": lambda agent, words: agent.look(),
+}
+
+
+def serve(lines, out):
+    """Answers each call, to the end of the calls."""
+    pipe = Pipe()
+    for line in lines:
+        reply = pipe.reply(line.rstrip(b"\n"))
+        out.write("\n".join([*reply, "", ""]).encode("ascii"))
+        out.flush()

@@ -1,0 +1,61 @@
+"""Clocks and windows: which times are taken, and what was taken of each."""
+
+from .messages import GREATEST
+from .switches import wrong
+
+
+class Window:
+    """A clock, the least time that is taken, and what was taken of the last times.
+
+    A slot stands at its time modulo the number of slots, and has the entries of one time.
+    """
+
+    def __init__(self, slots, per_time, clock, minimum):
+        self.size, self.per_time = slots, per_time
+        self.clock, self.minimum = clock, minimum
+        self.slots = [None] * slots
+
+    def observed(self, time):
+        """The clock, once it has seen a time."""
+        after = time if wrong("witness_without_one") else time + 1
+        if wrong("clock_always_follows"):
+            return after
+        return max(self.clock, after)
+
+    def observe_before(self, clock):
+        """Another agent's clock: every time below it was seen."""
+        if wrong("state_clock_is_witnessed"):
+            clock = min(clock + 1, GREATEST)
+        self.clock = max(self.clock, clock)
+
+    def entries(self, time):
+        held = self.slots[time % self.size]
+        return held[1] if held is not None and held[0] == time else []
+
+    def judge(self, time, entry, clock):
+        """Why an entry isn't taken where the clock stands so, or None."""
+        least = self.minimum + 1 if wrong("minimum_one_more") else self.minimum
+        if time < least and not wrong("no_minimum"):
+            return "BelowMinimum"
+        size = self.size
+        if wrong("window_one_short"):
+            size -= 1
+        if wrong("window_one_long"):
+            size += 1
+        if time + size < clock and not wrong("no_window"):
+            return "TooOld"
+        taken = self.entries(time)
+        if entry in taken:
+            return "Seen"
+        most = self.per_time + 1 if wrong("one_more_of_a_time") else self.per_time
+        if len(taken) >= most and not wrong("any_number_of_a_time"):
+            return "TimeFull"
+        return None
+
+    def enter(self, time, entry):
+        place = time % self.size
+        if self.slots[place] is None or self.slots[place][0] != time:
+            if wrong("full_slot_keeps_old") and self.slots[place] is not None:
+                return
+            self.slots[place] = (time, [])
+        self.slots[place][1].append(entry)

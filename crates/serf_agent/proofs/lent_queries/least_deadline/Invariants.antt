@@ -1,0 +1,6 @@
+use Rattle.std.proofs.Common.{◌≡◌, map, take}
+use Rattle.serf_agent.specs.LentQueries.{least}
+use Rattle.serf_agent.proofs.lent_queries.least_deadline.Given as goal
+
+abbrev pub invariant-loop-query : goal.invariant-loop-query
+invariant-loop-query l = l.first ≡ least (map (λ q. q.deadline) (take l.query-index l.queries))

@@ -1,0 +1,40 @@
+//! An agent's settings where nothing else is said.
+
+ghost use Rattle.std.specs.Prelude.{◌≡◌, length, IfOk};
+ghost use Rattle.serf_agent.specs.Config.{is_between, is_sound};
+ghost use Rattle.serf_agent.specs.Defaults.{default_config};
+
+use crate::config::Config;
+use serf_wire::Bytes;
+use std::alloc::{AllocError, Global};
+
+/// The number of slots for events, and for queries (Serf's `config.go`, `DefaultConfig`: `EventBuffer`, `QueryBuffer`).
+pub const DEFAULT_SLOTS: u64 = 512;
+
+/// The greatest size of a fired event, in bytes (`DefaultConfig`: `UserEventSizeLimit`).
+pub const DEFAULT_EVENT_LIMIT: u64 = 512;
+
+/// How many names are counted among a query's acks, and among its responses. This project's own.
+pub const DEFAULT_RESPONDERS: u64 = 1024;
+
+/// How many events, or queries, of one time are taken. This project's own.
+pub const DEFAULT_PER_TIME: u64 = 1024;
+
+impl Config {
+    /// Serf's own settings for a node of this name, and this project's for what Serf leaves open; joining lifts no least
+    /// time. `AllocError` where there is no memory for the name.
+    pub fn new(alloc: Global, name: &[u8]) -> Result<Config, AllocError>
+        ensures config { IfOk result (λ config. config ≡ default_config name.now) }
+        ensures sound { IfOk result (λ config. is_sound config ≡ is_between 1 128 (length name.now)) }
+    {
+        Ok(Config {
+            name: Bytes::copy_of(alloc, name)?,
+            event_buffer: DEFAULT_SLOTS,
+            query_buffer: DEFAULT_SLOTS,
+            event_limit: DEFAULT_EVENT_LIMIT,
+            responders: DEFAULT_RESPONDERS,
+            per_time: DEFAULT_PER_TIME,
+            ignore_old: false,
+        })
+    }
+}

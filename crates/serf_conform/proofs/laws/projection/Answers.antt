@@ -1,0 +1,13 @@
+use Rattle.std.proofs.Common.{◌≡◌, List, [], subst, sym, ap, ◌∙◌}
+use Rattle.std.proofs.lemmas.List.{append-nil}
+use Rattle.serf_model.specs.declared.action.Action.{Action}
+use Rattle.serf_model.specs.Alone.{IsAlone}
+use Rattle.serf_model.specs.Cluster.{run_of, trace_of}
+use Rattle.serf_model.specs.Trace.{Turn, turns_by, turns_of}
+use Rattle.serf_conform.proofs.laws.projection.Goals as goal
+
+pub returns : goal.returns
+returns c = λ configs actions a config m sound is node.
+    let shown : turns_of actions (trace_of (run_of configs actions)) ≡ (run_of configs actions).turns =
+    sym (ap (λ (x : List Action). turns_of x (trace_of (run_of configs actions))) (append-nil actions)) ∙ c.turns_shown.ensures configs actions [] sound in
+    subst (λ (ts : List Turn). IsAlone config a (turns_by a ts) m) (sym shown) (c.agents_alone.ensures configs actions a config m is node)

@@ -1,0 +1,9 @@
+use Rattle.std.proofs.Common.{◌≡◌, ◌++◌}
+use Rattle.std.specs.List.{flat_map}
+use Rattle.serf_wire.specs.Lists.{slots_left}
+use Rattle.serf_conform.specs.Meaning.{held_lines}
+use Rattle.serf_conform.proofs.meaning.put_held_slots.Given as goal
+
+-- the lines so far, and then those of what is left
+abbrev pub invariant-loop-slot : goal.invariant-loop-slot
+invariant-loop-slot l = l.out.items ++ flat_map held_lines (slots_left l.slot-iterator) ≡ l.fn.out.items ++ flat_map held_lines (slots_left l.fn.slots)

@@ -1,0 +1,6 @@
+use Rattle.std.proofs.Common.{◌≡◌, ◌++◌, map, take}
+use Rattle.serf_conform.specs.Wanted.{event_said}
+use Rattle.serf_conform.proofs.replies.add_events.Given as goal
+
+abbrev pub invariant-loop-event : goal.invariant-loop-event
+invariant-loop-event l = l.lines.items ≡ l.fn.lines.items ++ map event_said (take l.event-index l.events)

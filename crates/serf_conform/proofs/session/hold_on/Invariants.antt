@@ -1,0 +1,18 @@
+use Rattle.std.proofs.Common.{◌+◌, ◌≤◌, ℕ, List, Option, length}
+use Rattle.std.specs.Io.KnownBytes.{Appends}
+use Rattle.serf_model.specs.Trace.{turns_from}
+use Rattle.serf_conform.specs.Rules.{is_serf}
+use Rattle.serf_conform.specs.Session.{IsAlong, session_from}
+use Rattle.serf_conform.proofs.session.hold_on.Given as goal
+
+-- The turns that are left, and what is left of the input, give the session that all give.
+abbrev pub invariant-turns : goal.invariant-turns
+invariant-turns g l = ((v : List ℕ) (held : Option (List ℕ)) → Appends held (g.W.Write.contents l.fn.writer) v → IsAlong (g.R.Read.remaining l.fn.reader) (g.R.Read.remaining l.reader) held (g.W.Write.contents l.writer)
+    (λ input. session_from (is_serf l.rules) l.agent 1 1 v (turns_from 0 l.sent l.fn.actions l.fn.lines) input)
+    (λ w rest. session_from (is_serf l.rules) l.agent l.number l.calls w (turns_from l.count l.sent l.actions l.lines) rest))
+    × (l.number + length l.actions ≤ length l.fn.actions + 1)
+    × (l.calls ≤ l.number)
+    × (l.count ≤ length l.sent)
+
+abbrev pub decreases-turns : goal.decreases-turns
+decreases-turns g l = length l.actions

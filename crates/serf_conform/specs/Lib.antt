@@ -1,0 +1,4 @@
+pub mod Meaning
+pub mod Wanted
+pub mod Rules
+pub mod Session

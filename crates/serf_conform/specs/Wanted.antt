@@ -1,0 +1,62 @@
+-- What is wanted of a reply, by what the model's turn shows.
+use Rattle.std.specs.Prelude.{ℕ, ◌==◌, ◌&&◌, ◌++◌, Bool, if◌then◌else◌, List, [], ◌∷◌, length, map, codes, Result, Ok, Err}
+use Rattle.std.specs.Option.{option_to_list}
+use Rattle.std.specs.Str.{bytes_eq}
+use Rattle.serf_wire.specs.declared.fault.WireFault.{WireFault}
+use Rattle.serf_wire.specs.Decoded.{decoded}
+use Rattle.serf_wire.specs.Message.{Message, query_response}
+use Rattle.serf_model.specs.declared.line.Answer.{Answer}
+use Rattle.serf_model.specs.declared.line.Answer.TheVariants as answers
+use Rattle.serf_model.specs.declared.line.EventLine.{EventLine}
+use Rattle.serf_model.specs.declared.line.HandedLine.{HandedLine}
+use Rattle.serf_model.specs.declared.line.Line.{Line}
+use Rattle.serf_replay.specs.Schedule.{BadLine}
+use Rattle.serf_replay.specs.Show.{answer_text}
+use Rattle.serf_pipe.specs.declared.reply_line.ReplyLine.{ReplyLine}
+use Rattle.serf_pipe.specs.declared.reply_line.ReplyLine.TheVariants as lines
+use Rattle.serf_pipe.specs.Reply.{Said}
+use Rattle.serf_conform.specs.declared.judging.Judgement.{Judgement}
+use Rattle.serf_conform.specs.declared.judging.Judgement.TheVariants.{Agrees, Differs, Unsupported}
+use Rattle.serf_conform.specs.Meaning.{reply_means}
+
+-- the ack, or the response, that a message is
+abbrev pub ack_of : Result Message WireFault → List ReplyLine
+ack_of (Ok (query_response r)) = lines.CountedAck r.time r.id r.from ∷ []
+ack_of _ = []
+
+abbrev pub response_of : Result Message WireFault → List ReplyLine
+response_of (Ok (query_response r)) = lines.CountedResponse r.time r.id r.from r.payload ∷ []
+response_of _ = []
+
+-- what was counted, where this packet was given
+abbrev pub counted_lines : Answer → List ℕ → List ReplyLine
+counted_lines answers.Ack given = ack_of (decoded given)
+counted_lines answers.Response given = response_of (decoded given)
+counted_lines _ given = []
+
+abbrev pub event_said : EventLine → ReplyLine
+event_said e = lines.Event e.time e.name e.payload e.coalesce
+
+abbrev pub handed_said : HandedLine → ReplyLine
+handed_said q = lines.Handed q.index q.time q.id q.name q.payload
+
+-- what an action's line shows, of which the packets are these, and which was given this packet
+abbrev pub wanted_lines : Line → List ℕ → List (List ℕ) → List ReplyLine
+wanted_lines line given packets = counted_lines line.answer given ++ map (λ p. lines.Sent p) packets ++ map event_said line.events
+    ++ map handed_said (option_to_list line.handed)
+
+abbrev pub wanted_of : Line → List ℕ → List (List ℕ) → Said
+wanted_of line given packets = record { answer = answer_text line.answer; lines = wanted_lines line given packets }
+
+-- An agent that is made on an empty snapshot: its three clocks stand at 1.
+abbrev pub opening : Said
+opening = record { answer = codes "opened 1 1 1"; lines = [] }
+
+-- the agent has no such call
+abbrev pub is_unsupported : Said → Bool
+is_unsupported said = bytes_eq said.answer (codes "unsupported") && (length said.lines == 0)
+
+-- a reply that can't be read differs
+abbrev pub judged : List ℕ → Said → Result Said BadLine → Judgement
+judged given wanted (Err bad) = Differs
+judged given wanted (Ok said) = if is_unsupported said then Unsupported else if reply_means given wanted said then Agrees else Differs

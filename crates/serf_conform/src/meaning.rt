@@ -1,0 +1,225 @@
+//! When a line of a reply means what is wanted.
+
+ghost use Rattle.std.specs.Prelude.{◌≡◌, ◌++◌, IfOk, OnOk};
+ghost use Rattle.std.specs.List.{flat_map};
+ghost use Rattle.std.specs.Option.{option_copied, option_map};
+ghost use Rattle.std.specs.Str.{bytes_eq};
+ghost use Rattle.serf_wire.specs.Decoded.{decoded};
+ghost use Rattle.serf_wire.specs.Lists.{slot_of, slots_left, status_left, texts_left};
+ghost use Rattle.serf_wire.specs.Message.{message_of};
+ghost use Rattle.serf_pipe.specs.Reply.{said_in};
+ghost use Rattle.serf_pipe.specs.ReplyText.{line_text as text_of};
+ghost use Rattle.serf_conform.specs.Meaning.{are_same, held_lines, line_means as means, lines_mean, meaning_of, meaning_text, packet_means, reply_means as replies_mean, sent_in, spell_same, state_lines};
+
+use serf_pipe::{Reply, ReplyLine, put_reply_line};
+use serf_replay::{put_members, put_message, put_number_line, put_slot};
+use serf_wire::{Message, SlotView, SlotViews, StatusTimes, Texts, decode};
+use std::alloc::{AllocError, Global};
+
+/// Appends a slot without its number, or nothing where it is empty.
+fn put_held(out: &mut Vec<u8>, slot: &SlotView) -> Result<(), AllocError>
+    ensures { OnOk result (out.new.items ≡ out.old.items ++ held_lines (slot_of slot.now)) }
+{
+    match slot {
+        SlotView::Empty => Ok(()),
+        SlotView::Held(..) => put_slot(out, 0, slot),
+    }
+}
+
+fn put_held_slots(out: &mut Vec<u8>, slots: SlotViews) -> Result<(), AllocError>
+    ensures { OnOk result (out.new.items ≡ out.old.items ++ flat_map held_lines (slots_left slots.entry)) }
+{
+    for slot in slots {
+        put_held(out, &slot)?;
+    }
+    Ok(())
+}
+
+/// Appends the fields of a state without its empty slots.
+#[tactic(auto, unfolding(crate::specs::Meaning::state_lines))]
+fn put_state(
+    out: &mut Vec<u8>,
+    member_clock: u64,
+    status: StatusTimes,
+    left: Texts,
+    event_clock: u64,
+    slots: SlotViews,
+    query_clock: u64,
+) -> Result<(), AllocError>
+    ensures { OnOk result (out.new.items ≡ out.old.items ++ state_lines member_clock (status_left status.entry) (texts_left left.entry) event_clock (slots_left slots.entry) query_clock) }
+{
+    put_members(out, member_clock, status, left)?;
+    put_number_line(out, b"EventLTime", event_clock)?;
+    put_held_slots(out, slots)?;
+    put_number_line(out, b"QueryLTime", query_clock)
+}
+
+/// Appends what a message says, where empty slots of a state don't count.
+fn put_meaning(out: &mut Vec<u8>, message: &Message) -> Result<(), AllocError>
+    ensures { OnOk result (out.new.items ≡ out.old.items ++ meaning_text (message_of message.now)) }
+{
+    match message {
+        Message::PushPull {
+            member_clock,
+            status,
+            left,
+            event_clock,
+            slots,
+            query_clock,
+        } => put_state(
+            out,
+            *member_clock,
+            *status,
+            *left,
+            *event_clock,
+            *slots,
+            *query_clock,
+        ),
+        Message::UserEvent { .. } => put_message(out, message),
+        Message::Query { .. } => put_message(out, message),
+        Message::QueryResponse { .. } => put_message(out, message),
+        Message::Foreign(_) => put_message(out, message),
+    }
+}
+
+/// What a packet means, where it spells a message.
+fn meaning(alloc: Global, packet: &[u8]) -> Result<Option<Vec<u8>>, AllocError>
+    ensures { IfOk result (λ found. option_map (λ v. v.items) found ≡ meaning_of (decoded packet.now)) }
+{
+    match decode(packet) {
+        Ok(message) => {
+            let mut out = Vec::new(alloc);
+            put_meaning(&mut out, &message)?;
+            Ok(Some(out))
+        }
+        Err(_) => Ok(None),
+    }
+}
+
+fn is_equal(one: &[u8], other: &[u8]) -> bool
+    ensures { result ≡ bytes_eq one.now other.now }
+{
+    one == other
+}
+
+/// Whether two packets spell messages of one meaning.
+fn spell_one(alloc: Global, one: &[u8], other: &[u8]) -> Result<bool, AllocError>
+    ensures { IfOk result (λ b. b ≡ spell_same one.now other.now) }
+{
+    let Some(wanted) = meaning(alloc, one)? else {
+        return Ok(false);
+    };
+    let Some(got) = meaning(alloc, other)? else {
+        return Ok(false);
+    };
+    Ok(is_equal(&wanted, &got))
+}
+
+/// Whether a packet is as it is wanted: byte for byte where it is wanted as it was given.
+fn is_wanted_packet(
+    alloc: Global,
+    given: &[u8],
+    wanted: &[u8],
+    got: &[u8],
+) -> Result<bool, AllocError>
+    ensures { IfOk result (λ b. b ≡ packet_means given.now wanted.now got.now) }
+{
+    if is_equal(wanted, given) {
+        return Ok(is_equal(wanted, got));
+    }
+    spell_one(alloc, wanted, got)
+}
+
+/// The packet of a line that says that one was sent.
+fn sent_packet(line: &ReplyLine) -> Option<&[u8]>
+    ensures { option_copied result ≡ sent_in line.now }
+{
+    match line {
+        ReplyLine::Sent(packet) => Some(packet.as_slice()),
+        ReplyLine::Event { .. } => None,
+        ReplyLine::Handed { .. } => None,
+        ReplyLine::CountedAck { .. } => None,
+        ReplyLine::CountedResponse { .. } => None,
+        ReplyLine::Kept(_) => None,
+    }
+}
+
+fn line_text(alloc: Global, line: &ReplyLine) -> Result<Vec<u8>, AllocError>
+    ensures { IfOk result (λ text. text.items ≡ text_of line.now) }
+{
+    let mut out = Vec::new(alloc);
+    put_reply_line(&mut out, line)?;
+    Ok(out)
+}
+
+/// Whether a line of a reply means the one that is wanted, of a call that was given this packet.
+///
+/// A packet that is wanted just as it was given is equal byte for byte. Any other packet spells the same message, where
+/// empty slots of a state don't count. Every other line has the same values. An `AllocError` comes only where there is
+/// no memory for the texts that are compared.
+pub fn line_means(
+    alloc: Global,
+    given: &[u8],
+    wanted: &ReplyLine,
+    got: &ReplyLine,
+) -> Result<bool, AllocError>
+    ensures { IfOk result (λ b. b ≡ means given.now wanted.now got.now) }
+{
+    match sent_packet(wanted) {
+        Some(packet) => match sent_packet(got) {
+            Some(other) => is_wanted_packet(alloc, given, packet, other),
+            None => Ok(false),
+        },
+        None => {
+            let wanted = line_text(alloc, wanted)?;
+            let got = line_text(alloc, got)?;
+            Ok(is_equal(&wanted, &got))
+        }
+    }
+}
+
+/// Whether there are as many lines, each of which means the one that is wanted in its place.
+fn lines_agree(
+    alloc: Global,
+    given: &[u8],
+    wanted: &[ReplyLine],
+    got: &[ReplyLine],
+) -> Result<bool, AllocError>
+    ensures { IfOk result (λ b. b ≡ lines_mean given.now wanted.now got.now) }
+{
+    let mut wanted = wanted;
+    let mut got = got;
+    'lines: loop {
+        match wanted {
+            [] => return Ok(got.is_empty()),
+            [first, wanteds @ ..] => match got {
+                [] => return Ok(false),
+                [second, gots @ ..] => {
+                    if !line_means(alloc, given, first, second)? {
+                        return Ok(false);
+                    }
+                    wanted = wanteds;
+                    got = gots;
+                }
+            },
+        }
+    }
+}
+
+/// Whether a reply means the one that is wanted, of a call that was given this packet: an equal answer, and as many
+/// lines, each of which means the one that is wanted in its place ([`line_means`]).
+///
+/// An `AllocError` comes only where there is no memory for the texts that are compared.
+pub fn reply_means(
+    alloc: Global,
+    given: &[u8],
+    wanted: &Reply,
+    got: &Reply,
+) -> Result<bool, AllocError>
+    ensures { IfOk result (λ b. b ≡ replies_mean given.now (said_in wanted.now) (said_in got.now)) }
+{
+    if !is_equal(wanted.answer.as_slice(), got.answer.as_slice()) {
+        return Ok(false);
+    }
+    lines_agree(alloc, given, wanted.lines.as_slice(), got.lines.as_slice())
+}

@@ -1,0 +1,199 @@
+//! What is wanted of a reply.
+
+ghost use Rattle.std.specs.Prelude.{◌≡◌, ◌++◌, ◌∷◌, [], IfOk, OnOk, map};
+ghost use Rattle.std.specs.Option.{option_to_list};
+ghost use Rattle.serf_wire.specs.Decoded.{decoded};
+ghost use Rattle.serf_pipe.specs.declared.reply_line.ReplyLine.TheVariants.{Sent};
+ghost use Rattle.serf_pipe.specs.Reply.{said_in};
+ghost use Rattle.serf_replay.specs.Show.{answer_text};
+ghost use Rattle.serf_conform.specs.Wanted.{ack_of, counted_lines, event_said, handed_said, opening as opening_of, response_of, wanted_lines, wanted_of};
+
+use serf_pipe::{Reply, ReplyLine};
+use serf_replay::put_answer;
+use serf_wire::{Bytes, Message, decode};
+use serf_world::{Answer, EventLine, HandedLine, Line};
+use std::alloc::{AllocError, Global};
+
+fn add(lines: &mut Vec<ReplyLine>, line: ReplyLine) -> Result<(), AllocError>
+    ensures { OnOk result (lines.new.items ≡ lines.old.items ++ line ∷ []) }
+{
+    match lines.push(line) {
+        Ok(()) => Ok(()),
+        Err(_) => Err(AllocError),
+    }
+}
+
+/// Adds the ack that a packet is.
+fn add_ack(alloc: Global, lines: &mut Vec<ReplyLine>, given: &[u8]) -> Result<(), AllocError>
+    ensures { OnOk result (lines.new.items ≡ lines.old.items ++ ack_of (decoded given.now)) }
+{
+    match decode(given) {
+        Ok(Message::QueryResponse { time, id, from, .. }) => {
+            let from = Bytes::copy_of(alloc, from)?;
+            add(
+                lines,
+                ReplyLine::CountedAck {
+                    time,
+                    id: u64::from(id),
+                    from,
+                },
+            )
+        }
+        _ => Ok(()),
+    }
+}
+
+/// Adds the response that a packet is.
+fn add_response(alloc: Global, lines: &mut Vec<ReplyLine>, given: &[u8]) -> Result<(), AllocError>
+    ensures { OnOk result (lines.new.items ≡ lines.old.items ++ response_of (decoded given.now)) }
+{
+    match decode(given) {
+        Ok(
+            Message::QueryResponse {
+                time,
+                id,
+                from,
+                payload,
+                ..
+            },
+        ) => {
+            let from = Bytes::copy_of(alloc, from)?;
+            let payload = Bytes::copy_of(alloc, payload)?;
+            add(
+                lines,
+                ReplyLine::CountedResponse {
+                    time,
+                    id: u64::from(id),
+                    from,
+                    payload,
+                },
+            )
+        }
+        _ => Ok(()),
+    }
+}
+
+/// Adds what was counted, where this is the answer.
+fn add_counted(
+    alloc: Global,
+    lines: &mut Vec<ReplyLine>,
+    answer: Answer,
+    given: &[u8],
+) -> Result<(), AllocError>
+    ensures { OnOk result (lines.new.items ≡ lines.old.items ++ counted_lines answer given.now) }
+{
+    match answer {
+        Answer::Ack => add_ack(alloc, lines, given),
+        Answer::Response => add_response(alloc, lines, given),
+        _ => Ok(()),
+    }
+}
+
+fn add_sent(alloc: Global, lines: &mut Vec<ReplyLine>, packets: &[Bytes]) -> Result<(), AllocError>
+    ensures { OnOk result (lines.new.items ≡ lines.old.items ++ map (λ p. Sent p) packets.now) }
+{
+    for packet in packets {
+        let packet = Bytes::copy_of(alloc, packet.as_slice())?;
+        add(lines, ReplyLine::Sent(packet))?;
+    }
+    Ok(())
+}
+
+fn event_line(alloc: Global, event: &EventLine) -> Result<ReplyLine, AllocError>
+    ensures { IfOk result (λ line. line ≡ event_said event.now) }
+{
+    let name = Bytes::copy_of(alloc, event.name.as_slice())?;
+    let payload = Bytes::copy_of(alloc, event.payload.as_slice())?;
+    Ok(ReplyLine::Event {
+        time: event.time.get(),
+        name,
+        payload,
+        coalesce: event.coalesce,
+    })
+}
+
+fn add_events(
+    alloc: Global,
+    lines: &mut Vec<ReplyLine>,
+    events: &[EventLine],
+) -> Result<(), AllocError>
+    ensures { OnOk result (lines.new.items ≡ lines.old.items ++ map event_said events.now) }
+{
+    for event in events {
+        let line = event_line(alloc, event)?;
+        add(lines, line)?;
+    }
+    Ok(())
+}
+
+fn handed_line(alloc: Global, query: &HandedLine) -> Result<ReplyLine, AllocError>
+    ensures { IfOk result (λ line. line ≡ handed_said query.now) }
+{
+    let name = Bytes::copy_of(alloc, query.name.as_slice())?;
+    let payload = Bytes::copy_of(alloc, query.payload.as_slice())?;
+    Ok(ReplyLine::Handed {
+        index: query.index,
+        time: query.time.get(),
+        id: u64::from(query.id),
+        name,
+        payload,
+    })
+}
+
+fn add_handed(
+    alloc: Global,
+    lines: &mut Vec<ReplyLine>,
+    handed: &Option<HandedLine>,
+) -> Result<(), AllocError>
+    ensures { OnOk result (lines.new.items ≡ lines.old.items ++ map handed_said (option_to_list handed.now)) }
+{
+    match handed {
+        Some(query) => {
+            let line = handed_line(alloc, query)?;
+            add(lines, line)
+        }
+        None => Ok(()),
+    }
+}
+
+fn answer_words(alloc: Global, answer: Answer) -> Result<Bytes, AllocError>
+    ensures { IfOk result (λ words. words ≡ answer_text answer) }
+{
+    let mut out = Vec::new(alloc);
+    put_answer(&mut out, answer)?;
+    Ok(Bytes::from_vec(out))
+}
+
+/// What the reference replies to a call: the action's line, of which the packets are these, and which was given this
+/// packet where it is a delivery or a merge.
+///
+/// Behind an ack or a response that was counted stands what was counted, which the packet says. An `AllocError` comes
+/// only where there is no memory for the reply.
+pub fn wanted(
+    alloc: Global,
+    line: &Line,
+    given: &[u8],
+    packets: &[Bytes],
+) -> Result<Reply, AllocError>
+    ensures { IfOk result (λ reply. said_in reply ≡ wanted_of line.now given.now packets.now) }
+{
+    let answer = answer_words(alloc, line.answer)?;
+    let mut lines = Vec::new(alloc);
+    add_counted(alloc, &mut lines, line.answer, given)?;
+    add_sent(alloc, &mut lines, packets)?;
+    add_events(alloc, &mut lines, line.events.as_slice())?;
+    add_handed(alloc, &mut lines, &line.handed)?;
+    Ok(Reply { answer, lines })
+}
+
+/// What an agent that is made on an empty snapshot replies: its three clocks stand at 1. An `AllocError` comes only
+/// where there is no memory for it.
+pub fn opening(alloc: Global) -> Result<Reply, AllocError>
+    ensures { IfOk result (λ reply. said_in reply ≡ opening_of) }
+{
+    let answer = Bytes::copy_of(alloc, b"opened 1 1 1")?;
+    Ok(Reply {
+        answer,
+        lines: Vec::new(alloc),
+    })
+}

@@ -1,0 +1,10 @@
+use Rattle.std.proofs.Common.{◌≡◌, ◌++◌, length, map}
+use Rattle.serf_replay.specs.Words.{words_of}
+use Rattle.serf_judge.proofs.log.words_in.Given as goal
+
+-- the words so far, and then those of the rest
+abbrev pub invariant-words : goal.invariant-words
+invariant-words l = map (λ w. w.now) l.words.items ++ words_of l.rest ≡ words_of l.fn.line
+
+abbrev pub decreases-words : goal.decreases-words
+decreases-words l = length l.rest

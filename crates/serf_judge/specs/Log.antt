@@ -1,0 +1,56 @@
+-- What a log says, a line a happening.
+use Rattle.std.specs.Prelude.{◌≡◌, ℕ, ◌+◌, ◌==◌, ◌||◌, ◌++◌, min, Bool, if◌then◌else◌, List, [], ◌∷◌, length, codes, slice_index, map, Option, Some, None, is_some, Result, Ok, Err}
+use Rattle.std.specs.List.{fold}
+use Rattle.std.specs.Str.{bytes_eq}
+use Rattle.serf_replay.specs.declared.cause.Cause.{Cause}
+use Rattle.serf_replay.specs.declared.cause.Cause.TheVariants.{UnknownWord, WordCount}
+use Rattle.serf_replay.specs.Gives.{◌>>=◌}
+use Rattle.serf_replay.specs.Words.{number_in, number_of, word_at, words_of}
+use Rattle.serf_judge.specs.Identity.{EventIdentity, QueryIdentity}
+
+-- what a line says: an event was fired or handed out, a query was handed out, or nothing that is judged
+pub data Happening : Type 0 where
+  nothing : Happening
+  fired : EventIdentity → Happening
+  event : EventIdentity → Happening
+  query : QueryIdentity → Happening
+
+-- the event of four words, of which the first is at this place: the node, the time, the name and the payload
+unfoldable pub event_at : ℕ → List (List ℕ) → Result EventIdentity Cause
+event_at place words = do
+  time ← number_in (place + 1) words
+  Ok (record { node = word_at place words; time = time; name = word_at (place + 2) words; payload = word_at (place + 3) words })
+
+-- the query of a node's word and two others
+unfoldable pub query_at : ℕ → ℕ → ℕ → List (List ℕ) → Result QueryIdentity Cause
+query_at node time id words = do
+  t ← number_in time words
+  i ← number_in id words
+  Ok (record { node = word_at node words; time = t; id = i })
+
+-- a line of so many words
+abbrev pub of_count : ℕ → List (List ℕ) → Result Happening Cause → Result Happening Cause
+of_count n words said = if length words == n then said else Err WordCount
+
+abbrev pub event_line : ℕ → List (List ℕ) → (EventIdentity → Happening) → Result Happening Cause
+event_line place words happening = event_at place words >>= (λ e. Ok (happening e))
+
+abbrev pub query_line : ℕ → ℕ → ℕ → List (List ℕ) → Result Happening Cause
+query_line node time id words = query_at node time id words >>= (λ q. Ok (query q))
+
+-- a line of a trace of `serf-replay`: `N event A T NAME PAYLOAD CC`, `N handed A H T ID NAME PAYLOAD`, or another
+unfoldable pub trace_line : List (List ℕ) → Result Happening Cause
+trace_line words =
+    if bytes_eq (word_at 2 words) (codes "event") then of_count 7 words (event_line 3 words (λ e. event e))
+    else if bytes_eq (word_at 2 words) (codes "handed") then of_count 8 words (query_line 3 5 6 words)
+    else Ok nothing
+
+-- the happening that words say
+unfoldable pub happening_of : List (List ℕ) → Result Happening Cause
+happening_of words =
+    if bytes_eq (word_at 1 words) (codes "event") then of_count 5 words (event_line 2 words (λ e. event e))
+    else if bytes_eq (word_at 1 words) (codes "fired") then of_count 5 words (event_line 2 words (λ e. fired e))
+    else if bytes_eq (word_at 1 words) (codes "query") then of_count 4 words (query_line 2 3 4 words)
+    else if bytes_eq (word_at 1 words) (codes "restarted") then of_count 2 words (Ok nothing)
+    else if is_some (number_of (word_at 1 words)) then trace_line words
+    else Err UnknownWord

@@ -1,0 +1,22 @@
+//! What a line of a log says.
+
+/// A user event that was fired by a node, or handed to one. Texts are the words of the line, as they stand there.
+#[derive(Debug, Drop)]
+pub struct EventEntry {
+    /// The number of the line, counted from 1; it stops at 2^64 - 1.
+    pub line: u64,
+    pub node: Vec<u8>,
+    pub time: u64,
+    pub name: Vec<u8>,
+    pub payload: Vec<u8>,
+}
+
+/// A query that was handed to a node.
+#[derive(Debug, Drop)]
+pub struct QueryEntry {
+    /// The number of the line, counted from 1; it stops at 2^64 - 1.
+    pub line: u64,
+    pub node: Vec<u8>,
+    pub time: u64,
+    pub id: u64,
+}

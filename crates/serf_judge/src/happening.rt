@@ -1,0 +1,217 @@
+//! What the words of a line say.
+
+ghost use Rattle.std.specs.Prelude.{◌≡◌, ◌≤◌, ◌<◌, ◌+◌, ◌==◌, Ok, Err, length, map, IfOk, IfErr};
+ghost use Rattle.serf_replay.specs.Words.{number_in, word_at as word_of};
+ghost use Rattle.serf_judge.specs.Identity.{event_identity, query_identity};
+ghost use Rattle.serf_judge.specs.Log.{event, event_at, event_line, fired, happening_of, nothing, of_count, query_at, query_line, trace_line};
+ghost use Rattle.serf_judge.specs.Said.{IsAt, Says, happening_view};
+
+use crate::entry::{EventEntry, QueryEntry};
+use serf_replay::{Cause, number};
+use serf_stream::LineFault;
+use std::alloc::Global;
+
+/// What a line says.
+#[derive(Debug, Drop)]
+pub(crate) enum Happening {
+    Nothing,
+    Fired(EventEntry),
+    Event(EventEntry),
+    Query(QueryEntry),
+}
+
+/// The number at a place of a line, counting from 1.
+#[tactic(auto, unfolding(serf_replay::specs::Words::number_in))]
+fn number_at(words: &[&[u8]], place: usize) -> Result<u64, LineFault<Cause>>
+    requires { (1 ≤ place) × (place ≤ length words.now) }
+    ensures { Says (λ n. n) result (number_in place (map (λ w. w.now) words.now)) }
+{
+    match number(words[place - 1]) {
+        Some(found) => Ok(found),
+        None => Err(LineFault::Bad(Cause::BadWord(place as u64))),
+    }
+}
+
+fn copy_of(alloc: Global, word: &[u8]) -> Result<Vec<u8>, LineFault<Cause>>
+    ensures same { IfOk result (λ copy. copy.items ≡ word.now) }
+    ensures memory { IfErr result (λ fault. fault ≡ LineFault.OutOfMemory) }
+{
+    match Vec::from_slice(alloc, word) {
+        Ok(copy) => Ok(copy),
+        Err(_) => Err(LineFault::OutOfMemory),
+    }
+}
+
+/// The event of four words, of which the first is at this place.
+#[tactic(auto, unfolding(crate::specs::Log::event_at))]
+fn event_from(
+    alloc: Global,
+    line: u64,
+    words: &[&[u8]],
+    place: usize,
+) -> Result<EventEntry, LineFault<Cause>>
+    requires { (1 ≤ place) × (place + 3 ≤ length words.now) }
+    ensures said { Says event_identity result (event_at place (map (λ w. w.now) words.now)) }
+    ensures line { IfOk result (λ event. event.line ≡ line) }
+{
+    let time = number_at(words, place + 1)?;
+    let node = copy_of(alloc, word_at(words, place))?;
+    let name = copy_of(alloc, word_at(words, place + 2))?;
+    let payload = copy_of(alloc, word_at(words, place + 3))?;
+    Ok(EventEntry {
+        line,
+        node,
+        time,
+        name,
+        payload,
+    })
+}
+
+/// The query of a node's word and two others.
+#[tactic(auto, unfolding(crate::specs::Log::query_at))]
+fn query_from(
+    alloc: Global,
+    line: u64,
+    words: &[&[u8]],
+    node: usize,
+    time: usize,
+    id: usize,
+) -> Result<QueryEntry, LineFault<Cause>>
+    requires node { (1 ≤ node) × (node ≤ length words.now) }
+    requires time { (1 ≤ time) × (time ≤ length words.now) }
+    requires id { (1 ≤ id) × (id ≤ length words.now) }
+    ensures said { Says query_identity result (query_at node time id (map (λ w. w.now) words.now)) }
+    ensures line { IfOk result (λ query. query.line ≡ line) }
+{
+    let time = number_at(words, time)?;
+    let id = number_at(words, id)?;
+    let node = copy_of(alloc, words[node - 1])?;
+    Ok(QueryEntry {
+        line,
+        node,
+        time,
+        id,
+    })
+}
+
+/// An event that was handed out, in a line of so many words.
+fn event_in(
+    alloc: Global,
+    line: u64,
+    words: &[&[u8]],
+    place: usize,
+    count: usize,
+) -> Result<Happening, LineFault<Cause>>
+    requires { (1 ≤ place) × (place + 3 ≤ count) }
+    ensures said { Says happening_view result (of_count count (map (λ w. w.now) words.now) (event_line place (map (λ w. w.now) words.now) (λ e. event e))) }
+    ensures line { IfOk result (IsAt line) }
+{
+    if words.len() != count {
+        return Err(LineFault::Bad(Cause::WordCount));
+    }
+    match event_from(alloc, line, words, place) {
+        Ok(event) => Ok(Happening::Event(event)),
+        Err(fault) => Err(fault),
+    }
+}
+
+/// An event that was fired.
+fn fired_in(alloc: Global, line: u64, words: &[&[u8]]) -> Result<Happening, LineFault<Cause>>
+    ensures said { Says happening_view result (of_count 5 (map (λ w. w.now) words.now) (event_line 2 (map (λ w. w.now) words.now) (λ e. fired e))) }
+    ensures line { IfOk result (IsAt line) }
+{
+    if words.len() != 5 {
+        return Err(LineFault::Bad(Cause::WordCount));
+    }
+    match event_from(alloc, line, words, 2) {
+        Ok(event) => Ok(Happening::Fired(event)),
+        Err(fault) => Err(fault),
+    }
+}
+
+fn query_in(
+    alloc: Global,
+    line: u64,
+    words: &[&[u8]],
+    node: usize,
+    time: usize,
+    id: usize,
+    count: usize,
+) -> Result<Happening, LineFault<Cause>>
+    requires node { (1 ≤ node) × (node ≤ count) }
+    requires time { (1 ≤ time) × (time ≤ count) }
+    requires id { (1 ≤ id) × (id ≤ count) }
+    ensures said { Says happening_view result (of_count count (map (λ w. w.now) words.now) (query_line node time id (map (λ w. w.now) words.now))) }
+    ensures line { IfOk result (IsAt line) }
+{
+    if words.len() != count {
+        return Err(LineFault::Bad(Cause::WordCount));
+    }
+    match query_from(alloc, line, words, node, time, id) {
+        Ok(query) => Ok(Happening::Query(query)),
+        Err(fault) => Err(fault),
+    }
+}
+
+/// What a line of a trace says: an event or a query that was handed out, or nothing that is judged.
+#[tactic(auto, unfolding(crate::specs::Log::trace_line))]
+fn trace_happening(alloc: Global, line: u64, words: &[&[u8]]) -> Result<Happening, LineFault<Cause>>
+    ensures said { Says happening_view result (trace_line (map (λ w. w.now) words.now)) }
+    ensures line { IfOk result (IsAt line) }
+{
+    let second = word_at(words, 2);
+    if second == b"event".as_slice() {
+        event_in(alloc, line, words, 3, 7)
+    } else if second == b"handed".as_slice() {
+        query_in(alloc, line, words, 3, 5, 6, 8)
+    } else {
+        Ok(Happening::Nothing)
+    }
+}
+
+/// The word at a place of a line, counting from 1; no bytes where there is none.
+fn word_at<'a>(words: &[&'a [u8]], place: usize) -> &'a [u8]
+    requires { 1 ≤ place }
+    ensures { result.now ≡ word_of place (map (λ w. w.now) words.entry.now) }
+{
+    match words.get(place - 1) {
+        Some(word) => word,
+        None => &[],
+    }
+}
+
+/// What the words of a line say.
+#[tactic(auto, unfolding(crate::specs::Log::happening_of))]
+pub(crate) fn happening_in(
+    alloc: Global,
+    line: u64,
+    words: &[&[u8]],
+) -> Result<Happening, LineFault<Cause>>
+    ensures said { Says happening_view result (happening_of (map (λ w. w.now) words.now)) }
+    ensures line { IfOk result (IsAt line) }
+{
+    let first = word_at(words, 1);
+    if first == b"event".as_slice() {
+        event_in(alloc, line, words, 2, 5)
+    } else if first == b"fired".as_slice() {
+        fired_in(alloc, line, words)
+    } else if first == b"query".as_slice() {
+        query_in(alloc, line, words, 2, 3, 4, 4)
+    } else if first == b"restarted".as_slice() {
+        restarted_in(words)
+    } else if number(first).is_some() {
+        trace_happening(alloc, line, words)
+    } else {
+        Err(LineFault::Bad(Cause::UnknownWord))
+    }
+}
+
+fn restarted_in(words: &[&[u8]]) -> Result<Happening, LineFault<Cause>>
+    ensures said { Says happening_view result (of_count 2 (map (λ w. w.now) words.now) (Ok nothing)) }
+    ensures line { IfOk result (λ held. held ≡ Happening.Nothing) }
+{
+    if words.len() != 2 {
+        return Err(LineFault::Bad(Cause::WordCount));
+    }
+    Ok(Happening::Nothing)
+}

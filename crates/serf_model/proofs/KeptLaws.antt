@@ -1,0 +1,83 @@
+-- Every run keeps all promises.
+use Rattle.std.proofs.Common.{List, arith}
+use Rattle.std.specs.Prelude.{ℕ, All}
+use Rattle.serf_wire.specs.declared.texts.EventBody.{EventBody}
+use Rattle.serf_window.specs.Laws.{SlotLaws}
+use Rattle.serf_agent.specs.declared.config.Config.{Config}
+use Rattle.serf_model.specs.declared.action.Action.{Action}
+use Rattle.serf_model.specs.Cluster.{Run, run_of, start}
+use Rattle.serf_model.specs.Kept.{KeepsPromises}
+use Rattle.serf_model.specs.Runs.{AreConfigs}
+use Rattle.serf_model.specs.Sizes.{HasSizes}
+use Rattle.serf_model.proofs.AnswerLaws.{acked-once, replied-once}
+use Rattle.serf_model.proofs.AnswerPromiseLaws.{counting-run, served-run}
+use Rattle.serf_model.proofs.BoundLaws.{events-bounded, queries-bounded}
+use Rattle.serf_model.proofs.CountingPromises.{counted-once, counting-start, open-hold}
+use Rattle.serf_model.proofs.HandOutLaws.{entering-run, handing-out, messaging-run}
+use Rattle.serf_model.proofs.PromiseLaws.{promised, query-fired}
+use Rattle.serf_model.proofs.QueriesEntered.{query-only-fired}
+use Rattle.serf_model.proofs.SentPromises.{open-sent}
+use Rattle.serf_model.proofs.TurnLaws.{at_each_nil}
+
+pub kept : SlotLaws EventBody → SlotLaws ℕ → (configs : List Config) (actions : List Action) → AreConfigs configs → All HasSizes actions → KeepsPromises configs (run_of configs actions)
+kept event_laws query_laws configs actions ok sized =
+    let r : Run = run_of configs actions in
+    let going = promised configs actions ok in
+    let out = handing-out configs actions in
+    let counting = counting-run configs actions ok in
+    let served = served-run configs actions sized ok in
+    record {
+      once = going.once;
+      fired = going.only_fired;
+      later = going.later;
+      held = going.held;
+      query_once = going.query_once;
+      query_later = going.query_later;
+      query_handed = going.query_handed;
+      query_fired = query-fired configs actions;
+      query_only_fired = query-only-fired configs actions sized;
+      only_to_actor = out.to_actor;
+      hands_out_given = out.given;
+      new_is_handed = out.new;
+      hands_out_entered = (entering-run configs actions).entered;
+      messages_fired = (messaging-run configs actions sized).fired;
+      counted_once = counted-once r.cluster r.turns counting;
+      counted_in_time = counting.in_time;
+      counted_sent = counting.sent;
+      open_queries = open-hold r counting;
+      open_queries_sent = open-sent r counting;
+      answers_made = served.made;
+      acked_once = acked-once configs r.cluster r.turns served;
+      replied_once = replied-once configs r.cluster r.turns served;
+      events_bounded = events-bounded event_laws query_laws configs actions ok;
+      queries_bounded = queries-bounded event_laws query_laws configs actions ok;
+    }
+
+-- of no turns anything holds
+pub kept-start : (configs : List Config) → KeepsPromises configs (start configs)
+kept-start configs = record {
+  once = λ a i j d lt within. absurd (omega arith);
+  fired = at_each_nil _;
+  later = at_each_nil _;
+  held = (at_each_nil _, at_each_nil _);
+  query_once = λ a i j d lt within. absurd (omega arith);
+  query_later = at_each_nil _;
+  query_handed = λ a i j d lt within. absurd (omega arith);
+  query_fired = at_each_nil _;
+  query_only_fired = at_each_nil _;
+  only_to_actor = at_each_nil _;
+  hands_out_given = at_each_nil _;
+  new_is_handed = at_each_nil _;
+  hands_out_entered = at_each_nil _;
+  messages_fired = at_each_nil _;
+  counted_once = λ a ack i j d lt within. absurd (omega arith);
+  counted_in_time = at_each_nil _;
+  counted_sent = at_each_nil _;
+  open_queries = open-hold (start configs) (counting-start configs);
+  open_queries_sent = open-sent (start configs) (counting-start configs);
+  answers_made = at_each_nil _;
+  acked_once = λ a i j d lt within. absurd (omega arith);
+  replied_once = λ a i j d lt within. absurd (omega arith);
+  events_bounded = at_each_nil _;
+  queries_bounded = at_each_nil _;
+}

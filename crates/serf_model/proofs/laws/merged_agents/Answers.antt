@@ -1,0 +1,14 @@
+use Rattle.std.proofs.Common.{refl}
+use Rattle.std.specs.Prelude.{false}
+use Rattle.serf_agent.specs.Events.{admission}
+use Rattle.serf_model.proofs.CallsKept.{representable-received}
+use Rattle.serf_model.proofs.InvariantKept.{joined-spelled, runs-on, times-spelled}
+use Rattle.serf_model.proofs.laws.merged_agents.Goals as goal
+
+pub returns : goal.returns
+returns c = record {
+  joined = joined-spelled;
+  times = times-spelled;
+  received = λ i e representable runs small. representable-received i e.time e.key false (admission i e.time e.key) representable runs small refl;
+  goes_on = λ i e outcome runs is. runs-on i e.time e.key false (admission i e.time e.key) outcome runs is;
+}

@@ -1,0 +1,41 @@
+-- All that is promised of a run, in one place: what its turns keep, and what its agents' open queries hold in the end.
+use Rattle.std.specs.Prelude.{List}
+use Rattle.serf_agent.specs.declared.config.Config.{Config}
+use Rattle.serf_model.specs.AnswerPromises.{AckedOnce, AnswersMade, CountedInTime, CountedOnce, CountedSent, OpenQueriesHold, OpenQueriesSent, RepliedOnce}
+use Rattle.serf_model.specs.Bounds.{EventsBounded, QueriesBounded}
+use Rattle.serf_model.specs.Cluster.{Run}
+use Rattle.serf_model.specs.HandOuts.{HandsOutEntered, HandsOutGiven, MessagesFired, NewIsHanded, OnlyToActor}
+use Rattle.serf_model.specs.Promises.{Held, Later, Once, OnlyFired, QueryFired, QueryHandedOnce, QueryLater, QueryOnce}
+use Rattle.serf_model.specs.Queried.{QueryOnlyFired}
+
+-- A run of agents of these settings keeps all promises.
+pub record KeepsPromises (configs : List Config) (r : Run) : Type 0 where
+  -- events
+  pub once : Once r.turns
+  pub fired : OnlyFired r.turns
+  pub later : Later r.turns
+  pub held : Held r.turns
+  -- queries
+  pub query_once : QueryOnce r.turns
+  pub query_later : QueryLater r.turns
+  pub query_handed : QueryHandedOnce r.turns
+  pub query_fired : QueryFired r.turns
+  pub query_only_fired : QueryOnlyFired r.turns
+  -- what is handed out, and queries as messages
+  pub only_to_actor : OnlyToActor r.turns
+  pub hands_out_given : HandsOutGiven r.turns
+  pub new_is_handed : NewIsHanded r.turns
+  pub hands_out_entered : HandsOutEntered configs r.turns
+  pub messages_fired : MessagesFired configs r.turns
+  -- acks and responses
+  pub counted_once : CountedOnce r.turns
+  pub counted_in_time : CountedInTime r.turns
+  pub counted_sent : CountedSent r.turns
+  pub open_queries : OpenQueriesHold r
+  pub open_queries_sent : OpenQueriesSent r
+  pub answers_made : AnswersMade configs r.turns
+  pub acked_once : AckedOnce r.turns
+  pub replied_once : RepliedOnce r.turns
+  -- how much each agent's windows hold
+  pub events_bounded : EventsBounded configs r.turns
+  pub queries_bounded : QueriesBounded configs r.turns

@@ -1,0 +1,106 @@
+//! Packets in hex, a line each.
+
+ghost use Rattle.std.specs.Prelude.{◌≡◌, ◌++◌, [], Ok, List, ℕ, IfErr, IfOk, OnOk};
+ghost use Rattle.std.specs.List.{list_any};
+ghost use Rattle.std.specs.Io.KnownBytes.{Appends, Consumes, IsAtEnd};
+ghost use Rattle.serf_stream.specs.Lines.{lines_of, text_behind};
+ghost use Rattle.serf_stream.specs.Streams.{IsStopped};
+ghost use Rattle.serf_packets.specs.Answers.{line_answer, refuses_line};
+
+use crate::answers::put_answer;
+use crate::framing::{Framing, framing_of};
+use hex::FromHexError;
+use serf_stream::{LineFault, LineJob, StreamFault, answer_lines};
+use std::alloc::Global;
+use std::io::{Read, Write};
+use thiserror::Error;
+
+/// A line is not hex: it has a byte that is no hex digit, or an odd number of them.
+#[derive(Clone, Copy, Debug, PartialEq, Eq, Error)]
+#[error("the line is not hex")]
+pub struct BadHex;
+
+/// Is told of each packet that begins as memberlist's framing. What it does changes nothing of the answers.
+pub trait FramingNotes {
+    /// The packet in the line of this number, counted from 1, begins so. The number stops at 2^64 - 1.
+    fn framed(&mut self, line: u64, framing: Framing);
+}
+
+/// Answers packets, and keeps whether one was refused.
+#[derive(Drop)]
+struct PacketLines<'a, N> {
+    notes: &'a mut N,
+    number: u64,
+    is_refused: bool,
+}
+
+impl<N: FramingNotes> LineJob for PacketLines<'_, N> {
+    ghost use Rattle.std.specs.Prelude.{◌≡◌, List, ℕ};
+    ghost use Rattle.std.specs.List.{list_any};
+    ghost use Rattle.serf_packets.specs.Answers.{line_answer, refuses_line};
+
+    type Fault = BadHex;
+
+    ghost follows = { λ job lines. job.is_refused ≡ list_any refuses_line lines };
+
+    ghost answer = { line_answer };
+
+    fn read_line(
+        &mut self,
+        alloc: Global,
+        line: &[u8],
+        text: &mut Vec<u8>,
+    ) -> Result<(), LineFault<BadHex>> {
+        let number = self.number;
+        self.number = number.saturating_add(1);
+        if line.is_empty() {
+            return Ok(());
+        }
+        let packet = match hex::decode(alloc, line) {
+            Ok(packet) => packet,
+            Err(FromHexError::OutOfMemory) => return Err(LineFault::OutOfMemory),
+            Err(_) => return Err(LineFault::Bad(BadHex)),
+        };
+        if let Some(framing) = framing_of(&packet) {
+            self.notes.framed(number, framing);
+        }
+        match put_answer(alloc, &packet, text) {
+            Ok(is_refused) => {
+                self.is_refused = self.is_refused || is_refused;
+                Ok(())
+            }
+            Err(_) => Err(LineFault::OutOfMemory),
+        }
+    }
+}
+
+/// Reads packets in hex, a line each, and writes the answer to each: its message's text as [`serf_replay::decode_text`]
+/// has it, or in its place a line `refused FAULT`; and then an empty line. A line without bytes says nothing. On `Ok` it
+/// says whether a packet was refused.
+///
+/// The answers to the lines that are over are written before more is read. A line may have 16,777,216 bytes, and there
+/// may be any number of lines. A line that is not hex ends it, behind the answers to those before.
+pub fn decode_lines<R: Read, W: Write, N: FramingNotes>(
+    alloc: Global,
+    reader: &mut R,
+    writer: &mut W,
+    notes: &mut N,
+) -> Result<bool, StreamFault<BadHex>>
+    // Just the answers to all lines were written, each of which is its line's own.
+    ensures done { IfOk result (λ is_refused. (bytes text : List ℕ) × Consumes (R.remaining reader.old) (R.remaining reader.new) bytes × IsAtEnd (R.remaining reader.new)
+        × (text_behind line_answer [] (lines_of bytes) ≡ Ok text) × Appends (W.contents writer.old) (W.contents writer.new) text
+        × (is_refused ≡ list_any refuses_line (lines_of bytes))) }
+    // Of the lines that were read some were answered; what else is said of them depends on the fault.
+    ensures stopped { IfErr result (λ fault. (bytes : List ℕ) × Consumes (R.remaining reader.old) (R.remaining reader.new) bytes
+        × IsStopped line_answer fault (lines_of bytes) (W.contents writer.old) (W.contents writer.new)) }
+{
+    let mut job = PacketLines {
+        notes,
+        number: 1,
+        is_refused: false,
+    };
+    match answer_lines(alloc, reader, writer, &mut job) {
+        Ok(()) => Ok(job.is_refused),
+        Err(fault) => Err(fault),
+    }
+}

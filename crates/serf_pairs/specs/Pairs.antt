@@ -1,0 +1,36 @@
+-- Two equal keys in a list.
+use Rattle.std.specs.Prelude.{◌≡◌, ℕ, ◌<◌, ◌≤◌, Bool, true, List, Some, slice_get}
+
+-- the keys at two places, one behind the other, are equal
+pub record IsPair {K : Type 0} (eq : K → K → Bool) (keys : List K) (earlier later : ℕ) : Type 0 where
+  pub before : earlier < later
+  pub first : K
+  pub first_at : slice_get keys earlier ≡ Some first
+  pub second : K
+  pub second_at : slice_get keys later ≡ Some second
+  pub equal : eq first second ≡ true
+
+abbrev pub HasNoPair : {K : Type 0} → (K → K → Bool) → List K → Type 0
+HasNoPair eq keys = (i j : ℕ) → IsPair eq keys i j → ⊥
+
+-- the first two: the later place is the least, and with it the earlier one
+pub record IsFirstPair {K : Type 0} (eq : K → K → Bool) (keys : List K) (earlier later : ℕ) : Type 0 where
+  pub pair : IsPair eq keys earlier later
+  pub least_later : (i j : ℕ) → IsPair eq keys i j → later ≤ j
+  pub least_earlier : (i : ℕ) → IsPair eq keys i later → earlier ≤ i
+
+-- one item stands at two places, one behind the other
+pub record IsTwice {X : Type 0} (items : List X) (earlier later : ℕ) : Type 0 where
+  pub before : earlier < later
+  pub item : X
+  pub first_at : slice_get items earlier ≡ Some item
+  pub second_at : slice_get items later ≡ Some item
+
+abbrev pub HasNoTwo : {X : Type 0} → List X → Type 0
+HasNoTwo items = (i j : ℕ) → IsTwice items i j → ⊥
+
+-- the first two places of one item: the later is the least, and with it the earlier one
+pub record AreFirstTwo {X : Type 0} (items : List X) (earlier later : ℕ) : Type 0 where
+  pub twice : IsTwice items earlier later
+  pub least_later : (i j : ℕ) → IsTwice items i j → later ≤ j
+  pub least_earlier : (i : ℕ) → IsTwice items i later → earlier ≤ i

@@ -1,0 +1,4 @@
+pub mod CallText
+pub mod Input
+pub mod Reply
+pub mod ReplyText

@@ -1,0 +1,56 @@
+-- A schedule and its text, as both grow step by step.
+use Rattle.std.proofs.Common.{◌≡◌, ◌+◌, ◌≤◌, ◌∙◌, ℕ, List, [], ◌∷◌, ◌++◌, length, length-append, refl, sym, ap, arith, append_assoc}
+use Rattle.std.specs.List.{All, flat_map}
+use Rattle.std.proofs.lemmas.List.{append-nil}
+use Rattle.std.proofs.lemmas.List.Concat.{flat_map-append}
+use Rattle.std.proofs.lemmas.List.Elements.{All-append, All-nil}
+use Rattle.serf_agent.specs.declared.config.Config.{Config}
+use Rattle.serf_model.specs.declared.action.Action.{Action}
+use Rattle.serf_schedule_text.specs.Sayable.{IsSayable}
+use Rattle.serf_schedule_text.specs.ScheduleText.{action_text, agent_text}
+use Rattle.serf_random.specs.Draft.{AddsActions, AddsAgents}
+
+pub no_agents : (text : List ℕ) (agents : List Config) → AddsAgents text text agents agents
+no_agents text agents = record { added = []; agents = sym (append-nil agents); text = sym (append-nil text); short = λ s. s }
+
+pub more_agents : (a b c : List ℕ) (xs ys zs : List Config) → AddsAgents a b xs ys → AddsAgents b c ys zs → AddsAgents a c xs zs
+more_agents a b c xs ys zs one two = record {
+  added = one.added ++ two.added;
+  agents = two.agents ∙ ap (λ l. l ++ two.added) one.agents ∙ append_assoc xs one.added two.added;
+  text = two.text ∙ ap (λ t. t ++ flat_map agent_text two.added) one.text ∙ append_assoc a (flat_map agent_text one.added) (flat_map agent_text two.added)
+      ∙ ap (λ t. a ++ t) (sym (flat_map-append agent_text one.added two.added));
+  short = λ s. two.short (one.short s);
+}
+
+pub no_actions : (n : ℕ) (text : List ℕ) (actions : List Action) → AddsActions n text text actions actions
+no_actions n text actions = record {
+  added = [];
+  actions = sym (append-nil actions);
+  text = sym (append-nil text);
+  few = omega arith;
+  sayable = All-nil IsSayable;
+  short = λ s. s;
+}
+
+pub more_actions : (m n most : ℕ) (a b c : List ℕ) (xs ys zs : List Action) → m + n ≤ most → AddsActions m a b xs ys → AddsActions n b c ys zs
+    → AddsActions most a c xs zs
+more_actions m n most a b c xs ys zs few one two = record {
+  added = one.added ++ two.added;
+  actions = two.actions ∙ ap (λ l. l ++ two.added) one.actions ∙ append_assoc xs one.added two.added;
+  text = two.text ∙ ap (λ t. t ++ flat_map action_text two.added) one.text
+      ∙ append_assoc a (flat_map action_text one.added) (flat_map action_text two.added)
+      ∙ ap (λ t. a ++ t) (sym (flat_map-append action_text one.added two.added));
+  few = omega (arith, few, one.few, two.few, length-append one.added two.added);
+  sayable = All-append IsSayable one.added two.added one.sayable two.sayable;
+  short = λ s. two.short (one.short s);
+}
+
+-- a first text, the agents' lines and the actions' lines, one behind another
+pub whole_text : (comment a b c : List ℕ) (agents : List Config) (most : ℕ) (actions : List Action) → a ≡ comment → AddsAgents a b [] agents
+    → AddsActions most b c [] actions → c ≡ comment ++ (flat_map agent_text agents ++ flat_map action_text actions)
+whole_text comment a b c agents most actions is one two =
+    two.text
+    ∙ ap (λ t. t ++ flat_map action_text two.added) (one.text ∙ ap (λ t. t ++ flat_map agent_text one.added) is)
+    ∙ append_assoc comment (flat_map agent_text one.added) (flat_map action_text two.added)
+    ∙ ap (λ l. comment ++ (flat_map agent_text l ++ flat_map action_text two.added)) (sym one.agents)
+    ∙ ap (λ l. comment ++ (flat_map agent_text agents ++ flat_map action_text l)) (sym two.actions)

@@ -1,0 +1,32 @@
+-- A schedule and its text, as both grow: private to the crate.
+use Rattle.std.specs.Prelude.{◌≡◌, ℕ, ◌<◌, ◌≤◌, ◌^◌, ◌++◌, List, length, All}
+use Rattle.std.specs.List.{flat_map}
+use Rattle.serf_agent.specs.declared.config.Config.{Config}
+use Rattle.serf_model.specs.declared.action.Action.{Action}
+use Rattle.serf_random.specs.declared.ask.Ask.{Ask}
+use Rattle.serf_schedule_text.specs.Sayable.{IsSayable}
+use Rattle.serf_schedule_text.specs.ScheduleText.{action_text, agent_text}
+
+-- the greatest length of a schedule's text
+abbrev pub IsShort : List ℕ → Type 0
+IsShort text = length text ≤ 16777216
+
+-- some agents and their lines were added, as far as the text stays short
+pub record AddsAgents (old new : List ℕ) (before after : List Config) : Type 0 where
+  pub added : List Config
+  pub agents : after ≡ before ++ added
+  pub text : new ≡ old ++ flat_map agent_text added
+  pub short : IsShort old → IsShort new
+
+-- and so some actions, at most so many, which the lines can say
+pub record AddsActions (most : ℕ) (old new : List ℕ) (before after : List Action) : Type 0 where
+  pub added : List Action
+  pub actions : after ≡ before ++ added
+  pub text : new ≡ old ++ flat_map action_text added
+  pub few : length added ≤ most
+  pub sayable : All IsSayable added
+  pub short : IsShort old → IsShort new
+
+-- what is asked for has numbers of 64 bits
+abbrev pub HasNumbers : Ask → Type 0
+HasNumbers ask = (ask.seed < 2 ^ 64) × (ask.agents < 2 ^ 64) × (ask.actions < 2 ^ 64)

@@ -1,0 +1,3 @@
+pub mod Comment
+pub mod Draft
+pub mod Kind

@@ -1,0 +1,67 @@
+//! Numbers from a seed.
+
+ghost use Rattle.std.specs.Prelude.{◌≡◌, ◌==◌, ◌%◌, ◌<◌, if◌then◌else◌};
+ghost use Rattle.rand_xoshiro.specs.SplitMix64.{mix_u64};
+
+use rand_core::SeedableRng;
+use rand_core::utils::NextWord;
+use rand_xoshiro::SplitMix64;
+use std::marker::Model;
+
+/// The numbers of SplitMix64 (Steele, Lea and Flood, "Fast splittable pseudorandom number generators", 2014).
+///
+/// Contracts see its state, a number of 64 bits.
+#[derive(Debug, Drop)]
+pub struct Dice {
+    words: SplitMix64,
+}
+
+impl Model for Dice {
+    ghost use Rattle.std.specs.Prelude.{ℕ};
+
+    ghost Value = { ℕ };
+
+    ghost view = { λ d. d.words };
+}
+
+impl Dice {
+    /// The numbers of a seed.
+    pub fn new(seed: u64) -> Dice
+        ensures { result ≡ seed }
+    {
+        Dice {
+            words: SplitMix64::seed_from_u64(seed),
+        }
+    }
+
+    /// The next number of 64 bits.
+    pub fn roll(&mut self) -> u64
+        ensures value { result ≡ (mix_u64 self.old).0 }
+        ensures state { self.new ≡ (mix_u64 self.old).1 }
+    {
+        self.words.next_word()
+    }
+
+    /// The next number modulo a bound, or 0 where the bound is 0.
+    pub fn below(&mut self, bound: u64) -> u64
+        ensures value { result ≡ (if bound == 0 then 0 else (mix_u64 self.old).0 % bound) }
+        ensures state { self.new ≡ (mix_u64 self.old).1 }
+    {
+        let number = self.roll();
+        if bound == 0 { 0 } else { number % bound }
+    }
+
+    /// Whether the next number is 0 modulo this one.
+    pub(crate) fn one_in(&mut self, bound: u64) -> bool {
+        self.below(bound) == 0
+    }
+
+    /// One of some things, or another one where there are none.
+    pub(crate) fn pick<T: Copy>(&mut self, things: &[T], other: T) -> T {
+        let at = self.below(things.len() as u64);
+        match things.get(at as usize) {
+            Some(thing) => *thing,
+            None => other,
+        }
+    }
+}

@@ -1,0 +1,95 @@
+//! What a random schedule is aimed at.
+
+ghost use Rattle.std.specs.Prelude.{◌≡◌};
+ghost use Rattle.std.specs.Str.{bytes_eq};
+ghost use Rattle.serf_random.specs.Kind.{kind_name, kind_of};
+
+/// What a random schedule is aimed at.
+#[derive(Clone, Copy, Debug, PartialEq, Eq)]
+pub enum Kind {
+    /// A little of everything.
+    Mixed,
+    /// Windows of 1 to 3 times, and few names.
+    Tiny,
+    /// Whole states, merged and joined, some of them cut.
+    Merges,
+    /// Agents that are opened again, on torn tails.
+    Restarts,
+    /// Disks that fail.
+    Devices,
+    /// Packets of strangers, with times at the edges.
+    Injections,
+    /// Queries, their acks and responses, and their deadlines.
+    Queries,
+    /// Texts and packets at the limits of their sizes.
+    Limits,
+    /// Clocks near the greatest time.
+    Exhaustion,
+    /// Many events of one time.
+    PerTime,
+    /// Snapshots that are compacted, on disks that may fail.
+    Compactions,
+    /// Rounds of gossip: packets go to a few agents each, some are lost, and states are exchanged now and then.
+    Gossip,
+}
+
+fn is_name(name: &[u8], text: &[u8]) -> bool
+    ensures { result ≡ bytes_eq name.now text.now }
+{
+    name == text
+}
+
+impl Kind {
+    /// The kind's name on a command line.
+    pub fn name(self) -> &'static [u8]
+        ensures { result.now ≡ kind_name self }
+    {
+        match self {
+            Kind::Mixed => b"mixed",
+            Kind::Tiny => b"tiny",
+            Kind::Merges => b"merges",
+            Kind::Restarts => b"restarts",
+            Kind::Devices => b"devices",
+            Kind::Injections => b"injections",
+            Kind::Queries => b"queries",
+            Kind::Limits => b"limits",
+            Kind::Exhaustion => b"exhaustion",
+            Kind::PerTime => b"per-time",
+            Kind::Compactions => b"compactions",
+            Kind::Gossip => b"gossip",
+        }
+    }
+
+    /// The kind of a name, where one has it.
+    pub fn of_name(name: &[u8]) -> Option<Kind>
+        ensures { result ≡ kind_of name.now }
+    {
+        if is_name(name, b"mixed") {
+            Some(Kind::Mixed)
+        } else if is_name(name, b"tiny") {
+            Some(Kind::Tiny)
+        } else if is_name(name, b"merges") {
+            Some(Kind::Merges)
+        } else if is_name(name, b"restarts") {
+            Some(Kind::Restarts)
+        } else if is_name(name, b"devices") {
+            Some(Kind::Devices)
+        } else if is_name(name, b"injections") {
+            Some(Kind::Injections)
+        } else if is_name(name, b"queries") {
+            Some(Kind::Queries)
+        } else if is_name(name, b"limits") {
+            Some(Kind::Limits)
+        } else if is_name(name, b"exhaustion") {
+            Some(Kind::Exhaustion)
+        } else if is_name(name, b"per-time") {
+            Some(Kind::PerTime)
+        } else if is_name(name, b"compactions") {
+            Some(Kind::Compactions)
+        } else if is_name(name, b"gossip") {
+            Some(Kind::Gossip)
+        } else {
+            None
+        }
+    }
+}

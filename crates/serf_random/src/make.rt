@@ -1,0 +1,75 @@
+//! A whole random schedule.
+
+ghost use Rattle.std.specs.Prelude.{◌≡◌, ◌≤◌, ◌++◌, [], All, IfOk, Ok, length};
+ghost use Rattle.std.specs.List.{flat_map};
+ghost use Rattle.serf_replay.specs.Schedule.{parsed_of, schedule_of};
+ghost use Rattle.serf_random.specs.Comment.{comment_text};
+ghost use Rattle.serf_random.specs.Draft.{AddsActions, HasNumbers};
+ghost use Rattle.serf_schedule_text.specs.ScheduleText.{schedule_text};
+
+use crate::ask::{Ask, put_comment};
+use crate::draft::add_action;
+use crate::player::Player;
+use crate::settings::{add_agents, copy_of};
+use serf_replay::{MAX_SCHEDULE_BYTES, Schedule};
+use serf_schedule_text::know_read_back;
+use serf_world::{Action, Roster};
+use std::alloc::{AllocError, Global};
+
+/// A random schedule and its text.
+#[derive(Debug, Drop)]
+pub struct Made {
+    pub schedule: Schedule,
+    pub text: Vec<u8>,
+}
+
+/// Plays in a cluster of these agents, and appends the lines of what was done: so many actions, or fewer where the text
+/// would be too long.
+fn add_actions(
+    alloc: Global,
+    ask: &Ask,
+    roster: Roster,
+    text: &mut Vec<u8>,
+) -> Result<Vec<Action>, AllocError>
+    ensures { IfOk result (λ actions. AddsActions ask.now.actions text.old.items text.new.items [] actions.items) }
+{
+    let mut player = Player::new(alloc, ask, roster)?;
+    let mut actions = Vec::new(alloc);
+    for _action in 0..ask.actions {
+        let action = player.play(alloc)?;
+        if !add_action(text, &mut actions, action)? {
+            return Ok(actions);
+        }
+    }
+    Ok(actions)
+}
+
+/// What is asked for has numbers of 64 bits. Does nothing.
+fn know_numbers(ask: &Ask)
+    ensures { HasNumbers ask.now }
+{
+    let _seed = ask.seed;
+    let _agents = ask.agents;
+    let _actions = ask.actions;
+}
+
+/// A random schedule as it was asked for, and its text.
+///
+/// The text begins with a comment that says what was asked for. It stands for just the settings and the actions that
+/// were made, so that it is never refused. It has at most so many actions as were asked for, and at most 16,777,216
+/// bytes: where the next action's line has no room, it ends. `AllocError` comes where memory runs out.
+pub fn random_schedule(alloc: Global, ask: &Ask) -> Result<Made, AllocError>
+    ensures reads_back { IfOk result (λ made. schedule_of made.text.items ≡ Ok (parsed_of made.schedule)) }
+    ensures text { IfOk result (λ made. made.text.items ≡ comment_text ask.now ++ schedule_text (parsed_of made.schedule)) }
+    ensures few { IfOk result (λ made. length made.schedule.actions.items ≤ ask.now.actions) }
+    ensures short { IfOk result (λ made. length made.text.items ≤ MAX_SCHEDULE_BYTES) }
+{
+    let mut text = Vec::new(alloc);
+    put_comment(&mut text, ask)?;
+    let agents = add_agents(alloc, ask, &mut text)?;
+    let actions = add_actions(alloc, ask, copy_of(alloc, &agents)?, &mut text)?;
+    let schedule = Schedule { agents, actions };
+    know_numbers(ask);
+    know_read_back(&schedule);
+    Ok(Made { schedule, text })
+}

@@ -1,0 +1,229 @@
+//! A cluster that is stepped along, and what is done in it next.
+
+use crate::ask::Ask;
+use crate::dice::Dice;
+use crate::kind::Kind;
+use crate::strangers::stranger;
+use crate::times::near;
+use crate::verb::{Verb, verbs};
+use crate::{own, pools};
+use serf_world::{Action, Line, Roster, World};
+use std::alloc::{AllocError, Global};
+
+/// What follows an action: the packet that it sent goes on.
+#[derive(Clone, Copy, Debug)]
+pub(crate) enum Next {
+    /// An agent gets the last packet.
+    Deliver { to: u64 },
+    /// An agent merges the last packet.
+    Merge { to: u64, join: bool },
+}
+
+/// The last query that an agent fired.
+#[derive(Clone, Copy, Debug)]
+pub(crate) struct LastQuery {
+    pub(crate) agent: u64,
+    pub(crate) time: u64,
+    pub(crate) id: u64,
+    /// The moment up to which answers are taken.
+    pub(crate) deadline: u64,
+}
+
+/// A cluster that is stepped along, so that what is done next aims at where it stands.
+#[derive(Drop)]
+pub(crate) struct Player {
+    pub(crate) dice: Dice,
+    pub(crate) kind: Kind,
+    pub(crate) world: World,
+    /// How many agents the cluster has.
+    pub(crate) agents: u64,
+    /// The present moment, in nanoseconds.
+    pub(crate) now: u64,
+    pub(crate) next: Option<Next>,
+    /// The first packet that was not given to all agents, and how many got it.
+    pub(crate) passed: (u64, u64),
+    pub(crate) query: LastQuery,
+    /// How many queries were handed to some agent in its life, at most.
+    pub(crate) handed: u64,
+}
+
+/// The seed of a player's numbers: other ones than those of the settings.
+const SALT: u64 = 0x5eed;
+
+impl Player {
+    pub(crate) fn new(alloc: Global, ask: &Ask, roster: Roster) -> Result<Player, AllocError> {
+        let agents = roster.as_slice().len() as u64;
+        let query = LastQuery {
+            agent: 0,
+            time: 1,
+            id: 0,
+            deadline: 0,
+        };
+        Ok(Player {
+            dice: Dice::new(ask.seed ^ SALT),
+            kind: ask.kind,
+            world: World::new(alloc, roster)?,
+            agents,
+            now: 0,
+            next: None,
+            passed: (0, 0),
+            query,
+            handed: 0,
+        })
+    }
+
+    /// The next action, which was done.
+    pub(crate) fn play(&mut self, alloc: Global) -> Result<Action, AllocError> {
+        let action = self.choose(alloc)?;
+        match self.world.step(alloc, &action) {
+            Ok(line) => {
+                self.note(&action, &line);
+                Ok(action)
+            }
+            Err(_) => Err(AllocError),
+        }
+    }
+
+    fn choose(&mut self, alloc: Global) -> Result<Action, AllocError> {
+        match self.next {
+            Some(next) => {
+                self.next = None;
+                Ok(self.follow(next))
+            }
+            None => {
+                let verb = self.dice.pick(verbs(self.kind), Verb::Fire);
+                self.act(alloc, verb)
+            }
+        }
+    }
+
+    fn follow(&mut self, next: Next) -> Action {
+        let packet = (self.world.sent().len() as u64).saturating_sub(1);
+        match next {
+            Next::Deliver { to } => Action::Deliver {
+                to,
+                packet,
+                now: self.moment(),
+            },
+            Next::Merge { to, join } => Action::Merge { to, packet, join },
+        }
+    }
+
+    fn act(&mut self, alloc: Global, verb: Verb) -> Result<Action, AllocError> {
+        match verb {
+            Verb::Pass => Ok(self.pass()),
+            Verb::Repeat => Ok(self.repeat()),
+            Verb::Merge => Ok(self.merge()),
+            Verb::Exchange => Ok(self.exchange()),
+            Verb::Event | Verb::Query | Verb::Answer | Verb::State | Verb::Spoil => {
+                self.next = Some(self.next_of(verb));
+                let bytes = stranger(alloc, self, verb)?;
+                Ok(Action::Inject { bytes })
+            }
+            other => own::act(alloc, self, other),
+        }
+    }
+
+    /// Who gets a stranger's packet.
+    fn next_of(&mut self, verb: Verb) -> Next {
+        let to = match verb {
+            Verb::Answer => self.query.agent,
+            _ => self.agent(),
+        };
+        match verb {
+            Verb::State => Next::Merge {
+                to,
+                join: self.dice.one_in(2),
+            },
+            _ => Next::Deliver { to },
+        }
+    }
+
+    /// The number of an agent, now and then of none.
+    pub(crate) fn agent(&mut self) -> u64 {
+        if self.dice.one_in(200) {
+            return self.agents;
+        }
+        self.dice.below(self.agents)
+    }
+
+    /// A moment: the present one, or one at the last query's deadline.
+    pub(crate) fn moment(&mut self) -> u64 {
+        match self.dice.below(8) {
+            0 | 1 => near(&mut self.dice, self.query.deadline),
+            2 => self.dice.pick(&[0, u64::MAX], 0),
+            _ => {
+                self.now = self.now.saturating_add(self.dice.below(20));
+                self.now
+            }
+        }
+    }
+
+    /// The next packet goes to the next agent. In a gossip one in four is lost.
+    fn pass(&mut self) -> Action {
+        let (packet, got) = self.passed;
+        let got = if self.kind == Kind::Gossip && self.dice.one_in(4) {
+            got.saturating_add(1)
+        } else {
+            got
+        };
+        let sent = self.world.sent().len() as u64;
+        if packet >= sent {
+            return self.repeat();
+        }
+        if got >= self.agents {
+            self.passed = (packet.saturating_add(1), 0);
+            return self.repeat();
+        }
+        self.passed = (packet, got.saturating_add(1));
+        Action::Deliver {
+            to: got,
+            packet,
+            now: self.moment(),
+        }
+    }
+
+    /// One of the last packets, now and then none.
+    fn recent(&mut self) -> u64 {
+        let sent = self.world.sent().len() as u64;
+        if self.dice.one_in(100) {
+            return sent;
+        }
+        let back = self.dice.pick(&[2, 4, 8, 40], 8);
+        sent.saturating_sub(1).saturating_sub(self.dice.below(back))
+    }
+
+    fn repeat(&mut self) -> Action {
+        Action::Deliver {
+            to: self.agent(),
+            packet: self.recent(),
+            now: self.moment(),
+        }
+    }
+
+    fn merge(&mut self) -> Action {
+        Action::Merge {
+            to: self.agent(),
+            packet: self.recent(),
+            join: self.dice.one_in(3),
+        }
+    }
+
+    fn exchange(&mut self) -> Action {
+        self.next = Some(Next::Merge {
+            to: self.agent(),
+            join: self.dice.one_in(3),
+        });
+        Action::State {
+            agent: self.agent(),
+        }
+    }
+
+    /// Notes what an action came to.
+    fn note(&mut self, action: &Action, line: &Line) {
+        own::note_query(self, action, line);
+        if let Some(handed) = &line.handed {
+            self.handed = self.handed.max(handed.index.saturating_add(1));
+        }
+    }
+}

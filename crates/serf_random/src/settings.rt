@@ -1,0 +1,112 @@
+//! The settings of a random cluster's agents.
+
+ghost use Rattle.std.specs.Prelude.{◌≡◌, [], IfOk};
+ghost use Rattle.serf_random.specs.Draft.{AddsAgents};
+
+use crate::ask::{Ask, MAX_AGENTS};
+use crate::dice::Dice;
+use crate::draft::add_agent;
+use crate::kind::Kind;
+use serf_agent::Config;
+use serf_wire::Bytes;
+use serf_world::Roster;
+use std::alloc::{AllocError, Global};
+
+/// How many times of events or of queries an agent keeps.
+fn slots(dice: &mut Dice, kind: Kind) -> u64 {
+    match kind {
+        Kind::Tiny => dice.below(3).saturating_add(1),
+        Kind::Gossip => 64,
+        _ => dice.pick(&[1, 2, 3, 4, 4, 8, 8, 16, 512], 4),
+    }
+}
+
+/// How many events, or queries, of one time an agent takes.
+fn per_time(dice: &mut Dice, kind: Kind) -> u64 {
+    match kind {
+        Kind::PerTime => dice.below(4).saturating_add(1),
+        Kind::Gossip => 1_024,
+        _ => dice.pick(&[1, 2, 3, 1_024, 1_024, 1_024, 65_536], 1_024),
+    }
+}
+
+/// The greatest size of an event that an agent fires.
+fn event_limit(dice: &mut Dice, kind: Kind) -> u64 {
+    match kind {
+        Kind::Limits => dice.pick(&[0, 36, 37, 64, 512, 512, 1_024, 9_216, 9_216], 512),
+        _ => dice.pick(&[512, 512, 512, 512, 36, 9_216], 512),
+    }
+}
+
+/// How many names are counted among a query's acks, and among its responses.
+fn responders(dice: &mut Dice) -> u64 {
+    dice.pick(&[1, 2, 3, 8, 8, 8], 8)
+}
+
+/// The name of the agent of a number: a letter, and behind the 26th two.
+fn node_name(alloc: Global, number: u64) -> Result<Vec<u8>, AllocError> {
+    let letter = b'a'.saturating_add((number % 26) as u8);
+    let mut name = Vec::from_slice(alloc, &[letter])?;
+    if number >= 26 {
+        name.push(b'a'.saturating_add((number / 26 % 26) as u8))?;
+    }
+    Ok(name)
+}
+
+fn config(alloc: Global, dice: &mut Dice, kind: Kind, number: u64) -> Result<Config, AllocError> {
+    Ok(Config {
+        name: Bytes::from_vec(node_name(alloc, number)?),
+        event_buffer: slots(dice, kind),
+        query_buffer: slots(dice, kind),
+        event_limit: event_limit(dice, kind),
+        responders: responders(dice),
+        per_time: per_time(dice, kind),
+        ignore_old: dice.one_in(3),
+    })
+}
+
+/// How many agents a cluster has, where nobody asks for a number.
+fn count(dice: &mut Dice, kind: Kind) -> u64 {
+    match kind {
+        Kind::Gossip => dice.below(5).saturating_add(4),
+        _ => dice.below(3).saturating_add(2),
+    }
+}
+
+/// Makes the agents, and appends their lines.
+pub(crate) fn add_agents(alloc: Global, ask: &Ask, text: &mut Vec<u8>) -> Result<Roster, AllocError>
+    ensures { IfOk result (λ roster. AddsAgents text.old.items text.new.items [] roster) }
+{
+    let mut dice = Dice::new(ask.seed);
+    let mut roster = Roster::new(alloc);
+    let many = if ask.agents == 0 {
+        count(&mut dice, ask.kind)
+    } else {
+        ask.agents.min(MAX_AGENTS)
+    };
+    for number in 0..many {
+        let config = config(alloc, &mut dice, ask.kind, number)?;
+        add_agent(alloc, text, &mut roster, config)?;
+    }
+    Ok(roster)
+}
+
+/// The same agents once more.
+pub(crate) fn copy_of(alloc: Global, roster: &Roster) -> Result<Roster, AllocError> {
+    let mut copy = Roster::new(alloc);
+    for config in roster.as_slice() {
+        let config = Config {
+            name: Bytes::copy_of(alloc, config.name.as_slice())?,
+            event_buffer: config.event_buffer,
+            query_buffer: config.query_buffer,
+            event_limit: config.event_limit,
+            responders: config.responders,
+            per_time: config.per_time,
+            ignore_old: config.ignore_old,
+        };
+        if copy.add(alloc, config).is_err() {
+            return Err(AllocError);
+        }
+    }
+    Ok(copy)
+}

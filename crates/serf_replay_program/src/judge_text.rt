@@ -1,0 +1,149 @@
+//! The text of the verdicts on a log.
+
+use serf_judge::{EventEntry, Log, QueryEntry, first_above, first_event_twice, first_query_twice};
+use std::alloc::{AllocError, Global};
+
+/// The verdicts so far, a line each, and whether a promise is broken.
+#[derive(Drop)]
+pub struct Verdicts {
+    pub text: Vec<u8>,
+    pub is_broken: bool,
+}
+
+/// Appends bytes between quotes: what is no printable ASCII, a quote and a backslash as `\xNN`.
+fn put_quoted(out: &mut Vec<u8>, bytes: &[u8]) -> Result<(), AllocError> {
+    const DIGITS: &[u8; 16] = b"0123456789abcdef";
+    out.extend_from_slice(b" \"")?;
+    for byte in bytes {
+        if (b' '..=b'~').contains(byte) && *byte != b'"' && *byte != b'\\' {
+            out.extend_from_slice(&[*byte])?;
+        } else {
+            let high = DIGITS[(*byte / 16) as usize];
+            let low = DIGITS[(*byte % 16) as usize];
+            out.extend_from_slice(&[b'\\', b'x', high, low])?;
+        }
+    }
+    out.extend_from_slice(b"\"")
+}
+
+impl Verdicts {
+    /// No verdicts. Takes no memory.
+    pub fn new(alloc: Global) -> Verdicts {
+        Verdicts {
+            text: Vec::new(alloc),
+            is_broken: false,
+        }
+    }
+
+    fn put_holds(&mut self, promise: &str) -> Result<(), AllocError> {
+        self.text.extend_from_slice(promise.as_bytes())?;
+        self.text.extend_from_slice(b": holds\n")
+    }
+
+    /// Appends which line repeats which, and the node.
+    fn put_repeat(
+        &mut self,
+        alloc: Global,
+        promise: &str,
+        later: u64,
+        earlier: u64,
+        node: &[u8],
+    ) -> Result<(), AllocError> {
+        self.is_broken = true;
+        let text = format!(in alloc; "{promise}: line {later} repeats line {earlier}: ")?;
+        self.text.extend_from_slice(text.as_bytes())?;
+        self.text.extend_from_slice(node)
+    }
+
+    fn put_event_repeat(
+        &mut self,
+        alloc: Global,
+        earlier: &EventEntry,
+        later: &EventEntry,
+    ) -> Result<(), AllocError> {
+        self.put_repeat(
+            alloc,
+            "Once",
+            later.line,
+            earlier.line,
+            later.node.as_slice(),
+        )?;
+        let time = later.time;
+        let text = format!(in alloc; " {time}")?;
+        self.text.extend_from_slice(text.as_bytes())?;
+        put_quoted(&mut self.text, later.name.as_slice())?;
+        put_quoted(&mut self.text, later.payload.as_slice())?;
+        self.text.extend_from_slice(b"\n")
+    }
+
+    fn put_query_repeat(
+        &mut self,
+        alloc: Global,
+        earlier: &QueryEntry,
+        later: &QueryEntry,
+    ) -> Result<(), AllocError> {
+        self.put_repeat(
+            alloc,
+            "QueryOnce",
+            later.line,
+            earlier.line,
+            later.node.as_slice(),
+        )?;
+        let (time, id) = (later.time, later.id);
+        let text = format!(in alloc; " {time} {id}\n")?;
+        self.text.extend_from_slice(text.as_bytes())
+    }
+
+    /// Whether an event was handed to a node twice.
+    fn judge_events(&mut self, alloc: Global, events: &[EventEntry]) -> Result<(), AllocError> {
+        if let Some((earlier, later)) = first_event_twice(alloc, events)?
+            && let Some(first) = events.get(earlier)
+            && let Some(second) = events.get(later)
+        {
+            return self.put_event_repeat(alloc, first, second);
+        }
+        self.put_holds("Once")
+    }
+
+    /// Whether a query was handed to a node twice.
+    fn judge_queries(&mut self, alloc: Global, queries: &[QueryEntry]) -> Result<(), AllocError> {
+        if let Some((earlier, later)) = first_query_twice(alloc, queries)?
+            && let Some(first) = queries.get(earlier)
+            && let Some(second) = queries.get(later)
+        {
+            return self.put_query_repeat(alloc, first, second);
+        }
+        self.put_holds("QueryOnce")
+    }
+
+    /// Judges a log.
+    pub fn judge(&mut self, alloc: Global, log: &Log) -> Result<(), AllocError> {
+        self.judge_events(alloc, log.events.as_slice())?;
+        self.judge_queries(alloc, log.queries.as_slice())
+    }
+
+    /// Judges what a node's snapshot leaves open, by the event clock that it keeps.
+    pub fn judge_kept(
+        &mut self,
+        alloc: Global,
+        events: &[EventEntry],
+        node: &[u8],
+        clock: u64,
+    ) -> Result<(), AllocError> {
+        self.text.extend_from_slice(node)?;
+        let kept = format!(in alloc; " keeps event-clock {clock}")?;
+        self.text.extend_from_slice(kept.as_bytes())?;
+        if let Some(place) = first_above(events, node, clock)
+            && let Some(event) = events.get(place)
+        {
+            self.is_broken = true;
+            let (line, time) = (event.line, event.time);
+            let text = format!(in alloc;
+                ", and line {line} was handed out at {time}: it can be handed out again\n"
+            )?;
+            return self.text.extend_from_slice(text.as_bytes());
+        }
+        self.text
+            .extend_from_slice(b": nothing was handed out above it\n")
+    }
+}

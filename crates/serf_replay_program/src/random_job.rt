@@ -1,0 +1,69 @@
+//! The command `random`: a schedule from a seed.
+
+use clap::{Arg, ArgAction, ArgMatches, Command, value_parser};
+use serf_random::{Ask, Kind};
+use std::alloc::{AllocError, Global};
+
+/// How many actions a schedule has where nobody says a number.
+const ACTIONS: u64 = 200;
+
+/// A number behind a word of its own.
+fn number<'a>(alloc: Global, name: &'a str, help: &'a str) -> Arg<'a> {
+    Arg::new(alloc, name)
+        .long(name)
+        .help(help)
+        .action(ArgAction::Set)
+        .value_parser(value_parser!(u64))
+}
+
+fn seed<'a>(alloc: Global) -> Arg<'a> {
+    Arg::new(alloc, "SEED")
+        .help("The seed, a number below 2^64")
+        .action(ArgAction::Set)
+        .required(true)
+        .value_parser(value_parser!(u64))
+}
+
+fn kind<'a>(alloc: Global) -> Arg<'a> {
+    Arg::new(alloc, "kind")
+        .long("kind")
+        .help(
+            "mixed (where left out), tiny, merges, restarts, devices, injections, queries, limits, exhaustion, per-time, compactions or gossip",
+        )
+        .action(ArgAction::Set)
+}
+
+/// The command's words.
+pub fn random_command<'a>(alloc: Global) -> Result<Command<'a>, AllocError> {
+    let agents = number(
+        alloc,
+        "agents",
+        "How many agents, at most 64; by the seed where left out",
+    );
+    let actions = number(
+        alloc,
+        "actions",
+        "How many actions at most, 200 where left out",
+    );
+    Command::new(alloc, "random")
+        .about("Writes a schedule that a seed gives, aimed at the edges of what agents decide")
+        .after_help("Example: serf-replay random 7 --kind restarts | serf-replay replay")
+        .arg(seed(alloc))?
+        .arg(kind(alloc))?
+        .arg(agents)?
+        .arg(actions)
+}
+
+/// What the words ask for; `None` where they name no kind.
+pub fn ask_of(matches: &ArgMatches) -> Option<Ask> {
+    let kind = match matches.get_str("kind") {
+        Some(name) => Kind::of_name(name.as_bytes())?,
+        None => Kind::Mixed,
+    };
+    Some(Ask {
+        seed: matches.get_one::<u64>("SEED")?,
+        kind,
+        agents: matches.get_one::<u64>("agents").unwrap_or(0),
+        actions: matches.get_one::<u64>("actions").unwrap_or(ACTIONS),
+    })
+}

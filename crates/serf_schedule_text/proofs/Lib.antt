@@ -1,0 +1,6 @@
+pub mod LineLemmas
+pub mod WordsBack
+pub mod PlainWords
+pub mod LinesBack
+pub mod ActionsBack
+pub mod RoundTrip

@@ -1,0 +1,6 @@
+use Rattle.std.proofs.Common.{All, take}
+use Rattle.hex.specs.Hex.{IsBytes}
+use Rattle.serf_schedule_text.proofs.sayable.know_all_bytes.Given as goal
+
+abbrev pub invariant-loop-list : goal.invariant-loop-list
+invariant-loop-list l = All IsBytes (take l.list-index l.lists)

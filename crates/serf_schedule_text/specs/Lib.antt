@@ -1,0 +1,3 @@
+pub mod Sayable
+pub mod ScheduleText
+pub mod Words

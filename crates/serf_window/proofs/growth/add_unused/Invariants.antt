@@ -1,0 +1,10 @@
+use Rattle.std.proofs.Common.{◌≡◌, ◌+◌, ◌++◌, replicate, vec_len, vec_capacity}
+use Rattle.serf_wire.specs.Buffers.{unused_slot}
+use Rattle.serf_window.proofs.growth.add_unused.Given as goal
+
+abbrev pub invariant-loop : goal.invariant-loop
+invariant-loop g l = record {
+  items : l.slots.items ≡ l.fn.slots.items ++ replicate l.counter unused_slot;
+  len : vec_len l.slots ≡ vec_len l.fn.slots + l.counter;
+  capacity : vec_capacity l.slots ≡ vec_capacity l.fn.slots;
+}

@@ -1,0 +1,58 @@
+//! Slots that are made when a time enters them.
+
+ghost use Rattle.std.specs.Prelude.{◌≡◌, ◌+◌, ◌<◌, ◌≤◌, ◌++◌, replicate, OnOk, OnErr, vec_len, vec_capacity};
+ghost use Rattle.serf_wire.specs.Buffers.{unused_slot};
+ghost use Rattle.serf_window.specs.Slots.{all_slots};
+
+use serf_lamport::Time;
+use serf_wire::{RoomyList, TimeSlot};
+use std::alloc::{AllocError, Global};
+
+/// A slot that was never used. Takes no memory.
+fn unused<K>(alloc: Global) -> TimeSlot<K>
+    ensures { result ≡ unused_slot }
+{
+    let Some(time) = Time::new(0) else {
+        unreachable!()
+    };
+    TimeSlot {
+        time,
+        held: RoomyList::from_vec(Vec::new(alloc)),
+    }
+}
+
+/// Adds so many slots that were never used. There is room for them.
+fn add_unused<K>(slots: &mut Vec<TimeSlot<K>>, alloc: Global, count: usize)
+    requires { vec_len slots.old + count ≤ vec_capacity slots.old }
+    ensures { slots.new.items ≡ slots.old.items ++ replicate count unused_slot }
+{
+    for _ in 0..count {
+        slots.push_reserved(unused(alloc));
+    }
+}
+
+/// Makes the slot of this place of n, where it isn't in memory, and those before it: at least twice as many
+/// as there were, and at most n. What the slots hold is unchanged.
+pub(crate) fn reach<K>(
+    slots: &mut Vec<TimeSlot<K>>,
+    alloc: Global,
+    place: usize,
+    n: usize,
+) -> Result<(), AllocError>
+    requires within { place < n }
+    requires most { n ≤ 65536 }
+    requires size { vec_len slots.old ≤ n }
+    ensures there { OnOk result (place < vec_len slots.new) }
+    ensures size { vec_len slots.new ≤ n }
+    ensures full { OnErr result (vec_len slots.old ≤ place) }
+    ensures same { all_slots n slots.new.items ≡ all_slots n slots.old.items }
+{
+    let len = slots.len();
+    if place < len {
+        return Ok(());
+    }
+    let count = n.min((2 * len).max(place + 1)) - len;
+    slots.reserve_exact(count)?;
+    add_unused(slots, alloc, count);
+    Ok(())
+}

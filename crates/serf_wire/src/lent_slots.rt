@@ -1,0 +1,110 @@
+//! The slots of a buffer, lent where they lie.
+
+ghost use Rattle.std.specs.Prelude.{◌≡◌, ◌++◌, ⊤, length, map, replicate, slice_get};
+ghost use Rattle.std.specs.Option.{option_map};
+ghost use Rattle.serf_wire.specs.Buffers.{lent_slot, slot_in_memory, slots_lent, unused_slot};
+
+use crate::texts::{EventBody, TimeSlot};
+use serf_lamport::Time;
+use std::alloc::AllocError;
+
+/// One slot of a buffer, lent where it lies: a time, and what is held of that time in order.
+#[derive(Drop)]
+pub struct LentSlot<'a, T> {
+    pub time: Time,
+    pub held: &'a [T],
+}
+
+/// The slots of a buffer that are still to come, in order, lent where they lie.
+///
+/// Those that were never used stand behind the others, and in no memory. Each has the time 0, and holds nothing.
+#[derive(Drop)]
+pub struct LentSlots<'a, T> {
+    pub(crate) used: &'a [TimeSlot<T>],
+    pub(crate) unused: u32,
+}
+
+/// The slots of a buffer of events.
+pub type LentEventSlots<'a> = LentSlots<'a, EventBody>;
+
+impl<'a, T> Copy for LentSlots<'a, T> {}
+
+impl<'a, T> Clone for LentSlots<'a, T> {
+    ghost is_clone = { λ x y. (y.used.now ≡ x.used.now) × (y.unused ≡ x.unused) };
+
+    ghost is_infallible = { λ _. ⊤ };
+
+    fn clone(&self) -> Result<Self, AllocError> {
+        Ok(*self)
+    }
+}
+
+/// A slot in memory, lent.
+fn lent<'a, T>(slot: &'a TimeSlot<T>) -> LentSlot<'a, T>
+    ensures { lent_slot result ≡ slot_in_memory slot.now }
+{
+    LentSlot {
+        time: slot.time,
+        held: slot.held.as_slice(),
+    }
+}
+
+/// A slot that was never used.
+fn unused<'a, T>() -> LentSlot<'a, T>
+    ensures { lent_slot result ≡ slot_in_memory unused_slot }
+{
+    let Some(time) = Time::new(0) else {
+        unreachable!()
+    };
+    LentSlot { time, held: &[] }
+}
+
+impl<'a, T> LentSlots<'a, T> {
+    /// These slots, and behind them so many that were never used. Takes no memory.
+    pub fn of(used: &'a [TimeSlot<T>], unused: u32) -> LentSlots<'a, T>
+        ensures { slots_lent result ≡ used.now ++ replicate unused unused_slot }
+    {
+        LentSlots { used, unused }
+    }
+
+    /// The number of slots. Takes no memory.
+    pub fn len(&self) -> usize
+        ensures { result ≡ length (slots_lent self.now) }
+    {
+        self.used.len() + self.unused as usize
+    }
+
+    /// The slot of this index, if there is one. Takes no memory.
+    pub fn get(&self, index: usize) -> Option<LentSlot<'a, T>>
+        ensures { option_map lent_slot result ≡ slice_get (map slot_in_memory (slots_lent self.now)) index }
+    {
+        match self.used.get(index) {
+            Some(slot) => Some(lent(slot)),
+            None if index - self.used.len() < self.unused as usize => Some(unused()),
+            None => None,
+        }
+    }
+}
+
+impl<'a, T> Iterator for LentSlots<'a, T> {
+    ghost use Rattle.std.specs.Iterator.{YieldsFirstBy, item_count};
+    ghost use Rattle.serf_wire.specs.Buffers.{lent_slot, slots_to_come};
+
+    type Item = LentSlot<'a, T>;
+
+    ghost next_gives = { YieldsFirstBy lent_slot slots_to_come };
+
+    ghost remaining = { item_count slots_to_come };
+
+    fn next(&mut self) -> Option<LentSlot<'a, T>> {
+        if let Some((first, used)) = self.used.split_first() {
+            self.used = used;
+            return Some(lent(first));
+        }
+        if self.unused == 0 {
+            return None;
+        }
+        self.unused -= 1;
+        Some(unused())
+    }
+}

@@ -1,0 +1,62 @@
+-- What a world has done is a run: its lines show the run's turns, and all promises are kept in it.
+use Rattle.std.proofs.Common.{zero, suc, ◌≡◌, ℕ, Some, List, [], ◌∷◌, ◌++◌, refl, sym, ap, subst, ◌∙◌, map}
+use Rattle.std.specs.Prelude.{All, slice_get}
+use Rattle.std.specs.Option.{option_map}
+use Rattle.std.proofs.lemmas.List.{append-nil, map-append}
+use Rattle.std.proofs.lemmas.List.Elements.{All-nil, All-push}
+use Rattle.std.proofs.lemmas.List.Sums.{fold_push}
+use Rattle.serf_agent.specs.declared.config.Config.{Config}
+use Rattle.serf_model.specs.declared.action.Action.{Action}
+use Rattle.serf_model.specs.declared.line.Line.{Line}
+use Rattle.serf_agent.specs.declared.open_query.OpenQuery.{OpenQuery}
+use Rattle.serf_agent.specs.View.{ConcreteState, view_of}
+use Rattle.serf_model.specs.AnswerPromises.{HoldsCounted, HoldsSent}
+use Rattle.serf_model.specs.Cluster.{Cluster, IdealNode, Run, after, run_of, start, step, trace_of}
+use Rattle.serf_model.specs.Ready.{AreRepresentable}
+use Rattle.serf_model.specs.Runs.{AreConfigs}
+use Rattle.serf_model.specs.Sizes.{HasSizes}
+use Rattle.serf_model.specs.Trace.{Turn, turns_of}
+use Rattle.serf_world.specs.View.{HasDone, IsViewed, NodeState, StoresOpen, TakesStep, WorldState, node_of}
+use Rattle.serf_world.proofs.ResultLaws.{AreKept, AreShown}
+
+-- an agent that is stored is the view of one of the cluster
+stored-agent : (nodes : List IdealNode) (a : ℕ) (s : ConcreteState) → option_map (λ (n : NodeState). n.concrete) (slice_get (map node_of nodes) a) ≡ Some s → (m : IdealNode) × (slice_get nodes a ≡ Some m) × (view_of m.agent ≡ s)
+stored-agent [] a s is = absurd (cc is)
+stored-agent (m ∷ ms) zero s is = let same : view_of m.agent ≡ s = cc is in (m, refl, same)
+stored-agent (m ∷ ms) (suc a) s is = stored-agent ms a s is
+
+-- what holds of each open query of the cluster holds of each that is stored
+stored-open : (P : ℕ → ℕ × OpenQuery → Type 0) (c : Cluster) (w : WorldState) → IsViewed c w → ((a : ℕ) (m : IdealNode) → slice_get c.nodes a ≡ Some m → All (P a) m.agent.asked) → StoresOpen P w
+stored-open P c w view held a s at =
+    let found = stored-agent c.nodes a s (ap (λ (ns : List NodeState). option_map (λ (n : NodeState). n.concrete) (slice_get ns a)) view.nodes ∙ at) in
+    subst (λ (c : ConcreteState). All (P a) c.asked) found.2 (held a found.0 found.1)
+
+done-of-run : AreShown → AreKept → (configs : List Config) (actions : List Action) (lines : List Line) (w : WorldState) → AreConfigs configs → All HasSizes actions
+    → IsViewed (run_of configs actions).cluster w → AreRepresentable (run_of configs actions).cluster → lines ≡ map (λ t. t.line) (run_of configs actions).turns → HasDone configs actions lines w
+done-of-run shown kept configs actions lines w ok sized view representable are =
+    let r : Run = run_of configs actions in
+    let outcome : record { lines = lines; sent = w.sent } ≡ trace_of r = λ k. record { lines = are k; sent = sym view.sent k } in
+    record {
+      settings = ok;
+      sizes = sized;
+      view = view;
+      representable = representable;
+      lines_are = are;
+      turns = ap (turns_of actions) outcome ∙ ap (λ l. turns_of l (trace_of r)) (sym (append-nil actions)) ∙ shown configs actions [] ok;
+      promises = kept configs actions ok sized;
+      open_queries = stored-open (λ a. HoldsCounted a r.turns) r.cluster w view (kept configs actions ok sized).open_queries;
+      open_queries_sent = stored-open (λ a. HoldsSent r.turns) r.cluster w view (kept configs actions ok sized).open_queries_sent;
+    }
+
+pub done-nothing : AreShown → AreKept → (configs : List Config) (w : WorldState) → AreConfigs configs → IsViewed (start configs).cluster w → AreRepresentable (start configs).cluster → HasDone configs [] [] w
+done-nothing shown kept configs w ok view representable = done-of-run shown kept configs [] [] w ok (All-nil HasSizes) view representable refl
+
+pub done-next : AreShown → AreKept → (configs : List Config) (actions : List Action) (lines : List Line) (old new : WorldState) (action : Action) (line : Line)
+    → HasDone configs actions lines old → HasSizes action → TakesStep (step (run_of configs actions).cluster action) new line → HasDone configs (actions ++ action ∷ []) (lines ++ line ∷ []) new
+done-next shown kept configs actions lines old new action line h has took =
+    let r : Run = run_of configs actions in
+    let next : after r action ≡ run_of configs (actions ++ action ∷ []) = sym (fold_push after (start configs) actions action) in
+    done-of-run shown kept configs (actions ++ action ∷ []) (lines ++ line ∷ []) new h.settings (All-push HasSizes actions action h.sizes has)
+    (subst (λ (r : Run). IsViewed r.cluster new) next took.view)
+    (subst (λ (r : Run). AreRepresentable r.cluster) next took.representable)
+    (ap (λ l. l ++ line ∷ []) h.lines_are ∙ ap (λ x. map (λ (t : Turn). t.line) r.turns ++ x ∷ []) took.line_is ∙ sym (map-append (λ (t : Turn). t.line) r.turns ((step r.cluster action).turn ∷ [])) ∙ ap (λ (r : Run). map (λ t. t.line) r.turns) next)

@@ -1,0 +1,145 @@
+"""The documents name what is there: paths, crates, public items, clauses, links, commands and their statuses.
+
+Each check is one thing that a document names:
+
+- a path in backquotes stands in the repository (from its top, from the document, from a crate or a crate's src);
+- `crate::item` and `Type::method` are public items, and `serf_name` is a crate;
+- a clause named in PROMISES.md's tables, or in brackets behind a function, is a clause of some contract;
+- a link leads to a file that stands;
+- a command that begins with `./` or with `python3` names a script that stands, and a job that the program has
+  (`./my-..` is the reader's own).
+"""
+
+import glob
+import os
+import re
+import sys
+
+TOP = os.path.dirname(os.path.dirname(os.path.abspath(__file__)))
+sys.path.insert(0, os.path.join(TOP, "tools"))
+sys.dont_write_bytecode = True
+
+# Folders that hold no documents of ours.
+SKIPPED = {"out", "target", ".git", "node_modules"}
+
+ENDINGS = ("rt", "antt", "md", "py", "schedule", "trace", "snapshot", "hex", "edit", "rattle", "h", "c", "go", "rs", "toml", "sh", "svg", "txt")
+
+# What a file outside the repository is called where a document speaks of it: Serf's own sources, and a reader's files.
+FOREIGN = {"serf.go", "delegate.go", "snapshot.go", "query.go", "messages.go", "local.snapshot"}
+
+SPAN = re.compile(r"`([^`\n]+)`")
+LINK = re.compile(r"\[[^\]\n]*\]\(([^)\s]+)\)")
+COMMAND = re.compile(r"^(?: {4,}|\$ )?((?:\./|python3 )[\w./-]+)((?: [\w./-]+)*)", re.M)
+
+
+def documents():
+    """All pages, by their path from the top."""
+    found = []
+    for folder, folders, names in os.walk(TOP):
+        folders[:] = [name for name in folders if name not in SKIPPED and not name.startswith(".")]
+        found += [os.path.relpath(os.path.join(folder, name), TOP) for name in names if name.endswith(".md")]
+    return sorted(found)
+
+
+def read(*parts):
+    with open(os.path.join(TOP, *parts), encoding="utf-8") as file:
+        return file.read()
+
+
+def sources(kind):
+    return [read(path) for path in glob.glob(f"{TOP}/crates/*/{kind}/**/*", recursive=True) if os.path.isfile(path) and path.endswith((".rt", ".antt"))]
+
+
+class Tree:
+    """What the repository has to be named."""
+
+    def __init__(self):
+        self.crates = {os.path.basename(path) for path in glob.glob(f"{TOP}/crates/*") if os.path.isdir(os.path.join(path, "src"))}
+        code = "\n".join(sources("src"))
+        self.specs = "\n".join(sources("specs"))
+        items = re.findall(r"\bpub(?:\(crate\))? (?:const )?(?:unsafe )?(?:extern \"C\" )?(?:fn|struct|enum|trait|type|const) (\w+)", code)
+        methods = re.findall(r"\bfn (\w+)", code)
+        variants = re.findall(r"^    (\w+)(?:\(.*\)|\s*\{.*\})?,", code, re.M)
+        self.items = set(items) | set(methods) | set(variants)
+        self.clauses = set(re.findall(r"\bensures (\w+)", code)) | set(re.findall(r"^\s+(?:pub )?(\w+)\s*:", self.specs, re.M))
+
+    def has_path(self, span, document):
+        """Whether a path leads to something: from the top, the page's folder, any crate, or a crate's src."""
+        bases = [TOP, os.path.join(TOP, os.path.dirname(document)), *glob.glob(f"{TOP}/crates/*"), *glob.glob(f"{TOP}/crates/*/*")]
+        return any(glob.glob(os.path.join(base, span)) for base in bases)
+
+
+def is_path(span):
+    return bool(re.fullmatch(r"[\w.*/{},-]+", span)) and ("/" in span and not span.startswith("/") or span.rpartition(".")[2] in ENDINGS and "." in span)
+
+
+def alternatives(span):
+    """The paths that `a.{b,c}` stands for."""
+    found = re.search(r"\{([^{}]*)\}", span)
+    if not found:
+        return [span]
+    return [path for word in found[1].split(",") for path in alternatives(span[: found.start()] + word + span[found.end() :])]
+
+
+def wrong_span(tree, document, span):
+    """What is wrong with a word in backquotes, or None."""
+    if span in FOREIGN or re.fullmatch(r"\.\w+", span) or re.search(r"NAME|FILE|CRATE", span):
+        return None
+    if re.fullmatch(r"serf_\w+", span):
+        return None if span in tree.crates else "no such crate"
+    if re.fullmatch(r"\w+(::\w+)+", span):
+        crate, *rest = span.split("::")
+        if crate.startswith("serf_") and crate not in tree.crates:
+            return "no such crate"
+        missing = [name for name in rest if name not in tree.items]
+        return f"no item {missing[0]}" if missing else None
+    if is_path(span):
+        missing = [path for path in alternatives(span) if not tree.has_path(path.rstrip("/"), document)]
+        return f"no such file: {missing[0]}" if missing else None
+    return None
+
+
+def clauses_in(page):
+    """The clauses that PROMISES.md's tables begin a row with, or name behind a function."""
+    found = re.findall(r"^\| `(\w+)` \|", page, re.M)
+    return found + [name for names in re.findall(r"clauses? ((?:`\w+`(?:, | and )?)+)", page) for name in re.findall(r"`(\w+)`", names)]
+
+
+def wrong_command(jobs, page, script, words):
+    """What is wrong with a command that a page shows, or None."""
+    path = script.removeprefix("python3 ")
+    if f" -o {path.removeprefix('./')}" in page or path.startswith("./my-"):
+        return None
+    if not os.path.isfile(os.path.join(TOP, path)):
+        return "no such script"
+    if os.path.basename(path) == "serf-replay" and words and words[0] not in jobs:
+        return f"the program has no job {words[0]!r}"
+    return None
+
+
+def jobs_of_program():
+    """The words that the program's command line knows."""
+    text = "\n".join(sources("src"))
+    return set(re.findall(r"^\s+\"([a-z-]+)\" => .*Job::", text, re.M)) | {"--help", "--version", "help"}
+
+
+def main():
+    tree, jobs = Tree(), jobs_of_program()
+    passed, wrong = 0, []
+    for document in documents():
+        page = read(document)
+        checks = [(span, wrong_span(tree, document, span)) for span in sorted(set(SPAN.findall(page)))]
+        checks += [(link, None if "://" in link or tree.has_path(link.partition("#")[0], document) else "leads nowhere") for link in LINK.findall(page) if not link.startswith("#")]
+        checks += [(script + words, wrong_command(jobs, page, script, words.split())) for script, words in COMMAND.findall(page)]
+        if document == os.path.join("docs", "PROMISES.md"):
+            checks += [(clause, None if clause in tree.clauses else "no such clause") for clause in clauses_in(page)]
+        passed += sum(fault is None for _, fault in checks)
+        wrong += [(document, what, fault) for what, fault in checks if fault]
+    for document, what, fault in wrong:
+        print(f"FAILED {document}: `{what}`: {fault}")
+    print(f"{passed} passed, {len(wrong)} failed")
+    return 1 if wrong else 0
+
+
+if __name__ == "__main__":
+    sys.exit(main())

@@ -1,0 +1,163 @@
+"""The Python agent of conformance/python, held against the traces of the built program.
+
+Each schedule of examples/ and of tests/rows that is read is replayed, and random ones of each kind. Then each agent's
+calls go through the pipe's lines in turn, each packet by its bytes, and each reply has to be what the trace shows of that
+action: the answer, the packets, the events and the query that was handed out. At the end each switch is tried on the same
+schedules, and what they show of them is printed: the names of those that no schedule shows, and how many are shown.
+
+    tests/python_agent.py [--seeds FIRST-LAST] [SCHEDULE..]
+
+--seeds says which random schedules of each kind there are (1-4 where left out). With files it tries just these, and no
+switch.
+"""
+
+import argparse
+import functools
+import os
+import subprocess
+import sys
+
+TOP = os.path.dirname(os.path.dirname(os.path.abspath(__file__)))
+sys.path.insert(0, os.path.join(TOP, "tools"))
+sys.path.insert(0, os.path.join(TOP, "conformance", "python"))
+sys.dont_write_bytecode = True
+import programs
+from serf_agent import switches
+from serf_agent.pipe import Pipe
+
+PROGRAM = os.path.join(TOP, "crates", "serf_replay_program", "out", "serf_replay_program")
+FOLDERS = (os.path.join(TOP, "examples"), os.path.join(TOP, "tests", "rows"))
+
+KINDS = ("mixed", "tiny", "merges", "restarts", "devices", "injections", "queries", "limits", "exhaustion", "per-time", "compactions", "gossip")
+
+# Where the number of a packet stands in an action's words.
+GIVES = {"deliver": 2, "merge": 2}
+
+# At least so many of 100 switches are to be shown.
+SHOWN = 95
+
+
+def read(path):
+    with open(path, "rb") as schedule:
+        return schedule.read()
+
+
+def files():
+    return sorted(os.path.join(folder, name) for folder in FOLDERS for name in os.listdir(folder) if name.endswith(".schedule"))
+
+
+def random_schedule(kind, seed):
+    return subprocess.run([PROGRAM, "random", str(seed), "--kind", kind], stdin=subprocess.DEVNULL, capture_output=True, timeout=600, check=True).stdout
+
+
+def lines_of(schedule):
+    """The words of the agents' lines and of the actions' lines."""
+    lines = [line.split(" ") for line in schedule.decode("ascii", "surrogateescape").split("\n") if not line.startswith("#")]
+    lines = [[word for word in line if word] for line in lines]
+    lines = [line for line in lines if line]
+    return [line[1:] for line in lines if line[0] == "agent"], [line for line in lines if line[0] != "agent"]
+
+
+@functools.cache
+def trace_of(schedule):
+    """For each action what is shown of it, and the packets that were sent by their numbers; None where it is refused."""
+    ran = subprocess.run([PROGRAM, "replay"], input=schedule, capture_output=True, timeout=600)
+    if ran.returncode:
+        return None
+    shown, packets = {}, []
+    for line in ran.stdout.decode("ascii").splitlines():
+        number, _, text = line.partition(" ")
+        words = text.split(" ")
+        if words[0] == "sent":
+            packets.append(words[2])
+            text = f"sent {words[2]}"
+        elif words[0] in ("event", "handed"):
+            text = " ".join([words[0], *words[2:]])
+        shown.setdefault(int(number), []).append(text)
+    return shown, packets
+
+
+def call_of(action, packets):
+    """The call of an action, or None where its packet isn't there."""
+    name, words = action[0], action[1:]
+    if name == "inject":
+        return None
+    words = words[1:]
+    if name in GIVES:
+        number = int(words[0])
+        if number >= len(packets):
+            return None
+        words = [packets[number], *words[1:]]
+    return " ".join([name, *words])
+
+
+def differs(schedule):
+    """Where the agent answers otherwise than the trace shows, or None; and how many calls were compared."""
+    agents, actions = lines_of(schedule)
+    traced = trace_of(schedule)
+    if traced is None:
+        return None, 0
+    shown, packets = traced
+    compared = 0
+    for number, agent in enumerate(agents):
+        pipe = Pipe()
+        pipe.reply(" ".join(["open", *agent[:6], *(agent[6:] or ["1024"]), "-"]).encode("ascii"))
+        for place, action in enumerate(actions, 1):
+            if action[0] == "inject" or int(action[1]) != number:
+                continue
+            # (a packet that is sent later isn't there yet)
+            if shown[place] == ["refused NoMessage"]:
+                continue
+            call = call_of(action, packets)
+            got = [line for line in pipe.reply(call.encode("ascii")) if not line.startswith("counted ")]
+            compared += 1
+            if got != shown[place]:
+                return f"action {place}, agent {number}: {call[:200]}: wanted {shown[place]}, got {got}"[:1500], compared
+    return None, compared
+
+
+def is_shown(name, given):
+    """Whether some schedule shows that a body is wrong."""
+    switches.chosen.clear()
+    switches.choose(name)
+    shown = any(differs(schedule)[0] for _, schedule in given)
+    switches.chosen.clear()
+    return shown
+
+
+def unshown(given):
+    """What is wrong with the switches that these schedules show, or None."""
+    quiet = [name for name in switches.SWITCHES if not is_shown(name, given)]
+    count = len(switches.SWITCHES) - len(quiet)
+    print(f"{count} of {len(switches.SWITCHES)} switches are shown; not {', '.join(quiet) or 'one is missing'}")
+    return None if 100 * count >= SHOWN * len(switches.SWITCHES) else f"{count} of {len(switches.SWITCHES)} are shown"
+
+
+def main():
+    words = argparse.ArgumentParser()
+    words.add_argument("--seeds", default="1-4")
+    words.add_argument("files", nargs="*")
+    asked = words.parse_args()
+    fault = programs.fault_of_build("serf_replay_program")
+    if fault:
+        print(fault)
+        print("0 passed, 1 failed")
+        return 1
+    given = [(os.path.basename(path), read(path)) for path in asked.files or files()]
+    if not asked.files:
+        first, _, last = asked.seeds.partition("-")
+        given += [(f"{kind} {seed}", random_schedule(kind, seed)) for seed in range(int(first), int(last) + 1) for kind in KINDS]
+    compared = [(name, *differs(schedule)) for name, schedule in given]
+    print(f"{sum(calls for _, _, calls in compared)} calls compared")
+    said = [(name, found) for name, found, _ in compared]
+    if not asked.files:
+        said.append(("the switches", unshown(given)))
+    failed = [(name, found) for name, found in said if found]
+    for name, found in failed:
+        print(f"FAILED {name}: {found}")
+    print(f"{len(said) - len(failed)} passed, {len(failed)} failed")
+    return 1 if failed else 0
+
+
+if __name__ == "__main__":
+    sys.exit(main())

@@ -1,0 +1,134 @@
+"""Random schedules of the built program: each kind's first seeds, replayed.
+
+Of each seed the program writes the same bytes twice, which are those of this version (DIGESTS). `replay` takes them and
+answers each action, and there are as many actions as were asked for. The largest schedule ends below 16 MiB, and takes
+few processor seconds. Bad words of a command line are refused.
+
+    tests/random_schedules.py [--digests]
+
+--digests prints the digests as they are now: another version of the generator gets another number, and new ones.
+"""
+
+import hashlib
+import os
+import resource
+import subprocess
+import sys
+
+TOP = os.path.dirname(os.path.dirname(os.path.abspath(__file__)))
+sys.path.insert(0, os.path.join(TOP, "tools"))
+sys.dont_write_bytecode = True
+import programs
+
+PROGRAM = os.path.join(TOP, "crates", "serf_replay_program", "out", "serf_replay_program")
+
+KINDS = ("mixed", "tiny", "merges", "restarts", "devices", "injections", "queries", "limits", "exhaustion", "per-time", "compactions", "gossip")
+SEEDS = range(1, 11)
+ACTIONS = 120
+
+# The greatest number of bytes, and how many processor seconds a schedule of that size may take.
+MAX_BYTES = 16_777_216
+MAX_SECONDS = 10
+
+# Of each kind the digest of the schedules of SEEDS, one behind another, at version 1.
+DIGESTS = {
+    "mixed": "fe4d08afed02bdbf",
+    "tiny": "a499dd6e67b43ec4",
+    "merges": "a9a5075843512a8a",
+    "restarts": "ec4c26b8fc87d9d0",
+    "devices": "de7fbfdff8a01e6a",
+    "injections": "731376d778fb2e7a",
+    "queries": "c84dac811d877b43",
+    "limits": "2c0e05ef4a919d01",
+    "exhaustion": "0012b4ffc263417b",
+    "per-time": "8feeea4e400b9541",
+    "compactions": "49c53bdf8b6e322a",
+    "gossip": "7b7850745f40ef57",
+}
+
+# Words that are refused, with their status.
+REFUSED = (
+    (["random"], 2),
+    (["random", "x"], 2),
+    (["random", "18446744073709551616"], 2),
+    (["random", "1", "--kind", "mixd"], 2),
+    (["random", "1", "--actions", "-1"], 2),
+    (["random", "1", "2"], 2),
+)
+
+
+def ran(words, given=None):
+    return subprocess.run([PROGRAM, *words], input=given, stdin=subprocess.DEVNULL if given is None else None, capture_output=True, timeout=600)
+
+
+def schedule_of(seed, kind, *words):
+    return ran(["random", str(seed), "--kind", kind, "--actions", str(ACTIONS), *words])
+
+
+def actions_in(text):
+    return sum(not line.startswith((b"#", b"agent ")) for line in text.splitlines())
+
+
+def wrong_seed(seed, kind, made, again):
+    """What is wrong with the schedule of a seed, or None."""
+    if made.returncode or made.stderr:
+        return f"status {made.returncode}: {made.stderr}"
+    if made.stdout != again.stdout:
+        return "it has other bytes the second time"
+    if made.stdout.split(b"\n")[0] != f"# random {seed} --kind {kind} --agents 0 --actions {ACTIONS} version 1".encode():
+        return "its first line doesn't say what was asked for"
+    if actions_in(made.stdout) != ACTIONS:
+        return f"it has {actions_in(made.stdout)} actions"
+    replayed = ran(["replay"], made.stdout)
+    if replayed.returncode or replayed.stderr:
+        return f"replay: status {replayed.returncode}: {replayed.stderr}"
+    answered = {line.split(b" ")[0] for line in replayed.stdout.splitlines()}
+    return None if len(answered) == ACTIONS else "replay answers fewer actions"
+
+
+def processor_seconds():
+    used = resource.getrusage(resource.RUSAGE_CHILDREN)
+    return used.ru_utime + used.ru_stime
+
+
+def largest(kind):
+    """What is wrong with the largest schedule of a kind, or None."""
+    began = processor_seconds()
+    made = ran(["random", "1", "--kind", kind, "--agents", "4", "--actions", "100000000"])
+    seconds = processor_seconds() - began
+    print(f"{kind}: {len(made.stdout)} bytes and {actions_in(made.stdout)} actions in {seconds:.2f} processor seconds")
+    if made.returncode:
+        return f"status {made.returncode}: {made.stderr}"
+    if not MAX_BYTES - 200_000 < len(made.stdout) <= MAX_BYTES:
+        return f"it has {len(made.stdout)} bytes"
+    return None if seconds < MAX_SECONDS else f"it took {seconds:.1f} processor seconds"
+
+
+def main():
+    fault = programs.fault_of_build("serf_replay_program")
+    if fault:
+        print(fault)
+        print("0 passed, 1 failed")
+        return 1
+    said = []
+    for kind in KINDS:
+        digest = hashlib.sha256()
+        for seed in SEEDS:
+            made = schedule_of(seed, kind)
+            digest.update(made.stdout)
+            said.append((f"{kind} {seed}", wrong_seed(seed, kind, made, schedule_of(seed, kind))))
+        if "--digests" in sys.argv:
+            print(f'    "{kind}": "{digest.hexdigest()[:16]}",')
+        said.append((f"{kind}, its bytes", None if DIGESTS.get(kind) == digest.hexdigest()[:16] else f"digest {digest.hexdigest()[:16]}"))
+    said += [(f"{kind}, the largest", largest(kind)) for kind in KINDS]
+    for words, status in REFUSED:
+        got = ran(words)
+        said.append((" ".join(words), None if (got.returncode, got.stdout) == (status, b"") else f"status {got.returncode}"))
+    failed = [(name, what) for name, what in said if what]
+    for name, what in failed:
+        print(f"FAILED {name}: {what}")
+    print(f"{len(said) - len(failed)} passed, {len(failed)} failed")
+    return 1 if failed else 0
+
+
+sys.exit(main())
