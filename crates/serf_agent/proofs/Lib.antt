@@ -11,3 +11,4 @@ pub mod TrackLaws
 pub mod ViewLaws
 pub mod WireLaws
 pub mod Deadlines
+pub mod Names

@@ -1,13 +1,7 @@
 -- How the calls end that only note or replace.
-use Rattle.std.proofs.Common.{◌≡◌, ◌≢◌, ◌↔◌, ℕ, ◌-◌, ◌^◌, ◌<◌, ◌≤◌, nat_le, inl, inr, Bool, true, false, cond, IsTrue, Result, Ok, Err, OnOk, IsErrOf, refl, sym, ap, subst, ◌∙◌, arith}
-use Rattle.std.proofs.lemmas.Bool.{cases_Bool, leb-false, leb-true}
-use Rattle.serf_snap.specs.declared.kind.ClockKind.{ClockKind}
+use Rattle.serf_agent.proofs.Names.{◌≡◌, ◌≢◌, ◌↔◌, ℕ, ◌-◌, ◌^◌, ◌<◌, ◌≤◌, nat_le, inl, inr, Bool, true, false, cond, IsTrue, Result, Ok, Err, OnOk, IsErrOf, refl, sym, ap, subst, ◌∙◌, arith, cases_Bool, leb-false, leb-true, ClockKind, NoteFault, clock_line, Device, appended, flushed, replaced, SnapshotView, SnapshotState, Kept, Failed, last_line, noted, written, compacted, compaction_of, MayWrite, MayReplace}
 use Rattle.serf_snap.specs.declared.kind.ClockKind.TheVariants as kinds
-use Rattle.serf_snap.specs.declared.snapshot.NoteFault.{NoteFault}
 use Rattle.serf_snap.specs.declared.snapshot.NoteFault.TheVariants as notes
-use Rattle.serf_snap.specs.Clocks.{clock_line}
-use Rattle.serf_snap.specs.Device.{Device, appended, flushed, replaced}
-use Rattle.serf_snap.specs.Notes.{SnapshotView, SnapshotState, Kept, Failed, last_line, noted, written, compacted, compaction_of, MayWrite, MayReplace}
 use Rattle.serf_agent.specs.Calls.{Call, Notes, Replaces, answers}
 use Rattle.serf_agent.specs.Devices.{FailsLine, FailsText, device_noted}
 use Rattle.serf_agent.specs.Ideal.{IdealAgent}

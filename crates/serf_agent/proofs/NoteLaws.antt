@@ -1,9 +1,5 @@
 -- What a note's answer says of the sink's choice.
-use Rattle.std.proofs.Common.{◌≡◌, ℕ, ◌<◌, ◌≤◌, nat_le, Bool, true, false, MatchBool, List, Option, refl, sym, subst, ap}
-use Rattle.std.proofs.lemmas.Bool.{leb-false, lt-leb}
-use Rattle.serf_snap.specs.declared.kind.ClockKind.{ClockKind}
-use Rattle.serf_snap.specs.Clocks.{clock_line}
-use Rattle.serf_snap.specs.Notes.{SnapshotView, Writing, Kept, Failed, last_line, MayWrite}
+use Rattle.serf_agent.proofs.Names.{◌≡◌, ℕ, ◌<◌, ◌≤◌, nat_le, Bool, true, false, MatchBool, List, Option, refl, sym, subst, ap, leb-false, lt-leb, ClockKind, clock_line, SnapshotView, Writing, Kept, Failed, last_line, MayWrite}
 use Rattle.serf_agent.specs.Calls.{MayNote}
 
 pub may-kept : (kind : ClockKind) (t : ℕ) (s : SnapshotView) → (last_line kind s < t → MayWrite s (clock_line kind t) Kept) → MayNote kind t s Kept

@@ -1,13 +1,5 @@
 -- Lists of open queries by time.
-use Rattle.std.proofs.Common.{◌≡◌, ◌≢◌, ℕ, zero, suc, ◌+◌, ◌-◌, ◌<◌, ◌≤◌, ◌==◌, nat_eq, nat_lt, not, cond, ◌⊎◌, inl, inr, Bool, true, false, List, [], ◌∷◌, ◌++◌, length, filter, get_or, Option, Some, None, Result, Ok, Err, OnErr, refl, sym, ◌∙◌, ap, subst, arith}
-use Rattle.std.specs.Prelude.{All, AllPairs}
-use Rattle.std.specs.List.{list_any}
-use Rattle.std.specs.Map.{lookup, set_value}
-use Rattle.std.specs.Str.{bytes_eq}
-use Rattle.std.proofs.lemmas.Slice.Eq.{bytes_eq-Decides}
-use Rattle.std.proofs.lemmas.Bool.{ne_eqb, or_parts, true≢false}
-use Rattle.std.proofs.lemmas.List.Elements.{All-nil, All-cons, All-head, All-tail}
-use Rattle.indexmap.specs.IndexMap.{insert_entry}
+use Rattle.serf_agent.proofs.Names.{◌≡◌, ◌≢◌, ℕ, zero, suc, ◌+◌, ◌-◌, ◌<◌, ◌≤◌, ◌==◌, nat_eq, nat_lt, not, cond, ◌⊎◌, inl, inr, Bool, true, false, List, [], ◌∷◌, ◌++◌, length, filter, get_or, Option, Some, None, Result, Ok, Err, OnErr, refl, sym, ◌∙◌, ap, subst, arith, All, AllPairs, list_any, lookup, set_value, bytes_eq, bytes_eq-Decides, ne_eqb, or_parts, true≢false, All-nil, All-cons, All-head, All-tail, insert_entry}
 
 -- a key above all others goes last
 pub insert-later : {X : Type 0} (es : List (ℕ × X)) (t : ℕ) (x : X) → All (λ e. e.0 < t) es → insert_entry nat_eq es t x ≡ es ++ (t, x) ∷ []

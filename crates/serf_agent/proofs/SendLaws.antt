@@ -1,14 +1,6 @@
 -- What an agent sends of itself.
-use Rattle.std.proofs.Common.{◌≡◌, ◌≢◌, ◌↔◌, ℕ, Bool, true, false, cond, IsTrue, IsOk, List, [], ◌∷◌, map, Result, Ok, Err, refl, sym, ap, subst, ◌∙◌}
-use Rattle.serf_wire.specs.declared.encode.EncodeFault.{EncodeFault}
+use Rattle.serf_agent.proofs.Names.{◌≡◌, ◌≢◌, ◌↔◌, ℕ, Bool, true, false, cond, IsTrue, IsOk, List, [], ◌∷◌, map, Result, Ok, Err, refl, sym, ap, subst, ◌∙◌, EncodeFault, EventBody, TimeSlot, canonical, has_long, PushPull, push_pull, slot_content, SlotContent, slot_view}
 use Rattle.serf_wire.specs.declared.encode.EncodeFault.TheVariants as encodes
-use Rattle.serf_wire.specs.declared.texts.EventBody.{EventBody}
-use Rattle.serf_wire.specs.declared.texts.TimeSlot.{TimeSlot}
-use Rattle.serf_wire.specs.Canonical.{canonical, has_long}
-use Rattle.serf_wire.specs.Message.{PushPull, push_pull}
-use Rattle.serf_wire.specs.Parts.{slot_content}
-use Rattle.serf_wire.specs.Slots.{SlotContent}
-use Rattle.serf_window.specs.Slots.{slot_view}
 use Rattle.serf_agent.specs.declared.outcome.PushPullFault.{PushPullFault}
 use Rattle.serf_agent.specs.declared.outcome.PushPullFault.TheVariants as states
 use Rattle.serf_agent.specs.States.{send_state, slot_sent, state_of}

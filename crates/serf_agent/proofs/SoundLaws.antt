@@ -1,22 +1,6 @@
 -- Each change of a sound agent leaves a sound agent.
-use Rattle.std.proofs.Common.{◌≡◌, ◌≢◌, ℕ, ◌+◌, ◌-◌, ◌^◌, ◌<◌, ◌≤◌, ◌==◌, ◌&&◌, nat_lt, nat_le, nat_eq, max, not, cond, Bool, true, false, List, [], ◌∷◌, ◌++◌, length, filter, get_or, Option, Some, None, MatchBool, refl, sym, ◌∙◌, ap, subst, arith, ◌⊎◌, inl, inr}
-use Rattle.std.specs.Prelude.{All, AllPairs}
-use Rattle.std.specs.List.{list_any}
-use Rattle.std.specs.Str.{bytes_eq}
-use Rattle.std.proofs.lemmas.Bool.{cases_Bool, leb-true, leb-false, and_from, eq-eqb, true≢false}
-use Rattle.std.proofs.lemmas.List.Elements.{All-nil, All-push, All-weaker, All-filter}
-use Rattle.std.proofs.lemmas.List.Kept.{AllPairs-filter}
-use Rattle.std.proofs.lemmas.List.Quantifiers.{all_pairs_push}
-use Rattle.std.proofs.lemmas.Slice.Eq.{bytes_eq-Decides}
-use Rattle.serf_wire.specs.declared.texts.EventBody.{EventBody}
-use Rattle.serf_wire.specs.Message.{PushPull, Query, QueryResponse}
-use Rattle.serf_window.specs.Texts.{same_texts}
-use Rattle.serf_window.specs.Queries.{same_id}
-use Rattle.serf_snap.specs.declared.kind.ClockKind.{ClockKind}
+use Rattle.serf_agent.proofs.Names.{◌≡◌, ◌≢◌, ℕ, ◌+◌, ◌-◌, ◌^◌, ◌<◌, ◌≤◌, ◌==◌, ◌&&◌, nat_lt, nat_le, nat_eq, max, not, cond, Bool, true, false, List, [], ◌∷◌, ◌++◌, length, filter, get_or, Option, Some, None, MatchBool, refl, sym, ◌∙◌, ap, subst, arith, ◌⊎◌, inl, inr, All, AllPairs, list_any, bytes_eq, cases_Bool, leb-true, leb-false, and_from, eq-eqb, true≢false, All-nil, All-push, All-weaker, All-filter, AllPairs-filter, all_pairs_push, bytes_eq-Decides, EventBody, PushPull, Query, QueryResponse, same_texts, same_id, ClockKind, clock_line, last_clock, Device, SnapshotView, Writing, Kept, Failed, last_line, noted, written, compacted, KeepsPart, KeepsEither, compaction_of, MayWrite, MayReplace, opened, ltb-false}
 use Rattle.serf_snap.specs.declared.kind.ClockKind.TheVariants as kinds
-use Rattle.serf_snap.specs.Clocks.{clock_line, last_clock}
-use Rattle.serf_snap.specs.Device.{Device}
-use Rattle.serf_snap.specs.Notes.{SnapshotView, Writing, Kept, Failed, last_line, noted, written, compacted, KeepsPart, KeepsEither, compaction_of, MayWrite, MayReplace, opened}
 use Rattle.serf_snap.proofs.NoteLaws.{sound-noted, sound-failed, sound-opened, sound-compacted, sound-compaction_failed}
 use Rattle.serf_agent.specs.Calls.{MayNote}
 use Rattle.serf_agent.specs.Config.{is_sound}
@@ -34,7 +18,6 @@ use Rattle.serf_agent.specs.declared.outcome.Reason.{Reason}
 use Rattle.serf_agent.specs.declared.outcome.Reason.TheVariants.{Oversize, OtherId, Closed, AckNotAsked, AckTwice, ResponseTwice}
 use Rattle.serf_agent.specs.declared.lists.Response.{Response as ResponseText}
 use Rattle.serf_agent.proofs.OpenQueries.{set_value-keys, set_value-values, set_value-distinct, lookup-each, unlike-each}
-use Rattle.std.proofs.lemmas.Bool.{ltb-false}
 
 -- ---- what a note does to the last lines
 

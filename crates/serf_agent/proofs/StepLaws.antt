@@ -1,11 +1,6 @@
 -- How a call of the ideal agent ends, by how the real one's ended.
-use Rattle.std.proofs.Common.{◌≡◌, ℕ, ◌-◌, ◌^◌, ◌<◌, ◌≤◌, nat_lt, nat_le, not, cond, length, Bool, false, List, Option, Some, None, Result, Ok, Err, refl, sym, subst, arith}
-use Rattle.serf_wire.specs.declared.texts.EventBody.{EventBody}
-use Rattle.serf_snap.specs.declared.kind.ClockKind.{ClockKind}
+use Rattle.serf_agent.proofs.Names.{◌≡◌, ℕ, ◌-◌, ◌^◌, ◌<◌, ◌≤◌, nat_lt, nat_le, not, cond, length, Bool, false, List, Option, Some, None, Result, Ok, Err, refl, sym, subst, arith, EventBody, ClockKind, clock_line, Device, Kept, Failed, noted, written, WireFault, decoded, Message, Query, QueryResponse, or_parts, ltb-false, lt-leb}
 use Rattle.serf_snap.specs.declared.kind.ClockKind.TheVariants as kinds
-use Rattle.serf_snap.specs.Clocks.{clock_line}
-use Rattle.serf_snap.specs.Device.{Device}
-use Rattle.serf_snap.specs.Notes.{Kept, Failed, noted, written}
 use Rattle.serf_agent.specs.declared.outcome.Fired.{Fired}
 use Rattle.serf_agent.specs.declared.outcome.FireFault.{FireFault}
 use Rattle.serf_agent.specs.declared.outcome.FireFault.TheVariants as fires
@@ -21,16 +16,12 @@ use Rattle.serf_agent.specs.declared.outcome.ReceiveFault.TheVariants.{SinkFault
 use Rattle.serf_agent.specs.Calls.{Ends, Notes, Step, MayNote, answers}
 use Rattle.serf_agent.specs.Devices.{FailsLine, device_noted}
 use Rattle.serf_agent.specs.Events.{admission, event_observed, event_entered, event_out, event_packet, received_as, receive_event, fire_fault, fired_as, fire, texts_len, is_too_large, drawn}
-use Rattle.serf_wire.specs.declared.fault.WireFault.{WireFault}
-use Rattle.serf_wire.specs.Decoded.{decoded}
-use Rattle.serf_wire.specs.Message.{Message, Query, QueryResponse}
 use Rattle.serf_agent.specs.declared.open_query.OpenQuery.{OpenQuery}
 use Rattle.serf_agent.specs.Receive.{receive, receive_read}
 use Rattle.serf_agent.specs.Queries.{ack_if_passed, handed_if_passed, has_flag, no_broadcast_flag, query_admission, query_entered, query_observed, query_received_as, receive_query, answer_ignore_reason, asked_at, counted, counted_as, counts, fire_query, fired_query, is_full, is_no_timeout, is_too_large_query, query_asked, query_at, query_fault, query_fired_as, receive_response, response_received_as, response_received_at, with_asked_at}
 use Rattle.serf_agent.specs.Ideal.{IdealAgent, with_asked, with_snapshot}
 use Rattle.serf_agent.specs.Sound.{IsSound}
 use Rattle.serf_agent.specs.Steps.{Steps}
-use Rattle.std.proofs.lemmas.Bool.{or_parts, ltb-false, lt-leb}
 use Rattle.serf_agent.proofs.ConfigLaws.{limit-sound}
 use Rattle.serf_agent.specs.View.{AgentState, view_of}
 use Rattle.serf_agent.proofs.SoundLaws.{admission-new, sound-event_observed, sound-event_entered, sound-note_failed, sound-query_observed, sound-query_entered, query_admission-new, sound-counted, sound-query_asked}

@@ -1,14 +1,6 @@
 -- What a sound track stays, and that its window decides as its whole history does.
-use Rattle.std.proofs.Common.{◌≡◌, ◌≢◌, ℕ, ◌+◌, ◌<◌, ◌≤◌, ◌==◌, ◌&&◌, ◌||◌, ◌%◌, ◌⊎◌, inl, inr, nat_lt, nat_le, max, cond, Bool, true, false, List, [], ◌∷◌, ◌++◌, length, map, filter, get_or, Option, Some, None, refl, sym, ◌∙◌, ap, subst, arith}
-use Rattle.std.specs.Prelude.{All}
-use Rattle.std.specs.List.{list_any, range_with_len}
-use Rattle.std.proofs.lemmas.Bool.{cases_Bool, eqb-false, eq-eqb, ne_eqb, true≢false, or_parts, and_from, ltb-false}
-use Rattle.std.proofs.lemmas.List.Elements.{All-nil, All-cons, All-head, All-tail, All-push, All-weaker}
-use Rattle.std.proofs.lemmas.List.Quantifiers.{all_pairs_push}
-use Rattle.std.proofs.lemmas.List.FromFn.{get_or-map-range_with_len, length-map-range_with_len}
-use Rattle.serf_lamport.specs.Clock.{observed}
-use Rattle.serf_window.specs.declared.verdict.Verdict.{Verdict}
-use Rattle.serf_window.specs.Window.{TimedEntry, SlotOf, greatest_time, entries_of, slot_of, slots_of, was_entered, count_at, verdict_of, TimesBelow}
+use Rattle.serf_agent.proofs.Names.{◌≡◌, ◌≢◌, ℕ, ◌+◌, ◌<◌, ◌≤◌, ◌==◌, ◌&&◌, ◌||◌, ◌%◌, ◌⊎◌, inl, inr, nat_lt, nat_le, max, cond, Bool, true, false, List, [], ◌∷◌, ◌++◌, length, map, filter, get_or, Option, Some, None, refl, sym, ◌∙◌, ap, subst, arith, All, list_any, range_with_len, cases_Bool, eqb-false, eq-eqb, ne_eqb, true≢false, or_parts, and_from, ltb-false, All-nil, All-cons, All-head, All-tail, All-push, All-weaker, all_pairs_push, get_or-map-range_with_len, length-map-range_with_len, observed, Verdict, TimedEntry, SlotOf, greatest_time, entries_of, slots_of, was_entered, count_at, verdict_of, TimesBelow}
+use Rattle.serf_window.specs.Window.{slot_of}
 use Rattle.serf_agent.specs.declared.outcome.Reason.{Reason}
 use Rattle.serf_agent.specs.declared.outcome.Reason.TheVariants.{BelowMinimum, TooOld, Seen, TimeFull}
 use Rattle.serf_agent.specs.Ideal.{Past, Track}

@@ -1,12 +1,6 @@
 -- What an agent stores of the ideal agent, after each change.
-use Rattle.std.proofs.Common.{◌≡◌, ℕ, ◌+◌, ◌<◌, max, List, [], ◌∷◌, ◌++◌, length, Option, refl, sym, ◌∙◌, ap, subst}
-use Rattle.serf_lamport.specs.Clock.{observed}
-use Rattle.serf_wire.specs.declared.texts.EventBody.{EventBody}
-use Rattle.serf_window.specs.Window.{TimedEntry, slots_of}
-use Rattle.serf_snap.specs.declared.kind.ClockKind.{ClockKind}
+use Rattle.serf_agent.proofs.Names.{◌≡◌, ℕ, ◌+◌, ◌<◌, max, List, [], ◌∷◌, ◌++◌, length, Option, refl, sym, ◌∙◌, ap, subst, observed, EventBody, TimedEntry, slots_of, ClockKind, Device, SnapshotView, Writing, Kept, Failed, noted, written, opened}
 use Rattle.serf_snap.specs.declared.kind.ClockKind.TheVariants as kinds
-use Rattle.serf_snap.specs.Device.{Device}
-use Rattle.serf_snap.specs.Notes.{SnapshotView, Writing, Kept, Failed, noted, written, opened}
 use Rattle.serf_agent.specs.declared.config.Config.{Config}
 use Rattle.serf_agent.specs.declared.open_query.OpenQuery.{OpenQuery}
 use Rattle.serf_agent.specs.Events.{event_observed, event_entered}

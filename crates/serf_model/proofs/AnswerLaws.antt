@@ -1,15 +1,6 @@
 -- Where the acks and responses of each run come from.
-use Rattle.std.proofs.Common.{◌≡◌, ◌≢◌, ℕ, List, [], ◌∷◌, ◌++◌, Option, Some, None, Result, Ok, Err, refl, sym, ap, subst, ◌∙◌, arith, map, length}
-use Rattle.std.specs.Prelude.{All, AllPairs, Contains, filter, not, slice_get}
-use Rattle.std.specs.List.{flat_map}
-use Rattle.std.specs.Option.{option_map}
-use Rattle.std.proofs.lemmas.List.Elements.{All-nil, All-cons, All-head, All-tail}
-use Rattle.serf_wire.specs.declared.fault.WireFault.{WireFault}
-use Rattle.serf_wire.specs.Decoded.{decoded}
-use Rattle.serf_wire.specs.Message.{Message, user_event, query, query_response, push_pull, foreign}
-use Rattle.serf_agent.specs.declared.config.Config.{Config}
-use Rattle.serf_agent.specs.Handed.{Handed}
-use Rattle.serf_agent.specs.Queries.{is_ack}
+use Rattle.serf_model.proofs.Names.{◌≡◌, ◌≢◌, ℕ, List, [], ◌∷◌, ◌++◌, Option, Some, None, Result, Ok, Err, refl, sym, ap, subst, ◌∙◌, arith, map, length, All, AllPairs, Contains, not, slice_get, flat_map, option_map, All-nil, All-cons, All-head, All-tail, WireFault, decoded, Message, user_event, query, query_response, push_pull, foreign, Config, Handed, is_ack}
+use Rattle.std.specs.Prelude.{filter}
 use Rattle.serf_model.specs.declared.action.Action.{Action}
 use Rattle.serf_model.specs.declared.action.Action.TheVariants as actions
 use Rattle.serf_model.specs.AnswerPromises.{AckedOnce, AnswersMade, IsMade, RepliedOnce, acked, injected, replied, acked_by, replied_by, answer_brought, answers_in, query_answered}

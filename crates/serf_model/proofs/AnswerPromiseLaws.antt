@@ -1,9 +1,5 @@
 -- What every run promises of acks and responses, whatever is done in it.
-use Rattle.std.proofs.Common.{List, [], ◌∷◌}
-use Rattle.std.specs.Prelude.{All}
-use Rattle.std.specs.List.{AllByRecursion, fold}
-use Rattle.std.proofs.lemmas.List.Elements.{recursion_from_All}
-use Rattle.serf_agent.specs.declared.config.Config.{Config}
+use Rattle.serf_model.proofs.Names.{List, [], ◌∷◌, All, AllByRecursion, fold, recursion_from_All, Config}
 use Rattle.serf_model.specs.declared.action.Action.{Action}
 use Rattle.serf_model.specs.Cluster.{Run, after, run_of, start}
 use Rattle.serf_model.specs.Runs.{AreConfigs}

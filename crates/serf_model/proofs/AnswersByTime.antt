@@ -1,12 +1,6 @@
 -- Open queries by their times, and the answers to a time.
-use Rattle.std.proofs.Common.{suc, ◌≡◌, ◌≢◌, ℕ, ◌<◌, ◌==◌, nat_eq, Bool, true, false, cond, List, [], ◌∷◌, ◌++◌, Some, refl, sym, ap, subst, ◌∙◌, arith, map}
-use Rattle.std.specs.Prelude.{All, AllPairs, filter}
-use Rattle.std.proofs.lemmas.Bool.{eqb-true, eqb-false, eq-eqb, ne_eqb}
-use Rattle.std.proofs.lemmas.List.{append-nil}
-use Rattle.std.proofs.lemmas.List.Elements.{All-nil, All-cons, All-head, All-tail, All-weaker, filter-append}
-use Rattle.serf_wire.specs.Message.{QueryResponse}
-use Rattle.serf_agent.specs.declared.open_query.OpenQuery.{OpenQuery}
-use Rattle.serf_agent.specs.Queries.{asked_at, with_asked_at}
+use Rattle.serf_model.proofs.Names.{suc, ◌≡◌, ◌≢◌, ℕ, ◌<◌, ◌==◌, nat_eq, Bool, true, false, cond, List, [], ◌∷◌, ◌++◌, Some, refl, sym, ap, subst, ◌∙◌, arith, map, All, AllPairs, eqb-true, eqb-false, eq-eqb, ne_eqb, append-nil, All-nil, All-cons, All-head, All-tail, All-weaker, filter-append, QueryResponse, OpenQuery, asked_at, with_asked_at}
+use Rattle.std.specs.Prelude.{filter}
 use Rattle.serf_model.specs.AnswerPromises.{to_time}
 
 -- ---- lists

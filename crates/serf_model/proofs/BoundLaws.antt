@@ -1,18 +1,5 @@
 -- What enters at an agent in one life is bounded by its settings, in every run.
-use Rattle.std.proofs.Common.{zero, suc, ◌≡◌, ℕ, ◌+◌, ◌*◌, ◌≤◌, ◌==◌, ◌&&◌, inl, inr, Bool, true, false, cond, List, [], ◌∷◌, ◌++◌, Option, Some, None, refl, sym, ap, subst, ◌∙◌, arith, map, length, set, get_or, ◌%◌}
-use Rattle.std.specs.Prelude.{All, slice_get}
-use Rattle.std.specs.List.{filter, range_with_len}
-use Rattle.std.specs.Option.{option_map}
-use Rattle.std.proofs.lemmas.Bool.{cases_Bool, eq-eqb, eqb-true, eqb-false}
-use Rattle.std.proofs.lemmas.List.{append-nil}
-use Rattle.std.proofs.lemmas.List.Elements.{All-filter, All-map}
-use Rattle.std.proofs.lemmas.List.Sums.{fold-append}
-use Rattle.serf_wire.specs.declared.texts.EventBody.{EventBody}
-use Rattle.serf_window.specs.Window.{EachAtMost, SlotOf, TimedEntry, count_at, entries_of, greatest_time, held_at, held_count, slot_of, slots_of}
-use Rattle.serf_window.specs.Laws.{SlotLaws}
-use Rattle.serf_agent.specs.declared.config.Config.{Config}
-use Rattle.serf_agent.specs.Ideal.{IdealAgent, Past}
-use Rattle.serf_agent.specs.Tracks.{of_life}
+use Rattle.serf_model.proofs.Names.{zero, suc, ◌≡◌, ℕ, ◌+◌, ◌*◌, ◌≤◌, ◌==◌, ◌&&◌, inl, inr, Bool, true, false, cond, List, [], ◌∷◌, ◌++◌, Option, Some, None, refl, sym, ap, subst, ◌∙◌, arith, map, length, set, get_or, ◌%◌, All, slice_get, filter, range_with_len, option_map, cases_Bool, eq-eqb, eqb-true, eqb-false, append-nil, All-filter, All-map, fold-append, EventBody, EachAtMost, SlotOf, TimedEntry, count_at, entries_of, greatest_time, held_at, held_count, slot_of, slots_of, SlotLaws, Config, IdealAgent, Past, of_life}
 use Rattle.serf_model.specs.declared.action.Action.{Action}
 use Rattle.serf_model.specs.declared.line.EventLine.{EventLine}
 use Rattle.serf_model.specs.Bounds.{AtMostOfOneTime, EventsBounded, AreEventsBounded, IsBounded, QueriesBounded, events_of_life, longest_texts, is_restarted, lived_on, present_life, queries_of_life, reopens}

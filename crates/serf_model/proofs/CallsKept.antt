@@ -1,34 +1,10 @@
 -- What a call, an event and a query leave sound, over a sink with a plan.
-use Rattle.std.proofs.Common.{◌≡◌, ◌≢◌, ℕ, ◌-◌, ◌^◌, ◌<◌, ◌≤◌, ◌==◌, nat_lt, nat_le, Bool, true, false, cond, List, Option, Some, None, IsSome, Ok, Err, refl, sym, ap, subst, arith, length, inl, inr}
-use Rattle.std.specs.Prelude.{All, not, is_some}
-use Rattle.std.proofs.lemmas.List.Elements.{All-weaker}
-use Rattle.std.proofs.lemmas.List.{append-nil}
-use Rattle.std.proofs.lemmas.Bool.{and_parts, or_parts, leb-true, leb-false, ltb-false}
-use Rattle.serf_wire.specs.declared.texts.EventBody.{EventBody}
-use Rattle.serf_wire.specs.Message.{Query, query}
-use Rattle.serf_snap.specs.declared.kind.ClockKind.{ClockKind}
+use Rattle.serf_model.proofs.Names.{◌≡◌, ◌≢◌, ℕ, ◌-◌, ◌^◌, ◌<◌, ◌≤◌, ◌==◌, nat_lt, nat_le, Bool, true, false, cond, List, Option, Some, None, IsSome, Ok, Err, refl, sym, ap, subst, arith, length, inl, inr, All, not, is_some, All-weaker, append-nil, and_parts, or_parts, leb-true, leb-false, ltb-false, EventBody, Query, query, ClockKind, clock_line, FailurePlan, SnapshotView, Writing, Kept, Failed, IsObservable, MayWrite, MayReplace, will_write, will_replace, noted, written, compacted, compaction_of, last_line, note_fails, left_by, Notes, Step, MayNote, planned, ended, will_note, IdealAgent, with_snapshot, Past, IsSound, canonical, TimedEntry, Config, Event, QueryFault, QueryParams, Reason, is_sound, query_fired_as, query_fault, query_asked, query_admission, query_received_as, query_entered, handed_if_passed, ack_if_passed, has_flag, no_broadcast_flag, is_no_timeout, is_too_large_query, FireFault, texts_len, admission, received_as, event_entered, fired_as, fire_fault, event_packet, event_out, drawn, is_too_large}
 use Rattle.serf_snap.specs.declared.kind.ClockKind.TheVariants as kinds
-use Rattle.serf_snap.specs.Clocks.{clock_line}
-use Rattle.serf_snap.specs.Device.{FailurePlan}
-use Rattle.serf_snap.specs.Notes.{SnapshotView, Writing, Kept, Failed, IsObservable, MayWrite, MayReplace, will_write, will_replace, noted, written, compacted, compaction_of, last_line, note_fails, left_by}
-use Rattle.serf_agent.specs.Calls.{Notes, Step, MayNote, planned, ended, will_note}
-use Rattle.serf_agent.specs.Ideal.{IdealAgent, with_snapshot, Past}
-use Rattle.serf_agent.specs.Sound.{IsSound}
-use Rattle.serf_wire.specs.Canonical.{canonical}
-use Rattle.serf_window.specs.Window.{TimedEntry}
-use Rattle.serf_agent.specs.declared.config.Config.{Config}
 use Rattle.serf_agent.specs.declared.outcome.Outcome.TheVariants as outcomes
-use Rattle.serf_agent.specs.declared.outcome.Outcome.TheVariants.{Event}
-use Rattle.serf_agent.specs.declared.outcome.QueryFault.{QueryFault}
 use Rattle.serf_agent.specs.declared.outcome.QueryFault.TheVariants as asks
-use Rattle.serf_agent.specs.declared.outcome.QueryParams.{QueryParams}
 use Rattle.serf_agent.specs.declared.outcome.ReceiveFault.TheVariants as receives
 use Rattle.serf_agent.specs.declared.outcome.FireFault.TheVariants as fires
-use Rattle.serf_agent.specs.declared.outcome.Reason.{Reason}
-use Rattle.serf_agent.specs.Config.{is_sound}
-use Rattle.serf_agent.specs.Queries.{query_fired_as, query_fault, query_asked, query_admission, query_received_as, query_entered, handed_if_passed, ack_if_passed, has_flag, no_broadcast_flag, is_no_timeout, is_too_large_query}
-use Rattle.serf_agent.specs.declared.outcome.FireFault.{FireFault}
-use Rattle.serf_agent.specs.Events.{texts_len, admission, received_as, event_entered, fired_as, fire_fault, event_packet, event_out, drawn, is_too_large}
 use Rattle.serf_agent.proofs.SoundLaws.{sound-note_failed, sound-event_entered, sound-event_observed, admission-new, sound-query_entered, sound-query_observed, query_admission-new, sound-query_asked}
 use Rattle.serf_model.specs.Ready.{IsRepresentable}
 use Rattle.serf_model.proofs.PerTimeBound.{none-if}

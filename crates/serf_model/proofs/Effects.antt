@@ -1,40 +1,10 @@
 -- What each action does to the node that acts, said once: its effect, and that its agent stays sound.
-use Rattle.std.proofs.Common.{◌≡◌, ℕ, Bool, true, false, cond, List, [], ◌∷◌, ◌++◌, Option, Some, None, Result, Ok, Err, refl, sym, ap, subst, ◌∙◌, map}
-use Rattle.std.specs.Prelude.{All, Contains, slice_get}
-use Rattle.std.proofs.lemmas.List.{map-append}
-use Rattle.std.proofs.lemmas.List.Elements.{All-nil, All-cons, All-append, All-weaker, All-contains_itself, All-head, Contains-append_right}
-use Rattle.serf_wire.specs.declared.fault.WireFault.{WireFault}
-use Rattle.serf_wire.specs.declared.texts.EventBody.{EventBody}
-use Rattle.serf_wire.specs.Canonical.{canonical, has_long}
-use Rattle.serf_wire.specs.Decoded.{decoded}
-use Rattle.serf_wire.specs.Message.{Message, UserEvent, Query, QueryResponse, user_event, query, query_response, push_pull}
+use Rattle.serf_model.proofs.Names.{◌≡◌, ℕ, Bool, true, false, cond, List, [], ◌∷◌, ◌++◌, Option, Some, None, Result, Ok, Err, refl, sym, ap, subst, ◌∙◌, map, All, Contains, slice_get, map-append, All-nil, All-cons, All-append, All-weaker, All-contains_itself, All-head, Contains-append_right, WireFault, EventBody, canonical, has_long, decoded, Message, UserEvent, Query, QueryResponse, user_event, query, query_response, push_pull, event_of, TimedEntry, SnapshotView, Writing, Kept, Failed, Config, OpenQuery, EventOut, FireFault, MergeFault, Outcome, QueryFault, QueryParams, Reason, ReceiveFault, RespondFault, Call, Ends, Step, answers, ended, planned, will, admission, fire_fault, fired_as, received_as, Handed, IdealAgent, with_asked, with_snapshot, answer_ignore_reason, asked_at, counted, is_ack, is_full, query_admission, query_at, query_fault, query_fired_as, query_received_as, respond_fault, response_received_as, response_received_at, with_asked_at, receive_read, events_of, handed_by, joined, merge_refusal, receive_one, state_of, view_of}
 use Rattle.serf_wire.proofs.SpelledRanges.{decoded_ranged}
-use Rattle.serf_window.specs.Texts.{event_of}
-use Rattle.serf_window.specs.Window.{TimedEntry}
-use Rattle.serf_snap.specs.Notes.{SnapshotView, Writing, Kept, Failed}
 use Rattle.serf_snap.specs.declared.snapshot.NoteFault.TheVariants as notes
-use Rattle.serf_agent.specs.declared.config.Config.{Config}
-use Rattle.serf_agent.specs.declared.open_query.OpenQuery.{OpenQuery}
-use Rattle.serf_agent.specs.declared.outcome.EventOut.{EventOut}
-use Rattle.serf_agent.specs.declared.outcome.FireFault.{FireFault}
-use Rattle.serf_agent.specs.declared.outcome.MergeFault.{MergeFault}
-use Rattle.serf_agent.specs.declared.outcome.Outcome.{Outcome}
 use Rattle.serf_agent.specs.declared.outcome.Outcome.TheVariants as outcomes
 use Rattle.serf_agent.specs.declared.outcome.PushPullFault.TheVariants as states
-use Rattle.serf_agent.specs.declared.outcome.QueryFault.{QueryFault}
-use Rattle.serf_agent.specs.declared.outcome.QueryParams.{QueryParams}
-use Rattle.serf_agent.specs.declared.outcome.Reason.{Reason}
-use Rattle.serf_agent.specs.declared.outcome.ReceiveFault.{ReceiveFault}
 use Rattle.serf_agent.specs.declared.outcome.ReceiveFault.TheVariants as receives
-use Rattle.serf_agent.specs.declared.outcome.RespondFault.{RespondFault}
-use Rattle.serf_agent.specs.Calls.{Call, Ends, Step, answers, ended, planned, will}
-use Rattle.serf_agent.specs.Events.{admission, fire_fault, fired_as, received_as}
-use Rattle.serf_agent.specs.Handed.{Handed}
-use Rattle.serf_agent.specs.Ideal.{IdealAgent, with_asked, with_snapshot}
-use Rattle.serf_agent.specs.Queries.{answer_ignore_reason, asked_at, counted, is_ack, is_full, query_admission, query_at, query_fault, query_fired_as, query_received_as, respond_fault, response_received_as, response_received_at, with_asked_at}
-use Rattle.serf_agent.specs.Receive.{receive_read}
-use Rattle.serf_agent.specs.States.{events_of, handed_by, joined, merge_refusal, receive_one, state_of}
-use Rattle.serf_agent.specs.View.{view_of}
 use Rattle.serf_model.specs.declared.action.Action.{Action}
 use Rattle.serf_model.specs.declared.action.Action.TheVariants as actions
 use Rattle.serf_model.specs.declared.line.Answer.{Answer}

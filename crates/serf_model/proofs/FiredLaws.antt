@@ -1,24 +1,5 @@
 -- Where the events come from that are handed out and sent.
-use Rattle.std.proofs.Common.{zero, suc, ◌≡◌, ℕ, inl, inr, Bool, true, false, cond, List, [], ◌∷◌, ◌++◌, Option, Some, None, Result, refl, sym, ap, subst, ◌∙◌, map}
-use Rattle.std.specs.Prelude.{All, Contains, slice_get, not}
-use Rattle.std.specs.List.{AllByRecursion, flat_map}
-use Rattle.std.specs.Option.{option_to_list}
-use Rattle.std.proofs.lemmas.List.{append-nil}
-use Rattle.std.proofs.lemmas.List.Concat.{flat_map-append}
-use Rattle.std.proofs.lemmas.List.Elements.{All-nil, All-cons, All-head, All-tail, All-append, All-contains, All-map, All-weaker, All-contains_itself, Contains-append_left, Contains-append_right}
-use Rattle.serf_wire.specs.declared.fault.WireFault.{WireFault}
-use Rattle.serf_wire.specs.declared.texts.EventBody.{EventBody}
-use Rattle.serf_wire.specs.Canonical.{canonical}
-use Rattle.serf_wire.specs.Message.{Message, Query, query, push_pull}
-use Rattle.serf_window.specs.Texts.{event_of}
-use Rattle.serf_window.specs.Window.{TimedEntry}
-use Rattle.serf_agent.specs.declared.config.Config.{Config}
-use Rattle.serf_agent.specs.declared.outcome.EventOut.{EventOut}
-use Rattle.serf_agent.specs.Events.{event_packet}
-use Rattle.serf_agent.specs.Ideal.{Past}
-use Rattle.serf_agent.specs.Queries.{query_at, ack_if_passed, ack_packet, all_pass, ack_flag, has_flag, no_broadcast_flag, response_packet}
-use Rattle.serf_agent.specs.States.{state_of}
-use Rattle.serf_agent.specs.View.{view_of}
+use Rattle.serf_model.proofs.Names.{zero, suc, ◌≡◌, ℕ, inl, inr, Bool, true, false, cond, List, [], ◌∷◌, ◌++◌, Option, Some, None, Result, refl, sym, ap, subst, ◌∙◌, map, All, Contains, slice_get, not, AllByRecursion, flat_map, option_to_list, append-nil, flat_map-append, All-nil, All-cons, All-head, All-tail, All-append, All-contains, All-map, All-weaker, All-contains_itself, Contains-append_left, Contains-append_right, WireFault, EventBody, canonical, Message, Query, query, push_pull, event_of, TimedEntry, Config, EventOut, event_packet, Past, query_at, ack_if_passed, ack_packet, all_pass, ack_flag, has_flag, no_broadcast_flag, response_packet, state_of, view_of}
 use Rattle.serf_model.specs.declared.action.Action.{Action}
 use Rattle.serf_model.specs.declared.action.Action.TheVariants as actions
 use Rattle.serf_model.specs.Cluster.{IdealNode, Cluster, Applied, Done, Run, Stepped, apply, applied, injects, on_agent, after, start, first_node, with_handed, event_line}

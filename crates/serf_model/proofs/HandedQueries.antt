@@ -1,16 +1,6 @@
 -- Which queries an agent can answer, and which it acked.
-use Rattle.std.proofs.Common.{zero, suc, ◌≡◌, ◌≢◌, ℕ, ◌⊎◌, inl, inr, true, false, cond, List, [], ◌∷◌, ◌++◌, length, Option, Some, None, refl, sym, ap, subst, ◌∙◌, map, set}
-use Rattle.std.specs.Prelude.{AllPairs, Contains, filter, slice_get}
-use Rattle.std.specs.List.{flat_map}
-use Rattle.std.specs.Option.{option_map, option_to_list}
-use Rattle.std.proofs.lemmas.List.{append-nil, map-append}
-use Rattle.std.proofs.lemmas.List.Elements.{Contains-append_left, Contains-push, filter-append}
-use Rattle.std.proofs.lemmas.List.Sums.{fold_push}
-use Rattle.serf_wire.specs.Message.{Query, QueryResponse}
-use Rattle.serf_window.specs.Window.{TimedEntry}
-use Rattle.serf_agent.specs.declared.config.Config.{Config}
-use Rattle.serf_agent.specs.Handed.{Handed}
-use Rattle.serf_agent.specs.Queries.{deadline_of, is_ack, query_at}
+use Rattle.serf_model.proofs.Names.{zero, suc, ◌≡◌, ◌≢◌, ℕ, ◌⊎◌, inl, inr, true, false, cond, List, [], ◌∷◌, ◌++◌, length, Option, Some, None, refl, sym, ap, subst, ◌∙◌, map, set, AllPairs, Contains, slice_get, flat_map, option_map, option_to_list, append-nil, map-append, Contains-append_left, Contains-push, filter-append, fold_push, Query, QueryResponse, TimedEntry, Config, Handed, deadline_of, is_ack, query_at}
+use Rattle.std.specs.Prelude.{filter}
 use Rattle.serf_model.specs.declared.action.Action.{Action}
 use Rattle.serf_model.specs.declared.line.HandedLine.{HandedLine}
 use Rattle.serf_model.specs.AnswerPromises.{answers_in, query_answered, reply_deadline}

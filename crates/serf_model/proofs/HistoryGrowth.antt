@@ -1,15 +1,5 @@
 -- What each action adds to the histories of its agent.
-use Rattle.std.proofs.Common.{◌≡◌, ℕ, ◌+◌, Bool, true, cond, List, [], ◌∷◌, ◌++◌, Option, Some, None, Result, Ok, refl, sym, ap, subst, ◌∙◌, map}
-use Rattle.serf_wire.specs.declared.fault.WireFault.{WireFault}
-use Rattle.serf_wire.specs.Decoded.{decoded}
-use Rattle.serf_wire.specs.Message.{Message, push_pull}
-use Rattle.serf_window.specs.Texts.{event_of}
-use Rattle.serf_window.specs.Window.{TimedEntry}
-use Rattle.serf_agent.specs.declared.outcome.MergeFault.{MergeFault}
-use Rattle.serf_agent.specs.Ideal.{IdealAgent}
-use Rattle.serf_agent.specs.Sound.{IsSound}
-use Rattle.serf_agent.specs.States.{merge_refusal}
-use Rattle.serf_agent.specs.View.{view_of}
+use Rattle.serf_model.proofs.Names.{◌≡◌, ℕ, ◌+◌, Bool, true, cond, List, [], ◌∷◌, ◌++◌, Option, Some, None, Result, Ok, refl, sym, ap, subst, ◌∙◌, map, WireFault, decoded, Message, push_pull, event_of, TimedEntry, MergeFault, IdealAgent, IsSound, merge_refusal, view_of}
 use Rattle.serf_model.specs.declared.action.Action.{Action}
 use Rattle.serf_model.specs.declared.line.Answer.TheVariants as lines
 use Rattle.serf_model.specs.Bounds.{is_restarted}

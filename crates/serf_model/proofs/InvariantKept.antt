@@ -1,34 +1,9 @@
 -- A merge, a snapshot and a restart leave their agent sound, with clocks that are 64 bits, over a sink that tells and has a plan.
-use Rattle.std.proofs.Common.{◌≡◌, ℕ, ◌-◌, ◌^◌, ◌<◌, ◌≤◌, Bool, true, false, List, [], ◌∷◌, ◌++◌, Option, Some, None, IsSome, unwrap_or, Result, Ok, Err, refl, ◌∙◌, arith}
-use Rattle.std.specs.List.{AllByRecursion}
-use Rattle.std.specs.Option.{option_map}
-use Rattle.std.proofs.lemmas.List.Elements.{All-nil, All-weaker}
-use Rattle.serf_wire.specs.declared.texts.EventBody.{EventBody}
-use Rattle.serf_wire.specs.Decoded.{decoded}
-use Rattle.serf_wire.specs.Message.{PushPull, push_pull}
-use Rattle.serf_wire.specs.Ranges.{IsRangedPushPull, IsTimed}
+use Rattle.serf_model.proofs.Names.{◌≡◌, ℕ, ◌-◌, ◌^◌, ◌<◌, ◌≤◌, Bool, true, false, List, [], ◌∷◌, ◌++◌, Option, Some, None, IsSome, unwrap_or, Result, Ok, Err, refl, ◌∙◌, arith, AllByRecursion, option_map, All-nil, All-weaker, EventBody, decoded, PushPull, push_pull, IsRangedPushPull, IsTimed, TimedEntry, is_whole, last_clock, FailurePlan, fresh_device, Writing, Kept, Failed, IsObservable, will_replace, opened, Call, Notes, Replaces, Step, planned, ended, will, IdealAgent, IsSound, Config, Outcome, ReceiveFault, Reason, is_sound, unopened, IsInText, events_of, events_of_slot, receive_one, joined, merge_refusal, view_of, admission, received_as, SlotContent, empty, held, NoteFault}
 use Rattle.serf_wire.proofs.SpelledRanges.{decoded_ranged}
-use Rattle.serf_window.specs.Window.{TimedEntry}
 use Rattle.serf_snap.specs.declared.kind.ClockKind.TheVariants as kinds
-use Rattle.serf_snap.specs.Clocks.{is_whole, last_clock}
-use Rattle.serf_snap.specs.Device.{FailurePlan, fresh_device}
-use Rattle.serf_snap.specs.Notes.{Writing, Kept, Failed, IsObservable, will_replace, opened}
 use Rattle.serf_snap.proofs.ClockLaws.{last_clock_grows, last_clock-below}
-use Rattle.serf_agent.specs.Calls.{Call, Notes, Replaces, Step, planned, ended, will}
-use Rattle.serf_agent.specs.Ideal.{IdealAgent}
-use Rattle.serf_agent.specs.Sound.{IsSound}
-use Rattle.serf_agent.specs.declared.config.Config.{Config}
-use Rattle.serf_agent.specs.declared.outcome.Outcome.{Outcome}
-use Rattle.serf_agent.specs.declared.outcome.ReceiveFault.{ReceiveFault}
-use Rattle.serf_agent.specs.declared.outcome.Reason.{Reason}
-use Rattle.serf_agent.specs.Config.{is_sound}
-use Rattle.serf_agent.specs.Restart.{unopened, IsInText}
-use Rattle.serf_agent.specs.States.{events_of, events_of_slot, receive_one, joined, merge_refusal}
-use Rattle.serf_agent.specs.View.{view_of}
-use Rattle.serf_agent.specs.Events.{admission, received_as}
 use Rattle.serf_agent.proofs.SoundLaws.{sound-joined, sound-saved, sound-compact, sound-restarted, sound-unopened, stopped-noted}
-use Rattle.serf_wire.specs.Slots.{SlotContent, empty, held}
-use Rattle.serf_snap.specs.declared.snapshot.NoteFault.{NoteFault}
 use Rattle.serf_snap.specs.declared.snapshot.NoteFault.TheVariants as notes
 use Rattle.serf_agent.specs.declared.outcome.MergeFault.TheVariants as merges
 use Rattle.serf_model.specs.Ready.{IsConsistent, IsRepresentable}

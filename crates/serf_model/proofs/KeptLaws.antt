@@ -1,9 +1,6 @@
 -- Every run keeps all promises.
-use Rattle.std.proofs.Common.{List, arith}
-use Rattle.std.specs.Prelude.{ℕ, All}
-use Rattle.serf_wire.specs.declared.texts.EventBody.{EventBody}
-use Rattle.serf_window.specs.Laws.{SlotLaws}
-use Rattle.serf_agent.specs.declared.config.Config.{Config}
+use Rattle.serf_model.proofs.Names.{List, arith, All, EventBody, SlotLaws, Config}
+use Rattle.std.specs.Prelude.{ℕ}
 use Rattle.serf_model.specs.declared.action.Action.{Action}
 use Rattle.serf_model.specs.Cluster.{Run, run_of, start}
 use Rattle.serf_model.specs.Kept.{KeepsPromises}

@@ -33,3 +33,4 @@ pub mod SentPromises
 pub mod KeptLaws
 pub mod WrongTurns
 pub mod AloneLaws
+pub mod Names

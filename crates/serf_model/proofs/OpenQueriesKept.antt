@@ -1,20 +1,5 @@
 -- What an answer to an open query, and a deadline, leave sound.
-use Rattle.std.proofs.Common.{zero, suc, ◌≡◌, ◌≢◌, ℕ, ◌<◌, ◌==◌, nat_lt, Bool, true, false, cond, List, [], ◌∷◌, ◌++◌, Some, None, refl, sym, ap, subst, ◌∙◌, arith, map, length}
-use Rattle.std.specs.Prelude.{All, AllPairs, not}
-use Rattle.std.specs.List.{list_any, filter}
-use Rattle.std.proofs.lemmas.List.Quantifiers.{all_pairs_push}
-use Rattle.std.specs.Str.{bytes_eq}
-use Rattle.std.proofs.lemmas.Slice.Eq.{bytes_eq-Decides}
-use Rattle.std.proofs.lemmas.List.{length-map, get_or-map}
-use Rattle.std.proofs.lemmas.Bool.{or_parts, true≢false}
-use Rattle.std.proofs.lemmas.List.Elements.{All-nil, All-map, All-cons, All-head, All-tail, All-filter}
-use Rattle.serf_wire.specs.Message.{QueryResponse}
-use Rattle.serf_agent.specs.Ideal.{IdealAgent, with_asked}
-use Rattle.serf_agent.specs.Sound.{IsOpenQuerySound}
-use Rattle.serf_agent.specs.declared.outcome.Reason.TheVariants.{OtherId, Closed, AckNotAsked, AckTwice, ResponseTwice}
-use Rattle.serf_agent.specs.declared.open_query.OpenQuery.{OpenQuery}
-use Rattle.serf_agent.specs.declared.lists.Response.{Response}
-use Rattle.serf_agent.specs.Queries.{asked_at, with_asked_at, counted, is_ack, has_acked, has_responded, answer_ignore_reason, ack_ignore_reason, response_ignore_reason, is_due, close_due}
+use Rattle.serf_model.proofs.Names.{zero, suc, ◌≡◌, ◌≢◌, ℕ, ◌<◌, ◌==◌, nat_lt, Bool, true, false, cond, List, [], ◌∷◌, ◌++◌, Some, None, refl, sym, ap, subst, ◌∙◌, arith, map, length, All, AllPairs, not, list_any, filter, all_pairs_push, bytes_eq, bytes_eq-Decides, length-map, get_or-map, or_parts, true≢false, All-nil, All-map, All-cons, All-head, All-tail, All-filter, QueryResponse, IdealAgent, with_asked, IsOpenQuerySound, OtherId, Closed, AckNotAsked, AckTwice, ResponseTwice, OpenQuery, Response, asked_at, with_asked_at, counted, is_ack, has_acked, has_responded, answer_ignore_reason, ack_ignore_reason, response_ignore_reason, is_due, close_due}
 use Rattle.serf_model.specs.Ready.{IsRepresentable}
 use Rattle.serf_model.proofs.AnswersByTime.{asked-found, pairs-rest}
 use Rattle.serf_model.proofs.PerTimeBound.{none-if}

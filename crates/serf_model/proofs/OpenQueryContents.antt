@@ -1,23 +1,6 @@
 -- What an agent's open queries hold is what its turns counted.
-use Rattle.std.proofs.Common.{◌≡◌, ◌≢◌, ℕ, ◌<◌, ◌≤◌, ◌==◌, nat_lt, Bool, true, false, cond, List, [], ◌∷◌, ◌++◌, Option, Some, None, Result, Ok, refl, sym, ap, subst, ◌∙◌, map, not}
-use Rattle.std.specs.Prelude.{All, AllPairs, Contains}
-use Rattle.std.specs.List.{flat_map}
-use Rattle.std.specs.Option.{option_to_list}
-use Rattle.std.proofs.lemmas.Bool.{eqb-true, eq-eqb, ltb-false, not-false}
-use Rattle.std.proofs.lemmas.List.{append-nil, map-append}
-use Rattle.std.proofs.lemmas.List.Elements.{All-nil, All-push, All-weaker, All-map, All-filter, All-contains, Contains-append_left, Contains-push}
-use Rattle.std.proofs.lemmas.List.Quantifiers.{all_pairs_push}
-use Rattle.std.proofs.lemmas.List.Sums.{fold_push}
-use Rattle.serf_wire.specs.declared.fault.WireFault.{WireFault}
-use Rattle.serf_wire.specs.Decoded.{decoded}
-use Rattle.serf_wire.specs.Message.{Message, QueryResponse, query_response}
-use Rattle.serf_window.specs.Window.{TimedEntry}
-use Rattle.serf_agent.specs.declared.lists.Response.{Response}
-use Rattle.serf_agent.specs.declared.open_query.OpenQuery.{OpenQuery}
-use Rattle.serf_agent.specs.declared.outcome.QueryParams.{QueryParams}
-use Rattle.serf_agent.specs.declared.outcome.Reason.TheVariants.{OtherId, Closed, AckNotAsked, AckTwice, ResponseTwice}
-use Rattle.serf_agent.specs.Ideal.{IdealAgent, Past}
-use Rattle.serf_agent.specs.Queries.{ack_flag, ack_ignore_reason, answer_ignore_reason, asked_at, counted, deadline_of, flags_of, has_acked, has_flag, has_responded, is_ack, is_due, opened_query, query_at, response_ignore_reason, with_asked_at}
+use Rattle.serf_model.proofs.Names.{◌≡◌, ◌≢◌, ℕ, ◌<◌, ◌≤◌, ◌==◌, nat_lt, Bool, true, false, cond, List, [], ◌∷◌, ◌++◌, Option, Some, None, Result, Ok, refl, sym, ap, subst, ◌∙◌, map, All, AllPairs, Contains, flat_map, option_to_list, eqb-true, eq-eqb, ltb-false, not-false, append-nil, map-append, All-nil, All-push, All-weaker, All-map, All-filter, All-contains, Contains-append_left, Contains-push, all_pairs_push, fold_push, WireFault, decoded, Message, QueryResponse, query_response, TimedEntry, Response, OpenQuery, QueryParams, OtherId, Closed, AckNotAsked, AckTwice, ResponseTwice, IdealAgent, Past, ack_flag, ack_ignore_reason, answer_ignore_reason, asked_at, counted, deadline_of, flags_of, has_acked, has_flag, has_responded, is_ack, is_due, opened_query, query_at, response_ignore_reason, with_asked_at}
+use Rattle.std.proofs.Common.{not}
 use Rattle.serf_model.specs.declared.action.Action.{Action}
 use Rattle.serf_model.specs.declared.action.Action.TheVariants as actions
 use Rattle.serf_model.specs.declared.line.Answer.{Answer}

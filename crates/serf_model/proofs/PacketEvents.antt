@@ -1,26 +1,9 @@
 -- Which events the packets carry that agents send.
-use Rattle.std.proofs.Common.{◌≡◌, ℕ, ◌<◌, ◌≤◌, ◌-◌, ◌^◌, ◌==◌, Bool, false, List, [], ◌∷◌, refl, sym, ap, subst, arith, map}
-use Rattle.std.specs.Prelude.{All}
-use Rattle.std.specs.List.{AllByRecursion}
-use Rattle.std.proofs.lemmas.List.Elements.{All-nil, All-head, All-tail, All-append, All-map, All-filter, All-weaker}
-use Rattle.serf_pack.specs.Reading.{whole_at}
+use Rattle.serf_model.proofs.Names.{◌≡◌, ℕ, ◌<◌, ◌≤◌, ◌-◌, ◌^◌, ◌==◌, Bool, false, List, [], ◌∷◌, refl, sym, ap, subst, arith, map, All, AllByRecursion, All-nil, All-head, All-tail, All-append, All-map, All-filter, All-weaker, whole_at, EventBody, canonical, has_long, without_events, decoded, UserEvent, Query, PushPull, user_event, query, push_pull, response_of, IsRangedPushPull, IsTimed, held, event_of, TimedEntry, SlotOf, slots_of, event_packet, texts_len, IdealAgent, Past, state_of, slot_sent, events_of, events_of_slot, of_life, view_of}
 use Rattle.serf_wire.specs.declared.layout.MessageType.TheVariants as types
-use Rattle.serf_wire.specs.declared.texts.EventBody.{EventBody}
-use Rattle.serf_wire.specs.Canonical.{canonical, has_long, without_events}
-use Rattle.serf_wire.specs.Decoded.{decoded}
-use Rattle.serf_wire.specs.Message.{UserEvent, Query, PushPull, user_event, query, push_pull, response_of}
-use Rattle.serf_wire.specs.Ranges.{IsRangedPushPull, IsTimed}
-use Rattle.serf_wire.specs.Slots.{held}
 use Rattle.serf_wire.proofs.CanonicalPackets.{canonical_spells}
 use Rattle.serf_wire.proofs.Packets.{read_has, spelled_decoded}
-use Rattle.serf_window.specs.Texts.{event_of}
-use Rattle.serf_window.specs.Window.{TimedEntry, SlotOf, slots_of}
 use Rattle.serf_window.proofs.WindowLaws.{slots_of-each, slots_of-below}
-use Rattle.serf_agent.specs.Events.{event_packet, texts_len}
-use Rattle.serf_agent.specs.Ideal.{IdealAgent, Past}
-use Rattle.serf_agent.specs.States.{state_of, slot_sent, events_of, events_of_slot}
-use Rattle.serf_agent.specs.Tracks.{of_life}
-use Rattle.serf_agent.specs.View.{view_of}
 use Rattle.serf_agent.proofs.WireLaws.{event-not_long}
 use Rattle.serf_model.specs.Trace.{events_in_packet, events_brought, query_brought}
 use Rattle.serf_model.specs.Ready.{IsRepresentable}

@@ -1,10 +1,5 @@
 -- What holds of each agent, where these are the turns that it took.
-use Rattle.std.proofs.Common.{zero, suc, ◌≡◌, ℕ, ◌==◌, Bool, true, false, cond, List, [], ◌∷◌, ◌++◌, Some, None, refl, sym, ap, subst, ◌∙◌, map, set}
-use Rattle.std.specs.Prelude.{All, slice_get}
-use Rattle.std.proofs.lemmas.Bool.{eqb-true, eqb-false, eq-eqb, ne_eqb}
-use Rattle.std.proofs.lemmas.List.{append-nil}
-use Rattle.std.proofs.lemmas.List.Elements.{All-nil, All-push, filter-append}
-use Rattle.serf_agent.specs.declared.config.Config.{Config}
+use Rattle.serf_model.proofs.Names.{zero, suc, ◌≡◌, ℕ, ◌==◌, Bool, true, false, cond, List, [], ◌∷◌, ◌++◌, Some, None, refl, sym, ap, subst, ◌∙◌, map, set, All, slice_get, eqb-true, eqb-false, eq-eqb, ne_eqb, append-nil, All-nil, All-push, filter-append, Config}
 use Rattle.serf_model.specs.declared.action.Action.{Action}
 use Rattle.serf_model.specs.declared.line.Answer.TheVariants as answers
 use Rattle.serf_model.specs.declared.line.Refusal.TheVariants.{NoAgent}

@@ -1,24 +1,5 @@
 -- What an agent enters in one life: at most as many of one time as its settings say.
-use Rattle.std.proofs.Common.{◌≡◌, ℕ, ◌+◌, ◌<◌, ◌≤◌, ◌==◌, nat_le, nat_lt, Bool, true, false, cond, List, [], ◌∷◌, ◌++◌, Option, Some, None, refl, sym, ap, subst, ◌∙◌, arith, map, length, length-append, append_assoc, inl, inr}
-use Rattle.std.specs.Prelude.{All}
-use Rattle.std.specs.List.{filter}
-use Rattle.std.proofs.lemmas.Bool.{and_parts, cases_Bool, eq-eqb, eqb-true, leb-true, leb-false, ne_eqb}
-use Rattle.std.proofs.lemmas.List.{append-nil, map-append}
-use Rattle.std.proofs.lemmas.List.Elements.{All-append, All-head, All-map, All-tail, filter-append}
-use Rattle.serf_lamport.specs.Clock.{observed}
-use Rattle.serf_wire.specs.declared.texts.EventBody.{EventBody}
-use Rattle.serf_window.specs.Texts.{event_of, same_texts}
-use Rattle.serf_window.specs.Queries.{same_id}
-use Rattle.serf_window.specs.Window.{TimedEntry, count_at, held_at}
-use Rattle.serf_agent.specs.declared.config.Config.{Config}
-use Rattle.serf_agent.specs.declared.outcome.EventOut.{EventOut}
-use Rattle.serf_agent.specs.declared.outcome.Reason.{Reason}
-use Rattle.serf_agent.specs.declared.outcome.Reason.TheVariants.{BelowMinimum, TooOld, Seen, TimeFull, Oversize}
-use Rattle.serf_agent.specs.Config.{is_sound}
-use Rattle.serf_agent.specs.Events.{admission, texts_len}
-use Rattle.serf_agent.specs.Ideal.{IdealAgent, Past, Track}
-use Rattle.serf_agent.specs.Queries.{query_admission}
-use Rattle.serf_agent.specs.Tracks.{of_life, track_reason, was_ever_entered}
+use Rattle.serf_model.proofs.Names.{◌≡◌, ℕ, ◌+◌, ◌<◌, ◌≤◌, ◌==◌, nat_le, nat_lt, Bool, true, false, cond, List, [], ◌∷◌, ◌++◌, Option, Some, None, refl, sym, ap, subst, ◌∙◌, arith, map, length, length-append, append_assoc, inl, inr, All, filter, and_parts, cases_Bool, eq-eqb, eqb-true, leb-true, leb-false, ne_eqb, append-nil, map-append, All-append, All-head, All-map, All-tail, filter-append, observed, EventBody, event_of, same_texts, same_id, TimedEntry, count_at, held_at, Config, EventOut, Reason, BelowMinimum, TooOld, Seen, TimeFull, Oversize, is_sound, admission, texts_len, IdealAgent, Past, Track, query_admission, of_life, track_reason, was_ever_entered}
 use Rattle.serf_model.specs.Bounds.{AtMostOfOneTime}
 
 -- a reason that isn't given

@@ -1,6 +1,5 @@
 -- What every run promises of events and queries, whatever is done in it.
-use Rattle.std.proofs.Common.{◌≡◌, List, ◌++◌, ap}
-use Rattle.serf_agent.specs.declared.config.Config.{Config}
+use Rattle.serf_model.proofs.Names.{◌≡◌, List, ◌++◌, ap, Config}
 use Rattle.serf_model.specs.declared.action.Action.{Action}
 use Rattle.serf_model.specs.Cluster.{Run, after, start, run_of, trace_of}
 use Rattle.serf_model.specs.Promises.{Once, OnlyFired, Later, Held, SeenWasHanded, QueryOnce, QueryLater, QueryHandedOnce, QueryFired}

@@ -1,23 +1,8 @@
 -- Each query that enters was fired, or is forged.
-use Rattle.std.proofs.Common.{Ok, ◌≡◌, ℕ, ◌<◌, ◌≤◌, ◌^◌, inl, inr, Bool, true, false, List, [], ◌∷◌, ◌++◌, Option, Some, None, refl, sym, ap, subst, ◌∙◌, arith, length}
-use Rattle.std.specs.Prelude.{All, Contains}
-use Rattle.std.specs.List.{fold, flat_map}
-use Rattle.std.proofs.lemmas.Bool.{ltb-false}
-use Rattle.std.proofs.lemmas.List.Concat.{flat_map-append}
-use Rattle.std.proofs.lemmas.List.Elements.{All-nil, All-cons, All-head, All-tail, All-append, All-contains, All-contains_itself, All-weaker, Contains-append_left, Contains-append_right}
-use Rattle.serf_wire.specs.Canonical.{canonical}
-use Rattle.serf_wire.specs.Decoded.{decoded}
-use Rattle.serf_wire.specs.Message.{Query, query}
-use Rattle.serf_wire.specs.Ranges.{IsRangedQuery}
+use Rattle.serf_model.proofs.Names.{Ok, ◌≡◌, ℕ, ◌<◌, ◌≤◌, ◌^◌, inl, inr, Bool, true, false, List, [], ◌∷◌, ◌++◌, Option, Some, None, refl, sym, ap, subst, ◌∙◌, arith, length, All, Contains, fold, flat_map, ltb-false, flat_map-append, All-nil, All-cons, All-head, All-tail, All-append, All-contains, All-contains_itself, All-weaker, Contains-append_left, Contains-append_right, canonical, decoded, Query, query, IsRangedQuery, TimedEntry, Config, QueryParams, drawn, IdealAgent, flags_of, is_too_large_query, query_at, query_fault}
 use Rattle.serf_wire.proofs.CanonicalPackets.{canonical_spells}
 use Rattle.serf_wire.proofs.Packets.{spelled_decoded}
-use Rattle.serf_window.specs.Window.{TimedEntry}
-use Rattle.serf_agent.specs.declared.config.Config.{Config}
 use Rattle.serf_agent.specs.declared.outcome.QueryFault.TheVariants as asks
-use Rattle.serf_agent.specs.declared.outcome.QueryParams.{QueryParams}
-use Rattle.serf_agent.specs.Events.{drawn}
-use Rattle.serf_agent.specs.Ideal.{IdealAgent}
-use Rattle.serf_agent.specs.Queries.{flags_of, is_too_large_query, query_at, query_fault}
 use Rattle.serf_agent.proofs.WireLaws.{query-not_long}
 use Rattle.serf_model.specs.declared.action.Action.{Action}
 use Rattle.serf_model.specs.declared.line.Answer.{Answer}

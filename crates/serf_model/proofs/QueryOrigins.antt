@@ -1,18 +1,5 @@
 -- Where the queries come from that enter as packets.
-use Rattle.std.proofs.Common.{◌≡◌, ℕ, ◌⊎◌, inl, inr, true, List, [], ◌∷◌, ◌++◌, Option, Some, None, refl, sym, ap, subst, ◌∙◌}
-use Rattle.std.specs.Prelude.{All, Contains, not}
-use Rattle.std.specs.Option.{option_to_list}
-use Rattle.std.proofs.lemmas.List.{append-nil}
-use Rattle.std.proofs.lemmas.List.Elements.{All-nil, All-cons, All-head, All-append, All-weaker, All-contains_itself, Contains-append_left, Contains-append_right}
-use Rattle.serf_wire.specs.Canonical.{canonical}
-use Rattle.serf_wire.specs.Decoded.{decoded}
-use Rattle.serf_wire.specs.Message.{PushPull, Query, query, push_pull}
-use Rattle.serf_window.specs.Texts.{event_of}
-use Rattle.serf_agent.specs.declared.config.Config.{Config}
-use Rattle.serf_agent.specs.Events.{event_packet}
-use Rattle.serf_agent.specs.Queries.{query_at, ack_if_passed, ack_packet, ack_flag, has_flag, no_broadcast_flag, response_packet}
-use Rattle.serf_agent.specs.States.{state_of}
-use Rattle.serf_agent.specs.View.{view_of}
+use Rattle.serf_model.proofs.Names.{◌≡◌, ℕ, ◌⊎◌, inl, inr, true, List, [], ◌∷◌, ◌++◌, Option, Some, None, refl, sym, ap, subst, ◌∙◌, All, Contains, not, option_to_list, append-nil, All-nil, All-cons, All-head, All-append, All-weaker, All-contains_itself, Contains-append_left, Contains-append_right, canonical, decoded, PushPull, Query, query, push_pull, event_of, Config, event_packet, query_at, ack_if_passed, ack_packet, ack_flag, has_flag, no_broadcast_flag, response_packet, state_of, view_of}
 use Rattle.serf_model.specs.declared.action.Action.{Action}
 use Rattle.serf_model.specs.declared.line.Answer.TheVariants as lines
 use Rattle.serf_model.specs.Cluster.{Applied, IdealNode, Cluster, Done, Run, Stepped, apply, applied, after, injects, on_agent, start}

@@ -1,15 +1,6 @@
 -- Which queries an agent answered: each of them is taken out of those that it can answer.
-use Rattle.std.proofs.Common.{zero, suc, ◌≡◌, ◌≢◌, ℕ, inl, inr, true, false, List, [], ◌∷◌, ◌++◌, Option, Some, None, refl, sym, ap, subst, ◌∙◌, arith, map, set}
-use Rattle.std.specs.Prelude.{All, AllPairs, Contains, filter, not, slice_get}
-use Rattle.std.specs.List.{flat_map}
-use Rattle.std.specs.Option.{option_to_list}
-use Rattle.std.proofs.lemmas.List.{append-nil, map-append}
-use Rattle.std.proofs.lemmas.List.Elements.{All-nil, All-push, All-weaker, Contains-append_left, Contains-push, filter-append}
-use Rattle.std.proofs.lemmas.List.Quantifiers.{all_pairs_push}
-use Rattle.serf_wire.specs.Message.{QueryResponse}
-use Rattle.serf_window.specs.Window.{TimedEntry}
-use Rattle.serf_agent.specs.Handed.{Handed}
-use Rattle.serf_agent.specs.Queries.{is_ack}
+use Rattle.serf_model.proofs.Names.{zero, suc, ◌≡◌, ◌≢◌, ℕ, inl, inr, true, false, List, [], ◌∷◌, ◌++◌, Option, Some, None, refl, sym, ap, subst, ◌∙◌, arith, map, set, All, AllPairs, Contains, not, slice_get, flat_map, option_to_list, append-nil, map-append, All-nil, All-push, All-weaker, Contains-append_left, Contains-push, filter-append, all_pairs_push, QueryResponse, TimedEntry, Handed, is_ack}
+use Rattle.std.specs.Prelude.{filter}
 use Rattle.serf_model.specs.declared.action.Action.{Action}
 use Rattle.serf_model.specs.AnswerPromises.{answers_in, query_answered}
 use Rattle.serf_model.specs.Cluster.{Applied, Cluster, IdealNode, applied, apply, with_handed}

@@ -1,20 +1,5 @@
 -- What is ignored as seen was handed to the agent before.
-use Rattle.std.proofs.Common.{suc, ◌≡◌, ℕ, ◌==◌, ◌&&◌, ◌||◌, ◌+◌, nat_lt, nat_le, Bool, true, false, cond, List, [], ◌∷◌, Option, Some, None, Ok, refl, sym, ap, subst, ◌∙◌, arith}
-use Rattle.std.specs.Prelude.{Contains, slice_get}
-use Rattle.std.specs.List.{list_any}
-use Rattle.std.proofs.lemmas.Bool.{and_parts, eqb-true}
-use Rattle.std.proofs.lemmas.Slice.Eq.{bytes_eq-Decides}
-use Rattle.serf_wire.specs.declared.texts.EventBody.{EventBody}
-use Rattle.serf_wire.specs.Decoded.{decoded}
-use Rattle.serf_wire.specs.Message.{UserEvent, user_event}
-use Rattle.serf_window.specs.Texts.{event_of, same_texts}
-use Rattle.serf_window.specs.Window.{count_at}
-use Rattle.serf_agent.specs.declared.outcome.Reason.{Reason}
-use Rattle.serf_agent.specs.declared.outcome.Reason.TheVariants.{Oversize, BelowMinimum, TooOld, Seen, TimeFull}
-use Rattle.serf_agent.specs.Events.{admission, texts_len}
-use Rattle.serf_agent.specs.Ideal.{IdealAgent, Past}
-use Rattle.serf_agent.specs.Tracks.{of_life, was_ever_entered}
-use Rattle.serf_lamport.specs.Clock.{observed}
+use Rattle.serf_model.proofs.Names.{suc, ◌≡◌, ℕ, ◌==◌, ◌&&◌, ◌||◌, ◌+◌, nat_lt, nat_le, Bool, true, false, cond, List, [], ◌∷◌, Option, Some, None, Ok, refl, sym, ap, subst, ◌∙◌, arith, Contains, slice_get, list_any, and_parts, eqb-true, bytes_eq-Decides, EventBody, decoded, UserEvent, user_event, event_of, same_texts, count_at, Reason, Oversize, BelowMinimum, TooOld, Seen, TimeFull, admission, texts_len, IdealAgent, Past, of_life, was_ever_entered, observed}
 use Rattle.serf_model.specs.declared.action.Action.{Action}
 use Rattle.serf_model.specs.declared.line.Answer.TheVariants as lines
 use Rattle.serf_model.specs.Cluster.{Applied, IdealNode, Cluster, Run, apply, after, step}

@@ -1,27 +1,10 @@
 -- Which acks and responses each action of an agent sends.
-use Rattle.std.proofs.Common.{◌≡◌, ℕ, ◌-◌, ◌^◌, ◌<◌, ◌≤◌, nat_lt, Bool, true, false, cond, List, [], ◌∷◌, ◌++◌, length, Option, Some, None, Result, Ok, refl, sym, ap, subst, ◌∙◌, arith}
-use Rattle.std.specs.Prelude.{slice_get, not}
-use Rattle.std.specs.Option.{option_to_list}
-use Rattle.std.proofs.lemmas.Bool.{and_parts, leb-true, ltb-false}
-use Rattle.std.proofs.lemmas.List.Concat.{flat_map-append}
-use Rattle.serf_pack.specs.Reading.{whole_at}
-use Rattle.serf_wire.specs.declared.fault.WireFault.{WireFault}
+use Rattle.serf_model.proofs.Names.{◌≡◌, ℕ, ◌-◌, ◌^◌, ◌<◌, ◌≤◌, nat_lt, Bool, true, false, cond, List, [], ◌∷◌, ◌++◌, length, Option, Some, None, Result, Ok, refl, sym, ap, subst, ◌∙◌, arith, slice_get, not, option_to_list, and_parts, leb-true, ltb-false, flat_map-append, whole_at, WireFault, EventBody, canonical, decoded, Message, PushPull, Query, QueryResponse, query, query_response, push_pull, IsRangedResponse, event_of, event_packet, Handed, ack_flag, ack_packet, all_pass, handed_query, has_flag, no_broadcast_flag, query_at, response_packet, state_of, view_of}
 use Rattle.serf_wire.specs.declared.layout.MessageType.TheVariants as types
-use Rattle.serf_wire.specs.declared.texts.EventBody.{EventBody}
-use Rattle.serf_wire.specs.Canonical.{canonical}
-use Rattle.serf_wire.specs.Decoded.{decoded}
-use Rattle.serf_wire.specs.Message.{Message, PushPull, Query, QueryResponse, query, query_response, push_pull}
-use Rattle.serf_wire.specs.Ranges.{IsRangedResponse}
 use Rattle.serf_wire.proofs.CanonicalPackets.{canonical_spells}
 use Rattle.serf_wire.proofs.Packets.{read_has, spelled_decoded}
 use Rattle.serf_wire.proofs.SpelledRanges.{decoded_ranged}
-use Rattle.serf_window.specs.Texts.{event_of}
 use Rattle.serf_agent.specs.declared.outcome.RespondFault.TheVariants as responding
-use Rattle.serf_agent.specs.Events.{event_packet}
-use Rattle.serf_agent.specs.Handed.{Handed}
-use Rattle.serf_agent.specs.Queries.{ack_flag, ack_packet, all_pass, handed_query, has_flag, no_broadcast_flag, query_at, response_packet}
-use Rattle.serf_agent.specs.States.{state_of}
-use Rattle.serf_agent.specs.View.{view_of}
 use Rattle.serf_agent.proofs.WireLaws.{response-not_long, response-short}
 use Rattle.serf_model.specs.declared.action.Action.{Action}
 use Rattle.serf_model.specs.declared.action.Action.TheVariants as actions

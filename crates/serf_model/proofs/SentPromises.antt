@@ -1,17 +1,5 @@
 -- What an open query holds stands in answers that were sent.
-use Rattle.std.proofs.Common.{◌≡◌, ℕ, ◌==◌, Bool, true, false, cond, List, [], ◌∷◌, ◌++◌, Result, Ok, refl, sym, ap, subst, ◌∙◌, append_assoc}
-use Rattle.std.specs.Prelude.{All, Contains}
-use Rattle.std.specs.List.{flat_map}
-use Rattle.std.specs.Option.{option_to_list}
-use Rattle.std.proofs.lemmas.Bool.{eqb-true}
-use Rattle.std.proofs.lemmas.List.Concat.{flat_map-append}
-use Rattle.std.proofs.lemmas.List.Elements.{All-nil, All-cons, All-append, All-filter, All-head, All-map, All-tail, All-weaker, Contains-append_left, filter_passes}
-use Rattle.serf_wire.specs.declared.fault.WireFault.{WireFault}
-use Rattle.serf_wire.specs.Decoded.{decoded}
-use Rattle.serf_wire.specs.Message.{Message, QueryResponse, query_response}
-use Rattle.serf_agent.specs.declared.lists.Response.{Response}
-use Rattle.serf_agent.specs.declared.open_query.OpenQuery.{OpenQuery}
-use Rattle.serf_agent.specs.Queries.{is_ack}
+use Rattle.serf_model.proofs.Names.{◌≡◌, ℕ, ◌==◌, Bool, true, false, cond, List, [], ◌∷◌, ◌++◌, Result, Ok, refl, sym, ap, subst, ◌∙◌, append_assoc, All, Contains, flat_map, option_to_list, eqb-true, flat_map-append, All-nil, All-cons, All-append, All-filter, All-head, All-map, All-tail, All-weaker, Contains-append_left, filter_passes, WireFault, decoded, Message, QueryResponse, query_response, Response, OpenQuery, is_ack}
 use Rattle.serf_model.specs.AnswerPromises.{CountedSent, HoldsSent, IsSentTo, OpenQueriesSent, answer_brought, answers_in, counted_at, counted_by, is_counted, response_held, to_time}
 use Rattle.serf_model.specs.Cluster.{Run}
 use Rattle.serf_model.specs.Trace.{Turn, actor_of, is_agent, sent_in, turns_by}

@@ -1,10 +1,5 @@
 -- A cluster that has done nothing.
-use Rattle.std.proofs.Common.{zero, suc, ◌≡◌, ℕ, ◌+◌, ◌≤◌, nat_lt, Bool, true, false, cond, List, [], ◌∷◌, Some, None, refl, arith, map, length}
-use Rattle.std.specs.Prelude.{not, slice_get}
-use Rattle.std.specs.List.{AllByRecursion, position_or_len}
-use Rattle.std.proofs.lemmas.Bool.{ltb-false}
-use Rattle.serf_agent.specs.declared.config.Config.{Config}
-use Rattle.serf_agent.specs.Config.{is_sound}
+use Rattle.serf_model.proofs.Names.{zero, suc, ◌≡◌, ℕ, ◌+◌, ◌≤◌, nat_lt, Bool, true, false, cond, List, [], ◌∷◌, Some, None, refl, arith, map, length, not, slice_get, AllByRecursion, position_or_len, ltb-false, Config, is_sound}
 use Rattle.serf_model.specs.Cluster.{first_node, start}
 use Rattle.serf_model.specs.Ready.{AreRepresentable, IsRepresentable}
 use Rattle.serf_model.specs.Runs.{AreConfigs, first_bad}

@@ -1,6 +1,5 @@
 -- A step of a cluster, by who acts.
-use Rattle.std.proofs.Common.{◌≡◌, ℕ, Option, Some, None, refl, sym, ◌∙◌}
-use Rattle.std.specs.Prelude.{slice_get}
+use Rattle.serf_model.proofs.Names.{◌≡◌, ℕ, Option, Some, None, refl, sym, ◌∙◌, slice_get}
 use Rattle.serf_model.specs.declared.action.Action.{Action}
 use Rattle.serf_model.specs.Cluster.{Cluster, IdealNode, Stepped, applied, apply, injects, on_agent, step, step_by}
 use Rattle.serf_model.specs.Trace.{actor_of, injects_of}

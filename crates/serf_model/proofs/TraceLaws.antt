@@ -1,7 +1,5 @@
 -- The turns of a run are read off its actions and its trace.
-use Rattle.std.proofs.Common.{suc, ◌≡◌, ℕ, ◌+◌, List, [], ◌∷◌, ◌++◌, refl, sym, ap, ◌∙◌, map, length, take, drop, append_assoc, length-append}
-use Rattle.std.specs.List.{fold}
-use Rattle.std.proofs.lemmas.List.{append-nil, map-append}
+use Rattle.serf_model.proofs.Names.{suc, ◌≡◌, ℕ, ◌+◌, List, [], ◌∷◌, ◌++◌, refl, sym, ap, ◌∙◌, map, length, take, drop, append_assoc, length-append, fold, append-nil, map-append}
 use Rattle.serf_model.specs.declared.action.Action.{Action}
 use Rattle.serf_model.specs.Cluster.{Cluster, Run, apply, step, after, trace_of, numbers_from}
 use Rattle.serf_model.specs.Trace.{Turn, AtEach, sent_in, turns_from, turns_of, packet_given}

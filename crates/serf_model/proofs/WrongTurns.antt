@@ -1,19 +1,8 @@
 -- For each promise a small list of turns that breaks it, and the proof that the promise refuses this list. A definition
 -- that is changed so that it promises nothing doesn't pass here.
-use Rattle.std.proofs.Common.{◌≡◌, ◌≢◌, ℕ, ◌<◌, ◌≤◌, ◌+◌, inl, inr, Bool, true, false, List, [], ◌∷◌, ◌++◌, Option, Some, None, Ok, refl, sym, ap, subst, ◌∙◌, arith, cond, length, map}
-use Rattle.std.specs.Prelude.{pos, All, AllPairs, Contains, Result, filter, not, slice_get}
-use Rattle.std.specs.List.{slice_index_or}
-use Rattle.std.specs.Option.{option_to_list}
-use Rattle.serf_wire.specs.declared.fault.WireFault.{WireFault}
-use Rattle.serf_wire.specs.Decoded.{decoded}
-use Rattle.serf_wire.specs.Message.{Message, Query, QueryResponse, UserEvent, query, query_response, user_event}
-use Rattle.serf_window.specs.Texts.{event_of}
-use Rattle.serf_window.specs.Window.{TimedEntry}
-use Rattle.serf_agent.specs.declared.config.Config.{Config}
-use Rattle.serf_agent.specs.declared.open_query.OpenQuery.{OpenQuery}
-use Rattle.serf_agent.specs.declared.outcome.QueryParams.{QueryParams}
+use Rattle.serf_model.proofs.Names.{◌≡◌, ◌≢◌, ℕ, ◌<◌, ◌≤◌, ◌+◌, inl, inr, Bool, true, false, List, [], ◌∷◌, ◌++◌, Option, Some, None, Ok, refl, sym, ap, subst, ◌∙◌, arith, cond, length, map, pos, All, AllPairs, Contains, not, slice_get, slice_index_or, option_to_list, WireFault, decoded, Message, Query, QueryResponse, UserEvent, query, query_response, user_event, event_of, TimedEntry, Config, OpenQuery, QueryParams, deadline_of, is_ack, query_at}
+use Rattle.std.specs.Prelude.{Result, filter}
 use Rattle.serf_agent.specs.declared.outcome.Reason.TheVariants as reasons
-use Rattle.serf_agent.specs.Queries.{deadline_of, is_ack, query_at}
 use Rattle.serf_model.specs.declared.action.Action.{Action}
 use Rattle.serf_model.specs.declared.action.Action.TheVariants as actions
 use Rattle.serf_model.specs.declared.line.Answer.{Answer}

@@ -1,7 +1,5 @@
 -- What the appenders write spells the value.
-use Rattle.std.proofs.Common.{FitsSigned, ℕ, ◌+◌, ◌<◌, ◌^◌, List, ◌++◌, length, Bool, true, false, ℤ, pos, negsuc, refl, arith}
-use Rattle.std.specs.Int.{w64}
-use Rattle.std.proofs.lemmas.Int.{ints}
+use Rattle.serf_pack.proofs.Names.{FitsSigned, ℕ, ◌+◌, ◌<◌, ◌^◌, List, ◌++◌, length, Bool, true, false, ℤ, pos, negsuc, refl, arith, w64, ints}
 use Rattle.serf_pack.specs.Tree.{nil, flag, int, raw, array, pairs, Items, Pairs}
 use Rattle.serf_pack.specs.Packs.{Packs, PackItems, PackPairs, item_count, pair_count}
 use Rattle.serf_pack.specs.Canonical.{map_head, array_head, raw_head, raw_bytes, uint_bytes, int_bytes, flag_bytes, nil_bytes}

@@ -1,6 +1,5 @@
 -- What reading a value gives, by its head.
-use Rattle.std.proofs.Common.{◌≡◌, ℕ, zero, suc, ◌-◌, ◌<◌, ◌≤◌, List, length, take, drop, Bool, true, false, nat_lt, ℤ, Ok, Err, refl, arith}
-use Rattle.std.proofs.lemmas.Bool.{le-ltb, lt-ltb}
+use Rattle.serf_pack.proofs.Names.{◌≡◌, ℕ, zero, suc, ◌-◌, ◌<◌, ◌≤◌, List, length, take, drop, Bool, true, false, nat_lt, ℤ, Ok, Err, refl, arith, le-ltb, lt-ltb}
 use Rattle.serf_pack.specs.declared.fault.PackFault.{PackFault}
 use Rattle.serf_pack.specs.declared.fault.PackFault.TheVariants as faults
 use Rattle.serf_pack.specs.declared.head.Head.TheVariants as heads

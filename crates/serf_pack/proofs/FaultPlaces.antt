@@ -1,5 +1,5 @@
 -- A fault's place is in the input, or at its end.
-use Rattle.std.proofs.Common.{ℕ, ◌+◌, ◌≤◌, List, ◌++◌, length, ap, arith, length-append}
+use Rattle.serf_pack.proofs.Names.{ℕ, ◌+◌, ◌≤◌, List, ◌++◌, length, ap, arith, length-append}
 use Rattle.serf_pack.specs.declared.fault.PackFault.{PackFault}
 use Rattle.serf_pack.specs.Breaks.{Breaks, at_end, unsupported, short_number, short_raw, deep_array, deep_map, in_array, in_key, in_value, IsFaulty, breaks, trails, fault_place}
 

@@ -13,3 +13,4 @@ pub mod FaultPlaces
 pub mod Inputs
 pub mod Canonical
 pub mod Appending
+pub mod Names

@@ -1,5 +1,5 @@
 -- A walk gives as many parts as its head says.
-use Rattle.std.proofs.Common.{◌≡◌, ℕ, zero, suc, List, length, is_ok, true, Result, Ok, Err, refl, sym, ap, ◌∙◌}
+use Rattle.serf_pack.proofs.Names.{◌≡◌, ℕ, zero, suc, List, length, is_ok, true, Result, Ok, Err, refl, sym, ap, ◌∙◌}
 use Rattle.serf_pack.specs.declared.fault.PackFault.{PackFault}
 use Rattle.serf_pack.specs.Tree.{Tree, Items, no_items, item, Pairs, no_pairs, pair}
 use Rattle.serf_pack.specs.Reading.{Reader, ◌>>=◌, items_at, pairs_at, items_or_none, pairs_or_none}

@@ -1,5 +1,5 @@
 -- What is read with room for some arrays and maps inside one another is read with more room too.
-use Rattle.std.proofs.Common.{◌≡◌, ℕ, zero, suc, ◌≤◌, List, Result, Ok, Err, refl, arith}
+use Rattle.serf_pack.proofs.Names.{◌≡◌, ℕ, zero, suc, ◌≤◌, List, Result, Ok, Err, refl, arith}
 use Rattle.serf_pack.specs.declared.fault.PackFault.{PackFault}
 use Rattle.serf_pack.specs.declared.head.Head.{Head}
 use Rattle.serf_pack.specs.declared.head.Head.TheVariants as heads

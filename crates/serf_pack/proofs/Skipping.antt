@@ -1,7 +1,5 @@
 -- Going over a value's parts reads them.
-use Rattle.std.proofs.Common.{◌≡◌, ℕ, zero, suc, ◌+◌, ◌-◌, ◌<◌, ◌≤◌, List, [], ◌∷◌, length, take, drop, slice_index_or, Bool, false, nat_lt, ℤ, Result, Ok, Err, refl, sym, ap, ◌∙◌, arith}
-use Rattle.std.proofs.lemmas.Bool.{le-ltb}
-use Rattle.std.proofs.lemmas.List.{take_all}
+use Rattle.serf_pack.proofs.Names.{◌≡◌, ℕ, zero, suc, ◌+◌, ◌-◌, ◌<◌, ◌≤◌, List, [], ◌∷◌, length, take, drop, slice_index_or, Bool, false, nat_lt, ℤ, Result, Ok, Err, refl, sym, ap, ◌∙◌, arith, le-ltb, take_all, big_number}
 use Rattle.serf_pack.specs.declared.fault.PackFault.{PackFault}
 use Rattle.serf_pack.specs.declared.fault.PackFault.TheVariants.{Truncated, TooDeep}
 use Rattle.serf_pack.specs.declared.head.Head.{Head}
@@ -10,7 +8,6 @@ use Rattle.serf_pack.specs.declared.head.Row.{Row}
 use Rattle.serf_pack.specs.declared.head.Row.TheVariants.{Whole, Number}
 use Rattle.serf_pack.specs.declared.head.Head.TheVariants.{Nil, Flag, Int, Raw, Array, Map}
 use Rattle.serf_pack.specs.Tree.{Tree, array, pairs, item, pair}
-use Rattle.byteorder.specs.Endian.{big_number}
 use Rattle.serf_pack.specs.Table.{row_of, meaning_of, head_at, head_by, place}
 use Rattle.serf_pack.specs.Reading.{Reader, ◌>>=◌, items_at, pairs_at, value_at, rest_of}
 use Rattle.serf_pack.proofs.ByHead.{read_nil, read_flag, read_int, read_raw, refuse_head, refuse_raw, refuse_deep_array, refuse_deep_map}

@@ -1,5 +1,5 @@
 -- What the outcome of two steps of a reading says of each step.
-use Rattle.std.proofs.Common.{◌≡◌, Bool, true, false, cond, Result, Ok, Err, refl, ◌⊎◌, inl, inr}
+use Rattle.serf_pack.proofs.Names.{◌≡◌, Bool, true, false, cond, Result, Ok, Err, refl, ◌⊎◌, inl, inr}
 use Rattle.serf_pack.specs.declared.fault.PackFault.{PackFault}
 use Rattle.serf_pack.specs.Reading.{◌>>=◌}
 

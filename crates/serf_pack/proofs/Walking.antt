@@ -1,6 +1,5 @@
 -- One part of a checked value after another.
-use Rattle.std.proofs.Common.{◌≡◌, ℕ, zero, suc, ◌-◌, ◌<◌, List, [], ◌∷◌, length, false, cond, eqb, Result, Ok, Err, refl, ap, subst, ◌∙◌, arith}
-use Rattle.std.proofs.lemmas.Bool.Decides.{nat_tests}
+use Rattle.serf_pack.proofs.Names.{◌≡◌, ℕ, zero, suc, ◌-◌, ◌<◌, List, [], ◌∷◌, length, false, cond, eqb, Result, Ok, Err, refl, ap, subst, ◌∙◌, arith, nat_tests}
 use Rattle.serf_pack.specs.declared.fault.PackFault.{PackFault}
 use Rattle.serf_pack.specs.declared.fault.PackFault.TheVariants.{Trailing}
 use Rattle.serf_pack.specs.Table.{place}

@@ -1,13 +1,6 @@
 -- The number that digits write.
-use Rattle.std.proofs.Common.{◌≡◌, ◌+◌, ◌*◌, ◌-◌, ◌≤◌, ◌<◌, ℕ, List, [], ◌∷◌, ◌++◌, length, take, drop, None, Some, Bool, true, false, ap, refl, arith, get_or, Option, cond, ◌&&◌}
+use Rattle.serf_replay.proofs.Names.{◌≡◌, ◌+◌, ◌*◌, ◌-◌, ◌≤◌, ◌<◌, ℕ, List, [], ◌∷◌, ◌++◌, length, take, drop, None, Some, Bool, true, false, ap, refl, arith, get_or, Option, cond, ◌&&◌, is_ascii_digit, digit_value, list_all, digits_value, digits_value_after, digits_value_more, take-append-drop, list_all_at, common_steps}
 use Rattle.std.specs.Prelude.{nat_lt}
-use Rattle.std.specs.Char.{is_ascii_digit, digit_value}
-use Rattle.std.specs.List.{list_all}
-use Rattle.std.specs.Str.Parse.{digits_value, digits_value_after}
-use Rattle.std.proofs.lemmas.Int.Digits.{digits_value_more}
-use Rattle.std.proofs.lemmas.List.{take-append-drop}
-use Rattle.std.proofs.lemmas.List.Folds.{list_all_at}
-use Rattle.std.proofs.lemmas.Grind.{common_steps}
 use Rattle.serf_replay.specs.Words.{number_of}
 
 value_grows : (n : ℕ) (cs : List ℕ) → n ≤ digits_value_after 10 n cs

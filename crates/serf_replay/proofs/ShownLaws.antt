@@ -1,15 +1,5 @@
 -- The text of a run's lines, as one action after another is done.
-use Rattle.std.proofs.Common.{◌≡◌, ℕ, ◌+◌, ◌<◌, ◌≤◌, List, [], ◌∷◌, ◌++◌, Option, Some, None, refl, sym, ap, ◌∙◌, map, length, append_assoc, length-append, codes, decimal, arith}
-use Rattle.std.specs.Prelude.{slice_get}
-use Rattle.std.specs.List.{flat_map}
-use Rattle.std.specs.Option.{option_to_list}
-use Rattle.std.proofs.lemmas.List.{append-nil, get_or_append_left, length-map, map-append}
-use Rattle.std.proofs.lemmas.Option.{unwrap_or-slice_get}
-use Rattle.serf_model.specs.declared.action.Action.{Action}
-use Rattle.serf_model.specs.declared.line.Line.{Line}
-use Rattle.serf_world.specs.Cluster.{IdealNode, Cluster, Run, after, numbers_from, on_agent, step, step_by}
-use Rattle.serf_world.specs.Trace.{Turn, actor_of}
-use Rattle.serf_world.specs.View.{TakesStep, WorldState}
+use Rattle.serf_replay.proofs.Names.{◌≡◌, ℕ, ◌+◌, ◌<◌, ◌≤◌, List, [], ◌∷◌, ◌++◌, Option, Some, None, refl, sym, ap, ◌∙◌, map, length, append_assoc, length-append, codes, decimal, arith, slice_get, flat_map, option_to_list, append-nil, get_or_append_left, length-map, map-append, unwrap_or-slice_get, Action, Line, IdealNode, Cluster, Run, after, numbers_from, on_agent, step, step_by, Turn, actor_of, TakesStep, WorldState}
 use Rattle.serf_replay.specs.TextParts.{hex_text}
 use Rattle.serf_replay.specs.Show.{action_text, actions_text, answer_line, event_line, handed_line, numbered, packet_of, sent_line}
 use Rattle.serf_replay.specs.Running.{IsShown}

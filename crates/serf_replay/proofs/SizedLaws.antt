@@ -1,18 +1,7 @@
 -- The numbers of the actions of a schedule's text have their types' sizes.
-use Rattle.std.proofs.Common.{◌≡◌, ◌≤◌, ◌+◌, ◌==◌, ◌&&◌, ◌||◌, ℕ, Bool, true, false, cond, nat_lt, nat_le, not, List, [], ◌∷◌, Option, Some, None, Result, Ok, Err, refl, subst, arith, length}
-use Rattle.std.specs.Prelude.{pos, All, codes, take, drop}
-use Rattle.std.specs.List.{slice_split}
-use Rattle.std.proofs.lemmas.Bool.{and_parts}
-use Rattle.std.proofs.lemmas.List.Elements.{All-nil, All-push}
-use Rattle.std.proofs.lemmas.Bool.Decides.{nat_tests}
-use Rattle.serf_wire.specs.Fields.{fits}
-use Rattle.serf_agent.specs.declared.config.Config.{Config}
-use Rattle.serf_agent.specs.declared.outcome.QueryParams.{QueryParams}
-use Rattle.serf_agent.specs.Config.{is_sound}
-use Rattle.serf_model.specs.declared.action.Action.{Action}
+use Rattle.serf_replay.proofs.Names.{◌≡◌, ◌≤◌, ◌+◌, ◌==◌, ◌&&◌, ◌||◌, ℕ, Bool, true, false, cond, nat_lt, nat_le, not, List, [], ◌∷◌, Option, Some, None, Result, Ok, Err, refl, subst, arith, length, pos, slice_split, and_parts, All-nil, All-push, nat_tests, fits, Config, QueryParams, is_sound, Action, has_name, HasSizes}
+use Rattle.std.specs.Prelude.{All, codes, take, drop}
 use Rattle.serf_model.specs.declared.action.Action.TheVariants as actions
-use Rattle.serf_world.specs.Runs.{has_name}
-use Rattle.serf_world.specs.Sizes.{HasSizes}
 use Rattle.serf_replay.specs.declared.cause.Cause.{Cause}
 use Rattle.serf_replay.specs.declared.cause.Cause.TheVariants.{BadConfig, LateAgent, NameTwice, WordCount}
 use Rattle.serf_replay.specs.declared.command.Command.{Command}

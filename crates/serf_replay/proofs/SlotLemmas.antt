@@ -1,6 +1,5 @@
 -- A slot's lines.
-use Rattle.std.proofs.Common.{ℕ, ◌<◌, length, arith}
-use Rattle.serf_wire.specs.Slots.{SlotContent, empty, held}
+use Rattle.serf_replay.proofs.Names.{ℕ, ◌<◌, length, arith, SlotContent, empty, held}
 use Rattle.serf_replay.specs.TextParts.{with_number}
 use Rattle.serf_replay.specs.MessageText.{slot_lines}
 

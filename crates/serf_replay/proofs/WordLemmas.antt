@@ -1,8 +1,7 @@
 -- A line, whole and in parts.
-use Rattle.std.proofs.Common.{◌≡◌, ◌≤◌, ◌<◌, ◌++◌, ◌∙◌, ℕ, List, [], ◌∷◌, false, Option, Some, None, refl, sym, ap, subst, arith, length, take, drop}
-use Rattle.std.specs.Prelude.{◌==◌, slice_index}
-use Rattle.std.proofs.lemmas.Grind.{common_steps}
-use Rattle.std.proofs.lemmas.List.{append-nil, length-append}
+use Rattle.serf_replay.proofs.Names.{◌≡◌, ◌≤◌, ◌<◌, ◌++◌, ◌∙◌, ℕ, List, [], ◌∷◌, false, Option, Some, None, refl, sym, ap, subst, arith, length, take, drop, slice_index, common_steps, append-nil}
+use Rattle.std.specs.Prelude.{◌==◌}
+use Rattle.std.proofs.lemmas.List.{length-append}
 use Rattle.serf_replay.specs.declared.command.Command.{Command}
 use Rattle.serf_replay.specs.declared.command.Command.TheVariants.{Agent, Query, Act}
 use Rattle.serf_replay.specs.declared.command.Verb.{Verb}

@@ -1,21 +1,7 @@
 -- The lines of actions, read back.
-use Rattle.std.proofs.Common.{◌≡◌, ◌+◌, ◌%◌, ◌<◌, ◌≤◌, ◌^◌, ◌∙◌, ℕ, ℤ, pos, List, [], ◌∷◌, ◌++◌, Bool, true, false, Some, Ok, refl, sym, ap, arith, codes, decimal, map, append_assoc}
-use Rattle.std.specs.Prelude.{◌==◌, nat_le, cond}
-use Rattle.std.specs.Fmt.{signed_decimal}
-use Rattle.std.specs.List.{AllByRecursion}
-use Rattle.std.proofs.lemmas.Grind.{common_steps}
-use Rattle.std.proofs.lemmas.List.{append-nil}
-use Rattle.std.proofs.lemmas.List.Elements.{recursion_from_All}
-use Rattle.hex.specs.Hex.{IsBytes}
-use Rattle.serf_agent.specs.declared.outcome.QueryParams.{QueryParams}
-use Rattle.serf_model.specs.declared.action.Action.{Action}
+use Rattle.serf_schedule_text.proofs.Names.{◌≡◌, ◌+◌, ◌%◌, ◌<◌, ◌≤◌, ◌^◌, ◌∙◌, ℕ, ℤ, pos, List, [], ◌∷◌, ◌++◌, Bool, true, false, Some, Ok, refl, sym, ap, arith, codes, decimal, map, append_assoc, ◌==◌, nat_le, signed_decimal, AllByRecursion, common_steps, append-nil, recursion_from_All, IsBytes, QueryParams, Action, SinkCall, Append, Flush, ReplaceOld, ReplaceNew, command_of, Parsed, with_action, said_by, filters_from, params_of, query_of, firing_of, delivery_of, merging_of, answer_of, restart_of, break_of, injection_of, closing_of, lone_of, flag_text, hex_text, between, bytes_in, choice_in, choice_of, number_between, number_in, sink_call_in, sink_call_of}
+use Rattle.std.specs.Prelude.{cond}
 use Rattle.serf_model.specs.declared.action.Action.TheVariants as actions
-use Rattle.serf_model.specs.declared.action.SinkCall.{SinkCall}
-use Rattle.serf_model.specs.declared.action.SinkCall.TheVariants.{Append, Flush, ReplaceOld, ReplaceNew}
-use Rattle.serf_replay.specs.Command.{command_of}
-use Rattle.serf_replay.specs.Line.{Parsed, with_action, said_by, filters_from, params_of, query_of, firing_of, delivery_of, merging_of, answer_of, restart_of, break_of, injection_of, closing_of, lone_of}
-use Rattle.serf_replay.specs.TextParts.{flag_text, hex_text}
-use Rattle.serf_replay.specs.Words.{between, bytes_in, choice_in, choice_of, number_between, number_in, sink_call_in, sink_call_of}
 use Rattle.serf_schedule_text.specs.Sayable.{AreSayable, IsSayable}
 use Rattle.serf_schedule_text.specs.ScheduleText.{action_words, flags_of, join_word, sink_call_word}
 use Rattle.serf_schedule_text.proofs.WordsBack.{bytes-back, number-back}

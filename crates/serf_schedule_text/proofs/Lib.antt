@@ -4,3 +4,4 @@ pub mod PlainWords
 pub mod LinesBack
 pub mod ActionsBack
 pub mod RoundTrip
+pub mod Names

@@ -1,6 +1,5 @@
 -- Words behind spaces.
-use Rattle.std.proofs.Common.{◌≡◌, ◌++◌, ◌∙◌, ℕ, List, [], ◌∷◌, refl, sym, ap, append_assoc, codes, map}
-use Rattle.std.specs.List.{flat_map}
+use Rattle.serf_schedule_text.proofs.Names.{◌≡◌, ◌++◌, ◌∙◌, ℕ, List, [], ◌∷◌, refl, sym, ap, append_assoc, codes, map, flat_map}
 use Rattle.serf_schedule_text.specs.declared.words.Word.{Word}
 use Rattle.serf_schedule_text.specs.ScheduleText.{line_text, spaced}
 use Rattle.serf_schedule_text.specs.Words.{command_text, word_behind, word_text}

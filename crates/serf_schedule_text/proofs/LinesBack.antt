@@ -1,12 +1,6 @@
 -- Lines that are written, cut again: the text at newlines, and each line at spaces.
-use Rattle.std.proofs.Common.{◌≡◌, ◌<◌, ◌≤◌, ◌∙◌, ℕ, List, [], ◌∷◌, ◌++◌, length, true, false, refl, ap, arith, append_assoc}
-use Rattle.std.specs.Prelude.{◌==◌, filter, nat_lt}
-use Rattle.std.specs.List.{All, AllByRecursion, slice_split}
-use Rattle.std.proofs.lemmas.Grind.{common_steps}
-use Rattle.std.proofs.lemmas.List.{append-nil}
-use Rattle.std.proofs.lemmas.List.Elements.{All-append, All-cons, All-nil}
-use Rattle.std.proofs.lemmas.List.Splits.{slice_split_at, slice_split_none}
-use Rattle.serf_replay.specs.Words.{words_of}
+use Rattle.serf_schedule_text.proofs.Names.{◌≡◌, ◌<◌, ◌≤◌, ◌∙◌, ℕ, List, [], ◌∷◌, ◌++◌, length, true, false, refl, ap, arith, append_assoc, ◌==◌, filter, nat_lt, AllByRecursion, slice_split, common_steps, append-nil, All-append, All-cons, All-nil, slice_split_at, slice_split_none, words_of}
+use Rattle.std.specs.List.{All}
 use Rattle.serf_schedule_text.specs.ScheduleText.{line_text, spaced}
 use Rattle.serf_schedule_text.proofs.PlainWords.{IsWord, above-space}
 

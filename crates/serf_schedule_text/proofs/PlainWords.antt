@@ -1,15 +1,6 @@
 -- Words that stand in a line as they are.
-use Rattle.std.proofs.Common.{◌≡◌, ◌/◌, ◌%◌, ◌<◌, ◌≤◌, ◌^◌, ℕ, zero, suc, List, [], ◌∷◌, length, Bool, true, inl, inr, refl, sym, subst, arith, decimal, map}
-use Rattle.std.specs.Prelude.{◌&&◌, nat_le, slice_index}
-use Rattle.std.specs.Char.{is_ascii_digit}
-use Rattle.std.specs.List.{All, AllByRecursion, list_all}
-use Rattle.std.proofs.lemmas.Bool.{and_parts, cases_lt}
-use Rattle.std.proofs.lemmas.Fmt.{decimal_nonempty, digits_decimal}
-use Rattle.std.proofs.lemmas.Grind.{common_steps}
-use Rattle.std.proofs.lemmas.List.Elements.{All-cons, All-nil}
-use Rattle.hex.specs.Hex.{IsBytes, encode_lower, encode_with, lower_digits}
-use Rattle.hex.proofs.HexLemmas.{length-encode_with}
-use Rattle.serf_replay.specs.TextParts.{hex_text}
+use Rattle.serf_schedule_text.proofs.Names.{◌≡◌, ◌/◌, ◌%◌, ◌<◌, ◌≤◌, ◌^◌, ℕ, zero, suc, List, [], ◌∷◌, length, Bool, true, inl, inr, refl, sym, subst, arith, decimal, map, ◌&&◌, nat_le, slice_index, is_ascii_digit, AllByRecursion, list_all, and_parts, cases_lt, decimal_nonempty, digits_decimal, common_steps, All-cons, All-nil, IsBytes, encode_lower, encode_with, lower_digits, length-encode_with, hex_text}
+use Rattle.std.specs.List.{All}
 use Rattle.serf_schedule_text.proofs.WordsBack.{digits, hex-some}
 
 -- a byte above the space

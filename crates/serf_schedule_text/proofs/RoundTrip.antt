@@ -1,26 +1,8 @@
 -- The text of a schedule, read back.
-use Rattle.std.proofs.Common.{◌≡◌, ◌+◌, ◌<◌, ◌^◌, ◌∙◌, ℕ, List, [], ◌∷◌, ◌++◌, length, Bool, true, false, Option, Some, None, Ok, refl, sym, ap, subst, arith, codes, append_assoc, cond}
-use Rattle.std.specs.Prelude.{◌==◌, slice_index}
-use Rattle.std.specs.Fmt.{signed_decimal}
-use Rattle.std.specs.List.{All, AllByRecursion, flat_map, slice_split}
-use Rattle.std.proofs.lemmas.Grind.{common_steps}
-use Rattle.std.proofs.lemmas.List.{append-nil}
-use Rattle.std.proofs.lemmas.List.Elements.{recursion_from_All}
-use Rattle.hex.specs.Hex.{IsBytes}
-use Rattle.serf_agent.specs.declared.config.Config.{Config}
-use Rattle.serf_agent.specs.declared.outcome.QueryParams.{QueryParams}
-use Rattle.serf_agent.specs.Config.{is_sound}
-use Rattle.serf_model.specs.declared.action.Action.{Action}
+use Rattle.serf_schedule_text.proofs.Names.{◌≡◌, ◌+◌, ◌<◌, ◌^◌, ◌∙◌, ℕ, List, [], ◌∷◌, ◌++◌, length, Bool, true, false, Option, Some, None, Ok, refl, sym, ap, subst, arith, codes, append_assoc, cond, ◌==◌, slice_index, signed_decimal, AllByRecursion, flat_map, slice_split, common_steps, append-nil, recursion_from_All, IsBytes, Config, QueryParams, is_sound, Action, SinkCall, Append, Flush, ReplaceOld, ReplaceNew, AreConfigs, has_name, twice_after, command_of, Parsed, after_line, agent_of, per_time_in, said_by, with_action, after_lines, schedule_of, flag_text, bytes_in, choice_in, choice_of, number_in}
+use Rattle.std.specs.List.{All}
 use Rattle.serf_model.specs.declared.action.Action.TheVariants as actions
-use Rattle.serf_model.specs.declared.action.SinkCall.{SinkCall}
-use Rattle.serf_model.specs.declared.action.SinkCall.TheVariants.{Append, Flush, ReplaceOld, ReplaceNew}
-use Rattle.serf_model.specs.Runs.{AreConfigs, has_name, twice_after}
 use Rattle.serf_model.proofs.StartLaws.{all-sound}
-use Rattle.serf_replay.specs.Command.{command_of}
-use Rattle.serf_replay.specs.Line.{Parsed, after_line, agent_of, per_time_in, said_by, with_action}
-use Rattle.serf_replay.specs.Schedule.{after_lines, schedule_of}
-use Rattle.serf_replay.specs.TextParts.{flag_text}
-use Rattle.serf_replay.specs.Words.{bytes_in, choice_in, choice_of, number_in}
 use Rattle.serf_schedule_text.specs.Sayable.{AreSayable, HasByteName, IsSayable}
 use Rattle.serf_schedule_text.specs.ScheduleText.{action_text, action_words, agent_text, agent_words, flags_of, join_word, mode_word, schedule_text, sink_call_word, spaced}
 use Rattle.serf_schedule_text.proofs.ActionsBack.{action-back}

@@ -1,16 +1,5 @@
 -- Words that are written, read back.
-use Rattle.std.proofs.Common.{◌≡◌, ◌<◌, ◌^◌, ◌∙◌, ℕ, List, [], ◌∷◌, length, true, false, Some, refl, ap, arith, rules, decimal}
-use Rattle.std.specs.Prelude.{◌==◌}
-use Rattle.std.specs.Char.{is_ascii_digit}
-use Rattle.std.specs.List.{list_all}
-use Rattle.std.specs.Str.Parse.{digits_value}
-use Rattle.std.proofs.lemmas.Fmt.{decimal_nonempty, digits_decimal, digits_value-decimal}
-use Rattle.std.proofs.lemmas.Grind.{common_steps}
-use Rattle.std.proofs.lemmas.Str.Parse.{IsNumeralModel, numerals_by_value}
-use Rattle.hex.specs.Hex.{IsBytes, encode_lower, lower_digits}
-use Rattle.hex.proofs.HexLemmas.{decode_of-encode_lower, length-encode_with}
-use Rattle.serf_replay.specs.TextParts.{hex_text}
-use Rattle.serf_replay.specs.Words.{bytes_of, number_of}
+use Rattle.serf_schedule_text.proofs.Names.{◌≡◌, ◌<◌, ◌^◌, ◌∙◌, ℕ, List, [], ◌∷◌, length, true, false, Some, refl, ap, arith, rules, decimal, ◌==◌, is_ascii_digit, list_all, digits_value, decimal_nonempty, digits_decimal, digits_value-decimal, common_steps, IsNumeralModel, numerals_by_value, IsBytes, encode_lower, lower_digits, decode_of-encode_lower, length-encode_with, hex_text, bytes_of, number_of}
 use Rattle.serf_replay.proofs.NumberLemmas.{is_number}
 
 -- Numbers

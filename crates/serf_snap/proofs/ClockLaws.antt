@@ -1,16 +1,6 @@
 -- What appending does to the lines and to the greatest values of a text.
-use Rattle.std.proofs.Common.{◌≡◌, ◌≢◌, ℕ, ◌+◌, ◌*◌, ◌-◌, ◌^◌, ◌<◌, ◌≤◌, min, max, inl, inr, take, drop, get_or, Bool, true, false, cond, subst, ◌&&◌, not, eqb, Option, Some, None, List, [], ◌∷◌, ◌++◌, refl, sym, ap, ◌∙◌, arith, rules, append_assoc, length}
-use Rattle.std.specs.Prelude.{decimal, nat_le, nat_lt, ◌==◌}
-use Rattle.std.specs.Char.{is_ascii_digit}
-use Rattle.std.specs.Str.{all_ascii_digits}
-use Rattle.std.specs.Cmp.Lexicographic.{pointwise, same_text, other_text}
-use Rattle.std.specs.List.{slice_get}
-use Rattle.std.specs.Prelude.{nat_eq}
-use Rattle.std.proofs.lemmas.Bool.{cases_Bool, eq-eqb, eqb-true, ltb-true, cases_lt, and_parts, and_from, and_left, and_right, not-true, cond-true, cond-false, ne_eqb, leb-true, lt-ltb}
-use Rattle.std.proofs.lemmas.Grind.{common_steps}
-use Rattle.std.proofs.lemmas.List.{take-append-drop, drop-drop, drop_more, take_more, get_or-drop, length-drop}
-use Rattle.std.proofs.lemmas.Str.Parse.{IsNumeralModel, numerals_by_fold}
-use Rattle.std.proofs.lemmas.Fmt.{digits_decimal, digits_value-decimal, decimal_nonempty}
+use Rattle.serf_snap.proofs.Names.{◌≡◌, ◌≢◌, ℕ, ◌+◌, ◌*◌, ◌-◌, ◌^◌, ◌<◌, ◌≤◌, min, max, inl, inr, take, drop, get_or, Bool, true, false, cond, subst, ◌&&◌, not, eqb, Option, Some, None, List, [], ◌∷◌, ◌++◌, refl, sym, ap, ◌∙◌, arith, rules, append_assoc, length, decimal, nat_lt, is_ascii_digit, all_ascii_digits, pointwise, same_text, other_text, slice_get, nat_eq, cases_Bool, eq-eqb, eqb-true, ltb-true, cases_lt, and_parts, and_from, and_left, and_right, not-true, cond-true, cond-false, ne_eqb, leb-true, lt-ltb, common_steps, take-append-drop, drop-drop, drop_more, take_more, get_or-drop, length-drop, IsNumeralModel, numerals_by_fold, digits_decimal, digits_value-decimal, decimal_nonempty}
+use Rattle.std.specs.Prelude.{nat_le, ◌==◌}
 use Rattle.serf_snap.specs.declared.kind.ClockKind.{ClockKind}
 use Rattle.serf_snap.specs.declared.kind.ClockKind.TheVariants.{Member, Event, Query}
 use Rattle.serf_snap.specs.Clocks.{prefix_of, onto_line, lines_of, behind, read_on, is_empty, is_time_text, time_text_value, line_value, greatest, last_clock, clock_line, is_whole, sealed, line_above_zero, compacted_text, of_kind, once_set}

@@ -1,6 +1,5 @@
 -- A sink in memory that fails.
-use Rattle.std.proofs.Common.{◌≡◌, ℕ, ◌≤◌, List, [], length, take, drop, refl, arith}
-use Rattle.std.proofs.lemmas.Grind.{common_steps}
+use Rattle.serf_snap.proofs.Names.{◌≡◌, ℕ, ◌≤◌, List, [], length, take, drop, refl, arith, common_steps}
 use Rattle.serf_snap.specs.Device.{FailurePlan, Calls, HasFailed, Fails, memory_device}
 
 -- a sink in memory that drops what was buffered has failed, where its count says so

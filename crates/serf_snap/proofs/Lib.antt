@@ -2,3 +2,4 @@ pub mod ClockLaws
 pub mod FailLemmas
 pub mod NoteLaws
 pub mod PlanLaws
+pub mod Names

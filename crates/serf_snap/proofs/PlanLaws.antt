@@ -1,8 +1,5 @@
 -- Where a sink has a plan, there is one thing that it may do.
-use Rattle.std.proofs.Common.{◌≡◌, ◌==◌, ℕ, Bool, true, false, cond, nat_le, List, Option, Some, None, IfSome, IsSome, inl, inr, refl, sym, ap, subst, arith}
-use Rattle.std.specs.Option.{option_map}
-use Rattle.std.proofs.lemmas.Bool.{cases_Bool, true≢false}
-use Rattle.std.proofs.lemmas.Grind.{common_steps}
+use Rattle.serf_snap.proofs.Names.{◌≡◌, ◌==◌, ℕ, Bool, true, false, cond, nat_le, List, Option, Some, None, IfSome, IsSome, inl, inr, refl, sym, ap, subst, arith, option_map, cases_Bool, true≢false, common_steps}
 use Rattle.serf_snap.specs.declared.kind.ClockKind.{ClockKind}
 use Rattle.serf_snap.specs.Clocks.{is_whole, sealed}
 use Rattle.serf_snap.specs.Device.{Device, Observable, FailurePlan, replace_decremented}

@@ -1,13 +1,6 @@
 -- All slots of a window, and those of them that are made.
-use Rattle.std.proofs.Common.{◌≡◌, ◌≢◌, ℕ, zero, suc, ◌+◌, ◌-◌, ◌%◌, ◌<◌, ◌≤◌, inl, inr, List, [], ◌∷◌, ◌++◌, length, map, replicate, get_or, set, refl, sym, ◌∙◌, ap, subst, arith, sum_by}
-use Rattle.std.proofs.lemmas.Bool.{cases_lt}
-use Rattle.std.proofs.lemmas.List.{get_or-append_right, get_or-map, get_or-set_same, length-map, get_or_append_left, get_or-replicate, get_or_default, get_or_past, append_assoc, length-append, length-replicate, length-set, replicate-append-replicate, set-append_left}
-use Rattle.std.proofs.Math.Seq.{map-set_same}
-use Rattle.std.proofs.lemmas.List.Folds.{sum_by-replicate}
-use Rattle.std.proofs.lemmas.List.Sums.{sum_by-append}
-use Rattle.std.specs.List.{range_with_len}
-use Rattle.serf_wire.specs.declared.texts.TimeSlot.{TimeSlot}
-use Rattle.serf_wire.specs.Buffers.{unused_slot}
+use Rattle.serf_window.proofs.Names.{◌≡◌, ◌≢◌, ℕ, zero, suc, ◌+◌, ◌-◌, ◌%◌, ◌<◌, ◌≤◌, inl, inr, List, [], ◌∷◌, ◌++◌, length, map, replicate, get_or, set, refl, sym, ◌∙◌, ap, subst, arith, sum_by, cases_lt, get_or-append_right, get_or-map, get_or-set_same, length-map, get_or_append_left, get_or-replicate, get_or_default, get_or_past, append_assoc, length-replicate, length-set, replicate-append-replicate, set-append_left, map-set_same, sum_by-replicate, sum_by-append, range_with_len, TimeSlot, unused_slot}
+use Rattle.std.proofs.lemmas.List.{length-append}
 use Rattle.serf_window.specs.Slots.{all_slots, room_in, slot_view}
 use Rattle.serf_window.specs.Window.{SlotOf, TimedEntry, WindowOf, empty_slot, held_count, room_for, slot_after, slot_for, slot_of, slots_after, slots_of}
 use Rattle.serf_window.proofs.WindowLemmas.{held_count-map, room_for-set, room_for-set_other, slot_for-map, slots_after-map}

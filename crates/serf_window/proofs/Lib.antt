@@ -2,3 +2,4 @@ pub mod SlotLemmas
 pub mod WindowLemmas
 pub mod AllSlots
 pub mod WindowLaws
+pub mod Names

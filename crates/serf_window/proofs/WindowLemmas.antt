@@ -1,14 +1,4 @@
-use Rattle.std.proofs.Common.{◌≡◌, ◌≢◌, ℕ, ◌+◌, ◌*◌, ◌%◌, ◌<◌, ◌≤◌, inl, inr, cond, Bool, true, false, List, [], ◌∷◌, ◌++◌, length, map, refl, sym, ◌∙◌, ap, subst, arith, get_or, set, nat_le, length-append, sum_by}
-use Rattle.std.specs.List.{list_any, range_with_len}
-use Rattle.std.proofs.lemmas.Bool.{cases_eq, cases_order, le-ltb, lt-ltb, lt-leb, eq-eqb, ne_eqb}
-use Rattle.std.proofs.lemmas.Bool.Decides.{nat_tests}
-use Rattle.std.proofs.lemmas.List.{get_or-map, get_or-set_same, get_or-set_other, map-set, length-set, length-map}
-use Rattle.std.proofs.lemmas.List.Elements.{All-map, All-set}
-use Rattle.std.proofs.lemmas.List.Folds.{fold-map}
-use Rattle.std.proofs.lemmas.List.FromFn.{get_or-map-range_with_len}
-use Rattle.std.proofs.lemmas.Nat.{mod_below}
-use Rattle.std.proofs.lemmas.List.Sums.{sum_by-le}
-use Rattle.std.proofs.Math.Nat.{mul-le-mul_left}
+use Rattle.serf_window.proofs.Names.{◌≡◌, ◌≢◌, ℕ, ◌+◌, ◌*◌, ◌%◌, ◌<◌, ◌≤◌, inl, inr, cond, Bool, true, false, List, [], ◌∷◌, ◌++◌, length, map, refl, sym, ◌∙◌, ap, subst, arith, get_or, set, nat_le, length-append, sum_by, list_any, range_with_len, cases_eq, cases_order, le-ltb, lt-ltb, lt-leb, eq-eqb, ne_eqb, nat_tests, get_or-map, get_or-set_same, get_or-set_other, map-set, length-set, length-map, All-map, All-set, fold-map, get_or-map-range_with_len, mod_below, sum_by-le, mul-le-mul_left}
 use Rattle.serf_window.specs.declared.verdict.Verdict.TheVariants.{Seen, TimeFull, New}
 use Rattle.serf_window.specs.OneSlot.{slot_verdict}
 use Rattle.serf_window.specs.Window.{TimedEntry, SlotOf, count_at, count_in, EachAtMost, IsWindow, empty_slot, held_at, held_count, held_of, room_for, slot_after, slot_for, slot_of, slots_after, slots_of, time_in, TimesBelow, verdict_of, was_entered}

@@ -1,10 +1,5 @@
 -- The canonical packet of each message spells it.
-use Rattle.std.proofs.Common.{◌≡◌, ℕ, ◌+◌, ◌<◌, List, [], ◌∷◌, ◌++◌, map, length, lit<, false, ◌||◌, Option, Some, codes, refl, sym, ap, subst, ◌∙◌, arith, append_assoc, append-nil}
-use Rattle.std.specs.List.{list_any, AllByRecursion}
-use Rattle.serf_pack.specs.Tree.{Tree, nil, pairs}
-use Rattle.serf_pack.specs.Packs.{Packs}
-use Rattle.serf_pack.specs.Canonical.{map_head, raw_bytes, uint_bytes, int_bytes, flag_bytes}
-use Rattle.serf_pack.specs.View.{item_list, pair_list}
+use Rattle.serf_wire.proofs.Names.{◌≡◌, ℕ, ◌+◌, ◌<◌, List, [], ◌∷◌, ◌++◌, map, length, lit<, false, ◌||◌, Option, Some, codes, refl, sym, ap, subst, ◌∙◌, arith, append_assoc, append-nil, list_any, AllByRecursion, Tree, nil, pairs, Packs, map_head, raw_bytes, uint_bytes, int_bytes, flag_bytes, item_list, pair_list}
 use Rattle.serf_wire.specs.declared.texts.EventBody.{EventBody}
 use Rattle.serf_wire.specs.Slots.{SlotContent, empty, held}
 use Rattle.serf_wire.specs.Canonical.{entry, list_bytes, status_bytes, event_bytes, slot_bytes, canonical_event, canonical_query, canonical_response, canonical_push_pull, canonical, without_events, without_empty_slots, is_long, is_long_event, is_long_slot, has_long}

@@ -1,7 +1,5 @@
 -- A step over a compact item.
-use Rattle.std.proofs.Common.{◌≡◌, ℕ, ◌-◌, ◌<◌, List, ◌∷◌, map, length, take, Option, Some, ap, ◌∙◌}
-use Rattle.serf_pack.specs.Tree.{Tree}
-use Rattle.serf_pack.specs.Walk.{PacksAlone}
+use Rattle.serf_wire.proofs.Names.{◌≡◌, ℕ, ◌-◌, ◌<◌, List, ◌∷◌, map, length, take, Option, Some, ap, ◌∙◌, Tree, PacksAlone}
 use Rattle.serf_wire.specs.declared.fault.WireFault.{WireFault}
 use Rattle.serf_wire.specs.Fast.{ReadsIn, Spans}
 use Rattle.serf_wire.proofs.Meanings.{IsExact}

@@ -1,10 +1,6 @@
 -- User events that are maps in compact spellings.
-use Rattle.std.proofs.Common.{◌+◌, ◌<◌, ◌≡◌, ℕ, ◌<◌, List, [], ◌∷◌, ◌++◌, Bool, false, codes, Option, Some, None, IfSome, unwrap_or, refl, sym, subst, ◌∙◌, arith, append-nil}
+use Rattle.serf_wire.proofs.Names.{◌+◌, ◌<◌, ◌≡◌, ℕ, List, [], ◌∷◌, ◌++◌, Bool, false, codes, Option, Some, None, IfSome, unwrap_or, refl, sym, subst, ◌∙◌, arith, append-nil, option_copied, Tree, raw, PackPairs, pair_list}
 use denote.Bor.{Bor}
-use Rattle.std.specs.Option.{option_copied}
-use Rattle.serf_pack.specs.Tree.{Tree, raw}
-use Rattle.serf_pack.specs.Packs.{PackPairs}
-use Rattle.serf_pack.specs.View.{pair_list}
 use Rattle.serf_wire.specs.declared.message.Message.{Message as Lent}
 use Rattle.serf_wire.specs.declared.fast.event.EventFields.{EventFields}
 use Rattle.serf_wire.specs.declared.layout.MessageType.TheVariants as types

@@ -1,12 +1,6 @@
 -- Lists at the front of bytes.
-use Rattle.std.proofs.Common.{◌≡◌, ℕ, ◌+◌, ◌-◌, ◌<◌, ◌≤◌, List, [], ◌∷◌, ◌++◌, map, length, take, Option, Some, Ok, refl, sym, ap, subst, ◌∙◌, arith, append_assoc, append-nil, length-append}
-use Rattle.std.proofs.lemmas.List.{take_at, length_push}
-use Rattle.std.specs.List.{flat_map}
+use Rattle.serf_wire.proofs.Names.{◌≡◌, ℕ, ◌+◌, ◌-◌, ◌<◌, ◌≤◌, List, [], ◌∷◌, ◌++◌, map, length, take, Option, Some, Ok, refl, sym, ap, subst, ◌∙◌, arith, append_assoc, append-nil, length-append, take_at, length_push, flat_map, head_at, Tree, nil, array, no_items, Packs, IsHead, PacksAlone}
 use Rattle.serf_pack.specs.declared.head.Head.TheVariants as heads
-use Rattle.serf_pack.specs.Table.{head_at}
-use Rattle.serf_pack.specs.Tree.{Tree, nil, array, no_items}
-use Rattle.serf_pack.specs.Packs.{Packs, IsHead}
-use Rattle.serf_pack.specs.Walk.{PacksAlone}
 use Rattle.serf_pack.proofs.ReadIsSpelled.{head_back}
 use Rattle.serf_wire.specs.declared.fault.WireFault.{WireFault}
 use Rattle.serf_wire.specs.Fields.{text, list}

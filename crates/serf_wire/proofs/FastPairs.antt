@@ -1,10 +1,6 @@
 -- Pair after pair of a map in compact spellings.
-use Rattle.std.proofs.Common.{◌≡◌, ℕ, suc, ◌+◌, ◌-◌, ◌<◌, ◌≤◌, List, [], ◌∷◌, ◌++◌, length, lit<, true, false, cond, Option, Some, None, IfSome, unwrap_or, refl, sym, ap, subst, ◌∙◌, arith, append_assoc, append-nil}
+use Rattle.serf_wire.proofs.Names.{◌≡◌, ℕ, suc, ◌+◌, ◌-◌, ◌<◌, ◌≤◌, List, [], ◌∷◌, ◌++◌, length, lit<, true, false, cond, Option, Some, None, IfSome, unwrap_or, refl, sym, ap, subst, ◌∙◌, arith, append_assoc, append-nil, Tree, nil, raw, pairs, Pairs, no_pairs, pair, Packs, PackPairs, IsHead, pair_count, pair_list, raw_head, raw_bytes}
 use Rattle.serf_pack.specs.declared.head.Head.TheVariants as heads
-use Rattle.serf_pack.specs.Tree.{Tree, nil, raw, pairs, Pairs, no_pairs, pair}
-use Rattle.serf_pack.specs.Packs.{Packs, PackPairs, IsHead, pair_count}
-use Rattle.serf_pack.specs.View.{pair_list}
-use Rattle.serf_pack.specs.Canonical.{raw_head, raw_bytes}
 use Rattle.serf_pack.proofs.Canonical.{raw_head_is}
 use Rattle.serf_wire.specs.Fields.{number, is_key, values_of, sole}
 use Rattle.serf_wire.specs.Fast.{Reads, ReadsIn, Shows, Extends, IsReadSoFar}

@@ -1,17 +1,7 @@
 -- What stands at the front of bytes.
-use Rattle.std.proofs.Common.{◌≡◌, ℕ, suc, ℤ, pos, negsuc, ◌+◌, ◌-◌, ◌<◌, ◌≤◌, List, [], ◌∷◌, ◌++◌, length, take, drop, get_or, Bool, true, false, cond, nat_lt, nat_le, Option, Some, None, IfSome, Ok, refl, sym, ap, subst, ◌∙◌, arith, append_assoc, take-append-drop}
-use Rattle.std.proofs.lemmas.Bool.Decides.{nat_tests}
-use Rattle.std.proofs.lemmas.List.{drop_more, take_rest, length-take-le}
-use Rattle.byteorder.specs.Endian.{big_number}
-use Rattle.serf_pack.specs.declared.head.Head.{Head}
+use Rattle.serf_wire.proofs.Names.{◌≡◌, ℕ, suc, ℤ, pos, negsuc, ◌+◌, ◌-◌, ◌<◌, ◌≤◌, List, [], ◌∷◌, ◌++◌, length, take, drop, get_or, Bool, true, false, cond, nat_lt, nat_le, Option, Some, None, IfSome, Ok, refl, sym, ap, subst, ◌∙◌, arith, append_assoc, take-append-drop, nat_tests, drop_more, take_rest, length-take-le, big_number, Head, Field, Whole, Number, row_of, meaning_of, head_at, Tree, nil, flag, int, raw, array, pairs, Packs, IsHead, raw_of}
 use Rattle.serf_pack.specs.declared.head.Head.TheVariants as heads
-use Rattle.serf_pack.specs.declared.head.Field.{Field}
 use Rattle.serf_pack.specs.declared.head.Field.TheVariants as fields
-use Rattle.serf_pack.specs.declared.head.Row.TheVariants.{Whole, Number}
-use Rattle.serf_pack.specs.Table.{row_of, meaning_of, head_at}
-use Rattle.serf_pack.specs.Tree.{Tree, nil, flag, int, raw, array, pairs}
-use Rattle.serf_pack.specs.Packs.{Packs, IsHead}
-use Rattle.serf_pack.specs.View.{raw_of}
 use Rattle.serf_pack.proofs.ReadIsSpelled.{head_back}
 use Rattle.serf_wire.specs.Fields.{text, truth, number, up_to}
 use Rattle.serf_wire.specs.Fast.{Reads, ReadsIn}

@@ -1,7 +1,5 @@
 -- Events and slots at the front of bytes.
-use Rattle.std.proofs.Common.{◌≡◌, ℕ, ◌+◌, ◌≤◌, ◌<◌, List, [], ◌∷◌, ◌++◌, length, lit<, codes, Option, Some, refl, sym, ap, ◌∙◌, arith, append_assoc}
-use Rattle.serf_pack.specs.Tree.{Tree, raw}
-use Rattle.serf_pack.specs.Canonical.{raw_bytes}
+use Rattle.serf_wire.proofs.Names.{◌≡◌, ℕ, ◌+◌, ◌≤◌, ◌<◌, List, [], ◌∷◌, ◌++◌, length, lit<, codes, Option, Some, refl, sym, ap, ◌∙◌, arith, append_assoc, Tree, raw, raw_bytes}
 use Rattle.serf_wire.specs.declared.texts.EventBody.{EventBody}
 use Rattle.serf_wire.specs.Slots.{SlotContent, empty, held}
 use Rattle.serf_wire.specs.Fields.{text, time, number, list, both, field, map_of, event_body, slot}

@@ -1,8 +1,5 @@
 -- States that are maps in compact spellings.
-use Rattle.std.proofs.Common.{◌≡◌, ◌+◌, ◌<◌, ℕ, List, [], ◌∷◌, ◌++◌, codes, Some, None, refl, sym, subst, ◌∙◌, append-nil}
-use Rattle.std.specs.Option.{option_map}
-use Rattle.serf_pack.specs.Tree.{Tree, raw}
-use Rattle.serf_pack.specs.Packs.{PackPairs}
+use Rattle.serf_wire.proofs.Names.{◌≡◌, ◌+◌, ◌<◌, ℕ, List, [], ◌∷◌, ◌++◌, codes, Some, None, refl, sym, subst, ◌∙◌, append-nil, option_map, Tree, raw, PackPairs}
 use Rattle.serf_wire.specs.declared.lists.Texts.{Texts}
 use Rattle.serf_wire.specs.declared.lists.StatusTimes.{StatusTimes}
 use Rattle.serf_wire.specs.declared.lists.SlotViews.{SlotViews}

@@ -1,11 +1,6 @@
 -- Names with their times at the front of bytes.
-use Rattle.std.proofs.Common.{◌≡◌, ℕ, ◌+◌, List, [], ◌∷◌, ◌++◌, map, length, Some, Ok, refl, sym, ap, subst, ◌∙◌, arith, append_assoc}
-use Rattle.std.specs.List.{flat_map}
+use Rattle.serf_wire.proofs.Names.{◌≡◌, ℕ, ◌+◌, List, [], ◌∷◌, ◌++◌, map, length, Some, Ok, refl, sym, ap, subst, ◌∙◌, arith, append_assoc, flat_map, head_at, pairs, IsHead, raw_of, pair_list}
 use Rattle.serf_pack.specs.declared.head.Head.TheVariants as heads
-use Rattle.serf_pack.specs.Table.{head_at}
-use Rattle.serf_pack.specs.Tree.{pairs}
-use Rattle.serf_pack.specs.Packs.{IsHead}
-use Rattle.serf_pack.specs.View.{raw_of, pair_list}
 use Rattle.serf_pack.proofs.ReadIsSpelled.{head_back}
 use Rattle.serf_wire.specs.Fields.{number, all, status, status_time}
 use Rattle.serf_wire.specs.Fast.{Reads, Spans, AreParts, StatusPart, SpansStatusTime, status_part_bytes}

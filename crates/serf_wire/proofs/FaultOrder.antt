@@ -1,8 +1,5 @@
 -- The faults of a map stand in reading order.
-use Rattle.std.proofs.Common.{◌≡◌, ℕ, zero, suc, ◌+◌, ◌≤◌, ℤ, pos, negsuc, List, [], ◌∷◌, ◌++◌, length, Bool, true, false, cond, ◌==◌, Option, Some, None, refl, ap, arith, length-append}
-use Rattle.serf_pack.specs.Tree.{Tree, nil, flag, int, raw, array, pairs, Items, no_items, item, Pairs, no_pairs, pair}
-use Rattle.serf_pack.specs.Packs.{Packs, PackItems, PackPairs}
-use Rattle.serf_pack.specs.View.{raw_of, place_of, item_list, pair_list}
+use Rattle.serf_wire.proofs.Names.{◌≡◌, ℕ, zero, suc, ◌+◌, ◌≤◌, ℤ, pos, negsuc, List, [], ◌∷◌, ◌++◌, length, Bool, true, false, cond, ◌==◌, Option, Some, None, refl, ap, arith, length-append, Tree, nil, flag, int, raw, array, pairs, Items, no_items, item, Pairs, no_pairs, pair, Packs, PackItems, PackPairs, raw_of, place_of, item_list, pair_list}
 use Rattle.serf_wire.specs.declared.fault.WireFault.{WireFault}
 use Rattle.serf_wire.specs.declared.fault.WireFault.TheVariants.{BadKey, Twice, WrongKind, OutOfRange, GreatestTime}
 use Rattle.serf_wire.specs.declared.layout.Layout.{Layout}

@@ -1,11 +1,5 @@
 -- What is found of a map's fields, one pair after another.
-use Rattle.std.proofs.Common.{◌≡◌, ◌≢◌, ℕ, ◌+◌, ◌<◌, ◌≤◌, List, [], ◌∷◌, ◌++◌, length, Bool, true, false, ◌||◌, cond, Option, Some, None, is_some, IfNone, get_or, set, refl, sym, ap, ◌∙◌, arith}
-use Rattle.std.specs.Str.{bytes_eq}
-use Rattle.std.specs.Option.{option_map}
-use Rattle.std.proofs.lemmas.List.{get_or-set_same, get_or-set_other, length-set, length-map}
-use Rattle.serf_pack.specs.declared.view.View.{View}
-use Rattle.serf_pack.specs.Tree.{Tree}
-use Rattle.serf_pack.specs.View.{raw_of, tree_of}
+use Rattle.serf_wire.proofs.Names.{◌≡◌, ◌≢◌, ℕ, ◌+◌, ◌<◌, ◌≤◌, List, [], ◌∷◌, ◌++◌, length, Bool, true, false, ◌||◌, cond, Option, Some, None, is_some, IfNone, get_or, set, refl, sym, ap, ◌∙◌, arith, bytes_eq, option_map, get_or-set_same, get_or-set_other, length-set, length-map, View, Tree, raw_of, tree_of}
 use Rattle.serf_wire.specs.declared.found.FoundFields.{FoundFields}
 use Rattle.serf_wire.specs.declared.layout.Layout.{Layout}
 use Rattle.serf_wire.specs.declared.layout.Layout.TheVariants as layouts

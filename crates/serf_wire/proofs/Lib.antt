@@ -22,3 +22,4 @@ pub mod FastStatus
 pub mod FastSlots
 pub mod FastState
 pub mod CompactSteps
+pub mod Names

@@ -1,8 +1,5 @@
 -- Lists that were handed in for a push/pull, and what they mean.
-use Rattle.std.proofs.Common.{◌≡◌, ◌<◌, List, [], ◌∷◌, ◌++◌, map, Bool, false, ◌||◌, ap, refl, sym, ◌∙◌, length}
-use Rattle.std.specs.List.{list_any, flat_map}
-use Rattle.std.proofs.lemmas.List.{length-map}
-use Rattle.serf_pack.specs.Canonical.{raw_bytes}
+use Rattle.serf_wire.proofs.Names.{◌≡◌, ◌<◌, List, [], ◌∷◌, ◌++◌, map, Bool, false, ◌||◌, ap, refl, sym, ◌∙◌, length, list_any, flat_map, length-map, raw_bytes}
 use Rattle.serf_wire.specs.declared.parts.PushPullParts.{PushPullParts}
 use Rattle.serf_wire.specs.Buffers.{slots_lent}
 use Rattle.serf_wire.specs.Canonical.{is_long, is_long_slot, has_long, canonical, status_time_bytes, slot_bytes}

@@ -1,8 +1,6 @@
 -- Kinds of fields: a value without faults has a meaning, and one with a meaning has no faults.
-use Rattle.std.proofs.Common.{◌≡◌, ℕ, ℤ, pos, List, [], ◌∷◌, ◌++◌, map, Bool, true, false, ◌&&◌, cond, is_some, Option, Some, None, unwrap_or, refl, ap, ◌∙◌}
-use Rattle.serf_pack.specs.Tree.{Tree, nil, flag, int, raw, array, pairs}
+use Rattle.serf_wire.proofs.Names.{◌≡◌, ℕ, ℤ, pos, List, [], ◌∷◌, ◌++◌, map, Bool, true, false, ◌&&◌, cond, is_some, Option, Some, None, unwrap_or, refl, ap, ◌∙◌, Tree, nil, flag, int, raw, array, pairs, item_list, pair_list, raw_of}
 use Rattle.serf_wire.specs.declared.fault.WireFault.{WireFault}
-use Rattle.serf_pack.specs.View.{item_list, pair_list, raw_of}
 use Rattle.serf_wire.specs.declared.layout.Layout.{Layout}
 use Rattle.serf_wire.specs.declared.layout.Kind.{Kind}
 use Rattle.serf_wire.specs.Spells.{HasRawKeys}

@@ -1,6 +1,5 @@
 -- Messages, slots and their events: the fields of a map without faults, and back.
-use Rattle.std.proofs.Common.{◌≡◌, ℕ, zero, suc, ℤ, List, [], ◌∷◌, Bool, false, Option, Some, codes, refl, sym, ◌∙◌}
-use Rattle.serf_pack.specs.Tree.{Tree, nil, flag, int, raw, array, pairs}
+use Rattle.serf_wire.proofs.Names.{◌≡◌, ℕ, zero, suc, ℤ, List, [], ◌∷◌, Bool, false, Option, Some, codes, refl, sym, ◌∙◌, Tree, nil, flag, int, raw, array, pairs}
 use Rattle.serf_wire.specs.declared.layout.Layout.{Layout}
 use Rattle.serf_wire.specs.declared.layout.Layout.TheVariants as layouts
 use Rattle.serf_wire.specs.declared.layout.Kind.{Kind}

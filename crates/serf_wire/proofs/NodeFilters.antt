@@ -1,14 +1,8 @@
 -- Node filters that were written.
-use Rattle.std.proofs.Common.{◌≡◌, ℕ, ◌+◌, ◌<◌, ◌↔◌, List, ◌∷◌, length, map, false, lit<, refl, sym, subst, ◌∙◌}
-use Rattle.std.specs.List.{Contains, list_any}
-use Rattle.std.specs.Str.{bytes_eq}
-use Rattle.serf_pack.specs.Packs.{Packs}
-use Rattle.serf_pack.specs.Tree.{array, Items}
-use Rattle.serf_pack.specs.Canonical.{array_head, raw_bytes}
+use Rattle.serf_wire.proofs.Names.{◌≡◌, ℕ, ◌+◌, ◌<◌, ◌↔◌, List, ◌∷◌, length, map, false, lit<, refl, sym, subst, ◌∙◌, Contains, list_any, bytes_eq, Packs, array, Items, array_head, raw_bytes, length-map}
 use Rattle.serf_pack.proofs.Inputs.{packs_whole}
 use Rattle.serf_wire.specs.Canonical.{is_long, list_bytes}
 use Rattle.serf_wire.specs.Passes.{Passes, passes_of, canonical_filter}
-use Rattle.std.proofs.lemmas.List.{length-map}
 use Rattle.serf_wire.proofs.Mapped.{any_mapped, joined_mapped}
 use Rattle.serf_wire.proofs.Spelling.{items_from, text_part}
 use Rattle.serf_wire.proofs.CanonicalPackets.{texts_are_part, texts_read}

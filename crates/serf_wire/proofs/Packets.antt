@@ -1,11 +1,5 @@
 -- What packets are, exactly.
-use Rattle.std.proofs.Common.{◌≡◌, ℕ, List, [], ◌∷◌, Option, Some, None, Result, Ok, Err, MatchResult, IfOk, IfErr, IsOkAnd, refl, sym, ap, subst, ◌∙◌}
-use Rattle.serf_pack.specs.declared.fault.PackFault.{PackFault}
-use Rattle.serf_pack.specs.Tree.{Tree, nil, flag, int, raw, array, pairs, Pairs}
-use Rattle.serf_pack.specs.Packs.{Packs}
-use Rattle.serf_pack.specs.Reading.{Gives, whole_at}
-use Rattle.serf_pack.specs.View.{pair_list, kind_of}
-use Rattle.serf_pack.specs.declared.view.Kind.TheVariants.{Map}
+use Rattle.serf_wire.proofs.Names.{◌≡◌, ℕ, List, [], ◌∷◌, Option, Some, None, Result, Ok, Err, MatchResult, IfOk, IfErr, IsOkAnd, refl, sym, ap, subst, ◌∙◌, PackFault, Tree, nil, flag, int, raw, array, pairs, Pairs, Packs, Gives, whole_at, pair_list, kind_of, Map}
 use Rattle.serf_pack.proofs.Inputs.{packs_whole, whole_packs, faulty_whole, whole_faulty}
 use Rattle.serf_wire.specs.declared.fault.WireFault.{WireFault}
 use Rattle.serf_wire.specs.declared.fault.WireFault.TheVariants as faults

@@ -1,14 +1,5 @@
 -- Which filters let which nodes pass.
-use Rattle.std.proofs.Common.{◌≡◌, ℕ, suc, List, [], ◌∷◌, Bool, true, false, ◌||◌, cond, ◌==◌, Option, Some, None, Result, Ok, Err, refl, ap, subst, arith, eqb-true}
-use Rattle.std.specs.List.{Contains, list_any}
-use Rattle.std.specs.Str.{bytes_eq}
-use Rattle.std.proofs.lemmas.List.Folds.{list_any_at}
-use Rattle.serf_pack.specs.declared.fault.PackFault.{PackFault}
-use Rattle.serf_pack.specs.Tree.{Tree, nil, flag, int, raw, array, pairs, Items}
-use Rattle.serf_pack.specs.Packs.{Packs}
-use Rattle.serf_pack.specs.Reading.{whole_at}
-use Rattle.serf_pack.specs.View.{item_list, kind_of}
-use Rattle.serf_pack.specs.declared.view.Kind.TheVariants.{Array}
+use Rattle.serf_wire.proofs.Names.{◌≡◌, ℕ, suc, List, [], ◌∷◌, Bool, true, false, ◌||◌, cond, ◌==◌, Option, Some, None, Result, Ok, Err, refl, ap, subst, arith, eqb-true, Contains, list_any, bytes_eq, list_any_at, PackFault, Tree, nil, flag, int, raw, array, pairs, Items, Packs, whole_at, item_list, kind_of, Array}
 use Rattle.serf_wire.specs.declared.fault.WireFault.{WireFault}
 use Rattle.serf_wire.specs.Faults.{first, list_faults, text_faults}
 use Rattle.serf_wire.specs.Lookups.{text_in, list_in}

@@ -1,9 +1,7 @@
 -- What is written is in range.
-use Rattle.std.proofs.Common.{◌≡◌, ◌<◌, List, [], ◌∷◌, map, ℤ, pos, negsuc, Bool, true, false, ◌&&◌, nat_lt, Some, refl, arith}
+use Rattle.serf_wire.proofs.Names.{◌≡◌, ◌<◌, List, [], ◌∷◌, map, ℤ, pos, negsuc, Bool, true, false, ◌&&◌, nat_lt, Some, refl, arith, nat_tests, list_all, AllByRecursion}
 use mir.Val.{SFits}
 use mir.Syntax.{w64}
-use Rattle.std.proofs.lemmas.Bool.Decides.{nat_tests}
-use Rattle.std.specs.List.{list_all, AllByRecursion}
 use Rattle.serf_wire.specs.declared.lists.StatusTime.{StatusTime}
 use Rattle.serf_wire.specs.declared.texts.EventBody.{EventBody}
 use Rattle.serf_wire.specs.declared.texts.TimeSlot.{TimeSlot}

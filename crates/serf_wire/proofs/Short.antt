@@ -1,7 +1,5 @@
 -- Lists of which no text is too long.
-use Rattle.std.proofs.Common.{◌≡◌, ℕ, ◌<◌, List, length, Bool, true, false, ◌||◌, arith, refl}
-use Rattle.std.proofs.lemmas.Bool.Decides.{nat_tests}
-use Rattle.std.specs.List.{list_any}
+use Rattle.serf_wire.proofs.Names.{◌≡◌, ℕ, ◌<◌, List, length, Bool, true, false, ◌||◌, arith, refl, nat_tests, list_any}
 use Rattle.serf_wire.specs.Canonical.{is_long, has_long}
 use Rattle.serf_wire.specs.Message.{Query, query, user_event_of, response_of}
 

@@ -1,11 +1,6 @@
 -- The numbers of a message that a packet spells are in range.
-use Rattle.std.proofs.Common.{◌≡◌, ℕ, ◌<◌, ◌≤◌, nat_le, nat_lt, Bool, true, false, cond, List, [], ◌∷◌, Option, Some, None, Ok, ℤ, pos, negsuc, refl, sym, subst, arith}
+use Rattle.serf_wire.proofs.Names.{◌≡◌, ℕ, ◌<◌, ◌≤◌, nat_le, nat_lt, Bool, true, false, cond, List, [], ◌∷◌, Option, Some, None, Ok, ℤ, pos, negsuc, refl, sym, subst, arith, AllByRecursion, leb-true, same_Some, cond_some, Tree, nil, flag, int, raw, array, pairs, raw_of, item_list, pair_list}
 use Rattle.std.specs.Prelude.{codes}
-use Rattle.std.specs.List.{AllByRecursion}
-use Rattle.std.proofs.lemmas.Bool.{leb-true}
-use Rattle.std.proofs.lemmas.Option.{same_Some, cond_some}
-use Rattle.serf_pack.specs.Tree.{Tree, nil, flag, int, raw, array, pairs}
-use Rattle.serf_pack.specs.View.{raw_of, item_list, pair_list}
 use Rattle.serf_wire.specs.declared.layout.MessageType.{MessageType}
 use Rattle.serf_wire.specs.declared.layout.MessageType.TheVariants as types
 use Rattle.serf_wire.specs.declared.layout.Class.{Class}

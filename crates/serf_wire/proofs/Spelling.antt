@@ -1,12 +1,6 @@
 -- Canonical packets are spellings: parts of values, put together.
-use Rattle.std.proofs.Common.{◌≡◌, ℕ, suc, ℤ, pos, negsuc, ◌+◌, ◌<◌, ◌≤◌, List, [], ◌∷◌, ◌++◌, map, length, Bool, true, false, ◌||◌, cond, Option, Some, None, nat_le, nat_lt, refl, sym, ap, subst, arith}
-use Rattle.std.proofs.lemmas.Bool.Decides.{nat_tests}
-use Rattle.std.specs.List.{flat_map, list_any, AllByRecursion}
-use Rattle.serf_pack.specs.Tree.{Tree, flag, int, raw, array, pairs, Items, no_items, item, Pairs, no_pairs, pair}
-use Rattle.serf_pack.specs.Packs.{Packs, PackItems, PackPairs, item_count, pair_count, IsHead}
+use Rattle.serf_wire.proofs.Names.{◌≡◌, ℕ, suc, ℤ, pos, negsuc, ◌+◌, ◌<◌, ◌≤◌, List, [], ◌∷◌, ◌++◌, map, length, Bool, true, false, ◌||◌, cond, Option, Some, None, nat_le, nat_lt, refl, sym, ap, subst, arith, nat_tests, flat_map, list_any, AllByRecursion, Tree, flag, int, raw, array, pairs, Items, no_items, item, Pairs, no_pairs, pair, Packs, PackItems, PackPairs, item_count, pair_count, IsHead, map_head, array_head, raw_head, raw_bytes, uint_bytes, int_bytes, flag_bytes, item_list}
 use Rattle.serf_pack.specs.declared.head.Head.TheVariants as heads
-use Rattle.serf_pack.specs.Canonical.{map_head, array_head, raw_head, raw_bytes, uint_bytes, int_bytes, flag_bytes}
-use Rattle.serf_pack.specs.View.{item_list}
 use Rattle.serf_pack.proofs.Canonical.{map_head_is, array_head_is, raw_head_is, uint_is, negative_is}
 use Rattle.serf_wire.specs.Canonical.{entry}
 use Rattle.serf_wire.specs.Fields.{all, up_to, fits}

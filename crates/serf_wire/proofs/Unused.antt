@@ -1,7 +1,5 @@
 -- Slots that were never used, behind those in memory.
-use Rattle.std.proofs.Common.{◌≡◌, ℕ, zero, suc, ◌-◌, ◌<◌, ◌≤◌, List, [], ◌∷◌, ◌++◌, length, map, Some, slice_get, Bool, true, false, ◌||◌, replicate, refl, ◌∙◌, arith}
-use Rattle.std.specs.List.{list_any, list_all}
-use Rattle.std.proofs.lemmas.List.Folds.{list_any-append, list_all-append}
+use Rattle.serf_wire.proofs.Names.{◌≡◌, ℕ, zero, suc, ◌-◌, ◌<◌, ◌≤◌, List, [], ◌∷◌, ◌++◌, length, map, Some, slice_get, Bool, true, false, ◌||◌, replicate, refl, ◌∙◌, arith, list_any, list_all, list_any-append, list_all-append}
 use Rattle.serf_wire.specs.declared.lent_slots.LentSlots.{LentSlots}
 use Rattle.serf_wire.specs.declared.texts.TimeSlot.{TimeSlot}
 use Rattle.serf_wire.specs.Buffers.{slots_lent, unused_slot}

@@ -1,21 +1,5 @@
 -- What a world has done is a run: its lines show the run's turns, and all promises are kept in it.
-use Rattle.std.proofs.Common.{zero, suc, ◌≡◌, ℕ, Some, List, [], ◌∷◌, ◌++◌, refl, sym, ap, subst, ◌∙◌, map}
-use Rattle.std.specs.Prelude.{All, slice_get}
-use Rattle.std.specs.Option.{option_map}
-use Rattle.std.proofs.lemmas.List.{append-nil, map-append}
-use Rattle.std.proofs.lemmas.List.Elements.{All-nil, All-push}
-use Rattle.std.proofs.lemmas.List.Sums.{fold_push}
-use Rattle.serf_agent.specs.declared.config.Config.{Config}
-use Rattle.serf_model.specs.declared.action.Action.{Action}
-use Rattle.serf_model.specs.declared.line.Line.{Line}
-use Rattle.serf_agent.specs.declared.open_query.OpenQuery.{OpenQuery}
-use Rattle.serf_agent.specs.View.{ConcreteState, view_of}
-use Rattle.serf_model.specs.AnswerPromises.{HoldsCounted, HoldsSent}
-use Rattle.serf_model.specs.Cluster.{Cluster, IdealNode, Run, after, run_of, start, step, trace_of}
-use Rattle.serf_model.specs.Ready.{AreRepresentable}
-use Rattle.serf_model.specs.Runs.{AreConfigs}
-use Rattle.serf_model.specs.Sizes.{HasSizes}
-use Rattle.serf_model.specs.Trace.{Turn, turns_of}
+use Rattle.serf_world.proofs.Names.{zero, suc, ◌≡◌, ℕ, Some, List, [], ◌∷◌, ◌++◌, refl, sym, ap, subst, ◌∙◌, map, All, slice_get, option_map, append-nil, map-append, All-nil, All-push, fold_push, Config, Action, Line, OpenQuery, ConcreteState, view_of, HoldsCounted, HoldsSent, Cluster, IdealNode, Run, after, run_of, start, step, trace_of, AreRepresentable, AreConfigs, HasSizes, Turn, turns_of}
 use Rattle.serf_world.specs.View.{HasDone, IsViewed, NodeState, StoresOpen, TakesStep, WorldState, node_of}
 use Rattle.serf_world.proofs.ResultLaws.{AreKept, AreShown}
 

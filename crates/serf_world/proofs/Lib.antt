@@ -4,3 +4,4 @@ pub mod ResultLaws
 pub mod RosterLaws
 pub mod DoneLaws
 pub mod SizeLaws
+pub mod Names

@@ -1,33 +1,10 @@
 -- Over a sink with a plan a merge has one end.
-use Rattle.std.proofs.Common.{◌≡◌, ◌≢◌, ℕ, ◌<◌, ◌-◌, ◌^◌, cond, Bool, true, false, List, [], ◌∷◌, ◌++◌, Option, Some, None, Result, Ok, Err, refl, sym, ap, subst, ◌∙◌, inl, inr}
-use Rattle.std.specs.List.{AllByRecursion}
-use Rattle.serf_wire.specs.declared.fault.WireFault.{WireFault}
-use Rattle.serf_wire.specs.declared.texts.EventBody.{EventBody}
-use Rattle.serf_wire.specs.Decoded.{decoded}
-use Rattle.serf_wire.specs.Message.{Message, PushPull, user_event, query, query_response, push_pull, foreign}
-use Rattle.serf_window.specs.Window.{TimedEntry}
-use Rattle.serf_snap.specs.Device.{Device}
-use Rattle.serf_snap.specs.Notes.{Kept}
-use Rattle.serf_agent.specs.declared.outcome.EventOut.{EventOut}
-use Rattle.serf_agent.specs.declared.outcome.MergeFault.{MergeFault}
+use Rattle.serf_world.proofs.Names.{◌≡◌, ◌≢◌, ℕ, ◌<◌, ◌-◌, ◌^◌, cond, Bool, true, false, List, [], ◌∷◌, ◌++◌, Option, Some, None, Result, Ok, Err, refl, sym, ap, subst, ◌∙◌, inl, inr, AllByRecursion, WireFault, EventBody, decoded, Message, PushPull, user_event, query, query_response, push_pull, foreign, TimedEntry, Device, Kept, EventOut, MergeFault, Outcome, Reason, ReceiveFault, SinkFault, Step, planned, ended, will, device_after, admission, received_as, IdealAgent, Receives, EndsAt, Merges, receive_one, after_event, delivered, handed_by, joined, events_of, merge_refusal, AgentState, ConcreteState, view_of, IdealNode, Merged, merges_as, merges_events, merges_on, merges_packet, MergesRepresentable, IsRepresentable}
 use Rattle.serf_agent.specs.declared.outcome.MergeFault.TheVariants as merges
-use Rattle.serf_agent.specs.declared.outcome.Outcome.{Outcome}
-use Rattle.serf_agent.specs.declared.outcome.Reason.{Reason}
-use Rattle.serf_agent.specs.declared.outcome.ReceiveFault.{ReceiveFault}
-use Rattle.serf_agent.specs.declared.outcome.ReceiveFault.TheVariants.{SinkFault}
-use Rattle.serf_agent.specs.Calls.{Step, planned, ended, will}
-use Rattle.serf_agent.specs.Devices.{device_after}
-use Rattle.serf_agent.specs.Events.{admission, received_as}
-use Rattle.serf_agent.specs.Ideal.{IdealAgent}
-use Rattle.serf_agent.specs.States.{Receives, EndsAt, Merges, receive_one, after_event, delivered, handed_by, joined, events_of, merge_refusal}
-use Rattle.serf_agent.specs.View.{AgentState, ConcreteState, view_of}
 use Rattle.serf_world.specs.declared.done.Done.{Done as Made}
 use Rattle.serf_model.specs.declared.line.Answer.TheVariants as answers
 use Rattle.serf_model.specs.declared.line.Refusal.TheVariants.{SinkFault as FailedSink}
-use Rattle.serf_model.specs.Cluster.{IdealNode, Merged, merges_as, merges_events, merges_on, merges_packet}
 use Rattle.serf_world.specs.Nodes.{DoesCall, done_of, merge_answer}
-use Rattle.serf_model.specs.Merging.{MergesRepresentable}
-use Rattle.serf_model.specs.Ready.{IsRepresentable}
 use Rattle.serf_world.proofs.NodeLaws.{may-will, steps-planned}
 
 -- a reason that isn't given

@@ -1,28 +1,6 @@
 -- Over a sink with a plan a call of an agent has one end.
-use Rattle.std.proofs.Common.{zero, suc, ◌<◌, ◌≤◌, arith, length, set, get_or, ◌≡◌, ℕ, nat_le, cond, Bool, true, false, List, [], ◌∷◌, ◌++◌, Option, Some, None, IsSome, MatchBool, map, Result, Ok, Err, refl, sym, ap, subst, ◌∙◌}
-use Rattle.std.specs.Prelude.{slice_get, IfOk}
-use Rattle.std.specs.List.{AllByRecursion}
-use Rattle.std.specs.declared.alloc.AllocError.{AllocError}
-use Rattle.std.proofs.lemmas.List.{length-map, map-set}
-use Rattle.std.proofs.lemmas.List.Elements.{All-from_recursion, All-set, recursion_from_All}
-use Rattle.std.proofs.lemmas.Option.{get_or_from_slice_get, slice_get_within}
-use Rattle.serf_snap.specs.declared.kind.ClockKind.{ClockKind}
-use Rattle.serf_snap.specs.Clocks.{clock_line}
-use Rattle.serf_snap.specs.Device.{Device, FailurePlan}
-use Rattle.serf_snap.specs.Notes.{SnapshotView, Writing, Kept, Failed, IsObservable, MayWrite, MayReplace, will_write, will_replace, left_by, compaction_of, last_line}
-use Rattle.serf_agent.specs.declared.outcome.RespondFault.{RespondFault}
-use Rattle.serf_agent.specs.Handed.{Handed}
-use Rattle.serf_agent.specs.Queries.{respond_fault}
-use Rattle.serf_agent.specs.Calls.{Call, Ends, Notes, Replaces, MayNote, MayEnd, planned, ended, will, will_note}
-use Rattle.serf_agent.specs.Ideal.{IdealAgent}
-use Rattle.serf_agent.specs.Steps.{Steps}
-use Rattle.serf_agent.specs.View.{AgentState, ConcreteState, view_of}
-use Rattle.serf_model.specs.declared.action.Action.{Action}
-use Rattle.serf_model.specs.declared.line.Line.{Line}
+use Rattle.serf_world.proofs.Names.{zero, suc, ◌<◌, ◌≤◌, arith, length, set, get_or, ◌≡◌, ℕ, nat_le, cond, Bool, true, false, List, [], ◌∷◌, ◌++◌, Option, Some, None, IsSome, MatchBool, map, Result, Ok, Err, refl, sym, ap, subst, ◌∙◌, slice_get, IfOk, AllByRecursion, AllocError, length-map, map-set, All-from_recursion, All-set, recursion_from_All, get_or_from_slice_get, slice_get_within, ClockKind, clock_line, Device, FailurePlan, SnapshotView, Writing, Kept, Failed, IsObservable, MayWrite, MayReplace, will_write, will_replace, left_by, compaction_of, last_line, RespondFault, Handed, respond_fault, Call, Ends, Notes, Replaces, MayNote, MayEnd, planned, ended, will, will_note, IdealAgent, Steps, AgentState, ConcreteState, view_of, Action, Line, NoAgent, IdealNode, Cluster, Applied, Done, apply, called, line_only, numbers_from, on_agent, responds, responds_as, with_handed, AreRepresentable, IsRepresentable}
 use Rattle.serf_model.specs.declared.line.Answer.TheVariants as answers
-use Rattle.serf_model.specs.declared.line.Refusal.TheVariants.{NoAgent}
-use Rattle.serf_model.specs.Cluster.{IdealNode, Cluster, Applied, Done, apply, called, line_only, numbers_from, on_agent, responds, responds_as, with_handed}
-use Rattle.serf_model.specs.Ready.{AreRepresentable, IsRepresentable}
 use Rattle.serf_world.specs.declared.done.Done.{Done as Made}
 use Rattle.serf_world.specs.declared.turn.Turn.{Turn as Shown}
 use Rattle.serf_world.specs.Turns.{TakesTurn}

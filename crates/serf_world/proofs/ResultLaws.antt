@@ -1,18 +1,8 @@
 -- What a run hands back shows a run of the model, which keeps all promises.
-use Rattle.std.proofs.Common.{◌≡◌, ◌⊎◌, inl, inr, List, [], ◌∷◌, ◌++◌, Result, Ok, Err, refl, sym, ap, ◌∙◌, length, take, drop, take_all, arith}
-use Rattle.std.specs.Prelude.{ℕ, All}
-use Rattle.std.proofs.lemmas.List.{take-append-drop}
-use Rattle.std.proofs.lemmas.List.Elements.{All-take}
-use Rattle.serf_agent.specs.declared.config.Config.{Config}
-use Rattle.serf_model.specs.declared.action.Action.{Action}
-use Rattle.serf_model.specs.declared.fault.RunFault.{RunFault}
+use Rattle.serf_world.proofs.Names.{◌≡◌, ◌⊎◌, inl, inr, List, [], ◌∷◌, ◌++◌, Result, Ok, Err, refl, sym, ap, ◌∙◌, length, take, drop, take_all, arith, All, take-append-drop, All-take, Config, Action, RunFault, Trace, run_of, start, trace_of, KeepsPromises, AreConfigs, IsRun, ShowsKept, ShowsRun, HasSizes, outcome_of, turns_of}
+use Rattle.std.specs.Prelude.{ℕ}
 use Rattle.serf_model.specs.declared.fault.RunFault.TheVariants as runs
-use Rattle.serf_model.specs.declared.trace.Trace.{Trace}
-use Rattle.serf_model.specs.Cluster.{run_of, start, trace_of}
-use Rattle.serf_model.specs.Kept.{KeepsPromises}
-use Rattle.serf_model.specs.Runs.{AreConfigs, IsRun, ShowsKept, ShowsRun}
-use Rattle.serf_model.specs.Sizes.{HasSizes}
-use Rattle.serf_model.specs.Trace.{Outcome, outcome_of, turns_of}
+use Rattle.serf_model.specs.Trace.{Outcome}
 
 -- the law `turns_shown`, and the clauses of `run_promises`
 abbrev pub AreShown : Type 0

@@ -1,15 +1,6 @@
 -- Agents that can make a cluster, and one more.
-use Rattle.std.proofs.Common.{◌≡◌, ◌+◌, ◌≤◌, ◌++◌, ◌∙◌, ℕ, List, [], ◌∷◌, Bool, true, false, Option, Some, None, refl, sym, ap, cond, length, length-append, arith}
-use Rattle.std.specs.Prelude.{not, nat_lt}
-use Rattle.std.specs.List.{AllByRecursion, position_or_len}
-use Rattle.std.proofs.lemmas.Bool.{ltb-false}
-use Rattle.std.proofs.lemmas.Grind.{common_steps}
-use Rattle.std.proofs.lemmas.List.{append-nil, append_assoc}
-use Rattle.std.proofs.lemmas.List.Folds.{position_or_len_push}
-use Rattle.std.proofs.lemmas.List.Sums.{prefix_len-le-length}
-use Rattle.serf_agent.specs.declared.config.Config.{Config}
-use Rattle.serf_agent.specs.Config.{is_sound}
-use Rattle.serf_model.specs.Runs.{AreConfigs, has_name, twice_after, first_bad}
+use Rattle.serf_world.proofs.Names.{◌≡◌, ◌+◌, ◌≤◌, ◌++◌, ◌∙◌, ℕ, List, [], ◌∷◌, Bool, true, false, Option, Some, None, refl, sym, ap, cond, length, length-append, arith, not, AllByRecursion, position_or_len, ltb-false, common_steps, append-nil, append_assoc, position_or_len_push, prefix_len-le-length, Config, is_sound, AreConfigs, has_name, twice_after, first_bad}
+use Rattle.std.specs.Prelude.{nat_lt}
 
 not-some : (b : Bool) (n : ℕ) (o : Option ℕ) → cond b (Some n) o ≡ None → b ≡ false
 not-some true n o h = absurd (cc h)

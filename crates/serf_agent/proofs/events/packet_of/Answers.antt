@@ -1,6 +1,4 @@
-use Rattle.std.proofs.Common.{◌≡◌, ap, sym, ◌∙◌, Err}
-use Rattle.std.proofs.lemmas.Bool.{true≢false}
-use Rattle.serf_wire.specs.declared.encode.EncodeFault.{EncodeFault}
+use Rattle.serf_agent.proofs.Names.{◌≡◌, ap, sym, ◌∙◌, Err, true≢false, EncodeFault}
 use Rattle.serf_agent.proofs.WireLaws.{event-not_long}
 use Rattle.serf_agent.proofs.events.packet_of.Goals as goal
 

@@ -1,6 +1,4 @@
-use Rattle.std.proofs.Common.{arith, ◌≡◌, ◌≤◌, length, [], ap, sym, ◌∙◌, Err}
-use Rattle.std.proofs.lemmas.Bool.{true≢false}
-use Rattle.serf_wire.specs.declared.encode.EncodeFault.{EncodeFault}
+use Rattle.serf_agent.proofs.Names.{arith, ◌≡◌, ◌≤◌, length, [], ap, sym, ◌∙◌, Err, true≢false, EncodeFault}
 use Rattle.serf_agent.proofs.WireLaws.{response-not_long}
 use Rattle.serf_agent.proofs.handed.ack_of.Goals as goal
 

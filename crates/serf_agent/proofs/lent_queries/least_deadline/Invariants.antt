@@ -1,4 +1,4 @@
-use Rattle.std.proofs.Common.{◌≡◌, map, take}
+use Rattle.serf_agent.proofs.Names.{◌≡◌, map, take}
 use Rattle.serf_agent.specs.LentQueries.{least}
 use Rattle.serf_agent.proofs.lent_queries.least_deadline.Given as goal
 

@@ -1,7 +1,4 @@
-use Rattle.std.proofs.Common.{◌≡◌, ap, sym, ◌∙◌, Err}
-use Rattle.std.proofs.lemmas.Bool.{true≢false}
-use Rattle.serf_wire.specs.declared.encode.EncodeFault.{EncodeFault}
-use Rattle.serf_wire.specs.Parts.{query_of}
+use Rattle.serf_agent.proofs.Names.{◌≡◌, ap, sym, ◌∙◌, Err, true≢false, EncodeFault, query_of}
 use Rattle.serf_agent.proofs.WireLaws.{query-not_long}
 use Rattle.serf_agent.proofs.queries.packet_of.Goals as goal
 

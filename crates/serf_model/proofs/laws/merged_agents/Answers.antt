@@ -1,6 +1,5 @@
-use Rattle.std.proofs.Common.{refl}
+use Rattle.serf_model.proofs.Names.{refl, admission}
 use Rattle.std.specs.Prelude.{false}
-use Rattle.serf_agent.specs.Events.{admission}
 use Rattle.serf_model.proofs.CallsKept.{representable-received}
 use Rattle.serf_model.proofs.InvariantKept.{joined-spelled, runs-on, times-spelled}
 use Rattle.serf_model.proofs.laws.merged_agents.Goals as goal

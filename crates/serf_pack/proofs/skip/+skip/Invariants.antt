@@ -1,4 +1,4 @@
-use Rattle.std.proofs.Common.{◌≡◌, ◌≤◌, ◌-◌, ◌+◌, ◌*◌, length}
+use Rattle.serf_pack.proofs.Names.{◌≡◌, ◌≤◌, ◌-◌, ◌+◌, ◌*◌, length}
 use Rattle.serf_pack.specs.Reading.{value_at, items_at, pairs_at, rest_of}
 use Rattle.serf_pack.proofs.skip.+skip.Given as goal
 

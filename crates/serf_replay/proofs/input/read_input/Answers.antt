@@ -1,7 +1,4 @@
-use Rattle.std.proofs.Common.{◌≡◌, ◌≤◌, ◌++◌, length, take, drop, arith}
-use Rattle.std.proofs.lemmas.Grind.{common_steps}
-use Rattle.std.proofs.lemmas.List.{take-append-le}
-use Rattle.std.proofs.KnownBytes.{Consumes-trans}
+use Rattle.serf_replay.proofs.Names.{◌≡◌, ◌≤◌, ◌++◌, length, take, drop, arith, common_steps, take-append-le, Consumes-trans}
 use Rattle.serf_replay.proofs.input.read_input.Goals as goal
 
 pub returns-then-is_err-clause-bounded : goal.returns-then-is_err-clause-bounded

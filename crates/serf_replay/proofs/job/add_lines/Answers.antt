@@ -1,5 +1,4 @@
-use Rattle.std.proofs.Common.{ap, ◌∙◌, ◌++◌}
-use Rattle.std.proofs.lemmas.Result.{on_ok_weaker}
+use Rattle.serf_replay.proofs.Names.{ap, ◌∙◌, ◌++◌, on_ok_weaker}
 use Rattle.serf_replay.specs.Show.{action_text}
 use Rattle.serf_replay.proofs.ShownLaws.{shown-after}
 use Rattle.serf_replay.proofs.job.add_lines.Goals as goal

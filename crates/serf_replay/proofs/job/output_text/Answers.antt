@@ -1,7 +1,4 @@
-use Rattle.std.proofs.Common.{[], ap, sym, ◌∙◌}
-use Rattle.std.proofs.lemmas.List.{append-nil}
-use Rattle.serf_world.specs.Cluster.{run_of, trace_of}
-use Rattle.serf_world.specs.Trace.{turns_of}
+use Rattle.serf_replay.proofs.Names.{[], ap, sym, ◌∙◌, append-nil, run_of, trace_of, turns_of}
 use Rattle.serf_replay.specs.Line.{Parsed}
 use Rattle.serf_replay.specs.Schedule.{parsed_of, schedule_of}
 use Rattle.serf_replay.proofs.job.output_text.Goals as goal

@@ -1,9 +1,4 @@
-use Rattle.std.proofs.Common.{◌≡◌, ◌+◌, [], ◌∷◌, refl, sym, ap, ◌∙◌, map, length, length-append, arith}
-use Rattle.std.specs.List.{fold}
-use Rattle.std.specs.Vec.Iter.{into_iter_items}
-use Rattle.std.proofs.lemmas.Grind.{common_steps}
-use Rattle.std.proofs.lemmas.List.{append-nil}
-use Rattle.serf_world.specs.Cluster.{Run, after, run_of, start, step, trace_of}
+use Rattle.serf_replay.proofs.Names.{◌≡◌, ◌+◌, [], ◌∷◌, refl, sym, ap, ◌∙◌, map, length, length-append, arith, fold, into_iter_items, common_steps, append-nil, Run, after, run_of, start, step, trace_of}
 use Rattle.serf_replay.specs.Show.{actions_text, trace_text}
 use Rattle.serf_replay.proofs.job.run_text.Goals as goal
 

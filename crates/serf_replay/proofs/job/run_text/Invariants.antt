@@ -1,7 +1,4 @@
-use Rattle.std.proofs.Common.{◌≡◌, ◌+◌, length}
-use Rattle.std.specs.List.{fold}
-use Rattle.std.specs.Vec.Iter.{into_iter_items}
-use Rattle.serf_world.specs.Cluster.{Run, after, run_of}
+use Rattle.serf_replay.proofs.Names.{◌≡◌, ◌+◌, length, fold, into_iter_items, Run, after, run_of}
 use Rattle.serf_replay.specs.Running.{IsShown}
 use Rattle.serf_replay.proofs.job.run_text.Given as goal
 

@@ -1,4 +1,4 @@
-use Rattle.std.proofs.Common.{◌≡◌, ◌+◌, ◌≤◌, length, []}
+use Rattle.serf_replay.proofs.Names.{◌≡◌, ◌+◌, ◌≤◌, length, []}
 use Rattle.serf_replay.specs.Words.{words_of}
 use Rattle.serf_replay.specs.Line.{filters_from}
 use Rattle.serf_replay.proofs.line.filters.Given as goal

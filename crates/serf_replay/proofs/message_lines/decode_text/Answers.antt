@@ -1,5 +1,4 @@
-use Rattle.std.proofs.Common.{◌≡◌, rules}
-use Rattle.serf_wire.specs.Message.{message_of}
+use Rattle.serf_replay.proofs.Names.{◌≡◌, rules, message_of}
 use Rattle.serf_replay.proofs.message_lines.decode_text.Goals as goal
 
 -- a packet spells at most one message

@@ -1,6 +1,4 @@
-use Rattle.std.proofs.Common.{◌≡◌, ◌++◌}
-use Rattle.std.specs.List.{flat_map}
-use Rattle.serf_wire.specs.Lists.{texts_left}
+use Rattle.serf_replay.proofs.Names.{◌≡◌, ◌++◌, flat_map, texts_left}
 use Rattle.serf_replay.specs.TextParts.{hex_line}
 use Rattle.serf_replay.proofs.message_lines.put_hex_lines.Given as goal
 

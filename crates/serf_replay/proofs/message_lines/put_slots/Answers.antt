@@ -1,6 +1,4 @@
-use Rattle.std.proofs.Common.{arith}
-use Rattle.std.proofs.lemmas.Grind.{common_steps}
-use Rattle.serf_wire.specs.Lists.{slot_of}
+use Rattle.serf_replay.proofs.Names.{arith, common_steps, slot_of}
 use Rattle.serf_replay.proofs.SlotLemmas.{some_lines}
 use Rattle.serf_replay.proofs.message_lines.put_slots.Goals as goal
 

@@ -1,5 +1,4 @@
-use Rattle.std.proofs.Common.{◌≡◌, ◌++◌, ◌≤◌, vec_len}
-use Rattle.serf_wire.specs.Lists.{slots_left}
+use Rattle.serf_replay.proofs.Names.{◌≡◌, ◌++◌, ◌≤◌, vec_len, slots_left}
 use Rattle.serf_replay.specs.MessageText.{slots_lines}
 use Rattle.serf_replay.proofs.message_lines.put_slots.Given as goal
 

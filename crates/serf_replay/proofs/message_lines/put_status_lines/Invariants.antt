@@ -1,6 +1,4 @@
-use Rattle.std.proofs.Common.{◌≡◌, ◌++◌}
-use Rattle.std.specs.List.{flat_map}
-use Rattle.serf_wire.specs.Lists.{status_left}
+use Rattle.serf_replay.proofs.Names.{◌≡◌, ◌++◌, flat_map, status_left}
 use Rattle.serf_replay.specs.MessageText.{status_line}
 use Rattle.serf_replay.proofs.message_lines.put_status_lines.Given as goal
 

@@ -1,7 +1,4 @@
-use Rattle.std.proofs.Common.{◌≡◌, ◌≤◌, ◌+◌, ◌-◌, ◌++◌, ℕ, List, length, take, drop, sym, arith}
-use Rattle.std.proofs.lemmas.Grind.{common_steps}
-use Rattle.std.proofs.Math.Seq.{take-add}
-use Rattle.std.proofs.KnownBytes.{Appends-trans}
+use Rattle.serf_replay.proofs.Names.{◌≡◌, ◌≤◌, ◌+◌, ◌-◌, ◌++◌, ℕ, List, length, take, drop, sym, arith, common_steps, take-add, Appends-trans}
 use Rattle.serf_replay.proofs.output.write_output.Goals as goal
 
 -- the front of a text, and then the front of the rest

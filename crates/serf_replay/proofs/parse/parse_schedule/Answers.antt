@@ -1,5 +1,4 @@
-use Rattle.std.proofs.Common.{◌≡◌, Ok, arith}
-use Rattle.std.proofs.lemmas.Grind.{common_steps}
+use Rattle.serf_replay.proofs.Names.{◌≡◌, Ok, arith, common_steps}
 use Rattle.serf_replay.specs.Schedule.{parsed_of, schedule_of}
 use Rattle.serf_replay.proofs.SizedLaws.{sized-schedule}
 use Rattle.serf_replay.proofs.parse.parse_schedule.Goals as goal

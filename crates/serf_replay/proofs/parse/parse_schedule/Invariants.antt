@@ -1,5 +1,4 @@
-use Rattle.std.proofs.Common.{◌≡◌, ◌+◌, ◌≤◌, ◌==◌, length}
-use Rattle.std.specs.List.{slice_split}
+use Rattle.serf_replay.proofs.Names.{◌≡◌, ◌+◌, ◌≤◌, ◌==◌, length, slice_split}
 use Rattle.serf_replay.specs.Schedule.{after_lines, parsed_of, schedule_of}
 use Rattle.serf_replay.proofs.parse.parse_schedule.Given as goal
 

@@ -1,5 +1,4 @@
-use Rattle.std.proofs.Common.{◌≡◌, ◌++◌, take}
-use Rattle.std.specs.List.{flat_map}
+use Rattle.serf_replay.proofs.Names.{◌≡◌, ◌++◌, take, flat_map}
 use Rattle.serf_replay.specs.Show.{sent_line}
 use Rattle.serf_replay.proofs.show.put_sent_lines.Given as goal
 

@@ -1,6 +1,5 @@
-use Rattle.std.proofs.Common.{◌≡◌, ◌+◌, ◌++◌, drop}
+use Rattle.serf_replay.proofs.Names.{◌≡◌, ◌+◌, ◌++◌, drop, outcome_of}
 use Rattle.serf_replay.specs.Show.{actions_text, trace_text}
-use Rattle.serf_world.specs.Trace.{outcome_of}
 use Rattle.serf_replay.proofs.show.show_trace.Given as goal
 
 -- the actions so far, and then those that are left

@@ -1,4 +1,4 @@
-use Rattle.std.proofs.Common.{sym}
+use Rattle.serf_replay.proofs.Names.{sym}
 use Rattle.serf_replay.proofs.CutLemmas.{cut_some, cut_none}
 use Rattle.serf_replay.proofs.words.cut.Goals as goal
 

@@ -1,8 +1,4 @@
-use Rattle.std.proofs.Common.{◌≡◌, ◌≤◌, ◌+◌, ◌*◌, ◌<◌, true, sym, take, get_or, arith, length, rules, ◌∙◌, ap, Some}
-use Rattle.std.specs.Char.{is_ascii_digit}
-use Rattle.std.proofs.lemmas.Grind.{common_steps}
-use Rattle.std.proofs.lemmas.Int.Digits.{digits_value_more}
-use Rattle.std.proofs.lemmas.List.Folds.{list_all_more}
+use Rattle.serf_replay.proofs.Names.{◌≡◌, ◌≤◌, ◌+◌, ◌*◌, ◌<◌, true, sym, take, get_or, arith, length, rules, ◌∙◌, ap, Some, is_ascii_digit, common_steps, digits_value_more, list_all_more}
 use Rattle.serf_replay.proofs.NumberLemmas.{too_great, is_number, digit_is}
 use Rattle.serf_replay.proofs.words.number.Goals as goal
 

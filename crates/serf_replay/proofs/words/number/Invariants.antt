@@ -1,7 +1,4 @@
-use Rattle.std.proofs.Common.{◌≡◌, ◌<◌, true, take}
-use Rattle.std.specs.Char.{is_ascii_digit}
-use Rattle.std.specs.List.{list_all}
-use Rattle.std.specs.Str.Parse.{digits_value}
+use Rattle.serf_replay.proofs.Names.{◌≡◌, ◌<◌, true, take, is_ascii_digit, list_all, digits_value}
 use Rattle.serf_replay.proofs.words.number.Given as goal
 
 -- the bytes so far are digits, and write the value

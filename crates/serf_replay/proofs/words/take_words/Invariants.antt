@@ -1,4 +1,4 @@
-use Rattle.std.proofs.Common.{◌≡◌, ◌≤◌, ◌++◌, length, map}
+use Rattle.serf_replay.proofs.Names.{◌≡◌, ◌≤◌, ◌++◌, length, map}
 use Rattle.serf_replay.specs.Words.{words_of}
 use Rattle.serf_replay.proofs.words.take_words.Given as goal
 

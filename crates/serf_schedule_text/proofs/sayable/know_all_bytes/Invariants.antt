@@ -1,5 +1,4 @@
-use Rattle.std.proofs.Common.{All, take}
-use Rattle.hex.specs.Hex.{IsBytes}
+use Rattle.serf_schedule_text.proofs.Names.{All, take, IsBytes}
 use Rattle.serf_schedule_text.proofs.sayable.know_all_bytes.Given as goal
 
 abbrev pub invariant-loop-list : goal.invariant-loop-list

@@ -1,4 +1,4 @@
-use Rattle.std.proofs.Common.{All, take}
+use Rattle.serf_schedule_text.proofs.Names.{All, take}
 use Rattle.serf_schedule_text.specs.Sayable.{HasByteName}
 use Rattle.serf_schedule_text.proofs.whole.have_byte_names.Given as goal
 

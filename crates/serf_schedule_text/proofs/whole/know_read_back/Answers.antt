@@ -1,5 +1,4 @@
-use Rattle.std.proofs.Common.{All, subst}
-use Rattle.serf_replay.specs.Schedule.{parsed_of}
+use Rattle.serf_schedule_text.proofs.Names.{All, subst, parsed_of}
 use Rattle.serf_schedule_text.specs.Sayable.{HasByteName}
 use Rattle.serf_schedule_text.proofs.whole.know_read_back.Goals as goal
 

@@ -1,5 +1,4 @@
-use Rattle.std.proofs.Common.{◌≡◌, ◌++◌, take}
-use Rattle.std.specs.List.{flat_map}
+use Rattle.serf_schedule_text.proofs.Names.{◌≡◌, ◌++◌, take, flat_map}
 use Rattle.serf_schedule_text.specs.ScheduleText.{action_text}
 use Rattle.serf_schedule_text.proofs.whole.put_actions.Given as goal
 

@@ -1,6 +1,4 @@
-use Rattle.std.proofs.Common.{◌≡◌, ◌++◌, ◌∙◌, ap, arith, take}
-use Rattle.std.proofs.lemmas.Grind.{common_steps}
-use Rattle.serf_replay.specs.TextParts.{hex_text}
+use Rattle.serf_schedule_text.proofs.Names.{◌≡◌, ◌++◌, ◌∙◌, ap, arith, take, common_steps, hex_text}
 use Rattle.serf_schedule_text.proofs.LineLemmas.{spaced-map}
 use Rattle.serf_schedule_text.proofs.words.put_hex_words.Goals as goal
 

@@ -1,6 +1,4 @@
-use Rattle.std.proofs.Common.{◌≡◌, ◌++◌, codes, take}
-use Rattle.std.specs.List.{flat_map}
-use Rattle.serf_replay.specs.TextParts.{hex_text}
+use Rattle.serf_schedule_text.proofs.Names.{◌≡◌, ◌++◌, codes, take, flat_map, hex_text}
 use Rattle.serf_schedule_text.proofs.words.put_hex_words.Given as goal
 
 abbrev pub invariant-loop-list : goal.invariant-loop-list

@@ -1,5 +1,4 @@
-use Rattle.std.proofs.Common.{◌≡◌, ◌∙◌, ◌^◌, ◌-◌, ◌<◌, min, drop, [], ap, sym, arith, List, ℕ}
-use Rattle.std.proofs.lemmas.Grind.{common_steps}
+use Rattle.serf_snap.proofs.Names.{◌≡◌, ◌∙◌, ◌^◌, ◌-◌, ◌<◌, min, drop, [], ap, sym, arith, List, ℕ, common_steps}
 use Rattle.serf_snap.specs.Clocks.{read_on}
 use Rattle.serf_snap.proofs.ClockLaws.{read_on-step}
 use Rattle.serf_snap.proofs.clocks.number_of.Goals as goal

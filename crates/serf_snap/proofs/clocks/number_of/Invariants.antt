@@ -1,4 +1,4 @@
-use Rattle.std.proofs.Common.{◌≡◌, ◌-◌, ◌^◌, ◌<◌, min, drop}
+use Rattle.serf_snap.proofs.Names.{◌≡◌, ◌-◌, ◌^◌, ◌<◌, min, drop}
 use Rattle.serf_snap.specs.Clocks.{read_on}
 use Rattle.serf_snap.proofs.clocks.number_of.Given as goal
 

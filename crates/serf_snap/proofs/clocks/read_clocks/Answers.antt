@@ -1,5 +1,5 @@
 use Rattle.serf_snap.specs.declared.kind.ClockKind.TheVariants.{Member, Event, Query}
-use Rattle.std.proofs.Common.{refl}
+use Rattle.serf_snap.proofs.Names.{refl}
 use Rattle.serf_snap.proofs.ClockLaws.{last_clock-below, reads-line, reads-byte, reads-end}
 use Rattle.serf_snap.proofs.clocks.read_clocks.Goals.{then-byte-eq10, else-byte-eq10}
 use Rattle.serf_snap.proofs.clocks.read_clocks.Goals as goal

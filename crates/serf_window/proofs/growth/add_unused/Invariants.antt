@@ -1,5 +1,4 @@
-use Rattle.std.proofs.Common.{◌≡◌, ◌+◌, ◌++◌, replicate, vec_len, vec_capacity}
-use Rattle.serf_wire.specs.Buffers.{unused_slot}
+use Rattle.serf_window.proofs.Names.{◌≡◌, ◌+◌, ◌++◌, replicate, vec_len, vec_capacity, unused_slot}
 use Rattle.serf_window.proofs.growth.add_unused.Given as goal
 
 abbrev pub invariant-loop : goal.invariant-loop

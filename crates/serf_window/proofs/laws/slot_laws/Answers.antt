@@ -1,5 +1,4 @@
-use Rattle.std.proofs.Common.{ℕ}
-use Rattle.serf_wire.specs.declared.texts.EventBody.{EventBody}
+use Rattle.serf_window.proofs.Names.{ℕ, EventBody}
 use Rattle.serf_window.proofs.WindowLaws as laws
 use Rattle.serf_window.proofs.laws.slot_laws.Goals as goal
 

@@ -1,4 +1,4 @@
-use Rattle.std.proofs.Common.{arith}
+use Rattle.serf_wire.proofs.Names.{arith}
 use Rattle.serf_wire.proofs.FastReading.{after_byte}
 use Rattle.serf_wire.proofs.FastLists.{nil_texts, no_texts}
 use Rattle.serf_wire.proofs.compact.read_no_texts.Goals as goal

@@ -1,4 +1,4 @@
-use Rattle.std.proofs.Common.{sym, subst, ◌∙◌}
+use Rattle.serf_wire.proofs.Names.{sym, subst, ◌∙◌}
 use Rattle.serf_wire.specs.Message.{Message, push_pull}
 use Rattle.serf_wire.specs.Parts.{push_pull_of}
 use Rattle.serf_wire.specs.Canonical.{without_empty_slots}

@@ -1,4 +1,4 @@
-use Rattle.std.proofs.Common.{sym, subst, ◌∙◌}
+use Rattle.serf_wire.proofs.Names.{sym, subst, ◌∙◌}
 use Rattle.serf_wire.specs.Message.{Message, query}
 use Rattle.serf_wire.specs.Parts.{query_of}
 use Rattle.serf_wire.specs.Spells.{Spells}

@@ -1,4 +1,4 @@
-use Rattle.std.proofs.Common.{sym, subst, ◌∙◌, arith}
+use Rattle.serf_wire.proofs.Names.{sym, subst, ◌∙◌, arith}
 use Rattle.serf_wire.specs.Message.{Message, response_of}
 use Rattle.serf_wire.specs.Spells.{Spells}
 use Rattle.serf_wire.proofs.Short.{short_response_texts}

@@ -1,4 +1,4 @@
-use Rattle.std.proofs.Common.{sym, subst, ◌∙◌}
+use Rattle.serf_wire.proofs.Names.{sym, subst, ◌∙◌}
 use Rattle.serf_wire.specs.Message.{Message, user_event_of}
 use Rattle.serf_wire.specs.Spells.{Spells}
 use Rattle.serf_wire.proofs.Short.{short_event_texts}

@@ -1,6 +1,4 @@
-use Rattle.std.proofs.Common.{◌≡◌}
-use Rattle.serf_pack.specs.View.{tree_of, pairs_of}
-use Rattle.serf_pack.specs.Walk.{pairs_left}
+use Rattle.serf_wire.proofs.Names.{◌≡◌, tree_of, pairs_of, pairs_left}
 use Rattle.serf_wire.specs.Faults.{first, items_faults, status_time_faults}
 use Rattle.serf_wire.proofs.faults.status_fault.Given as goal
 

@@ -1,7 +1,4 @@
-use Rattle.std.proofs.Common.{◌≡◌}
-use Rattle.std.specs.List.{list_any}
-use Rattle.std.specs.Str.{bytes_eq}
-use Rattle.serf_pack.specs.View.{tree_of}
+use Rattle.serf_wire.proofs.Names.{◌≡◌, list_any, bytes_eq, tree_of}
 use Rattle.serf_wire.specs.Lists.{texts_left}
 use Rattle.serf_wire.specs.Lookups.{text_in, list_in}
 use Rattle.serf_wire.proofs.filter.has_text.Given as goal

@@ -1,5 +1,4 @@
-use Rattle.std.proofs.Common.{sym, ◌∙◌}
-use Rattle.serf_pack.specs.View.{tree_of}
+use Rattle.serf_wire.proofs.Names.{sym, ◌∙◌, tree_of}
 use Rattle.serf_wire.proofs.Passing.{names_read, names_faulty}
 use Rattle.serf_wire.proofs.filter.names.Goals as goal
 

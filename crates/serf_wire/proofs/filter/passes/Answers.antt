@@ -1,4 +1,4 @@
-use Rattle.std.proofs.Common.{sym, ◌∙◌}
+use Rattle.serf_wire.proofs.Names.{sym, ◌∙◌}
 use Rattle.serf_wire.proofs.Passing.{passes_from, passes_is}
 use Rattle.serf_wire.proofs.filter.passes.Goals as goal
 

@@ -1,6 +1,4 @@
-use Rattle.std.proofs.Common.{◌≡◌, ◌≤◌, ◌*◌, ◌^◌, take, length}
-use Rattle.std.specs.List.{flat_map}
-use Rattle.serf_pack.specs.Canonical.{raw_bytes}
+use Rattle.serf_wire.proofs.Names.{◌≡◌, ◌≤◌, ◌*◌, ◌^◌, take, length, flat_map, raw_bytes}
 use Rattle.serf_wire.proofs.length.filters_len.Given as goal
 
 abbrev pub invariant-loop-filter : goal.invariant-loop-filter

@@ -1,4 +1,4 @@
-use Rattle.std.proofs.Common.{rules}
+use Rattle.serf_wire.proofs.Names.{rules}
 use Rattle.serf_wire.proofs.Mapped.{long_parts}
 use Rattle.serf_wire.proofs.long.is_long_push_pull.Goals as goal
 

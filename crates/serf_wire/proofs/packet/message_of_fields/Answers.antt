@@ -1,5 +1,4 @@
-use Rattle.std.proofs.Common.{codes, refl, ap, subst, ◌∙◌}
-use Rattle.std.proofs.Math.Facts.{to_z-of_z}
+use Rattle.serf_wire.proofs.Names.{codes, refl, ap, subst, ◌∙◌, to_z-of_z}
 use mir.Val.{SFits}
 use mir.Syntax.{w64}
 use Rattle.serf_wire.specs.declared.layout.Kind.TheVariants as kinds

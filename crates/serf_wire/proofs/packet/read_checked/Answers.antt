@@ -1,4 +1,4 @@
-use Rattle.std.proofs.Common.{arith}
+use Rattle.serf_wire.proofs.Names.{arith}
 use Rattle.serf_wire.proofs.packet.read_checked.Goals as goal
 
 pub shift-requires : goal.shift-requires

@@ -1,5 +1,4 @@
-use Rattle.std.proofs.Common.{◌≡◌, ◌++◌, take}
-use Rattle.std.specs.List.{flat_map}
+use Rattle.serf_wire.proofs.Names.{◌≡◌, ◌++◌, take, flat_map}
 use Rattle.serf_wire.specs.Canonical.{event_bytes}
 use Rattle.serf_wire.proofs.put.put_events.Given as goal
 

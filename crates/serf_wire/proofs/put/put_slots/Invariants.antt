@@ -1,5 +1,4 @@
-use Rattle.std.proofs.Common.{◌≡◌, ◌++◌, take, true, nat_lt}
-use Rattle.std.specs.List.{flat_map, list_all}
+use Rattle.serf_wire.proofs.Names.{◌≡◌, ◌++◌, take, true, nat_lt, flat_map, list_all}
 use Rattle.serf_wire.specs.Canonical.{slot_bytes}
 use Rattle.serf_wire.specs.Parts.{slot_content}
 use Rattle.serf_wire.proofs.put.put_slots.Given as goal

@@ -1,6 +1,4 @@
-use Rattle.std.proofs.Common.{◌≡◌, ◌++◌, take}
-use Rattle.std.specs.List.{flat_map}
-use Rattle.serf_pack.specs.Canonical.{raw_bytes}
+use Rattle.serf_wire.proofs.Names.{◌≡◌, ◌++◌, take, flat_map, raw_bytes}
 use Rattle.serf_wire.proofs.put.put_texts.Given as goal
 
 abbrev pub invariant-loop-text : goal.invariant-loop-text

@@ -1,8 +1,6 @@
-use Rattle.std.proofs.Common.{◌≡◌, ℕ, ℤ, List, ◌++◌, Result, Ok, Err, OnOk, ap, ◌∙◌, append_assoc, codes}
-use Rattle.std.proofs.Math.Facts.{to_z-of_z}
+use Rattle.serf_wire.proofs.Names.{◌≡◌, ℕ, ℤ, List, ◌++◌, Result, Ok, Err, OnOk, ap, ◌∙◌, append_assoc, codes, to_z-of_z, raw_bytes, int_bytes}
 use mir.Val.{SFits}
 use mir.Syntax.{w64}
-use Rattle.serf_pack.specs.Canonical.{raw_bytes, int_bytes}
 use Rattle.serf_wire.proofs.Ranged.{fits_signed}
 use Rattle.serf_wire.proofs.put.put_timeout_field.Goals as goal
 

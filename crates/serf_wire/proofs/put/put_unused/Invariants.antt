@@ -1,5 +1,4 @@
-use Rattle.std.proofs.Common.{◌≡◌, ◌++◌, replicate}
-use Rattle.std.specs.List.{flat_map}
+use Rattle.serf_wire.proofs.Names.{◌≡◌, ◌++◌, replicate, flat_map}
 use Rattle.serf_wire.specs.Buffers.{unused_slot}
 use Rattle.serf_wire.specs.Canonical.{slot_bytes}
 use Rattle.serf_wire.specs.Parts.{slot_content}

@@ -1,6 +1,4 @@
-use Rattle.std.proofs.Common.{◌≡◌, ◌-◌, ◌∷◌, ℕ, length, arith, subst, sym, take}
-use Rattle.serf_pack.specs.Tree.{Tree}
-use Rattle.serf_pack.specs.Walk.{items_left, PacksAlone}
+use Rattle.serf_wire.proofs.Names.{◌≡◌, ◌-◌, ◌∷◌, ℕ, length, arith, subst, sym, take, Tree, items_left, PacksAlone}
 use Rattle.serf_wire.specs.Fields.{event_body}
 use Rattle.serf_wire.specs.Lists.{event_of}
 use Rattle.serf_wire.specs.Lookups.{event_body_in}

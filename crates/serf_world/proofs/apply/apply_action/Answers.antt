@@ -1,7 +1,4 @@
-use Rattle.std.proofs.Common.{ap, sym, ◌∙◌}
-use Rattle.std.specs.Prelude.{slice_get}
-use Rattle.serf_agent.specs.View.{view_of}
-use Rattle.serf_model.specs.Cluster.{delivers, merges_given}
+use Rattle.serf_world.proofs.Names.{ap, sym, ◌∙◌, slice_get, view_of, delivers, merges_given}
 use Rattle.serf_world.specs.View.{NodeState}
 use Rattle.serf_world.proofs.NodeLaws.{is-applied, does-one, does-respond, responds-agent}
 use Rattle.serf_world.proofs.apply.apply_action.Goals as goal

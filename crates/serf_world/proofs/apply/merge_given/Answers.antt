@@ -1,5 +1,4 @@
-use Rattle.std.proofs.Common.{◌≡◌, None}
-use Rattle.std.specs.Prelude.{slice_get}
+use Rattle.serf_world.proofs.Names.{◌≡◌, None, slice_get}
 use Rattle.serf_world.proofs.NodeLaws.{past-none}
 use Rattle.serf_world.proofs.apply.merge_given.Goals as goal
 

@@ -1,6 +1,4 @@
-use Rattle.serf_agent.specs.States.{compact}
-use Rattle.serf_model.specs.declared.line.Answer.TheVariants.{Compacted}
-use Rattle.serf_model.specs.Cluster.{note_gives}
+use Rattle.serf_world.proofs.Names.{compact, Compacted, note_gives}
 use Rattle.serf_world.proofs.NodeLaws.{does-call}
 use Rattle.serf_world.proofs.calls.compact_at.Goals as goal
 

@@ -1,6 +1,4 @@
-use Rattle.serf_window.specs.Texts.{event_of}
-use Rattle.serf_agent.specs.Events.{fire}
-use Rattle.serf_model.specs.Cluster.{fire_gives}
+use Rattle.serf_world.proofs.Names.{event_of, fire, fire_gives}
 use Rattle.serf_world.proofs.NodeLaws.{does-call}
 use Rattle.serf_world.proofs.calls.fire_at.Goals as goal
 

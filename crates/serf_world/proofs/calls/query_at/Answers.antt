@@ -1,5 +1,4 @@
-use Rattle.serf_agent.specs.Queries.{fire_query}
-use Rattle.serf_model.specs.Cluster.{query_gives}
+use Rattle.serf_world.proofs.Names.{fire_query, query_gives}
 use Rattle.serf_world.proofs.NodeLaws.{does-call}
 use Rattle.serf_world.proofs.calls.query_at.Goals as goal
 

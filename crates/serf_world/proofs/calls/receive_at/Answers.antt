@@ -1,5 +1,4 @@
-use Rattle.serf_agent.specs.Receive.{receive}
-use Rattle.serf_model.specs.Cluster.{receive_gives}
+use Rattle.serf_world.proofs.Names.{receive, receive_gives}
 use Rattle.serf_world.proofs.NodeLaws.{does-call}
 use Rattle.serf_world.proofs.calls.receive_at.Goals as goal
 

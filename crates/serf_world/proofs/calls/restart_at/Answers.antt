@@ -1,9 +1,4 @@
-use Rattle.std.proofs.Common.{◌≡◌, ◌++◌, [], ℕ, List, unwrap_or, subst, sym, ap, ◌∙◌}
-use Rattle.serf_agent.specs.Ideal.{IdealAgent}
-use Rattle.serf_agent.specs.Restart.{IsInText}
-use Rattle.serf_agent.specs.View.{ConcreteState, view_of}
-use Rattle.serf_model.specs.declared.line.Answer.TheVariants.{Restarted}
-use Rattle.serf_model.specs.Cluster.{only, reopened, text_after}
+use Rattle.serf_world.proofs.Names.{◌≡◌, ◌++◌, [], ℕ, List, unwrap_or, subst, sym, ap, ◌∙◌, IdealAgent, IsInText, ConcreteState, view_of, Restarted, only, reopened, text_after}
 use Rattle.serf_world.proofs.calls.restart_at.Goals as goal
 
 pub returns : goal.returns

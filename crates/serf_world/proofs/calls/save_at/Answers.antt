@@ -1,6 +1,4 @@
-use Rattle.serf_agent.specs.States.{save}
-use Rattle.serf_model.specs.declared.line.Answer.TheVariants.{Saved}
-use Rattle.serf_model.specs.Cluster.{note_gives}
+use Rattle.serf_world.proofs.Names.{save, Saved, note_gives}
 use Rattle.serf_world.proofs.NodeLaws.{does-call}
 use Rattle.serf_world.proofs.calls.save_at.Goals as goal
 

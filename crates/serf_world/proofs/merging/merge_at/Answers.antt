@@ -1,7 +1,4 @@
-use Rattle.std.proofs.Common.{◌≡◌, Some, None, subst, sym, ap, ◌∙◌}
-use Rattle.serf_wire.specs.Decoded.{decoded}
-use Rattle.serf_agent.specs.States.{Merges, fault_in, merge_refusal}
-use Rattle.serf_agent.specs.View.{ConcreteState, AgentState}
+use Rattle.serf_world.proofs.Names.{◌≡◌, Some, None, subst, sym, ap, ◌∙◌, decoded, Merges, fault_in, merge_refusal, ConcreteState, AgentState}
 use Rattle.serf_world.proofs.MergeLaws.{does-merge, runs-merge}
 use Rattle.serf_world.proofs.merging.merge_at.Goals as goal
 

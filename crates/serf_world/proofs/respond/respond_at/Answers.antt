@@ -1,4 +1,4 @@
-use Rattle.std.proofs.Common.{◌<◌, arith, length}
+use Rattle.serf_world.proofs.Names.{◌<◌, arith, length}
 use Rattle.serf_world.proofs.NodeLaws.{responds-there}
 use Rattle.serf_world.proofs.respond.respond_at.Goals as goal
 

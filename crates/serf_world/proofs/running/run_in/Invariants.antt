@@ -1,7 +1,4 @@
-use Rattle.std.proofs.Common.{◌≡◌, [], take}
-use Rattle.std.specs.List.{fold}
-use Rattle.serf_model.specs.Cluster.{Run, after}
-use Rattle.serf_model.specs.Ready.{AreRepresentable}
+use Rattle.serf_world.proofs.Names.{◌≡◌, [], take, fold, Run, after, AreRepresentable}
 use Rattle.serf_world.specs.View.{IsAt, IsViewed}
 use Rattle.serf_world.proofs.running.run_in.Given as goal
 

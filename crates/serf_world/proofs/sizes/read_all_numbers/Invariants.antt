@@ -1,7 +1,4 @@
-use Rattle.std.proofs.Common.{ℕ, ◌<◌}
-use Rattle.std.specs.Prelude.{slice_index_or}
-use Rattle.serf_model.specs.declared.action.Action.{Action}
-use Rattle.serf_model.specs.Sizes.{HasSizes}
+use Rattle.serf_world.proofs.Names.{ℕ, ◌<◌, slice_index_or, Action, HasSizes}
 use Rattle.serf_world.proofs.sizes.read_all_numbers.Given as goal
 
 -- the actions so far have their sizes

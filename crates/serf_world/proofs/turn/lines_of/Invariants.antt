@@ -1,6 +1,4 @@
-use Rattle.std.proofs.Common.{◌≡◌, ◌++◌, map}
-use Rattle.std.specs.Vec.Iter.{into_iter_items}
-use Rattle.serf_model.specs.Cluster.{event_line}
+use Rattle.serf_world.proofs.Names.{◌≡◌, ◌++◌, map, into_iter_items, event_line}
 use Rattle.serf_world.proofs.turn.lines_of.Given as goal
 
 -- the lines so far, and those of the events that are left

@@ -1,5 +1,4 @@
-use Rattle.std.proofs.Common.{◌≡◌, ◌+◌, ◌++◌, drop}
-use Rattle.serf_model.specs.Cluster.{numbers_from}
+use Rattle.serf_world.proofs.Names.{◌≡◌, ◌+◌, ◌++◌, drop, numbers_from}
 use Rattle.serf_world.proofs.turn.numbers_of.Given as goal
 
 -- the numbers so far, and those of the packets that are left

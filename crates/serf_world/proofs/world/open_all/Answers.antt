@@ -1,10 +1,4 @@
-use Rattle.std.proofs.Common.{◌≡◌, List, true, subst, arith}
-use Rattle.std.specs.List.{AllByRecursion}
-use Rattle.std.proofs.lemmas.Grind.{common_steps}
-use Rattle.serf_agent.specs.declared.config.Config.{Config}
-use Rattle.serf_agent.specs.Config.{is_sound}
-use Rattle.serf_agent.specs.View.{view_of}
-use Rattle.serf_model.specs.Cluster.{opened_first, first_node}
+use Rattle.serf_world.proofs.Names.{◌≡◌, List, true, subst, arith, AllByRecursion, common_steps, Config, is_sound, view_of, opened_first, first_node}
 use Rattle.serf_world.specs.View.{node_of}
 use Rattle.serf_world.proofs.world.open_all.Goals as goal
 

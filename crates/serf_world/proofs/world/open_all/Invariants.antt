@@ -1,8 +1,4 @@
-use Rattle.std.proofs.Common.{◌≡◌, ◌++◌, map, true}
-use Rattle.std.specs.List.{AllByRecursion}
-use Rattle.std.specs.Vec.Iter.{into_iter_items}
-use Rattle.serf_agent.specs.Config.{is_sound}
-use Rattle.serf_model.specs.Cluster.{first_node}
+use Rattle.serf_world.proofs.Names.{◌≡◌, ◌++◌, map, true, AllByRecursion, into_iter_items, is_sound, first_node}
 use Rattle.serf_world.specs.View.{node_of}
 use Rattle.serf_world.proofs.world.open_all.Given as goal
 

@@ -1,6 +1,4 @@
-use Rattle.std.proofs.Common.{arith, ◌≡◌, ℕ, ◌≤◌, ◌+◌, length, nat_lt, Bool, false, cond, Some, ap, sym, ◌∙◌}
-use Rattle.std.proofs.lemmas.Bool.{le-ltb}
-use Rattle.serf_window.specs.Texts.{event_of, same_texts}
+use Rattle.serf_agent.proofs.Names.{arith, ◌≡◌, ℕ, ◌≤◌, ◌+◌, length, nat_lt, Bool, false, cond, Some, ap, sym, ◌∙◌, le-ltb, event_of, same_texts}
 use Rattle.serf_agent.specs.declared.outcome.Reason.TheVariants.{Oversize}
 use Rattle.serf_agent.specs.Tracks.{track_reason}
 use Rattle.serf_agent.specs.View.{ConcreteState}

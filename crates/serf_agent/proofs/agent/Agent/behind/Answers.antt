@@ -1,8 +1,4 @@
-use Rattle.std.proofs.Common.{◌≡◌, ◌<◌, ℕ, List, [], length, ap, sym, subst, ◌∙◌}
-use Rattle.std.specs.Prelude.{All}
-use Rattle.std.proofs.lemmas.List.Elements.{All-nil}
-use Rattle.serf_wire.specs.declared.texts.EventBody.{EventBody}
-use Rattle.serf_window.specs.Window.{WindowOf}
+use Rattle.serf_agent.proofs.Names.{◌≡◌, ◌<◌, ℕ, List, [], length, ap, sym, subst, ◌∙◌, All, All-nil, EventBody, WindowOf}
 use Rattle.serf_agent.specs.declared.open_query.OpenQuery.{OpenQuery}
 use Rattle.serf_agent.proofs.agent.Agent.behind.Goals as goal
 

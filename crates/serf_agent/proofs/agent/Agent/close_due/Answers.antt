@@ -1,5 +1,5 @@
-use Rattle.std.proofs.Common.{◌≡◌, ◌<◌, ℕ, List, All, filter, length, not, ap, sym, subst, ◌∙◌}
-use Rattle.std.proofs.lemmas.List.Elements.{All-filter}
+use Rattle.serf_agent.proofs.Names.{◌≡◌, ◌<◌, ℕ, List, filter, length, not, ap, sym, subst, ◌∙◌, All-filter}
+use Rattle.std.proofs.Common.{All}
 use Rattle.serf_agent.specs.declared.open_query.OpenQuery.{OpenQuery}
 use Rattle.serf_agent.specs.Queries.{is_due}
 use Rattle.serf_agent.specs.View.{AgentState, ConcreteState}

@@ -1,6 +1,4 @@
-use Rattle.std.proofs.Common.{ap, sym, subst, ◌∙◌}
-use Rattle.serf_snap.specs.Device.{Device}
-use Rattle.serf_snap.specs.Notes.{SnapshotState, SnapshotView}
+use Rattle.serf_agent.proofs.Names.{ap, sym, subst, ◌∙◌, Device, SnapshotState, SnapshotView}
 use Rattle.serf_agent.specs.Inside.{concrete_of}
 use Rattle.serf_agent.specs.States.{compact}
 use Rattle.serf_agent.specs.Steps.{Steps}

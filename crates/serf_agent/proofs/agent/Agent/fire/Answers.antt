@@ -1,8 +1,5 @@
-use Rattle.std.proofs.Common.{◌≡◌, ◌<◌, ◌-◌, ◌^◌, ℕ, ap, sym, subst, refl, ◌∙◌, Ok, Err}
-use Rattle.serf_window.specs.Texts.{event_of}
+use Rattle.serf_agent.proofs.Names.{◌≡◌, ◌<◌, ◌-◌, ◌^◌, ℕ, ap, sym, subst, refl, ◌∙◌, Ok, Err, event_of, clock_line, Kept, Failed, noted, written}
 use Rattle.serf_snap.specs.declared.kind.ClockKind.TheVariants as kinds
-use Rattle.serf_snap.specs.Clocks.{clock_line}
-use Rattle.serf_snap.specs.Notes.{Kept, Failed, noted, written}
 use Rattle.serf_agent.specs.Calls.{MayNote}
 use Rattle.serf_agent.specs.Devices.{FailsLine, device_noted}
 use Rattle.serf_agent.specs.declared.outcome.LineFault.{LineFault}

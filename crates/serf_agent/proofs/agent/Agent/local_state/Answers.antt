@@ -1,10 +1,4 @@
-use Rattle.std.proofs.Common.{◌≡◌, ◌≢◌, ℕ, List, map, false, true, ap, sym, refl, ◌∙◌, Ok, Err}
-use Rattle.serf_wire.specs.declared.encode.EncodeFault.{EncodeFault}
-use Rattle.serf_wire.specs.Buffers.{slots_lent}
-use Rattle.serf_wire.specs.Lists.{status_of}
-use Rattle.serf_wire.specs.Message.{PushPull}
-use Rattle.serf_window.specs.Window.{SlotOf}
-use Rattle.serf_wire.specs.declared.texts.EventBody.{EventBody}
+use Rattle.serf_agent.proofs.Names.{◌≡◌, ◌≢◌, ℕ, List, map, false, true, ap, sym, refl, ◌∙◌, Ok, Err, EncodeFault, slots_lent, status_of, PushPull, SlotOf, EventBody}
 use Rattle.serf_agent.specs.Inside.{concrete_of}
 use Rattle.serf_agent.specs.States.{slot_sent}
 use Rattle.serf_agent.specs.View.{ConcreteState}

@@ -1,6 +1,4 @@
-use Rattle.std.proofs.Common.{◌≡◌, None, Some, Ok, Err, sym, subst, ◌∙◌}
-use Rattle.serf_wire.specs.Message.{PushPull}
-use Rattle.serf_snap.specs.Device.{Device}
+use Rattle.serf_agent.proofs.Names.{◌≡◌, None, Some, Ok, Err, sym, subst, ◌∙◌, PushPull, Device}
 use Rattle.serf_agent.specs.Lent.{push_pull_in}
 use Rattle.serf_agent.specs.Merging.{Received}
 use Rattle.serf_agent.specs.States.{Merges, events_of, joined}

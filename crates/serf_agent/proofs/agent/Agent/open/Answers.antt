@@ -1,5 +1,4 @@
-use Rattle.std.proofs.Common.{rules, true, ◌≡◌, ◌<◌, ◌-◌, ◌^◌, subst, refl, ap, ◌∙◌}
-use Rattle.serf_snap.specs.Notes.{SnapshotView, opened}
+use Rattle.serf_agent.proofs.Names.{rules, true, ◌≡◌, ◌<◌, ◌-◌, ◌^◌, subst, refl, ap, ◌∙◌, SnapshotView, opened}
 use Rattle.serf_agent.specs.Config.{is_sound}
 use Rattle.serf_agent.specs.Inside.{first_concrete}
 use Rattle.serf_agent.specs.Restart.{unopened}

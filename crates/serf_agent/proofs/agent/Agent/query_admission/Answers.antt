@@ -1,5 +1,4 @@
-use Rattle.std.proofs.Common.{◌≡◌, ℕ, ap, ◌∙◌}
-use Rattle.serf_window.specs.Queries.{same_id}
+use Rattle.serf_agent.proofs.Names.{◌≡◌, ℕ, ap, ◌∙◌, same_id}
 use Rattle.serf_agent.specs.Tracks.{track_reason}
 use Rattle.serf_agent.specs.View.{ConcreteState}
 use Rattle.serf_agent.proofs.agent.Agent.query_admission.Goals as goal

@@ -1,4 +1,4 @@
-use Rattle.std.proofs.Common.{Err, ap, sym, refl, ◌∙◌}
+use Rattle.serf_agent.proofs.Names.{Err, ap, sym, refl, ◌∙◌}
 use Rattle.serf_agent.specs.declared.outcome.ReceiveFault.TheVariants.{Wire}
 use Rattle.serf_agent.specs.View.{AgentState, ConcreteState}
 use Rattle.serf_agent.proofs.StepLaws.{steps-answers, steps-receive}

@@ -1,9 +1,5 @@
-use Rattle.std.proofs.Common.{ap, sym, subst, refl, ◌∙◌, Ok, Err}
-use Rattle.serf_window.specs.Texts.{event_of}
-use Rattle.serf_window.specs.Window.{WindowOf}
-use Rattle.serf_wire.specs.declared.texts.EventBody.{EventBody}
+use Rattle.serf_agent.proofs.Names.{ap, sym, subst, refl, ◌∙◌, Ok, Err, event_of, WindowOf, EventBody, Kept, Failed}
 use Rattle.serf_snap.specs.declared.kind.ClockKind.TheVariants as kinds
-use Rattle.serf_snap.specs.Notes.{Kept, Failed}
 use Rattle.serf_agent.specs.Calls.{MayNote}
 use Rattle.serf_agent.specs.Devices.{device_noted}
 use Rattle.serf_agent.specs.declared.outcome.EventOut.{EventOut}

@@ -1,8 +1,5 @@
-use Rattle.std.proofs.Common.{◌∷◌, [], List, ap, sym, subst, refl, ◌∙◌}
-use Rattle.serf_wire.specs.declared.lists.EventViews.{EventViews}
-use Rattle.serf_wire.specs.declared.texts.EventBody.{EventBody}
-use Rattle.serf_wire.specs.Lists.{event_of, events_left}
-use Rattle.serf_window.specs.Window.{TimedEntry}
+use Rattle.serf_agent.proofs.Names.{◌∷◌, [], List, ap, sym, subst, refl, ◌∙◌, EventViews, EventBody, events_left, TimedEntry}
+use Rattle.serf_wire.specs.Lists.{event_of}
 use Rattle.serf_agent.specs.Merging.{HasReceived}
 use Rattle.serf_agent.specs.States.{at_time}
 use Rattle.serf_agent.specs.View.{ConcreteState}

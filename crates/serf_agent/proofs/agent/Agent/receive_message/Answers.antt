@@ -1,5 +1,4 @@
-use Rattle.std.proofs.Common.{Result, Ok, ap, sym, subst, refl}
-use Rattle.serf_wire.specs.Message.{Message, message_of}
+use Rattle.serf_agent.proofs.Names.{Result, Ok, ap, sym, subst, refl, Message, message_of}
 use Rattle.serf_agent.specs.declared.outcome.Outcome.{Outcome}
 use Rattle.serf_agent.specs.declared.outcome.Outcome.TheVariants as outcomes
 use Rattle.serf_agent.specs.declared.outcome.ReceiveFault.{ReceiveFault}

@@ -1,6 +1,4 @@
-use Rattle.std.proofs.Common.{ap, sym, refl, ◌∙◌}
-use Rattle.serf_window.specs.Window.{WindowOf}
-use Rattle.serf_wire.specs.declared.texts.EventBody.{EventBody}
+use Rattle.serf_agent.proofs.Names.{ap, sym, refl, ◌∙◌, WindowOf, EventBody}
 use Rattle.serf_wire.specs.Lists.{event_of}
 use Rattle.serf_agent.specs.View.{AgentState, ConcreteState}
 use Rattle.serf_agent.proofs.MergeLaws.{goes-ignored, received-ignored}

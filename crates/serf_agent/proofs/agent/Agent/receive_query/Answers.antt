@@ -1,8 +1,5 @@
-use Rattle.std.proofs.Common.{ℕ, List, cond, Some, None, not, ap, sym, subst, refl, ◌∙◌, Ok, Err}
-use Rattle.serf_window.specs.Window.{WindowOf}
-use Rattle.serf_wire.specs.Lists.{texts_left}
+use Rattle.serf_agent.proofs.Names.{ℕ, List, cond, Some, None, not, ap, sym, subst, refl, ◌∙◌, Ok, Err, WindowOf, texts_left, Kept, Failed}
 use Rattle.serf_snap.specs.declared.kind.ClockKind.TheVariants as kinds
-use Rattle.serf_snap.specs.Notes.{Kept, Failed}
 use Rattle.serf_agent.specs.Calls.{MayNote}
 use Rattle.serf_agent.specs.Devices.{device_noted}
 use Rattle.serf_agent.specs.declared.outcome.LineFault.{LineFault}

@@ -1,5 +1,5 @@
-use Rattle.std.proofs.Common.{◌≡◌, ◌<◌, ℕ, List, All, Option, Some, None, IfSome, false, nat_eq, ap, sym, subst, ◌∙◌, Ok}
-use Rattle.std.specs.Option.{option_copied}
+use Rattle.serf_agent.proofs.Names.{◌≡◌, ◌<◌, ℕ, List, Option, Some, None, IfSome, false, nat_eq, ap, sym, subst, ◌∙◌, Ok, option_copied}
+use Rattle.std.proofs.Common.{All}
 use Rattle.serf_agent.specs.declared.open_query.OpenQuery.{OpenQuery}
 use Rattle.serf_agent.specs.declared.outcome.Outcome.{Outcome}
 use Rattle.serf_agent.specs.Lent.{response_in}

@@ -1,6 +1,4 @@
-use Rattle.std.proofs.Common.{[], Ok, ap, sym, subst, refl, ◌∙◌}
-use Rattle.serf_wire.specs.declared.lists.SlotView.{SlotView}
-use Rattle.serf_wire.specs.Lists.{slot_of}
+use Rattle.serf_agent.proofs.Names.{[], Ok, ap, sym, subst, refl, ◌∙◌, SlotView, slot_of}
 use Rattle.serf_agent.specs.Merging.{Received}
 use Rattle.serf_agent.specs.States.{events_of_slot}
 use Rattle.serf_agent.specs.View.{ConcreteState}

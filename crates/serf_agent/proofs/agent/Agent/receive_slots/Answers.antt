@@ -1,9 +1,4 @@
-use Rattle.std.proofs.Common.{List, ap, sym, subst, refl, ◌∙◌}
-use Rattle.serf_wire.specs.declared.lists.SlotViews.{SlotViews}
-use Rattle.serf_wire.specs.declared.texts.EventBody.{EventBody}
-use Rattle.serf_wire.specs.Lists.{slot_of, slots_left}
-use Rattle.serf_wire.specs.Slots.{SlotContent}
-use Rattle.serf_window.specs.Window.{TimedEntry}
+use Rattle.serf_agent.proofs.Names.{List, ap, sym, subst, refl, ◌∙◌, SlotViews, EventBody, slot_of, slots_left, SlotContent, TimedEntry}
 use Rattle.serf_agent.specs.Merging.{HasReceived}
 use Rattle.serf_agent.specs.States.{events_of, events_of_slot}
 use Rattle.serf_agent.specs.View.{ConcreteState}

@@ -1,5 +1,4 @@
-use Rattle.std.proofs.Common.{◌≡◌, false}
-use Rattle.serf_wire.specs.Lists.{slots_left}
+use Rattle.serf_agent.proofs.Names.{◌≡◌, false, slots_left}
 use Rattle.serf_agent.specs.Ideal.{IdealAgent}
 use Rattle.serf_agent.specs.Merging.{HasReceived}
 use Rattle.serf_agent.specs.Sound.{IsSound}

@@ -1,6 +1,4 @@
-use Rattle.std.proofs.Common.{arith, ◌≡◌, ◌-◌, ap, sym, subst, ◌∙◌}
-use Rattle.serf_snap.specs.Device.{Device}
-use Rattle.serf_snap.specs.Notes.{SnapshotState, SnapshotView}
+use Rattle.serf_agent.proofs.Names.{arith, ◌≡◌, ◌-◌, ap, sym, subst, ◌∙◌, Device, SnapshotState, SnapshotView}
 use Rattle.serf_agent.specs.Inside.{concrete_of}
 use Rattle.serf_agent.specs.States.{save}
 use Rattle.serf_agent.specs.Steps.{Steps}

@@ -1,7 +1,6 @@
-use Rattle.std.proofs.Common.{◌++◌, ◌∷◌, [], List, false, ap, sym, subst, refl, ◌∙◌, Err}
+use Rattle.serf_agent.proofs.Names.{◌++◌, ◌∷◌, [], List, false, ap, sym, subst, refl, ◌∙◌, Err, Kept, Failed}
 use Rattle.serf_wire.specs.Lists.{event_of}
 use Rattle.serf_snap.specs.declared.kind.ClockKind.TheVariants as kinds
-use Rattle.serf_snap.specs.Notes.{Kept, Failed}
 use Rattle.serf_agent.specs.Calls.{MayNote}
 use Rattle.serf_agent.specs.Devices.{device_noted}
 use Rattle.serf_agent.specs.declared.outcome.EventOut.{EventOut}

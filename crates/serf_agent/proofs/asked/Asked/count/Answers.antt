@@ -1,7 +1,4 @@
-use Rattle.std.proofs.Common.{rules, ◌≡◌, OnErr, nat_eq, List, ℕ, Option, Some, Result, ap, sym, subst, ◌∙◌}
-use Rattle.std.specs.Map.{lookup, set_value}
-use Rattle.std.specs.Option.{option_copied_mut}
-use Rattle.std.specs.declared.alloc.AllocError.{AllocError}
+use Rattle.serf_agent.proofs.Names.{rules, ◌≡◌, OnErr, nat_eq, List, ℕ, Option, Some, Result, ap, sym, subst, ◌∙◌, lookup, set_value, option_copied_mut, AllocError}
 use Rattle.serf_agent.specs.declared.open_query.OpenQuery.{OpenQuery}
 use Rattle.serf_agent.proofs.OpenQueries.{set_value-same, on_err-map}
 use Rattle.serf_agent.proofs.asked.Asked.count.Goals as goal

@@ -1,6 +1,4 @@
-use Rattle.std.proofs.Common.{arith, ◌≡◌, ◌≤◌, ℕ, List, length, ap, sym, subst, ◌∙◌, Err}
-use Rattle.std.proofs.lemmas.Bool.{true≢false}
-use Rattle.serf_wire.specs.declared.encode.EncodeFault.{EncodeFault}
+use Rattle.serf_agent.proofs.Names.{arith, ◌≡◌, ◌≤◌, ℕ, List, length, ap, sym, subst, ◌∙◌, Err, true≢false, EncodeFault}
 use Rattle.serf_agent.specs.Handed.{Handed}
 use Rattle.serf_agent.specs.Queries.{response_packet}
 use Rattle.serf_agent.proofs.WireLaws.{response-not_long, response-short}

@@ -1,4 +1,4 @@
-use Rattle.std.proofs.Common.{arith, ◌<◌}
+use Rattle.serf_agent.proofs.Names.{arith, ◌<◌}
 use Rattle.serf_agent.proofs.track.Track.new.Goals as goal
 
 pub invariant_of-result : goal.invariant_of-result

@@ -1,5 +1,4 @@
-use Rattle.std.proofs.Common.{rules, arith, ◌≤◌, [], length}
-use Rattle.std.proofs.lemmas.Grind.{common_steps}
+use Rattle.serf_snap.proofs.Names.{rules, arith, ◌≤◌, [], length, common_steps}
 use Rattle.serf_snap.specs.Device.{HasFailed}
 use Rattle.serf_snap.proofs.FailLemmas.{fails-dropped}
 use Rattle.serf_snap.proofs.memory.MemSinkSink.flush.Goals as goal

@@ -1,4 +1,4 @@
-use Rattle.std.proofs.Common.{◌^◌, ◌-◌}
+use Rattle.serf_snap.proofs.Names.{◌^◌, ◌-◌}
 use Rattle.serf_snap.specs.declared.kind.ClockKind.TheVariants.{Member, Event, Query}
 use Rattle.serf_snap.proofs.ClockLaws.{once_set-below}
 use Rattle.serf_snap.proofs.snapshot.Snapshot.note.Goals as goal

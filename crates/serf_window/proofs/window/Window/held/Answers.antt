@@ -1,5 +1,4 @@
-use Rattle.std.proofs.Common.{arith, ◌≡◌, ◌∙◌, length, map}
-use Rattle.std.proofs.lemmas.List.{length-map}
+use Rattle.serf_window.proofs.Names.{arith, ◌≡◌, ◌∙◌, length, map, length-map}
 use Rattle.serf_window.specs.Slots.{all_slots, slot_view}
 use Rattle.serf_window.proofs.AllSlots.{all_slots-held, length-all_slots}
 use Rattle.serf_window.proofs.WindowLemmas.{held_count-le, held_count-most}

@@ -1,4 +1,4 @@
-use Rattle.std.proofs.Common.{arith, ◌≡◌, map, [], sym, subst, ◌∙◌, ap}
+use Rattle.serf_window.proofs.Names.{arith, ◌≡◌, map, [], sym, subst, ◌∙◌, ap}
 use Rattle.serf_window.specs.Slots.{all_slots, slot_view}
 use Rattle.serf_window.specs.Window.{EachAtMost, TimesBelow, slots_of}
 use Rattle.serf_window.proofs.AllSlots.{all_slots-none}

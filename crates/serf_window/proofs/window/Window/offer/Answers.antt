@@ -1,6 +1,4 @@
-use Rattle.std.proofs.Common.{rules, arith, ◌≡◌, ◌<◌, ◌≤◌, ◌+◌, ◌%◌, length, map, sym, ◌∙◌, ap, get_or, refl, subst}
-use Rattle.std.proofs.lemmas.List.{length-map}
-use Rattle.serf_wire.specs.Buffers.{unused_slot}
+use Rattle.serf_window.proofs.Names.{rules, arith, ◌≡◌, ◌<◌, ◌≤◌, ◌+◌, ◌%◌, length, map, sym, ◌∙◌, ap, get_or, refl, subst, length-map, unused_slot}
 use Rattle.serf_window.specs.OneSlot.{slot_verdict}
 use Rattle.serf_window.specs.Slots.{all_slots, slot_view}
 use Rattle.serf_window.specs.Window.{held_of, slot_for}

@@ -1,5 +1,4 @@
-use Rattle.std.proofs.Common.{◌++◌, codes, lit<, ap, ◌∙◌}
-use Rattle.serf_pack.specs.Canonical.{raw_bytes}
+use Rattle.serf_wire.proofs.Names.{◌++◌, codes, lit<, ap, ◌∙◌, raw_bytes}
 use Rattle.serf_wire.specs.Fields.{text, truth, number}
 use Rattle.serf_wire.specs.Keys.{event_name}
 use Rattle.serf_wire.specs.Fast.{IsEventSoFar}

@@ -1,4 +1,4 @@
-use Rattle.std.proofs.Common.{arith}
+use Rattle.serf_wire.proofs.Names.{arith}
 use Rattle.serf_wire.proofs.FastReading.{after_byte}
 use Rattle.serf_wire.proofs.FastSlots.{event_reads}
 use Rattle.serf_wire.proofs.fast.slots.read_event.Goals as goal

@@ -1,5 +1,4 @@
-use Rattle.std.proofs.Common.{lit<}
-use Rattle.serf_pack.specs.View.{tree_of}
+use Rattle.serf_wire.proofs.Names.{lit<, tree_of}
 use Rattle.serf_wire.specs.Fields.{event_body, list}
 use Rattle.serf_wire.specs.Lookups.{event_body_in, list_in}
 use Rattle.serf_wire.specs.Lists.{events_left}

@@ -1,5 +1,4 @@
-use Rattle.std.proofs.Common.{codes, arith}
-use Rattle.serf_pack.specs.Canonical.{raw_bytes}
+use Rattle.serf_wire.proofs.Names.{codes, arith, raw_bytes}
 use Rattle.serf_wire.proofs.FastReading.{starts}
 use Rattle.serf_wire.proofs.FastPairs.{if_some}
 use Rattle.serf_wire.proofs.fast.slots.read_events.Goals as goal

@@ -1,4 +1,4 @@
-use Rattle.std.proofs.Common.{subst, sym, arith}
+use Rattle.serf_wire.proofs.Names.{subst, sym, arith}
 use Rattle.serf_wire.specs.Slots.{held}
 use Rattle.serf_wire.specs.Fields.{slot}
 use Rattle.serf_wire.specs.Fast.{ReadsIn}

@@ -1,4 +1,4 @@
-use Rattle.std.proofs.Common.{refl}
+use Rattle.serf_wire.proofs.Names.{refl}
 use Rattle.serf_wire.specs.Slots.{empty}
 use Rattle.serf_wire.specs.Fields.{slot}
 use Rattle.serf_wire.proofs.FastLists.{nil_reads}

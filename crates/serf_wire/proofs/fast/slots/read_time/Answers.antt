@@ -1,5 +1,4 @@
-use Rattle.std.proofs.Common.{codes, arith}
-use Rattle.serf_pack.specs.Canonical.{raw_bytes}
+use Rattle.serf_wire.proofs.Names.{codes, arith, raw_bytes}
 use Rattle.serf_wire.specs.Fields.{time}
 use Rattle.serf_wire.proofs.FastReading.{starts}
 use Rattle.serf_wire.proofs.FastSlots.{pair_reads, time_reads}

@@ -1,4 +1,4 @@
-use Rattle.std.proofs.Common.{refl}
+use Rattle.serf_wire.proofs.Names.{refl}
 use Rattle.serf_wire.specs.Lists.{events_left}
 use Rattle.serf_wire.proofs.FastSlots.{slot_reads}
 use Rattle.serf_wire.proofs.fast.slots.read_time_first.Goals as goal

@@ -1,4 +1,4 @@
-use Rattle.std.proofs.Common.{arith}
+use Rattle.serf_wire.proofs.Names.{arith}
 use Rattle.serf_wire.specs.Fields.{event_body}
 use Rattle.serf_wire.proofs.FastPairs.{if_some}
 use Rattle.serf_wire.proofs.FastLists.{list_spans}

@@ -1,4 +1,4 @@
-use Rattle.std.proofs.Common.{[], refl, arith}
+use Rattle.serf_wire.proofs.Names.{[], refl, arith}
 use Rattle.serf_wire.specs.Fields.{slot, list}
 use Rattle.serf_wire.proofs.FastPairs.{if_some}
 use Rattle.serf_wire.proofs.FastLists.{nil_spans, list_spans}

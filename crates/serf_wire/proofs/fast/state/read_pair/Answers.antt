@@ -1,5 +1,4 @@
-use Rattle.std.proofs.Common.{◌++◌, codes, lit<, ap, ◌∙◌}
-use Rattle.serf_pack.specs.Canonical.{raw_bytes}
+use Rattle.serf_wire.proofs.Names.{◌++◌, codes, lit<, ap, ◌∙◌, raw_bytes}
 use Rattle.serf_wire.specs.Fields.{text, number, list, status, slot}
 use Rattle.serf_wire.specs.Keys.{state_name}
 use Rattle.serf_wire.specs.Lists.{texts_left, status_left, slots_left}

@@ -1,4 +1,4 @@
-use Rattle.std.proofs.Common.{sym, eqb-true}
+use Rattle.serf_wire.proofs.Names.{sym, eqb-true}
 use Rattle.serf_wire.specs.Message.{message_of}
 use Rattle.serf_wire.proofs.FastPairs.{none_left}
 use Rattle.serf_wire.proofs.FastState.{state_whole}

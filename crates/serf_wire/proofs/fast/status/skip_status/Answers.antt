@@ -1,4 +1,4 @@
-use Rattle.std.proofs.Common.{[], refl}
+use Rattle.serf_wire.proofs.Names.{[], refl}
 use Rattle.serf_wire.specs.Fields.{status}
 use Rattle.serf_wire.proofs.FastPairs.{if_some}
 use Rattle.serf_wire.proofs.FastLists.{nil_spans}

@@ -1,6 +1,5 @@
-use Rattle.std.proofs.Common.{rules, arith, ◌≡◌, ◌+◌, ◌-◌, ◌<◌, ◌≤◌, length, map, replicate, sym, ◌∙◌}
-use Rattle.std.proofs.lemmas.List.{length-append, length-map, length-replicate}
-use Rattle.std.proofs.lemmas.Option.{slice_get_past}
+use Rattle.serf_wire.proofs.Names.{rules, arith, ◌≡◌, ◌+◌, ◌-◌, ◌<◌, ◌≤◌, length, map, replicate, sym, ◌∙◌, length-map, length-replicate, slice_get_past}
+use Rattle.std.proofs.lemmas.List.{length-append}
 use Rattle.serf_wire.specs.Buffers.{slot_in_memory, slots_lent, unused_slot}
 use Rattle.serf_wire.proofs.Unused.{get_behind}
 use Rattle.serf_wire.proofs.lent_slots.LentSlots.get.Goals as goal

@@ -1,7 +1,4 @@
-use Rattle.std.proofs.Common.{◌≡◌, ◌++◌, ◌∷◌, [], false, true, sym, arith}
-use Rattle.std.proofs.lemmas.Grind.{common_steps}
-use Rattle.serf_agent.specs.Config.{is_sound}
-use Rattle.serf_model.specs.Runs.{has_name}
+use Rattle.serf_world.proofs.Names.{◌≡◌, ◌++◌, ◌∷◌, [], false, true, sym, arith, common_steps, is_sound, has_name}
 use Rattle.serf_world.proofs.RosterLaws.{one_more}
 use Rattle.serf_world.proofs.roster.Roster.add.Goals as goal
 

@@ -1,7 +1,4 @@
-use Rattle.std.proofs.Common.{◌≡◌, ◌++◌, ◌∷◌, ◌+◌, ◌<◌, ◌∙◌, [], false, ap, sym, take, drop, length, arith}
-use Rattle.std.proofs.Math.Seq.{drop-cons, take-suc}
-use Rattle.std.proofs.lemmas.Grind.{common_steps}
-use Rattle.serf_model.specs.Runs.{has_name, first_twice, twice_after}
+use Rattle.serf_world.proofs.Names.{◌≡◌, ◌++◌, ◌∷◌, ◌+◌, ◌<◌, ◌∙◌, [], false, ap, sym, take, drop, length, arith, drop-cons, take-suc, common_steps, has_name, first_twice, twice_after}
 use Rattle.serf_world.proofs.roster.Roster.from_vec.Goals as goal
 
 pub loop-number-preserved : goal.loop-number-preserved

@@ -1,5 +1,4 @@
-use Rattle.std.proofs.Common.{◌≡◌, take, drop}
-use Rattle.serf_model.specs.Runs.{twice_after, first_twice}
+use Rattle.serf_world.proofs.Names.{◌≡◌, take, drop, twice_after, first_twice}
 use Rattle.serf_world.specs.Roster.{AreNames}
 use Rattle.serf_world.proofs.roster.Roster.from_vec.Given as goal
 

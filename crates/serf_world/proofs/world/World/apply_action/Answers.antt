@@ -1,5 +1,4 @@
-use Rattle.std.proofs.Common.{◌<◌, length, arith, subst, List, ℕ, sym}
-use Rattle.serf_model.specs.Cluster.{apply}
+use Rattle.serf_world.proofs.Names.{◌<◌, length, arith, subst, List, ℕ, sym, apply}
 use Rattle.serf_world.specs.Turns.{TakesTurn}
 use Rattle.serf_world.specs.View.{IsViewed, WorldState}
 use Rattle.serf_world.proofs.NodeLaws.{owes-turn}

@@ -1,8 +1,4 @@
-use Rattle.std.proofs.Common.{◌≡◌, List, map, true, ap, sym, subst, ◌∙◌}
-use Rattle.std.specs.List.{AllByRecursion}
-use Rattle.serf_agent.specs.declared.config.Config.{Config}
-use Rattle.serf_agent.specs.Config.{is_sound}
-use Rattle.serf_model.specs.Cluster.{first_node}
+use Rattle.serf_world.proofs.Names.{◌≡◌, List, map, true, ap, sym, subst, ◌∙◌, AllByRecursion, Config, is_sound, first_node}
 use Rattle.serf_world.specs.View.{node_of}
 use Rattle.serf_world.proofs.DoneLaws.{done-nothing}
 use Rattle.serf_world.proofs.NodeLaws.{map-map}

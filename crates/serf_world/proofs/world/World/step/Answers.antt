@@ -1,4 +1,4 @@
-use Rattle.serf_model.specs.Cluster.{run_of}
+use Rattle.serf_world.proofs.Names.{run_of}
 use Rattle.serf_world.proofs.DoneLaws.{done-next}
 use Rattle.serf_world.proofs.world.World.step.Goals as goal
 

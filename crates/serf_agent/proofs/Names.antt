@@ -1,0 +1,52 @@
+-- What the proofs of this crate use of other crates.
+pub use Rattle.std.proofs.Common.{Bool, Err, IfSome, IsErrOf, IsOk, IsSomeAnd, IsTrue, List, MatchBool, None, Ok, OnErr, OnOk, Option, Result, Some}
+pub use Rattle.std.proofs.Common.{[], ap, append-nil, append_assoc, arith, cond, false, filter, get_or, inl, inr, length, length-append, map, max}
+pub use Rattle.std.proofs.Common.{min, nat_eq, nat_le, nat_lt, not, refl, rules, subst, suc, sym, take, true, zero, ℕ, ◌%◌, ◌&&◌, ◌++◌, ◌+◌, ◌-◌, ◌<◌}
+pub use Rattle.std.proofs.Common.{◌==◌, ◌^◌, ◌||◌, ◌↔◌, ◌∙◌, ◌∷◌, ◌≡◌, ◌≢◌, ◌≤◌, ◌⊎◌}
+pub use Rattle.std.proofs.lemmas.Bool.{and_from, and_parts, cases_Bool, cases_lt, eq-eqb, eqb-false, le-ltb, leb-false, leb-true, lt-leb, lt-ltb}
+pub use Rattle.std.proofs.lemmas.Bool.{ltb-false, ne_eqb, or_parts, true≢false}
+pub use Rattle.std.proofs.lemmas.List.{map_more}
+pub use Rattle.std.proofs.lemmas.List.Elements.{All-cons, All-filter, All-head, All-nil, All-pop, All-push, All-tail, All-weaker}
+pub use Rattle.std.proofs.lemmas.List.FromFn.{get_or-map-range_with_len, length-map-range_with_len}
+pub use Rattle.std.proofs.lemmas.List.Kept.{AllPairs-filter}
+pub use Rattle.std.proofs.lemmas.List.Quantifiers.{all_pairs_push}
+pub use Rattle.std.proofs.lemmas.Slice.Eq.{bytes_eq-Decides}
+pub use Rattle.std.specs.List.{flat_map, list_any, range_with_len}
+pub use Rattle.std.specs.Map.{lookup, set_value}
+pub use Rattle.std.specs.Option.{option_copied, option_copied_mut}
+pub use Rattle.std.specs.Prelude.{All, AllPairs}
+pub use Rattle.std.specs.Str.{bytes_eq}
+pub use Rattle.std.specs.declared.alloc.AllocError.{AllocError}
+pub use Rattle.indexmap.proofs.CallerLemmas.{filter-RetainsPairs}
+pub use Rattle.indexmap.specs.IndexMap.{insert_entry}
+pub use Rattle.serf_lamport.specs.Clock.{observed}
+pub use Rattle.serf_pack.specs.Canonical.{raw_bytes, raw_head}
+pub use Rattle.serf_snap.specs.Clocks.{clock_line, last_clock}
+pub use Rattle.serf_snap.specs.Device.{Device, appended, flushed, replaced}
+pub use Rattle.serf_snap.specs.Notes.{Failed, KeepsEither, KeepsPart, Kept, MayReplace, MayWrite, SnapshotState, SnapshotView, Writing, compacted}
+pub use Rattle.serf_snap.specs.Notes.{compaction_of, last_line, noted, opened, written}
+pub use Rattle.serf_snap.specs.declared.kind.ClockKind.{ClockKind}
+pub use Rattle.serf_snap.specs.declared.snapshot.NoteFault.{NoteFault}
+pub use Rattle.serf_window.specs.Queries.{same_id}
+pub use Rattle.serf_window.specs.Slots.{slot_view}
+pub use Rattle.serf_window.specs.Texts.{event_of, same_texts}
+pub use Rattle.serf_window.specs.Window.{SlotOf, TimedEntry, TimesBelow, WindowOf, count_at, entries_of, greatest_time, slots_of, verdict_of}
+pub use Rattle.serf_window.specs.Window.{was_entered}
+pub use Rattle.serf_window.specs.declared.verdict.Verdict.{Verdict}
+pub use Rattle.serf_wire.specs.Buffers.{slots_lent}
+pub use Rattle.serf_wire.specs.Canonical.{is_long, list_bytes}
+unfoldable pub use Rattle.serf_wire.specs.Canonical.{canonical, has_long}
+pub use Rattle.serf_wire.specs.Decoded.{decoded}
+pub use Rattle.serf_wire.specs.Lists.{events_left, slot_of, slots_left, status_of, texts_left}
+pub use Rattle.serf_wire.specs.Message.{Message, PushPull, Query, QueryResponse, foreign, message_of, push_pull, query, query_response, response_of}
+pub use Rattle.serf_wire.specs.Message.{user_event, user_event_of}
+pub use Rattle.serf_wire.specs.Parts.{query_of, slot_content}
+pub use Rattle.serf_wire.specs.Ranges.{InRange}
+pub use Rattle.serf_wire.specs.Slots.{SlotContent}
+pub use Rattle.serf_wire.specs.declared.encode.EncodeFault.{EncodeFault}
+pub use Rattle.serf_wire.specs.declared.fault.WireFault.{WireFault}
+pub use Rattle.serf_wire.specs.declared.lists.EventViews.{EventViews}
+pub use Rattle.serf_wire.specs.declared.lists.SlotView.{SlotView}
+pub use Rattle.serf_wire.specs.declared.lists.SlotViews.{SlotViews}
+pub use Rattle.serf_wire.specs.declared.texts.EventBody.{EventBody}
+pub use Rattle.serf_wire.specs.declared.texts.TimeSlot.{TimeSlot}
