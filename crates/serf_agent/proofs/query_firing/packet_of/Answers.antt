@@ -3,7 +3,7 @@ use Rattle.std.proofs.lemmas.Bool.{true≢false}
 use Rattle.serf_wire.specs.declared.encode.EncodeFault.{EncodeFault}
 use Rattle.serf_wire.specs.Parts.{query_of}
 use Rattle.serf_agent.proofs.WireLaws.{query-not_long}
-use Rattle.serf_agent.proofs.queries.packet_of.Goals as goal
+use Rattle.serf_agent.proofs.query_firing.packet_of.Goals as goal
 
 pub unreachable-requires : goal.unreachable-requires
 unreachable-requires c =
