@@ -34,6 +34,7 @@ mod open_query;
 mod outcome;
 mod push_pull;
 mod queries;
+mod query_firing;
 mod reading;
 mod reason;
 mod receive;

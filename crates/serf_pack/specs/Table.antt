@@ -1,6 +1,6 @@
 -- The formats of MessagePack, row by row: MessagePack specification, "Formats" (the table of first bytes).
 -- Str and bin are one kind here, raw. Floats, ext and timestamps are of no format of this profile.
-use Rattle.std.specs.Prelude.{ℕ, pos, ◌-ℤ◌, ◌-◌, true, false, List, [], ◌∷◌, length, drop, Result, Ok, Err, nat_lt, ◌==◌, if◌then◌else◌, ◌≤◌}
+use Rattle.std.specs.Prelude.{ℕ, ℤ, pos, negsuc, ◌<◌, ◌^◌, ◌-ℤ◌, ◌-◌, true, false, List, [], ◌∷◌, length, drop, Result, Ok, Err, nat_lt, ◌==◌, if◌then◌else◌, ◌≤◌}
 use Rattle.byteorder.specs.Endian.{big_number, twos_complement}
 use Rattle.serf_pack.specs.declared.fault.PackFault.{PackFault}
 use Rattle.serf_pack.specs.declared.fault.PackFault.TheVariants as faults
@@ -40,6 +40,20 @@ row_of b =
     (if b == 0xde then Number fields.Map 2 else
     (if b == 0xdf then Number fields.Map 4 else
     (if nat_lt b 0xe0 then Unsupported else Whole (heads.Int (pos b -ℤ pos 256)))))))))))))))))))))))))))
+
+-- the numbers of the int format family: of 64 bits, unsigned or signed
+abbrev pub IsFormatInt : ℤ → Type 0
+IsFormatInt (pos n) = n < 2 ^ 64
+IsFormatInt (negsuc k) = k < 2 ^ 63
+
+-- the number of a head, where it is an integer's, is one of the family
+abbrev pub HasFormatInt : Head → Type 0
+HasFormatInt (heads.Int z) = IsFormatInt z
+HasFormatInt _ = Unit {0}
+
+abbrev pub RowHasFormatInt : Row → Type 0
+RowHasFormatInt (Whole head) = HasFormatInt head
+RowHasFormatInt _ = Unit {0}
 
 -- what a number of w bytes behind the first byte stands for: "int format family", and the lengths and counts of
 -- "str format family", "bin format family", "array format family" and "map format family", all big-endian

@@ -3,7 +3,7 @@
 
 ghost use Rattle.std.specs.Prelude.{◌≡◌, ◌≤◌, ◌+◌, ◌<◌, ◌^◌, length, IfOk};
 ghost use Rattle.byteorder.specs.Endian.{big_number, twos_complement};
-ghost use Rattle.serf_pack.specs.Table.{row_of, meaning_of, head_at, HasWidth};
+ghost use Rattle.serf_pack.specs.Table.{row_of, meaning_of, head_at, HasFormatInt, HasWidth, RowHasFormatInt};
 ghost use Rattle.serf_pack.specs.Reading.{Gives};
 
 use crate::fault::PackFault;
@@ -57,6 +57,7 @@ pub enum Row {
 pub fn row_for(byte: u8) -> Row
     ensures row { result ≡ row_of byte }
     ensures width { HasWidth result }
+    ensures int { RowHasFormatInt result }
 {
     match byte {
         0..=0x7f => Row::Whole(Head::Int(i128::from(byte))),
@@ -112,7 +113,8 @@ fn meaning(field: Field, width: usize, bytes: &[u8]) -> Head
     requires low { 1 ≤ width }
     requires high { width ≤ 8 }
     requires room { width ≤ length bytes.now }
-    ensures { result ≡ meaning_of field width (big_number width bytes.now) }
+    ensures head { result ≡ meaning_of field width (big_number width bytes.now) }
+    ensures int { HasFormatInt result }
 {
     match field {
         Field::Unsigned => Head::Int(i128::from(number(width, bytes))),
@@ -132,6 +134,7 @@ pub fn read_head(total: usize, bytes: &[u8]) -> Result<(Head, &[u8]), PackFault>
     requires { length bytes.now ≤ total }
     ensures head { Gives (λ x. (x.0, x.1.now)) result (head_at total bytes.now) }
     ensures within { IfOk result (λ x. length x.1.now ≤ length bytes.now) }
+    ensures int { IfOk result (λ x. HasFormatInt x.0) }
 {
     let place = total - bytes.len();
     let [byte, rest @ ..] = bytes else {

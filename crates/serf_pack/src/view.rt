@@ -1,6 +1,6 @@
 //! A value that was checked, read where it lies. Nothing here takes memory.
 
-ghost use Rattle.std.specs.Prelude.{◌≡◌, ◌≤◌, ◌<◌, ◌^◌, length, is_ok, true};
+ghost use Rattle.std.specs.Prelude.{◌≡◌, ◌≤◌, ◌<◌, ◌^◌, IfSome, length, is_ok, true};
 ghost use Rattle.serf_pack.specs.Reading.{value_at};
 
 use crate::head::{Head, read_head};
@@ -38,7 +38,7 @@ pub struct View<'a> {
 }
 
 impl<'a> View<'a> {
-    ghost use Rattle.serf_pack.specs.Table.{place};
+    ghost use Rattle.serf_pack.specs.Table.{HasFormatInt, IsFormatInt, place};
     ghost use Rattle.std.specs.Option.{option_copied};
     ghost use Rattle.serf_pack.specs.View.{tree_of, kind_of, int_of, flag_of, raw_of, place_of, items_of, pairs_of, tree_by, HasParts};
     ghost use Rattle.serf_pack.specs.Walk.{items_left, pairs_left};
@@ -49,6 +49,7 @@ impl<'a> View<'a> {
         ensures tree { tree_of self.now ≡ tree_by self.now.depth_left self.now.total (place self.now.total self.now.bytes.now) result.0 result.1.now }
         ensures parts { HasParts self.now.depth_left self.now.total result.0 result.1.now }
         ensures within { length result.1.now ≤ self.now.total }
+        ensures int { HasFormatInt result.0 }
     {
         match read_head(self.total, self.bytes) {
             Ok(head) => head,
@@ -76,7 +77,8 @@ impl<'a> View<'a> {
     /// Source: MessagePack specification, "int format family".
     #[inline]
     pub fn int(&self) -> Option<i128>
-        ensures { result ≡ int_of (tree_of self.now) }
+        ensures value { result ≡ int_of (tree_of self.now) }
+        ensures range { IfSome result IsFormatInt }
     {
         match self.head().0 {
             Head::Int(n) => Some(n),

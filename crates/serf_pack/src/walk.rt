@@ -93,8 +93,8 @@ impl<'a> Items<'a> {
     }
 
     /// The items behind the next one, for whoever knows its bytes, which are the first `len` of [`Items::bytes`]: a
-    /// step that doesn't go over them. Alone they pack a value, wherever in the input it begins. `None` behind the
-    /// last item. Takes no memory.
+    /// step that doesn't go over them. Alone they pack a value, wherever in the input it begins. What follows them is
+    /// what its own [`Items::bytes`] gives. `None` behind the last item. Takes no memory.
     #[tactic(auto, unfolding(crate::specs::Walk::items_bytes))]
     #[inline]
     pub fn behind(&self, len: usize) -> Option<Items<'a>>
@@ -102,6 +102,7 @@ impl<'a> Items<'a> {
         requires packed { (tree : ℕ → Tree) × PacksAlone tree (take len (items_bytes self.now)) }
         ensures some { IfSome result (λ rest. (tree : ℕ → Tree) → PacksAlone tree (take len (items_bytes self.now))
             → (p : ℕ) × (items_left self.now ≡ tree p ∷ items_left rest)) }
+        ensures bytes { IfSome result (λ rest. items_bytes rest ≡ drop len (items_bytes self.now)) }
         ensures none { IfNone result (items_left self.now ≡ []) }
     {
         if self.left == 0 {

@@ -12,6 +12,10 @@ use Rattle.serf_world.specs.Sizes.{HasSizes}
 use Rattle.serf_world.specs.Trace.{turns_of}
 use Rattle.serf_replay.specs.Show.{trace_text}
 
+-- the greatest length of a schedule's text, in bytes
+abbrev pub longest_schedule : ℕ
+longest_schedule = 16777216
+
 abbrev pub text_of : Result Parsed BadLine → Result (List ℕ) BadLine
 text_of (Ok schedule) = Ok (trace_text (trace_of (run_of schedule.configs schedule.actions)))
 text_of (Err bad) = Err bad

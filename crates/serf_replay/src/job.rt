@@ -5,11 +5,11 @@ ghost use Rattle.std.specs.Io.KnownBytes.{Appends, Consumes};
 ghost use Rattle.serf_world.specs.Cluster.{Run, after, run_of, trace_of};
 ghost use Rattle.serf_replay.specs.Show.{trace_text};
 ghost use Rattle.serf_replay.specs.Io.{AppendsFront};
-ghost use Rattle.serf_replay.specs.Output.{output_of, GivesText, TracesRun};
+ghost use Rattle.serf_replay.specs.Output.{output_of, GivesText, TracesRun, longest_schedule};
 ghost use Rattle.serf_replay.specs.Running.{IsShown};
 
 use crate::cause::Cause;
-use crate::input::{InputFault, MAX_SCHEDULE_BYTES, read_input};
+use crate::input::{InputFault, read_input};
 use crate::output::write_output;
 use crate::parse::{ScheduleFault, parse_schedule};
 use crate::schedule::Schedule;
@@ -112,22 +112,22 @@ pub fn replay<R: Read, W: Write, T: Watch>(
 ) -> Result<(), ReplayFault>
     // Just the text of the input's trace was written: it is that of a run which keeps all promises.
     ensures done { OnOk result (IfSome (R.remaining reader.old) (λ input. (text : List ℕ)
-        × (output_of input ≡ Ok text) × (length input ≤ MAX_SCHEDULE_BYTES)
+        × (output_of input ≡ Ok text) × (length input ≤ longest_schedule)
         × TracesRun input text × Appends (W.contents writer.old) (W.contents writer.new) text)) }
     ensures too_long { IsErrOf result ReplayFault.ReadTooLong
-        → IfSome (R.remaining reader.old) (λ input. MAX_SCHEDULE_BYTES < length input) }
+        → IfSome (R.remaining reader.old) (λ input. longest_schedule < length input) }
     ensures bad_line { (line : ℕ) (cause : Cause) → IsErrOf result (ReplayFault.BadLine line cause)
-        → IfSome (R.remaining reader.old) (λ input. (length input ≤ MAX_SCHEDULE_BYTES)
+        → IfSome (R.remaining reader.old) (λ input. (length input ≤ longest_schedule)
         × (output_of input ≡ Err (record { line = line; cause = cause }))) }
     // A write that failed leaves a front of that text, and every other fault nothing.
     ensures front { IsErrOf result ReplayFault.WriteFault
         → IfSome (R.remaining reader.old) (λ input. (text : List ℕ)
-        × (output_of input ≡ Ok text) × (length input ≤ MAX_SCHEDULE_BYTES)
+        × (output_of input ≡ Ok text) × (length input ≤ longest_schedule)
         × TracesRun input text × AppendsFront (W.contents writer.old) (W.contents writer.new) text) }
     ensures nothing { IfErr result (λ fault. (fault ≡ ReplayFault.WriteFault → ⊥) → writer.new ≡ writer.old) }
     // At most one byte more than the greatest length is read.
     ensures bounded { (bytes : List ℕ) × Consumes (R.remaining reader.old) (R.remaining reader.new) bytes
-        × (length bytes ≤ MAX_SCHEDULE_BYTES + 1) }
+        × (length bytes ≤ longest_schedule + 1) }
 {
     let input = read_input(alloc, reader).map_err(|fault| match fault {
         InputFault::ReadFault => ReplayFault::ReadFault,

@@ -37,7 +37,7 @@ pub trait Sink {
     /// How many bytes it takes without memory.
     ghost room: { Self → ℕ };
 
-    /// Makes room for this many bytes. On want of memory the sink is as before.
+    /// Makes room for this many bytes. On want of memory it keeps what it kept, and may have more room than before.
     fn reserve(&mut self, alloc: Global, n: usize) -> Result<(), AllocError>
         ensures room { OnOk result (n ≤ room self.new) }
         ensures device { device self.new ≡ device self.old };

@@ -34,7 +34,7 @@ pub enum NoteFault {
 /// Why a snapshot couldn't be opened.
 #[derive(Clone, Copy, Debug, PartialEq, Eq, Error)]
 pub enum OpenFault {
-    /// There was no memory to end a torn last line. The sink is as before.
+    /// There was no memory to end a torn last line. The sink keeps what it kept.
     #[error("out of memory")]
     OutOfMemory,
     /// The sink failed when a torn last line was ended. It keeps the text, and perhaps a part of that end.

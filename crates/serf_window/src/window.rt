@@ -161,8 +161,9 @@ impl<K: Drop> Window<K> {
     }
 
     /// The verdict on what is offered, by all that was ever entered, though the window holds the last of it
-    /// alone. The caller's clock has observed the offer's time, and `minimum` is the least time that the caller
-    /// takes. Takes no memory.
+    /// alone. The caller's clock has observed the offer's time and those of the slots, and `minimum` is the least time
+    /// that the caller takes. Where the clock has not, it is any verdict, but `New` only for what may enter. Takes no
+    /// memory.
     #[inline]
     pub fn offer<L: LentKey<K>>(
         &self,

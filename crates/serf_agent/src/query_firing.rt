@@ -1,0 +1,289 @@
+//! Queries of an agent's own: firing them.
+
+ghost use Rattle.std.specs.Prelude.{◌≡◌, ◌≢◌, ◌<◌, ◌≤◌, ◌-◌, false, [], ◌∷◌, ◌++◌, Some, All, length, Err, OnOk, OnErr, IfOk, IsErrOf};
+ghost use Rattle.serf_wire.specs.Canonical.{canonical};
+ghost use Rattle.serf_wire.specs.Message.{query};
+ghost use Rattle.serf_wire.specs.Parts.{query_of};
+ghost use Rattle.serf_window.specs.Window.{count_in, time_in};
+ghost use Rattle.serf_snap.specs.declared.kind.ClockKind.TheVariants as kinds;
+ghost use Rattle.serf_snap.specs.Device.{HasFailed};
+ghost use Rattle.serf_snap.specs.Notes.{Kept, Failed, MayWrite, noted, written};
+ghost use Rattle.serf_snap.specs.Clocks.{clock_line};
+ghost use Rattle.serf_agent.specs.Calls.{AsksSink, MayNote};
+ghost use Rattle.serf_agent.specs.Devices.{FailsLine, device_noted};
+ghost use Rattle.serf_agent.specs.Ideal.{IdealAgent, with_asked, with_snapshot};
+ghost use Rattle.serf_agent.specs.Queries.{all_pass, fire_query, fired_query, has_flag, is_no_timeout, is_too_large_query, opened_query, query_asked, query_at, query_entered};
+ghost use Rattle.serf_agent.specs.Sound.{IsSound};
+ghost use Rattle.serf_agent.specs.Steps.{Steps};
+ghost use Rattle.serf_agent.specs.View.{concrete_with, view_of};
+
+use crate::agent::Agent;
+use crate::asked::Asked;
+use crate::flags::{ACK, flags_of, has_flag};
+use crate::handed::deadline_of;
+use crate::lists::{BytesList, Responses};
+use crate::open_query::OpenQuery;
+use crate::outcome::{FiredQuery, LineFault, QueryFault, QueryParams};
+use crate::queries::{Passed, pass};
+use serf_lamport::Time;
+use serf_snap::{ClockKind, NoteFault, Sink, Snapshot};
+use serf_wire::{Bytes, EncodeFault, QueryParts, encode_query, passes, query_len};
+use std::alloc::{AllocError, Global};
+
+/// The greatest length of a query's packet.
+const LONGEST_QUERY: u128 = 1024;
+
+/// Whether every filter of a query that is fired lets a node pass.
+fn filters_pass(filters: &[Bytes], node: &[u8]) -> bool
+    ensures { result ≡ all_pass filters.now node.now }
+{
+    filters.iter().all(|f| passes(f.as_slice(), node))
+}
+
+/// The packet of a query that is small enough to be fired.
+fn packet_of(alloc: Global, parts: &QueryParts) -> Result<Bytes, AllocError>
+    requires { length (canonical (query (query_of parts.now))) ≤ 1024 }
+    ensures { IfOk result (λ packet. packet ≡ canonical (query (query_of parts.now))) }
+{
+    match encode_query(alloc, parts) {
+        Ok(packet) => Ok(Bytes::from_vec(packet)),
+        Err(EncodeFault::TooLong) => unreachable!(),
+        Err(EncodeFault::OutOfMemory) => Err(AllocError),
+    }
+}
+
+/// What a node answers that fires a query: the packet that is to be sent, and what it hands out and sends itself.
+fn fired_of(
+    alloc: Global,
+    parts: &QueryParts,
+    now: u64,
+    node: &[u8],
+) -> Result<FiredQuery, AllocError>
+    requires node { length node.now ≤ 128 }
+    requires short { length (canonical (query (query_of parts.now))) ≤ 1024 }
+    ensures { IfOk result (λ fired. fired ≡ fired_query node.now now (query_of parts.now)) }
+{
+    let packet = packet_of(alloc, parts)?;
+    let passed = filters_pass(parts.filters, node);
+    let Passed { handed, ack } = pass(alloc, parts, now, node, passed)?;
+    Ok(FiredQuery {
+        time: parts.time,
+        packet,
+        handed,
+        ack,
+    })
+}
+
+/// A query that takes answers from now on, and has none.
+fn opened(alloc: Global, query: &QueryParts, now: u64) -> OpenQuery
+    ensures { result ≡ opened_query now (query_of query.now) }
+{
+    OpenQuery {
+        id: query.id,
+        deadline: deadline_of(now, query.timeout),
+        wants_ack: has_flag(ACK, query.flags),
+        acks: BytesList::new(alloc),
+        responses: Responses::new(alloc),
+    }
+}
+
+/// Adds an open query, once its line is durable; else the open queries are as before.
+fn note_asked<S: Sink>(
+    asked: &mut Asked,
+    snapshot: &mut Snapshot<S>,
+    alloc: Global,
+    time: Time,
+    query: OpenQuery,
+) -> Result<(), LineFault>
+    requires later { All (λ q. q.0 < time) asked.old }
+    requires runs { snapshot.old.snapshot.stopped ≡ false }
+    ensures ok { OnOk result ((asked.new ≡ asked.old ++ (time, query) ∷ []) × (snapshot.new.snapshot ≡ noted kinds.Query time snapshot.old.snapshot Kept)) }
+    ensures ok_allowed { OnOk result (snapshot.old.snapshot.query_clock < time → MayWrite snapshot.old.snapshot (clock_line kinds.Query time) Kept) }
+    ensures asked { OnErr result (asked.new ≡ asked.old) }
+    ensures fault { IsErrOf result LineFault.SinkFault → snapshot.new.snapshot ≡ written kinds.Query time snapshot.old.snapshot (Failed snapshot.new.snapshot.durable) }
+    ensures fault_allowed { IsErrOf result LineFault.SinkFault → MayWrite snapshot.old.snapshot (clock_line kinds.Query time) (Failed snapshot.new.snapshot.durable) }
+    ensures fault_above { IsErrOf result LineFault.SinkFault → snapshot.old.snapshot.query_clock < time }
+    ensures fault_cause { IsErrOf result LineFault.SinkFault → HasFailed snapshot.old.device.failures snapshot.new.device.failures }
+    ensures device { OnOk result (snapshot.new.device ≡ device_noted kinds.Query time snapshot.old.snapshot snapshot.old.device) }
+    ensures fault_device { IsErrOf result LineFault.SinkFault → FailsLine snapshot.old.device snapshot.new.device (clock_line kinds.Query time) }
+    ensures memory { IsErrOf result LineFault.OutOfMemory → snapshot.new ≡ snapshot.old }
+{
+    if asked.push(time.get(), query).is_err() {
+        return Err(LineFault::OutOfMemory);
+    }
+    match snapshot.note(alloc, ClockKind::Query, time) {
+        Ok(()) => Ok(()),
+        Err(NoteFault::SinkFault) => {
+            asked.pop();
+            Err(LineFault::SinkFault)
+        }
+        Err(_) => {
+            asked.pop();
+            Err(LineFault::OutOfMemory)
+        }
+    }
+}
+
+impl QueryParams {
+    /// Whether the timeout gives no time for answers.
+    fn has_no_time(&self) -> bool
+        ensures { result ≡ is_no_timeout self.now.timeout }
+    {
+        self.timeout <= 0
+    }
+
+    /// The query that a node fires so at a time.
+    fn parts<'a>(
+        &'a self,
+        time: Time,
+        node: &'a [u8],
+        id: u32,
+        name: &'a [u8],
+        payload: &'a [u8],
+    ) -> QueryParts<'a>
+        ensures { query_of result ≡ query_at time node.now id name.now payload.now self.now }
+    {
+        QueryParts {
+            time,
+            id,
+            addr: self.addr.as_slice(),
+            port: self.port,
+            source: node,
+            filters: self.filters.as_slice(),
+            flags: flags_of(self.want_ack, self.no_broadcast),
+            relay_factor: self.relay_factor,
+            timeout: self.timeout,
+            name,
+            payload,
+        }
+    }
+}
+
+impl<S: Sink> Agent<S> {
+    /// Whether the packet of a query is too large to be fired.
+    fn query_is_too_large(&self, id: u32, name: &[u8], payload: &[u8], params: &QueryParams) -> bool
+        ensures { result ≡ is_too_large_query self.now.concrete.config.name self.now.concrete.queries.clock id name.now payload.now params.now }
+    {
+        let time = self.queries.measured();
+        let query = params.parts(time, self.config.name.as_slice(), id, name, payload);
+        query_len(&query) > LONGEST_QUERY
+    }
+
+    /// Fires a query at the query clock's time (Serf's `serf.go`, `Query`): its clock line is durable, it enters the
+    /// buffer and is open for answers, its packet is to be sent, and where its filters let this node pass it is handed
+    /// out here too.
+    ///
+    /// On Ok the sink was appended this one line and flushed, and nothing else, or was not called where its last line of
+    /// queries already says this time or a later one.
+    ///
+    /// Of the refusals the first that holds is answered. All of them leave the agent and its sink as they were, but
+    /// `SinkFault`, which stops the agent: then the sink failed at this line's append or flush, and may keep a part of it.
+    pub fn query(
+        &mut self,
+        alloc: Global,
+        now: u64,
+        id: u32,
+        name: &[u8],
+        payload: &[u8],
+        params: &QueryParams,
+    ) -> Result<FiredQuery, QueryFault>
+        ensures step { (i : IdealAgent) → IsSound i → self.old.concrete ≡ view_of i → result ≢ Err QueryFault.OutOfMemory
+            → Steps i (fire_query i now id name.now payload.now params.now) result self.old.device self.new }
+
+        // What becomes of the sink, whatever it tells of its bytes.
+        ensures ok_device { IfOk result (λ f. self.new.device ≡ device_noted kinds.Query f.time self.old.concrete.snapshot self.old.device) }
+        ensures fault_device { IsErrOf result QueryFault.SinkFault → FailsLine self.old.device self.new.device (clock_line kinds.Query self.old.concrete.queries.clock) }
+        ensures refused { OnErr result (result ≢ Err QueryFault.SinkFault → self.new ≡ self.old) }
+
+        // Memory is wanted only where the query is fired, and its want changes nothing.
+        ensures only_fired { (i : IdealAgent) → IsSound i → self.old.concrete ≡ view_of i → IsErrOf result QueryFault.OutOfMemory → AsksSink (fire_query i now id name.now payload.now params.now) }
+        ensures memory { IsErrOf result QueryFault.OutOfMemory → self.new ≡ self.old }
+        ensures cause { IsErrOf result QueryFault.SinkFault → HasFailed self.old.device.failures self.new.device.failures }
+    {
+        if self.snapshot.is_stopped() {
+            return Err(QueryFault::Stopped);
+        }
+        if self.query_is_too_large(id, name, payload, params) {
+            return Err(QueryFault::TooLarge);
+        }
+        if params.has_no_time() {
+            return Err(QueryFault::ZeroTimeout);
+        }
+        let Some(time) = self.queries.next_time() else {
+            return Err(QueryFault::Exhausted);
+        };
+        match self.ask(alloc, now, time, id, name, payload, params) {
+            Ok(fired) => Ok(fired),
+            Err(LineFault::OutOfMemory) => Err(QueryFault::OutOfMemory),
+            Err(LineFault::SinkFault) => Err(QueryFault::SinkFault),
+        }
+    }
+
+    /// Fires a query of this agent's own at the query clock's time, once its line is durable.
+    fn ask(
+        &mut self,
+        alloc: Global,
+        now: u64,
+        time: Time,
+        id: u32,
+        name: &[u8],
+        payload: &[u8],
+        params: &QueryParams,
+    ) -> Result<FiredQuery, LineFault>
+        requires runs { self.old.concrete.snapshot.stopped ≡ false }
+        requires at { time ≡ self.old.concrete.queries.clock }
+        requires not_later { time_in self.old.concrete.queries.slots time ≤ time }
+        requires not_full { count_in self.old.concrete.queries.slots time < self.old.concrete.config.per_time }
+        requires short { length (canonical (query (query_at time self.old.concrete.config.name id name.now payload.now params.now))) ≤ 1024 }
+
+        ensures fired { IfOk result (λ f. f ≡ fired_query self.old.concrete.config.name now (query_at time self.old.concrete.config.name id name.now payload.now params.now)) }
+        ensures entered { OnOk result ((i : IdealAgent) → self.old.concrete ≡ view_of i
+            → self.new.concrete ≡ view_of (with_snapshot (noted kinds.Query time i.snapshot Kept) (query_asked now (query_at time self.old.concrete.config.name id name.now payload.now params.now) i))) }
+        ensures allowed { OnOk result (MayNote kinds.Query time self.old.concrete.snapshot Kept) }
+        ensures device { OnOk result (self.new.device ≡ device_noted kinds.Query time self.old.concrete.snapshot self.old.device) }
+
+        ensures failed { IsErrOf result LineFault.SinkFault → self.new.concrete ≡ concrete_with (written kinds.Query time self.old.concrete.snapshot (Failed self.new.concrete.snapshot.durable)) self.old.concrete }
+        ensures fault_allowed { IsErrOf result LineFault.SinkFault → MayNote kinds.Query time self.old.concrete.snapshot (Failed self.new.concrete.snapshot.durable) }
+        ensures fault_device { IsErrOf result LineFault.SinkFault → FailsLine self.old.device self.new.device (clock_line kinds.Query time) }
+        ensures cause { IsErrOf result LineFault.SinkFault → HasFailed self.old.device.failures self.new.device.failures }
+        ensures memory { IsErrOf result LineFault.OutOfMemory → self.new ≡ self.old }
+    {
+        let node = self.config.name.as_slice();
+        let query = params.parts(time, node, id, name, payload);
+        let Ok(fired) = fired_of(alloc, &query, now, node) else {
+            return Err(LineFault::OutOfMemory);
+        };
+        let open = opened(alloc, &query, now);
+        match self.enter_asked(alloc, time, open) {
+            Ok(()) => Ok(fired),
+            Err(fault) => Err(fault),
+        }
+    }
+
+    /// Takes a query of this agent's own into the buffer, open for answers, once its line is durable.
+    fn enter_asked(&mut self, alloc: Global, time: Time, query: OpenQuery) -> Result<(), LineFault>
+        requires runs { self.old.concrete.snapshot.stopped ≡ false }
+        requires at { time ≡ self.old.concrete.queries.clock }
+        requires not_later { time_in self.old.concrete.queries.slots time ≤ time }
+        requires not_full { count_in self.old.concrete.queries.slots time < self.old.concrete.config.per_time }
+
+        ensures entered { OnOk result ((i : IdealAgent) → self.old.concrete ≡ view_of i
+            → self.new.concrete ≡ view_of (with_snapshot (noted kinds.Query time i.snapshot Kept) (with_asked (i.asked ++ (time, query) ∷ []) (query_entered time query.id i)))) }
+        ensures allowed { OnOk result (MayNote kinds.Query time self.old.concrete.snapshot Kept) }
+        ensures device { OnOk result (self.new.device ≡ device_noted kinds.Query time self.old.concrete.snapshot self.old.device) }
+
+        ensures failed { IsErrOf result LineFault.SinkFault → self.new.concrete ≡ concrete_with (written kinds.Query time self.old.concrete.snapshot (Failed self.new.concrete.snapshot.durable)) self.old.concrete }
+        ensures fault_allowed { IsErrOf result LineFault.SinkFault → MayNote kinds.Query time self.old.concrete.snapshot (Failed self.new.concrete.snapshot.durable) }
+        ensures fault_device { IsErrOf result LineFault.SinkFault → FailsLine self.old.device self.new.device (clock_line kinds.Query time) }
+        ensures cause { IsErrOf result LineFault.SinkFault → HasFailed self.old.device.failures self.new.device.failures }
+        ensures memory { IsErrOf result LineFault.OutOfMemory → self.new ≡ self.old }
+    {
+        let id = query.id;
+        let Ok(entry) = self.queries.prepare(alloc, time, &id) else {
+            return Err(LineFault::OutOfMemory);
+        };
+        note_asked(&mut self.asked, &mut self.snapshot, alloc, time, query)?;
+        self.queries.enter(time, entry);
+        Ok(())
+    }
+}
