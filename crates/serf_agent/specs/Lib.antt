@@ -15,6 +15,7 @@ pub mod Restart
 pub mod Lives
 pub mod Reasons
 pub mod Inside
+pub mod Judgements
 pub mod Lent
 pub mod Merging
 pub mod Defaults

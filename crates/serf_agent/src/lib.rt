@@ -27,6 +27,7 @@ mod defaults;
 mod events;
 mod flags;
 mod handed;
+mod judgement;
 mod laws;
 mod lent_queries;
 mod lists;

@@ -129,7 +129,7 @@ impl<S: Sink> Agent<S> {
     }
 
     /// Why a query is ignored, if it is. Takes no memory.
-    fn query_admission(&self, time: Time, id: u32) -> Option<Reason>
+    pub(crate) fn query_admission(&self, time: Time, id: u32) -> Option<Reason>
         ensures reason { (i : IdealAgent) → IsSound i → self.now.concrete ≡ view_of i → result ≡ query_admission i time id }
         ensures not_later { result ≡ None → time_in self.now.concrete.queries.slots time ≤ time }
         ensures not_full { result ≡ None → count_in self.now.concrete.queries.slots time < self.now.concrete.config.per_time }

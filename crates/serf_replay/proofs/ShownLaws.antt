@@ -42,11 +42,11 @@ actions-push sent n (l ∷ ls) line =
 -- ---- what a step sends
 
 -- a step sends its packets behind those that were sent, and its line says their numbers
-record Sends (c : Cluster) (action : Action) : Type 0 where
+pub record Sends (c : Cluster) (action : Action) : Type 0 where
   pub sent : (step c action).cluster.sent ≡ c.sent ++ (step c action).turn.packets
   pub numbers : (step c action).turn.line.sent ≡ numbers_from (length c.sent) (step c action).turn.packets
 
-sends : (c : Cluster) (action : Action) → Sends c action
+pub sends : (c : Cluster) (action : Action) → Sends c action
 sends c action = record { sent = (by (actor_of action)).0; numbers = (by (actor_of action)).1 }
   where
     at : (a : ℕ) (m : Option IdealNode) → ((on_agent c action a m).cluster.sent ≡ c.sent ++ (on_agent c action a m).turn.packets)
@@ -58,6 +58,15 @@ sends c action = record { sent = (by (actor_of action)).0; numbers = (by (actor_
         × ((step_by c action o).turn.line.sent ≡ numbers_from (length c.sent) (step_by c action o).turn.packets)
     by None = (refl, refl)
     by (Some a) = at a (slice_get c.nodes a)
+
+-- what is sent after a step changes none of its lines
+pub line-stays : (c : Cluster) (action : Action) (n : ℕ) (more : List (List ℕ))
+    → action_text ((step c action).cluster.sent ++ more) n (step c action).turn.line ≡ action_text (step c action).cluster.sent n (step c action).turn.line
+line-stays c action n more =
+    let turn : Turn = (step c action).turn in
+    let did : Sends c action = sends c action in
+    let within : length c.sent + length turn.packets ≤ length (step c action).cluster.sent = omega (arith, ap length did.sent, length-append c.sent turn.packets) in
+    action-kept (step c action).cluster.sent more n (length c.sent) turn.line turn.packets did.numbers within
 
 -- ---- one more action
 
