@@ -24,12 +24,12 @@ pub use input::{InputFault, MAX_SCHEDULE_BYTES, read_input};
 pub use job::{ReplayFault, replay};
 pub use message_lines::{DecodeTextFault, decode_text, put_members, put_message, put_slot};
 pub use output::{WriteFault, write_output};
-pub use parse::{ScheduleFault, parse_schedule};
+pub use parse::{ScheduleFault, parse_schedule, read_schedule_line};
 pub use put::{
     flag, put_hex, put_number, put_number_line, put_signed, put_with_hex, put_with_number,
 };
 pub use schedule::Schedule;
-pub use show::{put_answer, show_trace};
+pub use show::{put_action, put_answer, show_trace};
 pub use watch::{Unwatched, Watch};
 pub use wire_words::WireWords;
 pub use words::{bytes_at, choice_at, cut, number, number_at, number_from_to, take_words, word_at};
