@@ -26,7 +26,7 @@ pub use job::{ReplayFault, replay};
 pub use laws::lines_stay;
 pub use message_lines::{DecodeTextFault, decode_text, put_members, put_message, put_slot};
 pub use output::{WriteFault, write_output};
-pub use parse::{ScheduleFault, parse_schedule};
+pub use parse::{ScheduleFault, parse_schedule, read_schedule_line};
 pub use put::{
     flag, put_hex, put_number, put_number_line, put_signed, put_with_hex, put_with_number,
 };

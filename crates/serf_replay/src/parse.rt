@@ -141,6 +141,23 @@ fn read_line<'a>(
     read_words(alloc, parsed, words, rest)
 }
 
+/// Reads a line behind those of a schedule: its agent or its action is put behind the others.
+///
+/// Words stand between spaces. A line without words, and one whose first byte is `#`, say nothing. What stands in the
+/// schedule after a fault is not said.
+pub fn read_schedule_line(
+    alloc: Global,
+    schedule: &mut Schedule,
+    line: &[u8],
+) -> Result<(), LineFault>
+    ensures exact { Gives (λ _. parsed_of schedule.new) result (after_line (parsed_of schedule.old) line.entry.now) }
+    // The agents can make a cluster.
+    ensures agents { AreConfigs schedule.new.agents }
+{
+    let mut words = Vec::new(alloc);
+    read_line(alloc, schedule, &mut words, line)
+}
+
 /// The schedule that a text stands for, or its first bad line.
 ///
 /// The text is cut at newlines, and a last line without one is read too. Words stand between spaces. A line without

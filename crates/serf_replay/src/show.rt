@@ -230,8 +230,8 @@ fn put_handed(out: &mut Vec<u8>, number: u64, handed: &Option<HandedLine>) -> Re
     }
 }
 
-/// Appends the lines of an action, where these packets were sent. After an `AllocError`, which comes where there is no
-/// memory for them, `out` may have a front of them.
+/// Appends the lines of an action of this number, where these packets were sent. After an `AllocError`, which comes
+/// where there is no memory for them, `out` may have a front of them.
 #[tactic(auto, unfolding(crate::specs::Show::action_text))]
 pub fn put_action(
     out: &mut Vec<u8>,
