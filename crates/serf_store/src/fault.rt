@@ -1,0 +1,37 @@
+//! Why a store was not opened.
+
+use std::alloc::AllocError;
+use std::io;
+use thiserror::Error;
+
+/// Why a store was not opened. No agent has it then by this call, and the text is as it was.
+#[derive(Debug, Drop, Error)]
+pub enum StoreFault {
+    /// There was no memory for the text or the paths.
+    #[error("out of memory")]
+    OutOfMemory,
+    /// Another store over this path is open, in this process or another.
+    #[error("another agent has this snapshot open")]
+    InUse,
+    /// The lock's file can't be made, opened or locked.
+    #[error("the lock: {0}")]
+    Lock(io::Error),
+    /// What a crash left beside the file can't be removed.
+    #[error("the file that a crash left: {0}")]
+    Leftover(io::Error),
+    /// The file can't be opened or made: it is a folder, read-only, or its folder is missing.
+    #[error("the file: {0}")]
+    Open(io::Error),
+    /// The file can't be read.
+    #[error("reading the file: {0}")]
+    Read(io::Error),
+    /// The folder can't be brought to the device, so a file that was just made might not survive a crash.
+    #[error("the folder: {0}")]
+    Folder(io::Error),
+}
+
+impl From<AllocError> for StoreFault {
+    fn from(_fault: AllocError) -> Self {
+        StoreFault::OutOfMemory
+    }
+}

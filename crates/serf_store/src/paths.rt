@@ -1,0 +1,63 @@
+//! The paths of a store: its file, what stands beside it, and their folder.
+
+ghost use Rattle.std.specs.Prelude.{◌≡◌, ◌++◌, IfOk, string_bytes};
+ghost use Rattle.serf_store.specs.Paths.{folder_of, lock_of, next_of};
+
+use std::alloc::{AllocError, Global};
+use std::path::Path;
+
+/// What the path of the lock's file has behind the path of the file.
+const LOCK: &str = ".lock";
+
+/// What the path of the text that is to replace the file's has behind the path of the file.
+const NEXT: &str = ".next";
+
+/// The paths of a store.
+#[derive(Drop)]
+pub struct Paths {
+    /// The file with the text.
+    pub file: String,
+    /// The file that is locked, and has no text.
+    pub lock: String,
+    /// The file in which a text is written before it takes the file's place.
+    pub next: String,
+    /// The folder of all three.
+    pub folder: String,
+}
+
+impl Paths {
+    /// The paths beside this path.
+    pub fn of(alloc: Global, path: &str) -> Result<Self, AllocError>
+        ensures file { IfOk result (λ p. string_bytes p.file ≡ path.now) }
+        ensures lock { IfOk result (λ p. string_bytes p.lock ≡ lock_of path.now) }
+        ensures next { IfOk result (λ p. string_bytes p.next ≡ next_of path.now) }
+        ensures folder { IfOk result (λ p. string_bytes p.folder ≡ folder_of path.now) }
+    {
+        Ok(Paths {
+            file: String::from_str(alloc, path)?,
+            lock: joined(alloc, path, LOCK)?,
+            next: joined(alloc, path, NEXT)?,
+            folder: String::from_str(alloc, folder_of(path))?,
+        })
+    }
+}
+
+/// A text and another behind it.
+fn joined(alloc: Global, text: &str, more: &str) -> Result<String, AllocError>
+    ensures { IfOk result (λ s. string_bytes s ≡ text.now ++ more.now) }
+{
+    let mut whole = String::from_str(alloc, text)?;
+    whole.push_str(more)?;
+    Ok(whole)
+}
+
+/// The folder of a path: its parent, or the current folder where it names none.
+fn folder_of(path: &str) -> &str
+    ensures { result.now ≡ folder_of path.now }
+{
+    let folder = match Path::new(path).parent() {
+        Some(parent) => parent.as_str(),
+        None => "",
+    };
+    if folder.is_empty() { "." } else { folder }
+}
