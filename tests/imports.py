@@ -22,10 +22,6 @@ OPEN = {
         ("proofs/LifeLaws.antt", "serf_wire", "SpelledRanges"),
         ("proofs/SoundLaws.antt", "serf_snap", "NoteLaws"),
     ),
-    "serf_judge": (
-        ("proofs/once/first_event_twice/Answers.antt", "serf_pairs", "TwiceLaws"),
-        ("proofs/once/first_query_twice/Answers.antt", "serf_pairs", "TwiceLaws"),
-    ),
     "serf_model": (
         ("proofs/CallsKept.antt", "serf_agent", "SoundLaws"),
         ("proofs/Effects.antt", "serf_wire", "SpelledRanges"),
@@ -43,14 +39,6 @@ OPEN = {
         ("proofs/SendLaws.antt", "serf_wire", "CanonicalPackets"),
         ("proofs/SendLaws.antt", "serf_wire", "Packets"),
         ("proofs/SendLaws.antt", "serf_wire", "SpelledRanges"),
-    ),
-    "serf_random": (
-        ("proofs/CommentBack.antt", "serf_schedule_text", "LinesBack"),
-        ("proofs/CommentBack.antt", "serf_schedule_text", "PlainWords"),
-    ),
-    "serf_schedule_text": (
-        ("proofs/RoundTrip.antt", "serf_model", "StartLaws"),
-        ("proofs/WordsBack.antt", "serf_replay", "NumberLemmas"),
     ),
     "serf_wire": (
         ("proofs/FastLists.antt", "serf_pack", "ReadIsSpelled"),

@@ -7,7 +7,7 @@ use Rattle.serf_agent.specs.declared.config.Config.{Config}
 use Rattle.serf_agent.specs.Config.{is_sound}
 use Rattle.serf_model.specs.Cluster.{first_node, start}
 use Rattle.serf_model.specs.Ready.{AreRepresentable, IsRepresentable}
-use Rattle.serf_model.specs.Runs.{AreConfigs, first_bad}
+use Rattle.serf_model.specs.Runs.{AreConfigs, NoneBadIsSound}
 use Rattle.serf_model.proofs.InvariantKept.{representable-opened_first}
 use Rattle.serf_model.proofs.RunLaws.{IsAfter, events_at, queries_of}
 
@@ -21,7 +21,7 @@ none-bad (c ∷ cs) h = by (is_sound c) refl h (none-bad cs)
     by true is h rest = (is, rest (omega arith))
     by false is h rest = absurd (omega arith)
 
-pub all-sound : (configs : List Config) → first_bad configs ≡ None → AllByRecursion (λ c. is_sound c ≡ true) configs
+pub all-sound : NoneBadIsSound
 all-sound configs none = none-bad configs (by (nat_lt (position_or_len (λ c. not (is_sound c)) configs) (length configs)) refl none)
   where
     by : (b : Bool) → nat_lt (position_or_len (λ c. not (is_sound c)) configs) (length configs) ≡ b → cond b (Some (position_or_len (λ c. not (is_sound c)) configs)) None ≡ None → length configs ≤ position_or_len (λ c. not (is_sound c)) configs

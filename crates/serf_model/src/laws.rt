@@ -18,7 +18,7 @@ ghost use Rattle.serf_model.specs.Merging.{MergesRepresentable};
 ghost use Rattle.serf_model.specs.Promises.{Held, Later, Once, OnlyFired, QueryFired, QueryHandedOnce, QueryLater, QueryOnce};
 ghost use Rattle.serf_model.specs.Queried.{QueryOnlyFired};
 ghost use Rattle.serf_model.specs.Ready.{AreRepresentable, IsRepresentable};
-ghost use Rattle.serf_model.specs.Runs.{AreConfigs};
+ghost use Rattle.serf_model.specs.Runs.{AreConfigs, NoneBadIsSound};
 ghost use Rattle.serf_model.specs.Sizes.{HasSizes};
 ghost use Rattle.serf_model.specs.Trace.{turns_by, turns_of};
 
@@ -89,6 +89,11 @@ pub fn representable_agents()
     ensures apply { (m : IdealNode) (sent : List (List ℕ)) (action : Action) → IsRepresentable m.agent → IsRepresentable (apply m sent action).node.agent }
     ensures unopened { (config : Config) → is_sound config ≡ true → IsSound (unopened config (opened [] (fresh_device []))) }
     ensures text { (m : IdealNode) (tail : List ℕ) → IsRepresentable m.agent → IsInText m.agent (text_after m.agent tail) }
+{}
+
+/// Settings of which none is bad are sound, each of them. Does nothing.
+pub fn sound_settings()
+    ensures { NoneBadIsSound }
 {}
 
 /// A merge leaves its agent representable, at each event. Does nothing.

@@ -1,3 +1,4 @@
+pub mod PlainLines
 pub mod Sayable
 pub mod ScheduleText
 pub mod Words
