@@ -15,6 +15,7 @@ use Rattle.serf_agent.specs.Events.{admission, texts_len}
 use Rattle.serf_agent.specs.Ideal.{IdealAgent, Past}
 use Rattle.serf_agent.specs.Tracks.{of_life, was_ever_entered}
 use Rattle.serf_lamport.specs.Clock.{observed}
+use Rattle.serf_model.specs.Below.{Below}
 use Rattle.serf_model.specs.declared.action.Action.{Action}
 use Rattle.serf_model.specs.declared.line.Answer.TheVariants as lines
 use Rattle.serf_model.specs.Cluster.{Applied, IdealNode, Cluster, Run, apply, after, step}
@@ -86,18 +87,18 @@ abbrev SeenAt : List Turn → Turn → Type 0
 SeenAt before turn = (a : ℕ) (packet : List ℕ) (e : UserEvent) → actor_of turn.action ≡ Some a → turn.line.answer ≡ lines.Ignored Seen → turn.given ≡ Some packet → decoded packet ≡ Ok (user_event e)
     → Contains (events_to a before) (record { time = e.time; key = event_of e.name e.payload })
 
-seen-acts : (c : Cluster) (turns : List Turn) (action : Action) (b : ℕ) (m : IdealNode) (packet : List ℕ) (e : UserEvent) → IsAfter c turns → slice_get c.nodes b ≡ Some m → (apply m c.sent action).done.answer ≡ lines.Ignored Seen
+seen-acts : Below → (c : Cluster) (turns : List Turn) (action : Action) (b : ℕ) (m : IdealNode) (packet : List ℕ) (e : UserEvent) → IsAfter c turns → slice_get c.nodes b ≡ Some m → (apply m c.sent action).done.answer ≡ lines.Ignored Seen
     → packet_given c.sent action ≡ Some packet → decoded packet ≡ Ok (user_event e) → Contains (events_to b turns) (record { time = e.time; key = event_of e.name e.payload })
-seen-acts c turns action b m packet e h at says given reads =
+seen-acts lower c turns action b m packet e h at says given reads =
     subst (λ l. Contains l (record { time = e.time; key = event_of e.name e.payload })) (ap events_at (sym at) ∙ h.events b)
     (entered-contains m.agent.events.history e.time (event_of e.name e.payload)
-    (seen-entered m.agent e.time (event_of e.name e.payload) (seen-effect m action (packet_given c.sent action) (apply m c.sent action) (effect m c.sent action) packet e says given reads)))
+    (seen-entered m.agent e.time (event_of e.name e.payload) (seen-effect m action (packet_given c.sent action) (apply m c.sent action) (effect lower m c.sent action) packet e says given reads)))
 
-pub seen-step : (r : Run) (action : Action) → IsAfter r.cluster r.turns → SeenWasHanded r.turns → SeenWasHanded (after r action).turns
-seen-step r action h all =
+pub seen-step : Below → (r : Run) (action : Action) → IsAfter r.cluster r.turns → SeenWasHanded r.turns → SeenWasHanded (after r action).turns
+seen-step lower r action h all =
     at_each_push SeenAt r.turns (step r.cluster action).turn all (step-cases (λ s. SeenAt r.turns s.turn) r.cluster action (λ actor a packet e is says given reads. absurd (cc says)) (λ b actor at a packet e is says given reads. absurd (cc says))
     (λ b m actor at a packet e is says given reads.
-    subst (λ (n : ℕ). Contains (events_to n r.turns) (record { time = e.time; key = event_of e.name e.payload })) (same-actor action b a actor is) (seen-acts r.cluster r.turns action b m packet e h at says given reads)))
+    subst (λ (n : ℕ). Contains (events_to n r.turns) (record { time = e.time; key = event_of e.name e.payload })) (same-actor action b a actor is) (seen-acts lower r.cluster r.turns action b m packet e h at says given reads)))
 
 pub seen-start : SeenWasHanded []
 seen-start = at_each_nil SeenAt
