@@ -22,6 +22,14 @@ OPEN = {
         ("proofs/LifeLaws.antt", "serf_wire", "SpelledRanges"),
         ("proofs/SoundLaws.antt", "serf_snap", "NoteLaws"),
     ),
+    "serf_random": (
+        ("proofs/CommentBack.antt", "serf_schedule_text", "LinesBack"),
+        ("proofs/CommentBack.antt", "serf_schedule_text", "PlainWords"),
+    ),
+    "serf_schedule_text": (
+        ("proofs/RoundTrip.antt", "serf_model", "StartLaws"),
+        ("proofs/WordsBack.antt", "serf_replay", "NumberLemmas"),
+    ),
     "serf_wire": (
         ("proofs/FastLists.antt", "serf_pack", "ReadIsSpelled"),
         ("proofs/FastPairs.antt", "serf_pack", "Canonical"),

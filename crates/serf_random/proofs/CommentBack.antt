@@ -6,7 +6,8 @@ use Rattle.std.proofs.lemmas.Fmt.{length-decimal-le}
 use Rattle.serf_replay.specs.declared.cause.Cause.{Cause}
 use Rattle.serf_replay.specs.Line.{Parsed, after_line}
 use Rattle.serf_replay.specs.Schedule.{after_lines, at_line, schedule_of}
-use Rattle.serf_schedule_text.specs.PlainLines.{IsWord, PlainLines, body}
+use Rattle.serf_schedule_text.proofs.LinesBack.{body, line-off}
+use Rattle.serf_schedule_text.proofs.PlainWords.{IsWord, number-word}
 use Rattle.serf_random.specs.declared.ask.Ask.{Ask}
 use Rattle.serf_random.specs.declared.kind.Kind.{Kind}
 use Rattle.serf_random.specs.declared.kind.Kind.TheVariants as kinds
@@ -54,13 +55,13 @@ kind-short kinds.PerTime = omega arith
 kind-short kinds.Compactions = omega arith
 kind-short kinds.Gossip = omega arith
 
-comment-plain : PlainLines → (ask : Ask) → HasNumbers ask → AllByRecursion IsWord (comment_words ask)
-comment-plain lines ask h = (
+comment-plain : (ask : Ask) → HasNumbers ask → AllByRecursion IsWord (comment_words ask)
+comment-plain ask h = (
   record { some = omega arith; plain = refl },
   (
     record { some = omega arith; plain = refl },
     (
-      lines.number ask.seed h.0,
+      number-word ask.seed h.0,
       (
         record { some = omega arith; plain = refl },
         (
@@ -68,11 +69,11 @@ comment-plain lines ask h = (
           (
             record { some = omega arith; plain = refl },
             (
-              lines.number ask.agents h.1,
+              number-word ask.agents h.1,
               (
                 record { some = omega arith; plain = refl },
                 (
-                  lines.number ask.actions h.2,
+                  number-word ask.actions h.2,
                   (record { some = omega arith; plain = refl }, (record { some = omega arith; plain = refl }, tt)),
                 ),
               ),
@@ -98,10 +99,10 @@ unfolding after_line
 skipped p ask = refl
 
 -- a text behind the comment stands for what it stood for
-pub behind-comment : PlainLines → (ask : Ask) (text : List ℕ) (p : Parsed) → HasNumbers ask → schedule_of text ≡ Ok p → schedule_of (comment_text ask ++ text) ≡ Ok p
+pub behind-comment : (ask : Ask) (text : List ℕ) (p : Parsed) → HasNumbers ask → schedule_of text ≡ Ok p → schedule_of (comment_text ask ++ text) ≡ Ok p
 unfolding comment_text
-behind-comment lines ask text p h back =
+behind-comment ask text p h back =
     let none : Parsed = record { configs = []; actions = [] } in
-    ap (after_lines 1 none) (lines.cut_off (comment_words ask) text (comment-plain lines ask h))
+    ap (after_lines 1 none) (line-off (comment_words ask) text (comment-plain ask h))
     ∙ ap (λ r. at_line 1 r (λ after. after_lines 2 after (slice_split (λ b. b == 10) text))) (skipped none ask)
     ∙ any-number 1 2 none p (slice_split (λ b. b == 10) text) back

@@ -8,8 +8,7 @@ use Rattle.std.proofs.lemmas.List.Elements.{All-append, All-cons, All-nil}
 use Rattle.std.proofs.lemmas.List.Splits.{slice_split_at, slice_split_none}
 use Rattle.serf_replay.specs.Words.{words_of}
 use Rattle.serf_schedule_text.specs.ScheduleText.{line_text, spaced}
-use Rattle.serf_schedule_text.specs.PlainLines.{IsWord, body}
-use Rattle.serf_schedule_text.proofs.PlainWords.{above-space}
+use Rattle.serf_schedule_text.proofs.PlainWords.{IsWord, above-space}
 
 above : (s b : ℕ) → s < b → (b == s) ≡ false
 above s b h = grind (arith, common_steps)
@@ -40,6 +39,11 @@ pub words-back : (word : List ℕ) (words : List (List ℕ)) → AllByRecursion 
 words-back word words ws = ap (filter (λ w. nat_lt 0 (length w))) (parts word words ws.0 ws.1) ∙ kept (word ∷ words) ws
 
 -- Lines
+
+-- a line without its newline
+abbrev pub body : List (List ℕ) → List ℕ
+body [] = []
+body (word ∷ words) = word ++ spaced words
 
 spaced-plain : (words : List (List ℕ)) → AllByRecursion IsWord words → All (λ b. (b == 10) ≡ false) (spaced words)
 spaced-plain [] ws = All-nil (λ b. (b == 10) ≡ false)

@@ -10,8 +10,16 @@ use Rattle.std.proofs.lemmas.List.Elements.{All-cons, All-nil}
 use Rattle.hex.specs.Hex.{IsBytes, encode_lower, encode_with, lower_digits}
 use Rattle.hex.proofs.HexLemmas.{length-encode_with}
 use Rattle.serf_replay.specs.TextParts.{hex_text}
-use Rattle.serf_schedule_text.specs.PlainLines.{IsWord, is_plain}
 use Rattle.serf_schedule_text.proofs.WordsBack.{digits, hex-some}
+
+-- a byte above the space
+abbrev pub is_plain : ℕ → Bool
+is_plain b = nat_le 33 b
+
+-- some bytes, each above the space
+pub record IsWord (word : List ℕ) : Type 0 where
+  pub some : 0 < length word
+  pub plain : list_all is_plain word ≡ true
 
 both : (a b : Bool) → a ≡ true → b ≡ true → (a && b) ≡ true
 both a b p q = rw (p, q) refl

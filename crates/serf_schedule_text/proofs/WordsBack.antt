@@ -11,16 +11,12 @@ use Rattle.hex.specs.Hex.{IsBytes, encode_lower, lower_digits}
 use Rattle.hex.proofs.HexLemmas.{decode_of-encode_lower, length-encode_with}
 use Rattle.serf_replay.specs.TextParts.{hex_text}
 use Rattle.serf_replay.specs.Words.{bytes_of, number_of}
+use Rattle.serf_replay.proofs.NumberLemmas.{is_number}
 
 -- Numbers
 
 pub digits : IsNumeralModel (λ ds. list_all is_ascii_digit ds ≡ true) (digits_value 10)
 digits = numerals_by_value _ (search rules)
-
--- digits, that write a number in range
-is_number : (word : List ℕ) → 0 < length word → list_all is_ascii_digit word ≡ true → digits_value 10 word < 18446744073709551616
-    → number_of word ≡ Some (digits_value 10 word)
-is_number word some all fits = rw all (grind (arith, common_steps))
 
 pub number-back : (n : ℕ) → n < 2 ^ 64 → number_of (decimal n) ≡ Some n
 number-back n h =

@@ -1,4 +1,3 @@
-pub mod PlainLines
 pub mod Sayable
 pub mod ScheduleText
 pub mod Words

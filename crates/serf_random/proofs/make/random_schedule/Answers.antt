@@ -15,7 +15,7 @@ returns-clause-reads_back c =
     let text = whole_text (comment_text c.args.ask.now) c.put_comment.new.out.items c.add_agents.new.text.items c.add_actions.new.text.items
     c.in_ok-agents.agents c.args.ask.now.actions c.in_ok-actions.actions.items first c.in_ok-agents.ensures c.in_ok-actions.ensures in
     let sayable : All IsSayable c.in_ok-actions.actions.items = subst (All IsSayable) (sym c.in_ok-actions.ensures.actions) c.in_ok-actions.ensures.sayable in
-    ap schedule_of text ∙ behind-comment c.plain_lines.ensures c.args.ask.now _ _ c.know_numbers.ensures (c.know_read_back.ensures sayable)
+    ap schedule_of text ∙ behind-comment c.args.ask.now _ _ c.know_numbers.ensures (c.know_read_back.ensures sayable)
 
 pub returns-clause-short : goal.returns-clause-short
 returns-clause-short c =
