@@ -20,3 +20,4 @@ pub mod Lent
 pub mod Merging
 pub mod Defaults
 pub mod LentQueries
+pub mod Laws

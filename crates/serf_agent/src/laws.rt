@@ -1,5 +1,6 @@
 //! The laws of one agent's lives, as clauses of a function that does nothing.
 
+ghost use Rattle.serf_agent.specs.Laws.{AdmitsNew, ShortPackets, StaysSound};
 ghost use Rattle.serf_agent.specs.Lives.{AsksLater, DurableHasFlushed, FiresLater, HandsOutOnce, HandsOutQueriesOnce};
 
 use serf_snap::text_laws;
@@ -20,3 +21,14 @@ pub fn life_promises()
 {
     text_laws();
 }
+
+/// Each change of a sound agent leaves a sound agent, and what an agent admits it never entered before. Does nothing.
+pub fn sound_steps()
+    ensures sound { StaysSound }
+    ensures admits { AdmitsNew }
+{}
+
+/// No text of a packet that an agent sends is too long for its header. Does nothing.
+pub fn short_packets()
+    ensures { ShortPackets }
+{}

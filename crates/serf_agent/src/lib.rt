@@ -46,7 +46,7 @@ pub use agent::Agent;
 pub use config::Config;
 pub use defaults::{DEFAULT_EVENT_LIMIT, DEFAULT_PER_TIME, DEFAULT_RESPONDERS, DEFAULT_SLOTS};
 pub use handed::HandedQuery;
-pub use laws::life_promises;
+pub use laws::{life_promises, short_packets, sound_steps};
 pub use lent_queries::LentQueries;
 pub use lists::{BytesList, Response, Responses};
 pub use open_query::OpenQuery;

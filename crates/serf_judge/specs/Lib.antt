@@ -1,3 +1,4 @@
 pub mod Identity
 pub mod Log
 pub mod Said
+pub mod Twice

@@ -1,8 +1,8 @@
 //! Whether an event, or a query, was handed to a node twice.
 
 ghost use Rattle.std.specs.Prelude.{◌≡◌, IfOk, MatchOption, map};
-ghost use Rattle.serf_pairs.specs.Pairs.{AreFirstTwo, HasNoTwo};
 ghost use Rattle.serf_judge.specs.Identity.{event_identity, key_identity, query_identity, query_key_identity};
+ghost use Rattle.serf_judge.specs.Twice.{AreFirstTwo, HasNoTwo};
 
 use crate::entry::{EventEntry, QueryEntry};
 use crate::key::{EventKey, QueryKey, key_of, query_key_of};

@@ -1,6 +1,7 @@
 -- Where the acks and responses of each run come from.
 use Rattle.serf_model.proofs.Names.{◌≡◌, ◌≢◌, ℕ, List, [], ◌∷◌, ◌++◌, Option, Some, None, Result, Ok, Err, refl, sym, ap, subst, ◌∙◌, arith, map, length, All, AllPairs, Contains, not, slice_get, flat_map, option_map, All-nil, All-cons, All-head, All-tail, WireFault, decoded, Message, user_event, query, query_response, push_pull, foreign, Config, Handed, is_ack}
 use Rattle.std.specs.Prelude.{filter}
+use Rattle.serf_model.specs.Below.{Below}
 use Rattle.serf_model.specs.declared.action.Action.{Action}
 use Rattle.serf_model.specs.declared.action.Action.TheVariants as actions
 use Rattle.serf_model.specs.AnswerPromises.{AckedOnce, AnswersMade, IsMade, RepliedOnce, acked, injected, replied, acked_by, replied_by, answer_brought, answers_in, query_answered}
@@ -39,8 +40,8 @@ MadeAt configs before turn = All (IsMade configs before turn) (answers_in turn.p
 representable-at : (c : Cluster) (turns : List Turn) (b : ℕ) (m : IdealNode) → IsAfter c turns → slice_get c.nodes b ≡ Some m → IsRepresentable m.agent
 representable-at c turns b m h at = all-at (λ m. IsRepresentable m.agent) c.nodes b m h.representable at
 
-sends-at : (configs : List Config) (c : Cluster) (turns : List Turn) (action : Action) (b : ℕ) (m : IdealNode) → IsAfter c turns → IsServed configs c turns → HasSizes action → slice_get c.nodes b ≡ Some m → Sends m action (apply m c.sent action).done
-sends-at configs c turns action b m h served ranged at = sends-apply m c.sent action (representable-at c turns b m h at) (served.each b m at).handable ranged
+sends-at : Below → (configs : List Config) (c : Cluster) (turns : List Turn) (action : Action) (b : ℕ) (m : IdealNode) → IsAfter c turns → IsServed configs c turns → HasSizes action → slice_get c.nodes b ≡ Some m → Sends m action (apply m c.sent action).done
+sends-at lower configs c turns action b m h served ranged at = sends-apply lower m c.sent action (representable-at c turns b m h at) (served.each b m at).handable ranged
 
 made-applied : (configs : List Config) (c : Cluster) (turns : List Turn) (action : Action) (b : ℕ) (m : IdealNode) → IsServing configs b (turns_by b turns) m → actor_of action ≡ Some b → Makes m action (apply m c.sent action).done
     → MadeAt configs turns (applied c action b (apply m c.sent action)).turn
@@ -97,28 +98,28 @@ made-injects : (configs : List Config) (c : Cluster) (turns : List Turn) (action
 made-injects configs c turns (actions.Inject bytes) = made-injected configs turns (injects c (actions.Inject bytes) (bytes ∷ [])).turn bytes (decoded bytes) refl refl
 made-injects configs c turns _ = All-nil _
 
-made-step : (configs : List Config) (c : Cluster) (turns : List Turn) (action : Action) → IsAfter c turns → IsServed configs c turns → HasSizes action → MadeAt configs turns (step c action).turn
-made-step configs c turns action h served ranged =
+made-step : Below → (configs : List Config) (c : Cluster) (turns : List Turn) (action : Action) → IsAfter c turns → IsServed configs c turns → HasSizes action → MadeAt configs turns (step c action).turn
+made-step lower configs c turns action h served ranged =
     step-cases (λ s. MadeAt configs turns s.turn) c action (λ actor. made-injects configs c turns action) (λ b actor at. All-nil _)
-    (λ b m actor at. made-applied configs c turns action b m (served.each b m at) actor (sends-at configs c turns action b m h served ranged at).makes)
+    (λ b m actor at. made-applied configs c turns action b m (served.each b m at) actor (sends-at lower configs c turns action b m h served ranged at).makes)
 
 -- the queries of an agent's turns, with one more
-once-after : (c : Cluster) (turns : List Turn) (action : Action) (b : ℕ) (m : IdealNode) → IsAfter c turns → actor_of action ≡ Some b → slice_get c.nodes b ≡ Some m
+once-after : Below → (c : Cluster) (turns : List Turn) (action : Action) (b : ℕ) (m : IdealNode) → IsAfter c turns → actor_of action ≡ Some b → slice_get c.nodes b ≡ Some m
     → AllPairs (λ x y. x ≢ y) (queries_in (turns_by b turns ++ (applied c action b (apply m c.sent action)).turn ∷ []))
-once-after c turns action b m h actor at =
+once-after lower c turns action b m h actor at =
     subst (λ ts. AllPairs (λ x y. x ≢ y) (queries_in ts)) (turns-mine b turns (applied c action b (apply m c.sent action)).turn (is-mine b action actor))
-    (query-once (applied c action b (apply m c.sent action)).cluster (turns ++ (applied c action b (apply m c.sent action)).turn ∷ []) (after-acts c turns action b m h actor at) b)
+    (query-once (applied c action b (apply m c.sent action)).cluster (turns ++ (applied c action b (apply m c.sent action)).turn ∷ []) (after-acts lower c turns action b m h actor at) b)
 
-pub served-step : (configs : List Config) (r : Run) (action : Action) → HasSizes action → IsAfter r.cluster r.turns → IsServed configs r.cluster r.turns → IsServed configs (after r action).cluster (after r action).turns
-served-step configs r action ranged h served = record {
+pub served-step : Below → (configs : List Config) (r : Run) (action : Action) → HasSizes action → IsAfter r.cluster r.turns → IsServed configs r.cluster r.turns → IsServed configs (after r action).cluster (after r action).turns
+served-step lower configs r action ranged h served = record {
   each = each-step (IsServing configs) r action served.each
-      (λ b m actor at p. serving-more r.cluster configs (turns_by b r.turns) action b m p (sends-at configs r.cluster r.turns action b m h served ranged at)
-      (keeps-apply m r.cluster.sent action (representable-at r.cluster r.turns b m h at).consistent.sound).config
-      (once-after r.cluster r.turns action b m h actor at));
+      (λ b m actor at p. serving-more lower r.cluster configs (turns_by b r.turns) action b m p (sends-at lower configs r.cluster r.turns action b m h served ranged at)
+      (keeps-apply lower m r.cluster.sent action (representable-at r.cluster r.turns b m h at).consistent.sound).config
+      (once-after lower r.cluster r.turns action b m h actor at));
   awaiting = each-step Awaits r action served.awaiting
-      (λ b m actor at p. awaiting-more r.cluster (turns_by b r.turns) action b m p (sends-at configs r.cluster r.turns action b m h served ranged at).makes (once-after r.cluster r.turns action b m h actor at));
+      (λ b m actor at p. awaiting-more lower r.cluster (turns_by b r.turns) action b m p (sends-at lower configs r.cluster r.turns action b m h served ranged at).makes (once-after lower r.cluster r.turns action b m h actor at));
   nobody = nobodys-step r action served.nobody;
-  made = at_each_push (MadeAt configs) r.turns (step r.cluster action).turn served.made (made-step configs r.cluster r.turns action h served ranged);
+  made = at_each_push (MadeAt configs) r.turns (step r.cluster action).turn served.made (made-step lower configs r.cluster r.turns action h served ranged);
 }
 
 pub served-start : (configs : List Config) → IsServed configs (start configs).cluster []

@@ -1,5 +1,6 @@
 -- What every run promises of acks and responses, whatever is done in it.
 use Rattle.serf_model.proofs.Names.{List, [], ◌∷◌, All, AllByRecursion, fold, recursion_from_All, Config}
+use Rattle.serf_model.specs.Below.{Below}
 use Rattle.serf_model.specs.declared.action.Action.{Action}
 use Rattle.serf_model.specs.Cluster.{Run, after, run_of, start}
 use Rattle.serf_model.specs.Runs.{AreConfigs}
@@ -15,10 +16,10 @@ record IsCountingOn (r : Run) : Type 0 where
   going : IsAfter r.cluster r.turns
   counting : IsCounting r.cluster r.turns
 
-pub counting-run : (configs : List Config) (actions : List Action) → AreConfigs configs → IsCounting (run_of configs actions).cluster (run_of configs actions).turns
-counting-run configs actions ok =
-    (fold_keeps IsCountingOn after (start configs) actions (record { going = after-start configs ok; counting = counting-start configs })
-    (λ r action h. record { going = after-step r action h.going; counting = counting-step r action h.going h.counting })).counting
+pub counting-run : Below → (configs : List Config) (actions : List Action) → AreConfigs configs → IsCounting (run_of configs actions).cluster (run_of configs actions).turns
+counting-run lower configs actions ok =
+    (fold_keeps IsCountingOn after (start configs) actions (record { going = after-start lower configs ok; counting = counting-start configs })
+    (λ r action h. record { going = after-step lower r action h.going; counting = counting-step lower r action h.going h.counting })).counting
 
 record IsServingOn (configs : List Config) (r : Run) : Type 0 where
   going : IsAfter r.cluster r.turns
@@ -29,7 +30,7 @@ fold_keeps_at : {A B : Type 0} (P : B → Type 0) (Q : A → Type 0) (f : B → 
 fold_keeps_at P Q f b [] p all step = p
 fold_keeps_at P Q f b (x ∷ xs) p all step = fold_keeps_at P Q f (f b x) xs (step b x all.0 p) all.1 step
 
-pub served-run : (configs : List Config) (actions : List Action) → All HasSizes actions → AreConfigs configs → IsServed configs (run_of configs actions).cluster (run_of configs actions).turns
-served-run configs actions sized ok =
-    (fold_keeps_at (IsServingOn configs) HasSizes after (start configs) actions (record { going = after-start configs ok; served = served-start configs }) (recursion_from_All HasSizes actions sized)
-    (λ r action has h. record { going = after-step r action h.going; served = served-step configs r action has h.going h.served })).served
+pub served-run : Below → (configs : List Config) (actions : List Action) → All HasSizes actions → AreConfigs configs → IsServed configs (run_of configs actions).cluster (run_of configs actions).turns
+served-run lower configs actions sized ok =
+    (fold_keeps_at (IsServingOn configs) HasSizes after (start configs) actions (record { going = after-start lower configs ok; served = served-start configs }) (recursion_from_All HasSizes actions sized)
+    (λ r action has h. record { going = after-step lower r action h.going; served = served-step lower configs r action has h.going h.served })).served

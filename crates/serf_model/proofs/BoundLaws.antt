@@ -1,5 +1,6 @@
 -- What enters at an agent in one life is bounded by its settings, in every run.
 use Rattle.serf_model.proofs.Names.{zero, suc, ◌≡◌, ℕ, ◌+◌, ◌*◌, ◌≤◌, ◌==◌, ◌&&◌, inl, inr, Bool, true, false, cond, List, [], ◌∷◌, ◌++◌, Option, Some, None, refl, sym, ap, subst, ◌∙◌, arith, map, length, set, get_or, ◌%◌, All, slice_get, filter, range_with_len, option_map, cases_Bool, eq-eqb, eqb-true, eqb-false, append-nil, All-filter, All-map, fold-append, EventBody, EachAtMost, SlotOf, TimedEntry, count_at, entries_of, greatest_time, held_at, held_count, slot_of, slots_of, SlotLaws, Config, IdealAgent, Past, of_life}
+use Rattle.serf_model.specs.Below.{Below}
 use Rattle.serf_model.specs.declared.action.Action.{Action}
 use Rattle.serf_model.specs.declared.line.EventLine.{EventLine}
 use Rattle.serf_model.specs.Bounds.{AtMostOfOneTime, EventsBounded, AreEventsBounded, IsBounded, QueriesBounded, events_of_life, longest_texts, is_restarted, lived_on, present_life, queries_of_life, reopens}
@@ -156,9 +157,9 @@ lived-still configs c turns s h nodes goes none no_query a =
     (ap (λ l. cond (is_agent a (actor_of s.turn.action)) l []) no_query ∙ none-either (is_agent a (actor_of s.turn.action))))
 
 -- the turn of the agent that acts
-own-act : (configs : List Config) (c : Cluster) (turns : List Turn) (b : ℕ) (m : IdealNode) (action : Action) → IsRepresentable m.agent → actor_of action ≡ Some b → IsLivedAt configs turns b (Some m)
+own-act : Below → (configs : List Config) (c : Cluster) (turns : List Turn) (b : ℕ) (m : IdealNode) (action : Action) → IsRepresentable m.agent → actor_of action ≡ Some b → IsLivedAt configs turns b (Some m)
     → (let o = apply m c.sent action in IsLivedAt configs (turns ++ (applied c action b o).turn ∷ []) b (Some (with_handed o.done.handed o.node)))
-own-act configs c turns b m action representable actor h = by (is_restarted o.done.answer) refl
+own-act lower configs c turns b m action representable actor h = by (is_restarted o.done.answer) refl
   where
     o : Applied
     o = apply m c.sent action
@@ -167,7 +168,7 @@ own-act configs c turns b m action representable actor h = by (is_restarted o.do
     turn = (applied c action b (apply m c.sent action)).turn
 
     k : (let o = apply m c.sent action in Keeps m.agent o.node.agent o.done (entered_by action (packet_given c.sent action) o.done.answer))
-    k = keeps-apply m c.sent action representable.consistent.sound
+    k = keeps-apply lower m c.sent action representable.consistent.sound
 
     mine : is_agent b (actor_of action) ≡ true
     mine = ap (is_agent b) actor ∙ eq-eqb b b refl
@@ -184,9 +185,9 @@ own-act configs c turns b m action representable actor h = by (is_restarted o.do
         (subst (Enters m.agent.life m.agent.config.per_time m.agent.events.history o.node.agent.events.history) (sym (lines-same b b o.done.events (eq-eqb b b refl))) k.events)
         (subst (Enters m.agent.life m.agent.config.per_time m.agent.queries.history o.node.agent.queries.history) (sym (ap (λ x. cond x (entered turn) []) mine)) k.queries)
 
-lived-applied : (configs : List Config) (c : Cluster) (turns : List Turn) (action : Action) (b : ℕ) (m : IdealNode) → IsAfter c turns → IsLived configs c turns → actor_of action ≡ Some b → slice_get c.nodes b ≡ Some m
+lived-applied : Below → (configs : List Config) (c : Cluster) (turns : List Turn) (action : Action) (b : ℕ) (m : IdealNode) → IsAfter c turns → IsLived configs c turns → actor_of action ≡ Some b → slice_get c.nodes b ≡ Some m
     → (let s = applied c action b (apply m c.sent action) in IsLived configs s.cluster (turns ++ s.turn ∷ []))
-lived-applied configs c turns action b m is h actor at a = by (b == a) refl
+lived-applied lower configs c turns action b m is h actor at a = by (b == a) refl
   where
     o : Applied
     o = apply m c.sent action
@@ -199,7 +200,7 @@ lived-applied configs c turns action b m is h actor at a = by (b == a) refl
 
     by : (t : Bool) → (b == a) ≡ t → IsLivedAt configs (turns ++ (applied c action b (apply m c.sent action)).turn ∷ []) a (slice_get (set c.nodes b (with_handed (apply m c.sent action).done.handed (apply m c.sent action).node)) a)
     by true t =
-        let own = own-act configs c turns b m action (all-at (λ m. IsRepresentable m.agent) c.nodes b m is.representable at) actor (subst (IsLivedAt configs turns b) at (h b)) in
+        let own = own-act lower configs c turns b m action (all-at (λ m. IsRepresentable m.agent) c.nodes b m is.representable at) actor (subst (IsLivedAt configs turns b) at (h b)) in
         subst (λ (n : ℕ). IsLivedAt configs (turns ++ turn ∷ []) n (slice_get (set c.nodes b new) n)) (eqb-true b a t)
         (subst (IsLivedAt configs (turns ++ turn ∷ []) b) (sym (slice_get-set_same c.nodes b m new at)) own)
     by false t =
@@ -209,10 +210,10 @@ lived-applied configs c turns action b m is h actor at a = by (b == a) refl
         (lines-other a b o.done.events t)
         (ap (λ x. cond x (entered turn) []) (ap (is_agent a) actor ∙ t)))
 
-lived-step : (configs : List Config) (r : Run) (action : Action) → IsAfter r.cluster r.turns → IsLived configs r.cluster r.turns → IsLived configs (after r action).cluster (after r action).turns
-lived-step configs r action is h =
+lived-step : Below → (configs : List Config) (r : Run) (action : Action) → IsAfter r.cluster r.turns → IsLived configs r.cluster r.turns → IsLived configs (after r action).cluster (after r action).turns
+lived-step lower configs r action is h =
     step-cases (λ s. IsLived configs s.cluster (r.turns ++ s.turn ∷ [])) r.cluster action (λ actor. lived-still configs r.cluster r.turns (injects r.cluster action (injects_of action)) h refl refl refl refl)
-    (λ b actor at. lived-still configs r.cluster r.turns (on_agent r.cluster action b None) h refl refl refl refl) (λ b m actor at. lived-applied configs r.cluster r.turns action b m is h actor at)
+    (λ b actor at. lived-still configs r.cluster r.turns (on_agent r.cluster action b None) h refl refl refl refl) (λ b m actor at. lived-applied lower configs r.cluster r.turns action b m is h actor at)
 
 -- ---- the start
 
@@ -266,11 +267,11 @@ record IsKept (configs : List Config) (r : Run) : Type 0 where
   events : EventsBounded configs r.turns
   queries : QueriesBounded configs r.turns
 
-kept-step : SlotLaws EventBody → SlotLaws ℕ → (configs : List Config) (r : Run) (action : Action) → IsKept configs r → IsKept configs (after r action)
-kept-step event_laws query_laws configs r action h =
+kept-step : Below → SlotLaws EventBody → SlotLaws ℕ → (configs : List Config) (r : Run) (action : Action) → IsKept configs r → IsKept configs (after r action)
+kept-step lower event_laws query_laws configs r action h =
     let turn : Turn = (step r.cluster action).turn in
-    let lived = lived-step configs r action h.after h.lived in
-    let next : IsAfter (after r action).cluster (after r action).turns = after-step r action h.after in
+    let lived = lived-step lower configs r action h.after h.lived in
+    let next : IsAfter (after r action).cluster (after r action).turns = after-step lower r action h.after in
     record {
       after = next;
       lived = lived;
@@ -278,14 +279,14 @@ kept-step event_laws query_laws configs r action h =
       queries = at_each_push (QueriesAt configs) r.turns turn h.queries (λ a c at. bounded-queries query_laws configs (r.turns ++ turn ∷ []) a (slice_get (after r action).cluster.nodes a) c (lived a) at);
     }
 
-kept-run : SlotLaws EventBody → SlotLaws ℕ → (configs : List Config) (actions : List Action) → AreConfigs configs → IsKept configs (run_of configs actions)
-kept-run event_laws query_laws configs actions ok =
+kept-run : Below → SlotLaws EventBody → SlotLaws ℕ → (configs : List Config) (actions : List Action) → AreConfigs configs → IsKept configs (run_of configs actions)
+kept-run lower event_laws query_laws configs actions ok =
     fold_keeps (IsKept configs) after (start configs) actions
-    (record { after = after-start configs ok; lived = lived-start configs; events = at_each_nil (EventsAt configs); queries = at_each_nil (QueriesAt configs) })
-    (kept-step event_laws query_laws configs)
+    (record { after = after-start lower configs ok; lived = lived-start configs; events = at_each_nil (EventsAt configs); queries = at_each_nil (QueriesAt configs) })
+    (kept-step lower event_laws query_laws configs)
 
-pub events-bounded : SlotLaws EventBody → SlotLaws ℕ → (configs : List Config) (actions : List Action) → AreConfigs configs → EventsBounded configs (run_of configs actions).turns
-events-bounded event_laws query_laws configs actions ok = (kept-run event_laws query_laws configs actions ok).events
+pub events-bounded : Below → SlotLaws EventBody → SlotLaws ℕ → (configs : List Config) (actions : List Action) → AreConfigs configs → EventsBounded configs (run_of configs actions).turns
+events-bounded lower event_laws query_laws configs actions ok = (kept-run lower event_laws query_laws configs actions ok).events
 
-pub queries-bounded : SlotLaws EventBody → SlotLaws ℕ → (configs : List Config) (actions : List Action) → AreConfigs configs → QueriesBounded configs (run_of configs actions).turns
-queries-bounded event_laws query_laws configs actions ok = (kept-run event_laws query_laws configs actions ok).queries
+pub queries-bounded : Below → SlotLaws EventBody → SlotLaws ℕ → (configs : List Config) (actions : List Action) → AreConfigs configs → QueriesBounded configs (run_of configs actions).turns
+queries-bounded lower event_laws query_laws configs actions ok = (kept-run lower event_laws query_laws configs actions ok).queries

@@ -5,7 +5,7 @@ use Rattle.serf_agent.specs.declared.outcome.Outcome.TheVariants as outcomes
 use Rattle.serf_agent.specs.declared.outcome.QueryFault.TheVariants as asks
 use Rattle.serf_agent.specs.declared.outcome.ReceiveFault.TheVariants as receives
 use Rattle.serf_agent.specs.declared.outcome.FireFault.TheVariants as fires
-use Rattle.serf_agent.proofs.SoundLaws.{sound-note_failed, sound-event_entered, sound-event_observed, admission-new, sound-query_entered, sound-query_observed, query_admission-new, sound-query_asked}
+use Rattle.serf_model.specs.Below.{Below}
 use Rattle.serf_model.specs.Ready.{IsRepresentable}
 use Rattle.serf_model.proofs.PerTimeBound.{none-if}
 
@@ -76,29 +76,29 @@ does-replace s observable = replace-view s.member_clock s.event_clock s.query_cl
 -- ---- a call
 
 -- a call whose line is written: what is owed is its end where the line is durable
-pub representable-notes : {R : Type 0} (i : IdealAgent) (kind : ClockKind) (t : ℕ) (step : Step R) (fault : R) → IsRepresentable i
+pub representable-notes : Below → {R : Type 0} (i : IdealAgent) (kind : ClockKind) (t : ℕ) (step : Step R) (fault : R) → IsRepresentable i
     → (IsObservable (noted kind t i.snapshot Kept) → IsRepresentable (with_snapshot (noted kind t i.snapshot Kept) step.agent)) → IsRepresentable (planned i (Notes kind t step fault)).agent
-representable-notes {R} i kind t step fault g kept = by (will_note kind t i.snapshot) (does-note i.snapshot kind t g.consistent.observable)
+representable-notes lower {R} i kind t step fault g kept = by (will_note kind t i.snapshot) (does-note i.snapshot kind t g.consistent.observable)
   where
     by : (w : Writing) → DoesNote i.snapshot kind t w → IsRepresentable (ended i (Notes kind t step fault) w).agent
     by Kept d = kept (d.kept refl)
-    by (Failed k) d = record { consistent = record { sound = sound-note_failed kind t k i g.consistent.sound d.may; observable = d.failed k refl }; events = g.events; queries = g.queries }
+    by (Failed k) d = record { consistent = record { sound = lower.sound.fails_note kind t k i g.consistent.sound d.may; observable = d.failed k refl }; events = g.events; queries = g.queries }
 
 -- ---- events
 
-representable-event_entered : (i : IdealAgent) (t : ℕ) (what : EventBody) → IsRepresentable i → i.snapshot.stopped ≡ false → t < 2 ^ 64 - 1 → texts_len what ≤ 9216 → All (λ p. p.entry ≢ record { time = t; key = what }) i.events.history
+representable-event_entered : Below → (i : IdealAgent) (t : ℕ) (what : EventBody) → IsRepresentable i → i.snapshot.stopped ≡ false → t < 2 ^ 64 - 1 → texts_len what ≤ 9216 → All (λ p. p.entry ≢ record { time = t; key = what }) i.events.history
     → IsObservable (noted kinds.Event t i.snapshot Kept) → IsRepresentable (with_snapshot (noted kinds.Event t i.snapshot Kept) (event_entered t what i))
-representable-event_entered i t what g runs small short fresh observable = record {
-  consistent = record { sound = sound-event_entered t what i g.consistent.sound runs small short fresh; observable = observable };
+representable-event_entered lower i t what g runs small short fresh observable = record {
+  consistent = record { sound = lower.sound.enters_event t what i g.consistent.sound runs small short fresh; observable = observable };
   events = omega (arith, g.events);
   queries = g.queries;
 }
 
-pub representable-received : (i : IdealAgent) (t : ℕ) (what : EventBody) (coalesce : Bool) (r : Option Reason) → IsRepresentable i → i.snapshot.stopped ≡ false → t < 2 ^ 64 - 1 → admission i t what ≡ r → IsRepresentable (planned i (received_as r i t what coalesce)).agent
-representable-received i t what coalesce (Some reason) g runs small is = record { consistent = record { sound = sound-event_observed t i g.consistent.sound; observable = g.consistent.observable }; events = omega (arith, g.events); queries = g.queries }
-representable-received i t what coalesce None g runs small is =
-    let new = admission-new i t what is in
-    representable-notes i kinds.Event t (record { agent = event_entered t what i; answer = Ok (Event (event_out t what coalesce)) }) (Err receives.SinkFault) g (representable-event_entered i t what g runs small new.0 new.1)
+pub representable-received : Below → (i : IdealAgent) (t : ℕ) (what : EventBody) (coalesce : Bool) (r : Option Reason) → IsRepresentable i → i.snapshot.stopped ≡ false → t < 2 ^ 64 - 1 → admission i t what ≡ r → IsRepresentable (planned i (received_as r i t what coalesce)).agent
+representable-received lower i t what coalesce (Some reason) g runs small is = record { consistent = record { sound = lower.sound.observes_event t i g.consistent.sound; observable = g.consistent.observable }; events = omega (arith, g.events); queries = g.queries }
+representable-received lower i t what coalesce None g runs small is =
+    let new = lower.admits.event_new i t what is in
+    representable-notes lower i kinds.Event t (record { agent = event_entered t what i; answer = Ok (Event (event_out t what coalesce)) }) (Err receives.SinkFault) g (representable-event_entered lower i t what g runs small new.0 new.1)
 
 pub limit-short : (c : Config) → is_sound c ≡ true → c.event_limit ≤ 9216
 limit-short c ok =
@@ -128,23 +128,23 @@ later-fresh : {K : Type 0} (history : List (Past K)) (t : ℕ) (what : K) → Al
 later-fresh {K} history t what below =
     All-weaker (λ p. p.entry.time < t) (λ p. p.entry ≢ record { time = t; key = what }) (λ p early is. let same = ap (λ (y : TimedEntry K). y.time) is in omega arith) history below
 
-pub representable-fired : (i : IdealAgent) (what : EventBody) (coalesce : Bool) (r : Option FireFault) → IsRepresentable i → fire_fault i what coalesce ≡ r → IsRepresentable (planned i (fired_as r i what coalesce)).agent
-representable-fired i what coalesce (Some fault) g is = g
-representable-fired i what coalesce None g is =
+pub representable-fired : Below → (i : IdealAgent) (what : EventBody) (coalesce : Bool) (r : Option FireFault) → IsRepresentable i → fire_fault i what coalesce ≡ r → IsRepresentable (planned i (fired_as r i what coalesce)).agent
+representable-fired lower i what coalesce (Some fault) g is = g
+representable-fired lower i what coalesce None g is =
     let may = may-fire i what coalesce g.consistent.sound is in
-    representable-notes i kinds.Event i.events.clock (record { agent = event_entered i.events.clock what i; answer = Ok record { packet = event_packet i.events.clock what coalesce; handed = event_out i.events.clock what coalesce } }) (Err fires.SinkFault) g
-    (representable-event_entered i i.events.clock what g may.runs may.clock may.short (later-fresh i.events.history i.events.clock what g.consistent.sound.events.below_clock))
+    representable-notes lower i kinds.Event i.events.clock (record { agent = event_entered i.events.clock what i; answer = Ok record { packet = event_packet i.events.clock what coalesce; handed = event_out i.events.clock what coalesce } }) (Err fires.SinkFault) g
+    (representable-event_entered lower i i.events.clock what g may.runs may.clock may.short (later-fresh i.events.history i.events.clock what g.consistent.sound.events.below_clock))
 
 -- ---- queries
 
-pub representable-query_received : (i : IdealAgent) (now : ℕ) (q : Query) (r : Option Reason) → IsRepresentable i → i.snapshot.stopped ≡ false → q.time < 2 ^ 64 - 1 → query_admission i q.time q.id ≡ r → IsRepresentable (planned i (query_received_as r i now q)).agent
-representable-query_received i now q (Some reason) g runs small is =
-    record { consistent = record { sound = sound-query_observed q.time i g.consistent.sound; observable = g.consistent.observable }; events = g.events; queries = omega (arith, g.queries) }
-representable-query_received i now q None g runs small is =
-    representable-notes i kinds.Query q.time
+pub representable-query_received : Below → (i : IdealAgent) (now : ℕ) (q : Query) (r : Option Reason) → IsRepresentable i → i.snapshot.stopped ≡ false → q.time < 2 ^ 64 - 1 → query_admission i q.time q.id ≡ r → IsRepresentable (planned i (query_received_as r i now q)).agent
+representable-query_received lower i now q (Some reason) g runs small is =
+    record { consistent = record { sound = lower.sound.observes_query q.time i g.consistent.sound; observable = g.consistent.observable }; events = g.events; queries = omega (arith, g.queries) }
+representable-query_received lower i now q None g runs small is =
+    representable-notes lower i kinds.Query q.time
     (record { agent = query_entered q.time q.id i; answer = Ok (outcomes.Query (handed_if_passed i.config.name now q) (ack_if_passed i.config.name q) (not (has_flag no_broadcast_flag q.flags))) }) (Err receives.SinkFault) g
     (λ observable. record {
-      consistent = record { sound = sound-query_entered q.time q.id i g.consistent.sound runs small (query_admission-new i q.time q.id is); observable = observable };
+      consistent = record { sound = lower.sound.enters_query q.time q.id i g.consistent.sound runs small (lower.admits.query_new i q.time q.id is); observable = observable };
       events = g.events;
       queries = omega (arith, g.queries);
     })
@@ -161,13 +161,13 @@ may-ask i id name payload params is =
     let clock = none-if (nat_le (2 ^ 64 - 1) i.queries.clock) asks.Exhausted None timeout.1 in
     record { runs = runs.0; clock = leb-false _ _ clock.0 }
 
-pub representable-query_fired : (i : IdealAgent) (now : ℕ) (q : Query) (r : Option QueryFault) → IsRepresentable i → q.time ≡ i.queries.clock → (r ≡ None → MayAsk i) → IsRepresentable (planned i (query_fired_as r i now q)).agent
-representable-query_fired i now q (Some fault) g at may = g
-representable-query_fired i now q None g at may =
+pub representable-query_fired : Below → (i : IdealAgent) (now : ℕ) (q : Query) (r : Option QueryFault) → IsRepresentable i → q.time ≡ i.queries.clock → (r ≡ None → MayAsk i) → IsRepresentable (planned i (query_fired_as r i now q)).agent
+representable-query_fired lower i now q (Some fault) g at may = g
+representable-query_fired lower i now q None g at may =
     let m = may refl in
-    representable-notes i kinds.Query q.time (record { agent = query_asked now q i; answer = Ok record { time = q.time; packet = canonical (query q); handed = handed_if_passed i.config.name now q; ack = ack_if_passed i.config.name q } }) (Err asks.SinkFault) g
+    representable-notes lower i kinds.Query q.time (record { agent = query_asked now q i; answer = Ok record { time = q.time; packet = canonical (query q); handed = handed_if_passed i.config.name now q; ack = ack_if_passed i.config.name q } }) (Err asks.SinkFault) g
     (λ observable. record {
-      consistent = record { sound = sound-query_asked now q i g.consistent.sound m.runs at (omega (arith, m.clock)); observable = observable };
+      consistent = record { sound = lower.sound.asks_query now q i g.consistent.sound m.runs at (omega (arith, m.clock)); observable = observable };
       events = g.events;
       queries = omega (arith, g.queries, m.clock);
     })

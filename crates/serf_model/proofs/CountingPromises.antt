@@ -1,5 +1,6 @@
 -- What each run counts: each name once, in time, and as it was sent.
 use Rattle.serf_model.proofs.Names.{zero, suc, ◌≡◌, ◌≢◌, ℕ, Bool, true, false, cond, List, [], ◌∷◌, ◌++◌, Option, Some, None, Result, refl, sym, ap, subst, ◌∙◌, arith, All, AllPairs, Contains, slice_get, option_to_list, All-nil, All-cons, All-head, All-tail, All-weaker, WireFault, Message, Config}
+use Rattle.serf_model.specs.Below.{Below}
 use Rattle.serf_model.specs.declared.action.Action.{Action}
 use Rattle.serf_model.specs.declared.action.Action.TheVariants as actions
 use Rattle.serf_model.specs.AnswerPromises.{CountedInTime, CountedOnce, CountedSent, HoldsCounted, IsAwaited, IsDelivered, OpenQueriesHold, answer_brought, answers_in, as_fired, counted_at, counted_by, is_counted, life_of, own_queries}
@@ -40,14 +41,14 @@ InTimeAt before turn = (a packet now : ℕ) (ack : Bool) → turn.action ≡ act
 representable-at : (c : Cluster) (turns : List Turn) (b : ℕ) (m : IdealNode) → IsAfter c turns → slice_get c.nodes b ≡ Some m → IsRepresentable m.agent
 representable-at c turns b m h at = all-at (λ m. IsRepresentable m.agent) c.nodes b m h.representable at
 
-tells-at : (c : Cluster) (turns : List Turn) (action : Action) (b : ℕ) (m : IdealNode) (ack : Bool) → IsCounting c turns → slice_get c.nodes b ≡ Some m → (let t = (applied c action b (apply m c.sent action)).turn in is_counted ack t.line.answer ≡ true → Tells (turns_by b turns) t ack)
-tells-at c turns action b m ack h at counted =
+tells-at : Below → (c : Cluster) (turns : List Turn) (action : Action) (b : ℕ) (m : IdealNode) (ack : Bool) → IsCounting c turns → slice_get c.nodes b ≡ Some m → (let t = (applied c action b (apply m c.sent action)).turn in is_counted ack t.line.answer ≡ true → Tells (turns_by b turns) t ack)
+tells-at lower c turns action b m ack h at counted =
     let o = apply m c.sent action in
-    tells-effect (turns_by b turns) m action (packet_given c.sent action) o (line_of c b o) o.done.packets ack (effect m c.sent action) refl (h.each b m at) counted
+    tells-effect (turns_by b turns) m action (packet_given c.sent action) o (line_of c b o) o.done.packets ack (effect lower m c.sent action) refl (h.each b m at) counted
 
-sent-acts : (c : Cluster) (turns : List Turn) (action : Action) (b : ℕ) (m : IdealNode) → IsAfter c turns → IsCounting c turns → slice_get c.nodes b ≡ Some m → SentAt turns (applied c action b (apply m c.sent action)).turn
-sent-acts c turns action b m after h at ack counted =
-    let t = tells-at c turns action b m ack h at counted in
+sent-acts : Below → (c : Cluster) (turns : List Turn) (action : Action) (b : ℕ) (m : IdealNode) → IsAfter c turns → IsCounting c turns → slice_get c.nodes b ≡ Some m → SentAt turns (applied c action b (apply m c.sent action)).turn
+sent-acts lower c turns action b m after h at ack counted =
+    let t = tells-at lower c turns action b m ack h at counted in
     let place : slice_get c.sent t.number ≡ Some t.packet = ap (packet_given c.sent) (sym t.action) ∙ t.given in
     record {
       agent = t.to;
@@ -62,16 +63,16 @@ sent-acts c turns action b m after h at ack counted =
       kind = t.kind;
     }
 
-sent-step : (c : Cluster) (turns : List Turn) (action : Action) → IsAfter c turns → IsCounting c turns → SentAt turns (step c action).turn
-sent-step c turns action after h = step-cases (λ s. SentAt turns s.turn) c action (λ actor ack counted. absurd (cc counted)) (λ b actor at ack counted. absurd (cc counted)) (λ b m actor at. sent-acts c turns action b m after h at)
+sent-step : Below → (c : Cluster) (turns : List Turn) (action : Action) → IsAfter c turns → IsCounting c turns → SentAt turns (step c action).turn
+sent-step lower c turns action after h = step-cases (λ s. SentAt turns s.turn) c action (λ actor ack counted. absurd (cc counted)) (λ b actor at ack counted. absurd (cc counted)) (λ b m actor at. sent-acts lower c turns action b m after h at)
 
-in_time-acts : (c : Cluster) (turns : List Turn) (action : Action) (b : ℕ) (m : IdealNode) → IsCounting c turns → actor_of action ≡ Some b → slice_get c.nodes b ≡ Some m → InTimeAt turns (applied c action b (apply m c.sent action)).turn
-in_time-acts c turns action b m h actor at a packet now ack is = by (is_counted ack (apply m c.sent action).done.answer) refl
+in_time-acts : Below → (c : Cluster) (turns : List Turn) (action : Action) (b : ℕ) (m : IdealNode) → IsCounting c turns → actor_of action ≡ Some b → slice_get c.nodes b ≡ Some m → InTimeAt turns (applied c action b (apply m c.sent action)).turn
+in_time-acts lower c turns action b m h actor at a packet now ack is = by (is_counted ack (apply m c.sent action).done.answer) refl
   where
     by : (x : Bool) → is_counted ack (apply m c.sent action).done.answer ≡ x → All (IsAwaited (life_of a turns) now) (cond x (answers_in (option_to_list (packet_given c.sent action))) [])
     by false never = All-nil (IsAwaited (life_of a turns) now)
     by true counted =
-        let t = tells-at c turns action b m ack h at counted in
+        let t = tells-at lower c turns action b m ack h at counted in
         let same : Some b ≡ Some a = sym actor ∙ ap actor_of is in
         let agent : b ≡ a = cc same in
         let deliver : actions.Deliver t.to t.number t.now ≡ actions.Deliver a packet now = sym t.action ∙ is in
@@ -82,20 +83,20 @@ in_time-acts c turns action b m h actor at a packet now ack is = by (is_counted 
         let here : IsAwaited (life_of a turns) now t.answer = subst (λ (l : List Turn). IsAwaited l now t.answer) (sym (own_life a turns)) own in
         subst (All (IsAwaited (life_of a turns) now)) (sym one) (All-cons (IsAwaited (life_of a turns) now) t.answer [] here (All-nil (IsAwaited (life_of a turns) now)))
 
-in_time-step : (c : Cluster) (turns : List Turn) (action : Action) → IsCounting c turns → InTimeAt turns (step c action).turn
-in_time-step c turns action h =
+in_time-step : Below → (c : Cluster) (turns : List Turn) (action : Action) → IsCounting c turns → InTimeAt turns (step c action).turn
+in_time-step lower c turns action h =
     step-cases (λ s. InTimeAt turns s.turn) c action (λ actor a packet now ack is. All-nil (IsAwaited (life_of a turns) now)) (λ b actor at a packet now ack is. All-nil (IsAwaited (life_of a turns) now))
-    (λ b m actor at. in_time-acts c turns action b m h actor at)
+    (λ b m actor at. in_time-acts lower c turns action b m h actor at)
 
-pub counting-step : (r : Run) (action : Action) → IsAfter r.cluster r.turns → IsCounting r.cluster r.turns → IsCounting (after r action).cluster (after r action).turns
-counting-step r action h all = record {
+pub counting-step : Below → (r : Run) (action : Action) → IsAfter r.cluster r.turns → IsCounting r.cluster r.turns → IsCounting (after r action).cluster (after r action).turns
+counting-step lower r action h all = record {
   each = each-step (λ a ts m. IsTallied ts m.agent) r action all.each
       (λ b m actor at p.
       let o = apply m r.cluster.sent action in
-      tallied-effect (turns_by b r.turns) m action (packet_given r.cluster.sent action) o (line_of r.cluster b o) o.done.packets (effect m r.cluster.sent action) refl (representable-at r.cluster r.turns b m h at) (ap queries_of (sym at) ∙ h.queries b) p);
+      tallied-effect (turns_by b r.turns) m action (packet_given r.cluster.sent action) o (line_of r.cluster b o) o.done.packets (effect lower m r.cluster.sent action) refl (representable-at r.cluster r.turns b m h at) (ap queries_of (sym at) ∙ h.queries b) p);
   nobody = nobodys-step r action all.nobody;
-  sent = at_each_push SentAt r.turns (step r.cluster action).turn all.sent (sent-step r.cluster r.turns action h all);
-  in_time = at_each_push InTimeAt r.turns (step r.cluster action).turn all.in_time (in_time-step r.cluster r.turns action all);
+  sent = at_each_push SentAt r.turns (step r.cluster action).turn all.sent (sent-step lower r.cluster r.turns action h all);
+  in_time = at_each_push InTimeAt r.turns (step r.cluster action).turn all.in_time (in_time-step lower r.cluster r.turns action all);
 }
 
 pub counting-start : (configs : List Config) → IsCounting (start configs).cluster []

@@ -1,10 +1,10 @@
 -- What each action does to the node that acts, said once: its effect, and that its agent stays sound.
 use Rattle.serf_model.proofs.Names.{◌≡◌, ℕ, Bool, true, false, cond, List, [], ◌∷◌, ◌++◌, Option, Some, None, Result, Ok, Err, refl, sym, ap, subst, ◌∙◌, map, All, Contains, slice_get, map-append, All-nil, All-cons, All-append, All-weaker, All-contains_itself, All-head, Contains-append_right, WireFault, EventBody, canonical, has_long, decoded, Message, UserEvent, Query, QueryResponse, user_event, query, query_response, push_pull, event_of, TimedEntry, SnapshotView, Writing, Kept, Failed, Config, OpenQuery, EventOut, FireFault, MergeFault, Outcome, QueryFault, QueryParams, Reason, ReceiveFault, RespondFault, Call, Ends, Step, answers, ended, planned, will, admission, fire_fault, fired_as, received_as, Handed, IdealAgent, with_asked, with_snapshot, answer_ignore_reason, asked_at, counted, is_ack, is_full, query_admission, query_at, query_fault, query_fired_as, query_received_as, respond_fault, response_received_as, response_received_at, with_asked_at, receive_read, events_of, handed_by, joined, merge_refusal, receive_one, state_of, view_of}
-use Rattle.serf_wire.proofs.SpelledRanges.{decoded_ranged}
 use Rattle.serf_snap.specs.declared.snapshot.NoteFault.TheVariants as notes
 use Rattle.serf_agent.specs.declared.outcome.Outcome.TheVariants as outcomes
 use Rattle.serf_agent.specs.declared.outcome.PushPullFault.TheVariants as states
 use Rattle.serf_agent.specs.declared.outcome.ReceiveFault.TheVariants as receives
+use Rattle.serf_model.specs.Below.{Below}
 use Rattle.serf_model.specs.declared.action.Action.{Action}
 use Rattle.serf_model.specs.declared.action.Action.TheVariants as actions
 use Rattle.serf_model.specs.declared.line.Answer.{Answer}
@@ -122,13 +122,13 @@ kept-or-failed {R} Goal i call kept failed = by (will i call)
 
 -- ---- events
 
-acts-fire : (m : IdealNode) (given : Option (List ℕ)) (agent : ℕ) (name payload : List ℕ) (coalesce : Bool) (r : Option FireFault) → fire_fault m.agent (event_of name payload) coalesce ≡ r
+acts-fire : Below → (m : IdealNode) (given : Option (List ℕ)) (agent : ℕ) (name payload : List ℕ) (coalesce : Bool) (r : Option FireFault) → fire_fault m.agent (event_of name payload) coalesce ≡ r
     → Acts m (actions.Fire agent name payload coalesce) given (called m (planned m.agent (fired_as r m.agent (event_of name payload) coalesce)) fire_gives)
-acts-fire m given agent name payload coalesce (Some fault) is = stays m tt
-acts-fire m given agent name payload coalesce None is = record {
+acts-fire lower m given agent name payload coalesce (Some fault) is = stays m tt
+acts-fire lower m given agent name payload coalesce None is = record {
   effect = kept-or-failed (λ o. Effect m (actions.Fire agent name payload coalesce) given (called m o fire_gives)) m.agent (fired_as None m.agent (event_of name payload) coalesce)
       (fires agent name payload coalesce is) (λ d. snaps m tt);
-  sound = λ g. representable-fired m.agent (event_of name payload) coalesce None g is;
+  sound = λ g. representable-fired lower m.agent (event_of name payload) coalesce None g is;
 }
 
 -- what a delivery does, and that it leaves its agent sound
@@ -148,11 +148,11 @@ ignored i packet r reason is why p e given reads =
     let same : packet ≡ p = cc given in
     subst (IgnoredAs i reason) (sym is ∙ ap decoded same ∙ reads) why
 
-acts-event : (m : IdealNode) (to number now : ℕ) (packet : List ℕ) (e : UserEvent) (r : Option Reason) → decoded packet ≡ Ok (user_event e) → m.agent.snapshot.stopped ≡ false → admission m.agent e.time (event_of e.name e.payload) ≡ r
+acts-event : Below → (m : IdealNode) (to number now : ℕ) (packet : List ℕ) (e : UserEvent) (r : Option Reason) → decoded packet ≡ Ok (user_event e) → m.agent.snapshot.stopped ≡ false → admission m.agent e.time (event_of e.name e.payload) ≡ r
     → DeliveryActs m to number now packet (planned m.agent (received_as r m.agent e.time (event_of e.name e.payload) e.coalesce))
-acts-event m to number now packet e r is runs why = record {
+acts-event lower m to number now packet e r is runs why = record {
   effect = by r why;
-  sound = λ g. representable-received m.agent e.time (event_of e.name e.payload) e.coalesce r g runs (decoded_ranged packet (user_event e) is) why;
+  sound = λ g. representable-received lower m.agent e.time (event_of e.name e.payload) e.coalesce r g runs (lower.in_range packet (user_event e) is) why;
 }
   where
     by : (r : Option Reason) → admission m.agent e.time (event_of e.name e.payload) ≡ r → DeliveryEffect m to number now packet (planned m.agent (received_as r m.agent e.time (event_of e.name e.payload) e.coalesce))
@@ -161,9 +161,9 @@ acts-event m to number now packet e r is runs why = record {
 
 -- ---- queries
 
-acts-query : (m : IdealNode) (to number now : ℕ) (packet : List ℕ) (q : Query) (r : Option Reason) → decoded packet ≡ Ok (query q) → m.agent.snapshot.stopped ≡ false → query_admission m.agent q.time q.id ≡ r
+acts-query : Below → (m : IdealNode) (to number now : ℕ) (packet : List ℕ) (q : Query) (r : Option Reason) → decoded packet ≡ Ok (query q) → m.agent.snapshot.stopped ≡ false → query_admission m.agent q.time q.id ≡ r
     → DeliveryActs m to number now packet (planned m.agent (query_received_as r m.agent now q))
-acts-query m to number now packet q r is runs why = record { effect = by r why; sound = λ g. representable-query_received m.agent now q r g runs (decoded_ranged packet (query q) is).time why }
+acts-query lower m to number now packet q r is runs why = record { effect = by r why; sound = λ g. representable-query_received lower m.agent now q r g runs (lower.in_range packet (query q) is).time why }
   where
     by : (r : Option Reason) → query_admission m.agent q.time q.id ≡ r → DeliveryEffect m to number now packet (planned m.agent (query_received_as r m.agent now q))
     by (Some reason) why = idles m _ _ _ _ refl refl refl refl refl (ignored m.agent packet (Ok (query q)) reason is tt)
@@ -184,15 +184,15 @@ acts-response m to number now packet r (Some q) is at = by (answer_ignore_reason
     by (Some reason) none = stays m (ignored m.agent packet (Ok (query_response r)) reason is tt)
     by None none = by-room (is_full m.agent.config.responders r q) (is_ack r) none refl
 
-acts-asks : (m : IdealNode) (given : Option (List ℕ)) (agent now id : ℕ) (name payload : List ℕ) (params : QueryParams) (r : Option QueryFault) → query_fault m.agent id name payload params ≡ r
+acts-asks : Below → (m : IdealNode) (given : Option (List ℕ)) (agent now id : ℕ) (name payload : List ℕ) (params : QueryParams) (r : Option QueryFault) → query_fault m.agent id name payload params ≡ r
     → Acts m (actions.Query agent now id name payload params) given (called m (planned m.agent (query_fired_as r m.agent now (query_at m.agent.queries.clock m.agent.config.name id name payload params))) query_gives)
-acts-asks m given agent now id name payload params (Some fault) is = stays m tt
-acts-asks m given agent now id name payload params None is =
+acts-asks lower m given agent now id name payload params (Some fault) is = stays m tt
+acts-asks lower m given agent now id name payload params None is =
     let q : Query = query_at m.agent.queries.clock m.agent.config.name id name payload params in
     record {
       effect = kept-or-failed (λ o. Effect m (actions.Query agent now id name payload params) given (called m o query_gives)) m.agent (query_fired_as None m.agent now q)
           (asks agent now id name payload params is) (λ d. snaps m tt);
-      sound = λ g. representable-query_fired m.agent now q None g refl (λ e. may-ask m.agent id name payload params is);
+      sound = λ g. representable-query_fired lower m.agent now q None g refl (λ e. may-ask m.agent id name payload params is);
     }
 
 acts-responds : (m : IdealNode) (given : Option (List ℕ)) (agent number now : ℕ) (payload : List ℕ) (q : Option (Option Handed)) → slice_get m.handed number ≡ q
@@ -207,19 +207,19 @@ acts-responds m given agent number now payload (Some (Some h)) at = by (respond_
 
 -- ---- deliveries
 
-acts-read : (m : IdealNode) (to number now : ℕ) (packet : List ℕ) (r : Result Message WireFault) → decoded packet ≡ r → m.agent.snapshot.stopped ≡ false → DeliveryActs m to number now packet (planned m.agent (receive_read m.agent now r))
-acts-read m to number now packet (Ok (user_event e)) is runs = acts-event m to number now packet e (admission m.agent e.time (event_of e.name e.payload)) is runs refl
-acts-read m to number now packet (Ok (query q)) is runs = acts-query m to number now packet q (query_admission m.agent q.time q.id) is runs refl
-acts-read m to number now packet (Ok (query_response r)) is runs = acts-response m to number now packet r (asked_at r.time m.agent.asked) is refl
-acts-read m to number now packet _ is runs = stays m tt
+acts-read : Below → (m : IdealNode) (to number now : ℕ) (packet : List ℕ) (r : Result Message WireFault) → decoded packet ≡ r → m.agent.snapshot.stopped ≡ false → DeliveryActs m to number now packet (planned m.agent (receive_read m.agent now r))
+acts-read lower m to number now packet (Ok (user_event e)) is runs = acts-event lower m to number now packet e (admission m.agent e.time (event_of e.name e.payload)) is runs refl
+acts-read lower m to number now packet (Ok (query q)) is runs = acts-query lower m to number now packet q (query_admission m.agent q.time q.id) is runs refl
+acts-read lower m to number now packet (Ok (query_response r)) is runs = acts-response m to number now packet r (asked_at r.time m.agent.asked) is refl
+acts-read lower m to number now packet _ is runs = stays m tt
 
-acts-delivers : (m : IdealNode) (to number now : ℕ) (given : Option (List ℕ)) → Acts m (actions.Deliver to number now) given (delivers m now given)
-acts-delivers m to number now None = stays m tt
-acts-delivers m to number now (Some packet) = by m.agent.snapshot.stopped refl
+acts-delivers : Below → (m : IdealNode) (to number now : ℕ) (given : Option (List ℕ)) → Acts m (actions.Deliver to number now) given (delivers m now given)
+acts-delivers lower m to number now None = stays m tt
+acts-delivers lower m to number now (Some packet) = by m.agent.snapshot.stopped refl
   where
     by : (b : Bool) → m.agent.snapshot.stopped ≡ b → DeliveryActs m to number now packet (planned m.agent (cond b (answers m.agent (Err receives.Stopped)) (receive_read m.agent now (decoded packet))))
     by true is = stays m tt
-    by false runs = acts-read m to number now packet (decoded packet) refl runs
+    by false runs = acts-read lower m to number now packet (decoded packet) refl runs
 
 -- ---- merges
 
@@ -262,9 +262,9 @@ heard : (es : List (TimedEntry EventBody)) (i : IdealAgent) → (let o = merges_
 heard [] i = rests i i [] refl refl refl refl refl
 heard (e ∷ es) i = let o = planned i (receive_one i e) in heard-on i e es o (merges_events es) (heard-one i e es (admission i e.time e.key) refl) (heard es o.agent)
 
-acts-merge : (m : IdealNode) (to number : ℕ) (join : Bool) (packet : List ℕ) (f : Option MergeFault) (r : Result Message WireFault) → decoded packet ≡ r → merge_refusal (view_of m.agent) r ≡ f
+acts-merge : Below → (m : IdealNode) (to number : ℕ) (join : Bool) (packet : List ℕ) (f : Option MergeFault) (r : Result Message WireFault) → decoded packet ≡ r → merge_refusal (view_of m.agent) r ≡ f
     → Acts m (actions.Merge to number join) (Some packet) (merges_as f m join r)
-acts-merge m to number join packet None (Ok (push_pull s)) is refuses = record { effect = by (merges_events (events_of s.slots) (joined s join m.agent)).failed; sound = λ g. representable-merged m.agent join packet s g is refuses }
+acts-merge lower m to number join packet None (Ok (push_pull s)) is refuses = record { effect = by (merges_events (events_of s.slots) (joined s join m.agent)).failed; sound = λ g. representable-merged lower m.agent join packet s g is refuses }
   where
     h : (let o = merges_events (events_of s.slots) (joined s join m.agent) in Hears m.agent o.agent (events_given (Some packet)) o.events)
     h =
@@ -282,12 +282,12 @@ acts-merge m to number join packet None (Ok (push_pull s)) is refuses = record {
         (record { node = record { agent = o.agent; handed = m.handed }; done = record { answer = cond failed (lines.Refused SinkFault) lines.Merged; packets = []; events = o.events; handed = None } }))
     by true = hears _ _ _ h tt
     by false = hears _ _ _ h tt
-acts-merge m to number join packet (Some fault) r is refuses = stays m tt
-acts-merge m to number join packet None _ is refuses = stays m tt
+acts-merge lower m to number join packet (Some fault) r is refuses = stays m tt
+acts-merge lower m to number join packet None _ is refuses = stays m tt
 
-acts-merges : (m : IdealNode) (to number : ℕ) (join : Bool) (given : Option (List ℕ)) → Acts m (actions.Merge to number join) given (merges_given m join given)
-acts-merges m to number join None = stays m tt
-acts-merges m to number join (Some packet) = acts-merge m to number join packet (merge_refusal (view_of m.agent) (decoded packet)) (decoded packet) refl refl
+acts-merges : Below → (m : IdealNode) (to number : ℕ) (join : Bool) (given : Option (List ℕ)) → Acts m (actions.Merge to number join) given (merges_given m join given)
+acts-merges lower m to number join None = stays m tt
+acts-merges lower m to number join (Some packet) = acts-merge lower m to number join packet (merge_refusal (view_of m.agent) (decoded packet)) (decoded packet) refl refl
 
 -- ---- states and snapshots
 
@@ -300,44 +300,44 @@ acts-state m action given = by m.agent.snapshot.stopped (has_long (push_pull (st
     by false true is = stays m tt
     by false false is = record { effect = tells is; sound = λ g. g }
 
-acts-saves : (m : IdealNode) (action : Action) (given : Option (List ℕ)) → Acts m action given (saves m)
-acts-saves m action given = by m.agent.snapshot.stopped refl
+acts-saves : Below → (m : IdealNode) (action : Action) (given : Option (List ℕ)) → Acts m action given (saves m)
+acts-saves lower m action given = by m.agent.snapshot.stopped refl
   where
     by : (b : Bool) → m.agent.snapshot.stopped ≡ b → Acts m action given (called m (planned m.agent (cond b (answers m.agent (Err notes.Stopped)) (saving m.agent))) (note_gives lines.Saved))
     by true is = stays m tt
     by false is = record {
       effect = kept-or-failed (λ o. Effect m action given (called m o (note_gives lines.Saved))) m.agent (saving m.agent) (snaps m tt) (λ d. snaps m tt);
-      sound = λ g. representable-saved m.agent g is;
+      sound = λ g. representable-saved lower m.agent g is;
     }
 
-acts-compacts : (m : IdealNode) (action : Action) (given : Option (List ℕ)) → Acts m action given (compacts m)
-acts-compacts m action given = by m.agent.snapshot.stopped
+acts-compacts : Below → (m : IdealNode) (action : Action) (given : Option (List ℕ)) → Acts m action given (compacts m)
+acts-compacts lower m action given = by m.agent.snapshot.stopped
   where
     by : (b : Bool) → Acts m action given (called m (planned m.agent (cond b (answers m.agent (Err notes.Stopped)) (compacting m.agent))) (note_gives lines.Compacted))
     by true = stays m tt
     by false = record {
       effect = kept-or-failed (λ o. Effect m action given (called m o (note_gives lines.Compacted))) m.agent (compacting m.agent) (snaps m tt) (λ d. snaps m tt);
-      sound = λ g. representable-compacted m.agent g;
+      sound = λ g. representable-compacted lower m.agent g;
     }
 
 -- ---- each action
 
-acts : (m : IdealNode) (sent : List (List ℕ)) (action : Action) → Acts m action (packet_given sent action) (apply m sent action)
-acts m sent (actions.Fire agent name payload coalesce) = acts-fire m None agent name payload coalesce (fire_fault m.agent (event_of name payload) coalesce) refl
-acts m sent (actions.Deliver to number now) = acts-delivers m to number now (slice_get sent number)
-acts m sent (actions.State agent) = acts-state m (actions.State agent) None
-acts m sent (actions.Merge to number join) = acts-merges m to number join (slice_get sent number)
-acts m sent (actions.Query agent now id name payload params) = acts-asks m None agent now id name payload params (query_fault m.agent id name payload params) refl
-acts m sent (actions.Respond agent number now payload) = acts-responds m None agent number now payload (slice_get m.handed number) refl
-acts m sent (actions.Restart agent tail) = record { effect = reopens agent tail; sound = λ g. representable-opened m.agent (text_after m.agent tail) g.consistent.sound (text-has m.agent tail g.consistent) }
-acts m sent (actions.Break agent call n) = record { effect = snaps m tt; sound = representable-planned m.agent (plan_with call n) }
-acts m sent (actions.Inject bytes) = stays m tt
-acts m sent (actions.Close agent now) = record { effect = closes_due agent now; sound = representable-closed m.agent now }
-acts m sent (actions.Save agent) = acts-saves m (actions.Save agent) None
-acts m sent (actions.Compact agent) = acts-compacts m (actions.Compact agent) None
+acts : Below → (m : IdealNode) (sent : List (List ℕ)) (action : Action) → Acts m action (packet_given sent action) (apply m sent action)
+acts lower m sent (actions.Fire agent name payload coalesce) = acts-fire lower m None agent name payload coalesce (fire_fault m.agent (event_of name payload) coalesce) refl
+acts lower m sent (actions.Deliver to number now) = acts-delivers lower m to number now (slice_get sent number)
+acts lower m sent (actions.State agent) = acts-state m (actions.State agent) None
+acts lower m sent (actions.Merge to number join) = acts-merges lower m to number join (slice_get sent number)
+acts lower m sent (actions.Query agent now id name payload params) = acts-asks lower m None agent now id name payload params (query_fault m.agent id name payload params) refl
+acts lower m sent (actions.Respond agent number now payload) = acts-responds m None agent number now payload (slice_get m.handed number) refl
+acts lower m sent (actions.Restart agent tail) = record { effect = reopens agent tail; sound = λ g. representable-opened lower m.agent (text_after m.agent tail) g.consistent.sound (text-has lower m.agent tail g.consistent) }
+acts lower m sent (actions.Break agent call n) = record { effect = snaps m tt; sound = representable-planned m.agent (plan_with call n) }
+acts lower m sent (actions.Inject bytes) = stays m tt
+acts lower m sent (actions.Close agent now) = record { effect = closes_due agent now; sound = representable-closed m.agent now }
+acts lower m sent (actions.Save agent) = acts-saves lower m (actions.Save agent) None
+acts lower m sent (actions.Compact agent) = acts-compacts lower m (actions.Compact agent) None
 
-pub effect : (m : IdealNode) (sent : List (List ℕ)) (action : Action) → Effect m action (packet_given sent action) (apply m sent action)
-effect m sent action = (acts m sent action).effect
+pub effect : Below → (m : IdealNode) (sent : List (List ℕ)) (action : Action) → Effect m action (packet_given sent action) (apply m sent action)
+effect lower m sent action = (acts lower m sent action).effect
 
-pub representable-apply : (m : IdealNode) (sent : List (List ℕ)) (action : Action) → IsRepresentable m.agent → IsRepresentable (apply m sent action).node.agent
-representable-apply m sent action = (acts m sent action).sound
+pub representable-apply : Below → (m : IdealNode) (sent : List (List ℕ)) (action : Action) → IsRepresentable m.agent → IsRepresentable (apply m sent action).node.agent
+representable-apply lower m sent action = (acts lower m sent action).sound

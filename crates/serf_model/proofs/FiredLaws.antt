@@ -1,5 +1,6 @@
 -- Where the events come from that are handed out and sent.
 use Rattle.serf_model.proofs.Names.{zero, suc, ◌≡◌, ℕ, inl, inr, Bool, true, false, cond, List, [], ◌∷◌, ◌++◌, Option, Some, None, Result, refl, sym, ap, subst, ◌∙◌, map, All, Contains, slice_get, not, AllByRecursion, flat_map, option_to_list, append-nil, flat_map-append, All-nil, All-cons, All-head, All-tail, All-append, All-contains, All-map, All-weaker, All-contains_itself, Contains-append_left, Contains-append_right, WireFault, EventBody, canonical, Message, Query, query, push_pull, event_of, TimedEntry, Config, EventOut, event_packet, Past, query_at, ack_if_passed, ack_packet, all_pass, ack_flag, has_flag, no_broadcast_flag, response_packet, state_of, view_of}
+use Rattle.serf_model.specs.Below.{Below}
 use Rattle.serf_model.specs.declared.action.Action.{Action}
 use Rattle.serf_model.specs.declared.action.Action.TheVariants as actions
 use Rattle.serf_model.specs.Cluster.{IdealNode, Cluster, Applied, Done, Run, Stepped, apply, applied, injects, on_agent, after, start, first_node, with_handed, event_line}
@@ -53,33 +54,33 @@ brought P (Some packet) carries = carries packet refl
 
 -- Given P of all that the agent entered, of all that its packet carries, and of what this action fires, all that it hands
 -- out has P, and all that it sends carries.
-have-effect : (P : TimedEntry EventBody → Type 0) (m : IdealNode) (action : Action) (given : Option (List ℕ)) (o : Applied) → Effect m action given o → IsRepresentable m.agent → All (λ p. P p.entry) m.agent.events.history
+have-effect : Below → (P : TimedEntry EventBody → Type 0) (m : IdealNode) (action : Action) (given : Option (List ℕ)) (o : Applied) → Effect m action given o → IsRepresentable m.agent → All (λ p. P p.entry) m.agent.events.history
     → ((packet : List ℕ) → given ≡ Some packet → Carries P packet) → All P (fired_by action o.done.answer) → AllHave P o.done
-have-effect P m action given o (hears j outs answer heard idle) g all carries fired = record {
+have-effect lower P m action given o (hears j outs answer heard idle) g all carries fired = record {
   events = All-weaker (Contains (events_given given)) P (λ e c. All-contains P (events_given given) e (brought P given carries) c) (map out_in outs) heard.among;
   packets = All-nil (Carries P);
 }
-have-effect P m action given o (fires agent name payload coalesce is) g all carries fired =
+have-effect lower P m action given o (fires agent name payload coalesce is) g all carries fired =
     let may = may-fire m.agent (event_of name payload) coalesce g.consistent.sound is in
     record {
       events = fired;
       packets = one (Carries P) (event_packet m.agent.events.clock (event_of name payload) coalesce)
-          (subst (All P) (sym (events_in_packet-event m.agent.events.clock (event_of name payload) coalesce may.clock may.short)) fired);
+          (subst (All P) (sym (events_in_packet-event lower m.agent.events.clock (event_of name payload) coalesce may.clock may.short)) fired);
     }
-have-effect P m action given o (passes_on packet e is new) g all carries fired = record {
+have-effect lower P m action given o (passes_on packet e is new) g all carries fired = record {
   events = subst (λ (r : Result Message WireFault). All P (events_brought r)) is (carries packet refl);
   packets = one (Carries P) packet (carries packet refl);
 }
-have-effect P m action given o (asks agent now id name payload params may) g all carries fired =
+have-effect lower P m action given o (asks agent now id name payload params may) g all carries fired =
     let q : Query = query_at m.agent.queries.clock m.agent.config.name id name payload params in
     record { events = All-nil P; packets = All-cons (Carries P) (canonical (query q)) (option_to_list (ack_if_passed m.agent.config.name q)) (none P (canonical (query q)) (events_in_packet-query q)) (ack-has (Carries P) m.agent.config.name q (no-event-ack P m.agent.config.name q)) }
-have-effect P m action given o (is_asked to number packet now q is new) g all carries fired =
+have-effect lower P m action given o (is_asked to number packet now q is new) g all carries fired =
     record { events = All-nil P; packets = entered-has (Carries P) m.agent.config.name packet q (not (has_flag no_broadcast_flag q.flags)) (carries packet refl) (no-event-ack P m.agent.config.name q) }
-have-effect P m action given o (tells short) g all carries fired =
-    record { events = All-nil P; packets = one (Carries P) (canonical (push_pull (state_of (view_of m.agent) [] []))) (state-carries P m.agent g short all) }
-have-effect P m action given o (replies agent number now payload h at may) g all carries fired =
+have-effect lower P m action given o (tells short) g all carries fired =
+    record { events = All-nil P; packets = one (Carries P) (canonical (push_pull (state_of (view_of m.agent) [] []))) (state-carries lower P m.agent g short all) }
+have-effect lower P m action given o (replies agent number now payload h at may) g all carries fired =
     record { events = All-nil P; packets = one (Carries P) (response_packet h payload) (none P (response_packet h payload) (events_in_packet-response h.time h.id h.node 0 payload)) }
-have-effect P m action given o _ g all carries fired = record { events = All-nil P; packets = All-nil (Carries P) }
+have-effect lower P m action given o _ g all carries fired = record { events = All-nil P; packets = All-nil (Carries P) }
 
 -- ---- what was fired stays fired
 
@@ -201,18 +202,18 @@ fired-still c turns s h nodes sent no_events carry =
       carries = at_each_push CarriesAt turns s.turn h.carries carry;
     }
 
-fired-acts : (c : Cluster) (turns : List Turn) (action : Action) (b : ℕ) (m : IdealNode) → IsAfter c turns → IsFired c turns → slice_get c.nodes b ≡ Some m → (let s = applied c action b (apply m c.sent action) in IsFired s.cluster (turns ++ s.turn ∷ []))
-fired-acts c turns action b m h f at =
+fired-acts : Below → (c : Cluster) (turns : List Turn) (action : Action) (b : ℕ) (m : IdealNode) → IsAfter c turns → IsFired c turns → slice_get c.nodes b ≡ Some m → (let s = applied c action b (apply m c.sent action) in IsFired s.cluster (turns ++ s.turn ∷ []))
+fired-acts lower c turns action b m h f at =
     let representable = all-at (λ m. IsRepresentable m.agent) c.nodes b m h.representable at in
-    fired-applied c turns action b m (apply m c.sent action) f at (enters-entries (keeps-apply m c.sent action representable.consistent.sound).events)
-    (λ P old carries fired. have-effect P m action (packet_given c.sent action) (apply m c.sent action) (effect m c.sent action) representable old carries fired)
+    fired-applied c turns action b m (apply m c.sent action) f at (enters-entries (keeps-apply lower m c.sent action representable.consistent.sound).events)
+    (λ P old carries fired. have-effect lower P m action (packet_given c.sent action) (apply m c.sent action) (effect lower m c.sent action) representable old carries fired)
 
-pub fired-step : (r : Run) (action : Action) → IsAfter r.cluster r.turns → IsFired r.cluster r.turns → IsFired (after r action).cluster (after r action).turns
-fired-step r action h f =
+pub fired-step : Below → (r : Run) (action : Action) → IsAfter r.cluster r.turns → IsFired r.cluster r.turns → IsFired (after r action).cluster (after r action).turns
+fired-step lower r action h f =
     let now : Stepped = injects r.cluster action (injects_of action) in
     step-cases (λ s. IsFired s.cluster (r.turns ++ s.turn ∷ [])) r.cluster action
     (λ actor. fired-still r.cluster r.turns now f refl refl refl (all-parts (WasFired (r.turns ++ now.turn ∷ [])) events_in_packet (injects_of action) (forges-now r.turns now.turn)))
-    (λ b actor at. fired-still r.cluster r.turns (on_agent r.cluster action b None) f refl (sym (append-nil r.cluster.sent)) refl (All-nil (Carries (WasFired (r.turns ++ (on_agent r.cluster action b None).turn ∷ []))))) (λ b m actor at. fired-acts r.cluster r.turns action b m h f at)
+    (λ b actor at. fired-still r.cluster r.turns (on_agent r.cluster action b None) f refl (sym (append-nil r.cluster.sent)) refl (All-nil (Carries (WasFired (r.turns ++ (on_agent r.cluster action b None).turn ∷ []))))) (λ b m actor at. fired-acts lower r.cluster r.turns action b m h f at)
 
 none-entered : (configs : List Config) → AllByRecursion (λ m. All (λ p. WasFired [] p.entry) m.agent.events.history) (map first_node configs)
 none-entered [] = tt

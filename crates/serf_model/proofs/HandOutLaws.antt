@@ -1,5 +1,6 @@
 -- What a turn hands out, and which queries enter.
 use Rattle.serf_model.proofs.Names.{length, ◌≡◌, ℕ, ◌⊎◌, inl, inr, Bool, true, false, cond, List, [], ◌∷◌, ◌++◌, Option, Some, None, refl, sym, ap, subst, ◌∙◌, map, All, Contains, slice_get, fold, option_map, option_to_list, All-nil, All-cons, All-head, All-tail, All-append, All-weaker, All-contains, All-contains_itself, Contains-append_left, Contains-append_right, EventBody, canonical, decoded, Query, query, event_of, TimedEntry, Config, EventOut, Handed, IdealAgent, all_pass, handed_if_passed, handed_query, query_at}
+use Rattle.serf_model.specs.Below.{Below}
 use Rattle.serf_model.specs.declared.action.Action.{Action}
 use Rattle.serf_model.specs.declared.line.Answer.{Answer}
 use Rattle.serf_model.specs.declared.line.Answer.TheVariants as answers
@@ -78,12 +79,12 @@ given-effect m action given o _ = All-nil (IsGiven action given o.done.answer)
 abbrev GivenAt : List Turn → Turn → Type 0
 GivenAt before turn = All (λ (e : EventLine). IsGiven turn.action turn.given turn.line.answer (event_in e)) turn.line.events
 
-given-out : (before : List Turn) (c : Cluster) (action : Action) → GivenAt before (step c action).turn
-given-out before c action =
+given-out : Below → (before : List Turn) (c : Cluster) (action : Action) → GivenAt before (step c action).turn
+given-out lower before c action =
     turn-of (GivenAt before) c action (All-nil (λ (e : EventLine). IsGiven action (packet_given c.sent action) answers.Injected (event_in e)))
     (All-nil (λ (e : EventLine). IsGiven action (packet_given c.sent action) (answers.Refused NoAgent) (event_in e)))
     (λ b m actor at. lines-all (IsGiven action (packet_given c.sent action) (apply m c.sent action).done.answer) b (apply m c.sent action).done.events
-    (given-effect m action (packet_given c.sent action) (apply m c.sent action) (effect m c.sent action)))
+    (given-effect m action (packet_given c.sent action) (apply m c.sent action) (effect lower m c.sent action)))
 
 -- ---- what is new
 
@@ -110,10 +111,10 @@ new-effect m action given o _ = λ says. absurd (cc says)
 abbrev NewAt : List Turn → Turn → Type 0
 NewAt before turn = says_new turn.line.answer ≡ true → (e : TimedEntry EventBody) × (map event_in turn.line.events ≡ e ∷ []) × (new_in turn ≡ e ∷ [])
 
-new-out : (before : List Turn) (c : Cluster) (action : Action) → NewAt before (step c action).turn
-new-out before c action =
+new-out : Below → (before : List Turn) (c : Cluster) (action : Action) → NewAt before (step c action).turn
+new-out lower before c action =
     turn-of (NewAt before) c action (λ is. absurd (cc is)) (λ is. absurd (cc is))
-    (λ b m actor at is. let h = new-effect m action (packet_given c.sent action) (apply m c.sent action) (effect m c.sent action) is in (h.0, lines-in b (apply m c.sent action).done.events ∙ h.1, h.2))
+    (λ b m actor at is. let h = new-effect m action (packet_given c.sent action) (apply m c.sent action) (effect lower m c.sent action) is in (h.0, lines-in b (apply m c.sent action).done.events ∙ h.1, h.2))
 
 -- ---- settings
 
@@ -125,10 +126,10 @@ settings-kept m action given _ _ = refl
 abbrev HasSettings : List Config → ℕ → List Turn → IdealNode → Type 0
 HasSettings configs a turns m = slice_get configs a ≡ Some m.agent.config
 
-settings-step : (configs : List Config) (r : Run) (action : Action) → Each (HasSettings configs) r.cluster r.turns → Each (HasSettings configs) (after r action).cluster (after r action).turns
-settings-step configs r action all =
+settings-step : Below → (configs : List Config) (r : Run) (action : Action) → Each (HasSettings configs) r.cluster r.turns → Each (HasSettings configs) (after r action).cluster (after r action).turns
+settings-step lower configs r action all =
     each-step (HasSettings configs) r action all
-    (λ b m actor at is. is ∙ ap (λ (c : Config). Some c) (sym (settings-kept m action (packet_given r.cluster.sent action) (apply m r.cluster.sent action) (effect m r.cluster.sent action))))
+    (λ b m actor at is. is ∙ ap (λ (c : Config). Some c) (sym (settings-kept m action (packet_given r.cluster.sent action) (apply m r.cluster.sent action) (effect lower m r.cluster.sent action))))
 
 settings-start : (configs : List Config) → Each (HasSettings configs) (start configs).cluster []
 settings-start configs = each-start (HasSettings configs) configs (λ a config is. is)
@@ -164,20 +165,20 @@ hands-effect configs m action given _ b actor settings _ = λ a n h e. absurd (c
 abbrev EnteredAt : List Config → List Turn → Turn → Type 0
 EnteredAt configs before turn = (h : HandedLine) → turn.line.handed ≡ Some h → (q : Query) × (message_entered configs turn ≡ q ∷ []) × IsHandedOf h q
 
-entered-applied : (configs : List Config) (before : List Turn) (c : Cluster) (action : Action) (b : ℕ) (m : IdealNode) → actor_of action ≡ Some b → slice_get configs b ≡ Some m.agent.config → EnteredAt configs before (applied c action b (apply m c.sent action)).turn
-entered-applied configs before c action b m actor settings = by (apply m c.sent action).done.handed refl
+entered-applied : Below → (configs : List Config) (before : List Turn) (c : Cluster) (action : Action) (b : ℕ) (m : IdealNode) → actor_of action ≡ Some b → slice_get configs b ≡ Some m.agent.config → EnteredAt configs before (applied c action b (apply m c.sent action)).turn
+entered-applied lower configs before c action b m actor settings = by (apply m c.sent action).done.handed refl
   where
     by : (r : Option Handed) → (apply m c.sent action).done.handed ≡ r → (h : HandedLine) → option_map (handed_line b (length (apply m c.sent action).node.handed)) r ≡ Some h
         → (q : Query) × (message_entered configs (applied c action b (apply m c.sent action)).turn ≡ q ∷ []) × IsHandedOf h q
     by None is h e = absurd (cc e)
     by (Some x) is h e =
         let same : handed_line b (length (apply m c.sent action).node.handed) x ≡ h = cc e in
-        let found = hands-effect configs m action (packet_given c.sent action) (apply m c.sent action) b actor settings (effect m c.sent action) b (length (apply m c.sent action).node.handed) x is in
+        let found = hands-effect configs m action (packet_given c.sent action) (apply m c.sent action) b actor settings (effect lower m c.sent action) b (length (apply m c.sent action).node.handed) x is in
         (found.0, found.1, subst (λ (l : HandedLine). IsHandedOf l found.0) same found.2)
 
-entered-out : (configs : List Config) (before : List Turn) (c : Cluster) (action : Action) (turns : List Turn) → Each (HasSettings configs) c turns → EnteredAt configs before (step c action).turn
-entered-out configs before c action turns all =
-    turn-of (EnteredAt configs before) c action (λ h e. absurd (cc e)) (λ h e. absurd (cc e)) (λ b m actor at. entered-applied configs before c action b m actor (all b m at))
+entered-out : Below → (configs : List Config) (before : List Turn) (c : Cluster) (action : Action) (turns : List Turn) → Each (HasSettings configs) c turns → EnteredAt configs before (step c action).turn
+entered-out lower configs before c action turns all =
+    turn-of (EnteredAt configs before) c action (λ h e. absurd (cc e)) (λ h e. absurd (cc e)) (λ b m actor at. entered-applied lower configs before c action b m actor (all b m at))
 
 -- ---- the messages that were fired
 
@@ -194,30 +195,30 @@ abbrev SpeaksOwn : List Config → Action → Option (List ℕ) → Applied → 
 SpeaksOwn configs action given o =
     All (Speaks (message_fired configs (record { action = action; line = record { answer = o.done.answer; sent = []; events = []; handed = None }; given = given; packets = [] }))) (query_packets o.done.answer o.done.packets)
 
-speaks-effect : (configs : List Config) (m : IdealNode) (action : Action) (given : Option (List ℕ)) (o : Applied) (b : ℕ) → HasSizes action → actor_of action ≡ Some b → slice_get configs b ≡ Some m.agent.config → Effect m action given o → SpeaksOwn configs action given o
-speaks-effect configs m action given _ b sized actor settings (hears j outs answer h idle) =
+speaks-effect : Below → (configs : List Config) (m : IdealNode) (action : Action) (given : Option (List ℕ)) (o : Applied) (b : ℕ) → HasSizes action → actor_of action ≡ Some b → slice_get configs b ≡ Some m.agent.config → Effect m action given o → SpeaksOwn configs action given o
+speaks-effect lower configs m action given _ b sized actor settings (hears j outs answer h idle) =
     let own : List Query = message_fired configs (record { action = action; line = record { answer = answer; sent = []; events = []; handed = None }; given = given; packets = [] }) in
     subst (All (Speaks own)) (sym (speaks-nothing m.agent given answer [] idle)) (All-nil (Speaks own))
-speaks-effect configs m _ given _ b sized actor settings (asks agent now id name payload params is) =
+speaks-effect lower configs m _ given _ b sized actor settings (asks agent now id name payload params is) =
     let q : Query = query_at m.agent.queries.clock m.agent.config.name id name payload params in
     let me : agent ≡ b = cc actor in
     let fired : map (λ c. query_at m.agent.queries.clock c.name id name payload params) (option_to_list (slice_get configs agent)) ≡ q ∷ [] =
     ap (λ (c : Option Config). map (λ c. query_at m.agent.queries.clock c.name id name payload params) (option_to_list c)) (ap (slice_get configs) me ∙ settings) in
     let own : List Query = map (λ (c : Config). query_at m.agent.queries.clock c.name id name payload params) (option_to_list (slice_get configs agent)) in
     All-cons (Speaks own) (canonical (query q)) []
-    (subst (All (Contains own)) (sym (ap query_message (own-decoded m.agent id name payload params sized is))) (subst (λ l. All (Contains l) (q ∷ [])) (sym fired) (All-contains_itself (q ∷ []))))
+    (subst (All (Contains own)) (sym (ap query_message (own-decoded lower m.agent id name payload params sized is))) (subst (λ l. All (Contains l) (q ∷ [])) (sym fired) (All-contains_itself (q ∷ []))))
     (All-nil (Speaks own))
-speaks-effect configs m action _ _ b sized actor settings (counts to number now packet r q true is at none kind) = All-nil (Speaks [])
-speaks-effect configs m action _ _ b sized actor settings (counts to number now packet r q false is at none kind) = All-nil (Speaks [])
-speaks-effect configs m action given _ b sized actor settings _ = All-nil (Speaks [])
+speaks-effect lower configs m action _ _ b sized actor settings (counts to number now packet r q true is at none kind) = All-nil (Speaks [])
+speaks-effect lower configs m action _ _ b sized actor settings (counts to number now packet r q false is at none kind) = All-nil (Speaks [])
+speaks-effect lower configs m action given _ b sized actor settings _ = All-nil (Speaks [])
 
 abbrev SpeaksAt : List Config → Turn → Type 0
 SpeaksAt configs turn = All (Speaks (message_fired configs turn)) (query_packets turn.line.answer turn.packets)
 
-speaks-turn : (configs : List Config) (c : Cluster) (action : Action) (turns : List Turn) → HasSizes action → Each (HasSettings configs) c turns → SpeaksAt configs (step c action).turn
-speaks-turn configs c action turns sized all =
+speaks-turn : Below → (configs : List Config) (c : Cluster) (action : Action) (turns : List Turn) → HasSizes action → Each (HasSettings configs) c turns → SpeaksAt configs (step c action).turn
+speaks-turn lower configs c action turns sized all =
     turn-of (SpeaksAt configs) c action (All-nil (Speaks [])) (All-nil (Speaks []))
-    (λ b m actor at. speaks-effect configs m action (packet_given c.sent action) (apply m c.sent action) b sized actor (all b m at) (effect m c.sent action))
+    (λ b m actor at. speaks-effect lower configs m action (packet_given c.sent action) (apply m c.sent action) b sized actor (all b m at) (effect lower m c.sent action))
 
 -- ---- a run
 
@@ -230,17 +231,17 @@ pub record IsEntering (configs : List Config) (r : Run) : Type 0 where
   pub settings : Each (HasSettings configs) r.cluster r.turns
   pub entered : HandsOutEntered configs r.turns
 
-entering-step : (configs : List Config) (r : Run) (action : Action) → IsEntering configs r → IsEntering configs (after r action)
-entering-step configs r action h = record {
-  settings = settings-step configs r action h.settings;
-  entered = at_each_push (EnteredAt configs) r.turns (step r.cluster action).turn h.entered (entered-out configs r.turns r.cluster action r.turns h.settings);
+entering-step : Below → (configs : List Config) (r : Run) (action : Action) → IsEntering configs r → IsEntering configs (after r action)
+entering-step lower configs r action h = record {
+  settings = settings-step lower configs r action h.settings;
+  entered = at_each_push (EnteredAt configs) r.turns (step r.cluster action).turn h.entered (entered-out lower configs r.turns r.cluster action r.turns h.settings);
 }
 
 entering-start : (configs : List Config) → IsEntering configs (start configs)
 entering-start configs = record { settings = settings-start configs; entered = at_each_nil (EnteredAt configs) }
 
-pub entering-run : (configs : List Config) (actions : List Action) → IsEntering configs (run_of configs actions)
-entering-run configs actions = fold_keeps (IsEntering configs) after (start configs) actions (entering-start configs) (entering-step configs)
+pub entering-run : Below → (configs : List Config) (actions : List Action) → IsEntering configs (run_of configs actions)
+entering-run lower configs actions = fold_keeps (IsEntering configs) after (start configs) actions (entering-start configs) (entering-step lower configs)
 
 -- what is sent as a fired query's own is the message that was fired
 pub record IsMessaging (configs : List Config) (r : Run) : Type 0 where
@@ -267,26 +268,26 @@ message-of : (configs : List Config) (turns : List Turn) (packet : List ℕ) →
 message-of configs turns packet own (inl h) = inl (All-contains (Speaks (messages_fired configs turns)) (queried_in turns) packet own h)
 message-of configs turns packet own (inr h) = inr h
 
-messaging-step : (configs : List Config) (r : Run) (action : Action) → HasSizes action → IsMessaging configs r → IsMessaging configs (after r action)
-messaging-step configs r action sized h =
+messaging-step : Below → (configs : List Config) (r : Run) (action : Action) → HasSizes action → IsMessaging configs r → IsMessaging configs (after r action)
+messaging-step lower configs r action sized h =
     let turn : Turn = (step r.cluster action).turn in
-    let asked = asked-step r action h.asked in
+    let asked = asked-step lower r action h.asked in
     record {
-      entering = entering-step configs r action h.entering;
+      entering = entering-step lower configs r action h.entering;
       asked = asked;
-      own = own-more configs r.turns turn h.own (speaks-turn configs r.cluster action r.turns sized h.entering.settings);
+      own = own-more configs r.turns turn h.own (speaks-turn lower configs r.cluster action r.turns sized h.entering.settings);
       fired = at_each_push (MessageAt configs) r.turns turn h.fired (λ packet says given. message-of configs r.turns packet h.own (asked.fired r.turns turn [] refl packet says given));
     }
 
 messaging-start : (configs : List Config) → IsMessaging configs (start configs)
 messaging-start configs = record { entering = entering-start configs; asked = asked-start configs; own = All-nil (Speaks []); fired = at_each_nil (MessageAt configs) }
 
-pub messaging-run : (configs : List Config) (actions : List Action) → All HasSizes actions → IsMessaging configs (run_of configs actions)
-messaging-run configs actions sized = by (start configs) actions sized (messaging-start configs)
+pub messaging-run : Below → (configs : List Config) (actions : List Action) → All HasSizes actions → IsMessaging configs (run_of configs actions)
+messaging-run lower configs actions sized = by (start configs) actions sized (messaging-start configs)
   where
     by : (r : Run) (actions : List Action) → All HasSizes actions → IsMessaging configs r → IsMessaging configs (fold after r actions)
     by r [] sized h = h
-    by r (action ∷ actions) sized h = by (after r action) actions (All-tail HasSizes action actions sized) (messaging-step configs r action (All-head HasSizes action actions sized) h)
+    by r (action ∷ actions) sized h = by (after r action) actions (All-tail HasSizes action actions sized) (messaging-step lower configs r action (All-head HasSizes action actions sized) h)
 
 -- what needs nothing of the settings, and nothing of the numbers
 pub record IsHandingOut (turns : List Turn) : Type 0 where
@@ -294,11 +295,11 @@ pub record IsHandingOut (turns : List Turn) : Type 0 where
   pub given : HandsOutGiven turns
   pub new : NewIsHanded turns
 
-pub handing-out : (configs : List Config) (actions : List Action) → IsHandingOut (run_of configs actions).turns
-handing-out configs actions =
+pub handing-out : Below → (configs : List Config) (actions : List Action) → IsHandingOut (run_of configs actions).turns
+handing-out lower configs actions =
     fold_keeps (λ (r : Run). IsHandingOut r.turns) after (start configs) actions (record { to_actor = at_each_nil ToActorAt; given = at_each_nil GivenAt; new = at_each_nil NewAt })
     (λ r action h. record {
       to_actor = at_each_push ToActorAt r.turns (step r.cluster action).turn h.to_actor (to-actor r.turns r.cluster action);
-      given = at_each_push GivenAt r.turns (step r.cluster action).turn h.given (given-out r.turns r.cluster action);
-      new = at_each_push NewAt r.turns (step r.cluster action).turn h.new (new-out r.turns r.cluster action);
+      given = at_each_push GivenAt r.turns (step r.cluster action).turn h.given (given-out lower r.turns r.cluster action);
+      new = at_each_push NewAt r.turns (step r.cluster action).turn h.new (new-out lower r.turns r.cluster action);
     })

@@ -1,5 +1,6 @@
 -- A query is handed to an agent once, where it enters.
 use Rattle.serf_model.proofs.Names.{zero, suc, ◌≡◌, ◌≢◌, ℕ, ◌<◌, ◌==◌, ◌+◌, ◌⊎◌, inl, inr, Bool, true, false, cond, List, [], ◌∷◌, ◌++◌, Option, Some, None, refl, sym, ap, subst, ◌∙◌, arith, map, length, get_or, All, AllPairs, Contains, filter, flat_map, option_map, option_to_list, append-nil, map-append, All-nil, All-push, All-weaker, Contains-append_left, Contains-push, filter-append, all_pairs_push, Query, TimedEntry, Handed, query_at, handed_query, handed_if_passed, all_pass}
+use Rattle.serf_model.specs.Below.{Below}
 use Rattle.serf_model.specs.declared.action.Action.{Action}
 use Rattle.serf_model.specs.declared.line.HandedLine.{HandedLine}
 use Rattle.serf_model.specs.Cluster.{Applied, IdealNode, Cluster, Done, Run, apply, applied, after, handed_line, step}
@@ -29,8 +30,8 @@ hands-effect m action given o (asks agent now id name payload params may) = λ h
 hands-effect m action given o (is_asked to number packet now q is new) = λ h e. ap query_brought is ∙ passed m.agent.config.name now q h e
 hands-effect m action given o _ = λ h e. absurd (cc e)
 
-pub hands-apply : (m : IdealNode) (sent : List (List ℕ)) (action : Action) → Hands action (packet_given sent action) (apply m sent action).done
-hands-apply m sent action = hands-effect m action (packet_given sent action) (apply m sent action) (effect m sent action)
+pub hands-apply : Below → (m : IdealNode) (sent : List (List ℕ)) (action : Action) → Hands action (packet_given sent action) (apply m sent action).done
+hands-apply lower m sent action = hands-effect m action (packet_given sent action) (apply m sent action) (effect lower m sent action)
 
 -- ---- a step
 
@@ -92,8 +93,8 @@ IsHanded turns = (a : ℕ) → IsWithin (queries_at a turns) (queries_to a turns
 abbrev Adds : ℕ → Turn → Type 0
 Adds a turn = (map handed_in (filter (mine a) (option_to_list turn.line.handed)) ≡ []) ⊎ ((x : TimedEntry ℕ) × (map handed_in (filter (mine a) (option_to_list turn.line.handed)) ≡ x ∷ []) × (added entered a turn ≡ x ∷ []))
 
-adds-applied : (c : Cluster) (action : Action) (b : ℕ) (m : IdealNode) (a : ℕ) → actor_of action ≡ Some b → Adds a (applied c action b (apply m c.sent action)).turn
-adds-applied c action b m a actor = by (apply m c.sent action).done.handed refl (b == a) refl
+adds-applied : Below → (c : Cluster) (action : Action) (b : ℕ) (m : IdealNode) (a : ℕ) → actor_of action ≡ Some b → Adds a (applied c action b (apply m c.sent action)).turn
+adds-applied lower c action b m a actor = by (apply m c.sent action).done.handed refl (b == a) refl
   where
     by : (h : Option Handed) → (apply m c.sent action).done.handed ≡ h → (t : Bool) → (b == a) ≡ t → Adds a (applied c action b (apply m c.sent action)).turn
     by None none t is = inl (ap (λ (h : Option Handed). map handed_in (filter (mine a) (option_to_list (option_map (handed_line b (length (apply m c.sent action).node.handed)) h)))) none)
@@ -101,24 +102,24 @@ adds-applied c action b m a actor = by (apply m c.sent action).done.handed refl 
       record { time = q.time; key = q.id },
       ap (λ (h : Option Handed). map handed_in (filter (mine a) (option_to_list (option_map (handed_line b (length (apply m c.sent action).node.handed)) h)))) some
           ∙ ap (λ (t : Bool). map handed_in (cond t (handed_line b (length (apply m c.sent action).node.handed) q ∷ []) [])) is,
-      ap (λ (t : Bool). cond t (entered_by action (packet_given c.sent action) (apply m c.sent action).done.answer) []) (ap (is_agent a) actor ∙ is) ∙ hands-apply m c.sent action q some,
+      ap (λ (t : Bool). cond t (entered_by action (packet_given c.sent action) (apply m c.sent action).done.answer) []) (ap (is_agent a) actor ∙ is) ∙ hands-apply lower m c.sent action q some,
     )
     by (Some q) some false is =
         inl (ap (λ (h : Option Handed). map handed_in (filter (mine a) (option_to_list (option_map (handed_line b (length (apply m c.sent action).node.handed)) h)))) some
         ∙ ap (λ (t : Bool). map handed_in (cond t (handed_line b (length (apply m c.sent action).node.handed) q ∷ []) [])) is)
 
-adds-step : (c : Cluster) (action : Action) (a : ℕ) → Adds a (step c action).turn
-adds-step c action a = step-cases (λ s. Adds a s.turn) c action (λ actor. inl refl) (λ b actor at. inl refl) (λ b m actor at. adds-applied c action b m a actor)
+adds-step : Below → (c : Cluster) (action : Action) (a : ℕ) → Adds a (step c action).turn
+adds-step lower c action a = step-cases (λ s. Adds a s.turn) c action (λ actor. inl refl) (λ b actor at. inl refl) (λ b m actor at. adds-applied lower c action b m a actor)
 
-pub handed-step : (r : Run) (action : Action) → IsAfter r.cluster r.turns → IsHanded r.turns → IsHanded (after r action).turns
-handed-step r action h all a =
+pub handed-step : Below → (r : Run) (action : Action) → IsAfter r.cluster r.turns → IsHanded r.turns → IsHanded (after r action).turns
+handed-step lower r action h all a =
     let turn : Turn = (step r.cluster action).turn in
-    let once = query-once (after r action).cluster (after r action).turns (after-step r action h) in
+    let once = query-once (after r action).cluster (after r action).turns (after-step lower r action h) in
     let new = map handed_in (filter (mine a) (option_to_list turn.line.handed)) in
     let entered_now = by-push entered a r.turns turn in
     subst (λ l. IsWithin l (queries_to a (r.turns ++ turn ∷ []))) (sym entered_now)
     (subst (IsWithin (queries_at a r.turns ++ added entered a turn)) (sym (queries_to-push a r.turns turn))
-    (within-more (queries_at a r.turns) (queries_to a r.turns) (added entered a turn) new (all a) (subst (AllPairs (λ x y. x ≢ y)) entered_now (once a)) (adds-step r.cluster action a)))
+    (within-more (queries_at a r.turns) (queries_to a r.turns) (added entered a turn) new (all a) (subst (AllPairs (λ x y. x ≢ y)) entered_now (once a)) (adds-step lower r.cluster action a)))
 
 pub handed-start : IsHanded []
 handed-start a = record { within = All-nil (Contains (queries_at a [])); once = λ i j d lt within. absurd (omega arith) }

@@ -1,6 +1,7 @@
 -- Which queries an agent can answer, and which it acked.
 use Rattle.serf_model.proofs.Names.{zero, suc, ◌≡◌, ◌≢◌, ℕ, ◌⊎◌, inl, inr, true, false, cond, List, [], ◌∷◌, ◌++◌, length, Option, Some, None, refl, sym, ap, subst, ◌∙◌, map, set, AllPairs, Contains, slice_get, flat_map, option_map, option_to_list, append-nil, map-append, Contains-append_left, Contains-push, filter-append, fold_push, Query, QueryResponse, TimedEntry, Config, Handed, deadline_of, is_ack, query_at}
 use Rattle.std.specs.Prelude.{filter}
+use Rattle.serf_model.specs.Below.{Below}
 use Rattle.serf_model.specs.declared.action.Action.{Action}
 use Rattle.serf_model.specs.declared.line.HandedLine.{HandedLine}
 use Rattle.serf_model.specs.AnswerPromises.{answers_in, query_answered, reply_deadline}
@@ -111,38 +112,38 @@ pub record IsServing (configs : List Config) (a : ℕ) (ts : List Turn) (m : Ide
 -- ---- a turn
 
 -- what an answer that is sent adds to those that were acked
-adds : (m : IdealNode) (sent : List (List ℕ)) (action : Action) → Makes m action (apply m sent action).done
+adds : Below → (m : IdealNode) (sent : List (List ℕ)) (action : Action) → Makes m action (apply m sent action).done
     → (let o = apply m sent action in let new = map query_answered (filter is_ack (answers_in o.done.packets)) in (new ≡ []) ⊎ ((x : TimedEntry ℕ) × (new ≡ x ∷ []) × (entered_by action (packet_given sent action) o.done.answer ≡ x ∷ [])))
-adds m sent action (makes_none packets) = inl (ap (λ l. map query_answered (filter is_ack l)) packets)
-adds m sent action (makes_ack h handed packets) = inr (record { time = h.time; key = h.id }, ap (λ l. map query_answered (filter is_ack l)) packets, hands-apply m sent action h handed)
-adds m sent action (makes_reply agent number now payload h respond at replied packets in_time) = inl (ap (λ l. map query_answered (filter is_ack l)) packets)
+adds lower m sent action (makes_none packets) = inl (ap (λ l. map query_answered (filter is_ack l)) packets)
+adds lower m sent action (makes_ack h handed packets) = inr (record { time = h.time; key = h.id }, ap (λ l. map query_answered (filter is_ack l)) packets, hands-apply lower m sent action h handed)
+adds lower m sent action (makes_reply agent number now payload h respond at replied packets in_time) = inl (ap (λ l. map query_answered (filter is_ack l)) packets)
 
 -- what can be answered after a turn
 record Slots (a : ℕ) (name : List ℕ) (ts : List Turn) (handed : List (Option Handed)) : Type 0 where
   each : (number : ℕ) (h : Handed) → slice_get handed number ≡ Some (Some h) → IsHandable name h × IsShown a ts number h
 
-slots-more : (c : Cluster) (configs : List Config) (ts : List Turn) (action : Action) (b : ℕ) (m : IdealNode) → IsServing configs b ts m → Sends m action (apply m c.sent action).done
+slots-more : Below → (c : Cluster) (configs : List Config) (ts : List Turn) (action : Action) (b : ℕ) (m : IdealNode) → IsServing configs b ts m → Sends m action (apply m c.sent action).done
     → (let o = apply m c.sent action in Slots b m.agent.config.name (ts ++ (applied c action b o).turn ∷ []) (with_handed o.done.handed o.node).handed)
-slots-more c configs ts action b m serving sends = by (apply m c.sent action).done.handed refl
+slots-more lower c configs ts action b m serving sends = by (apply m c.sent action).done.handed refl
   where
     turn : Turn
     turn = (applied c action b (apply m c.sent action)).turn
 
     old : (number : ℕ) (h : Handed) → slice_get (apply m c.sent action).node.handed number ≡ Some (Some h) → IsHandable m.agent.config.name h × IsShown b (ts ++ (applied c action b (apply m c.sent action)).turn ∷ []) number h
     old number h is =
-        let s = stood m action (packet_given c.sent action) (apply m c.sent action) (effect m c.sent action) number h is in
+        let s = stood m action (packet_given c.sent action) (apply m c.sent action) (effect lower m c.sent action) number h is in
         (serving.handable number h s.at, shown-more b ts (applied c action b (apply m c.sent action)).turn number h s.on (serving.shown number h s.at))
 
     new : (q : Handed) → (apply m c.sent action).done.handed ≡ Some q → IsShown b (ts ++ (applied c action b (apply m c.sent action)).turn ∷ []) (length (apply m c.sent action).node.handed) q
     new q some =
-        let on = hands-on m action (packet_given c.sent action) (apply m c.sent action) (effect m c.sent action) q some in
+        let on = hands-on m action (packet_given c.sent action) (apply m c.sent action) (effect lower m c.sent action) q some in
         record {
           line = handed_line b (length (apply m c.sent action).node.handed) q;
           handing = (applied c action b (apply m c.sent action)).turn;
           there = subst (λ l. Contains l (applied c action b (apply m c.sent action)).turn) (sym (life-push ts (applied c action b (apply m c.sent action)).turn on)) (Contains-push (last_life ts) (applied c action b (apply m c.sent action)).turn);
           handed = ap (λ (h : Option Handed). option_map (handed_line b (length (apply m c.sent action).node.handed)) h) some;
           to = refl;
-          until = deadline-effect m action (packet_given c.sent action) (apply m c.sent action) (effect m c.sent action) q some;
+          until = deadline-effect m action (packet_given c.sent action) (apply m c.sent action) (effect lower m c.sent action) q some;
           index = refl;
           query = refl;
         }
@@ -159,12 +160,12 @@ slots-more c configs ts action b m serving sends = by (apply m c.sent action).do
             subst (λ (h : Handed). IsHandable m.agent.config.name h × IsShown b (ts ++ (applied c action b (apply m c.sent action)).turn ∷ []) number h) same
             (sends.hands q some, subst (λ (n : ℕ). IsShown b (ts ++ (applied c action b (apply m c.sent action)).turn ∷ []) n q) here.0 (new q some))
 
-pub serving-more : (c : Cluster) (configs : List Config) (ts : List Turn) (action : Action) (b : ℕ) (m : IdealNode) → IsServing configs b ts m → Sends m action (apply m c.sent action).done → (apply m c.sent action).node.agent.config ≡ m.agent.config
+pub serving-more : Below → (c : Cluster) (configs : List Config) (ts : List Turn) (action : Action) (b : ℕ) (m : IdealNode) → IsServing configs b ts m → Sends m action (apply m c.sent action).done → (apply m c.sent action).node.agent.config ≡ m.agent.config
     → AllPairs (λ x y. x ≢ y) (queries_in (ts ++ (applied c action b (apply m c.sent action)).turn ∷ []))
     → (let o = apply m c.sent action in IsServing configs b (ts ++ (applied c action b o).turn ∷ []) (with_handed o.done.handed o.node))
-serving-more c configs ts action b m serving sends config once =
+serving-more lower c configs ts action b m serving sends config once =
     let turn : Turn = (applied c action b (apply m c.sent action)).turn in
-    let slots = slots-more c configs ts action b m serving sends in
+    let slots = slots-more lower c configs ts action b m serving sends in
     let name : (apply m c.sent action).node.agent.config.name ≡ m.agent.config.name = ap (λ (c : Config). c.name) config in
     let queries : queries_in (ts ++ (applied c action b (apply m c.sent action)).turn ∷ []) ≡ queries_in ts ++ entered_by action (packet_given c.sent action) (apply m c.sent action).done.answer =
     flat_map-push (λ t. entered_by t.action t.given t.line.answer) ts (applied c action b (apply m c.sent action)).turn in
@@ -175,5 +176,5 @@ serving-more c configs ts action b m serving sends config once =
       acked = subst (λ l. IsWithin l (acked_in (ts ++ (applied c action b (apply m c.sent action)).turn ∷ []))) (sym queries)
           (subst (IsWithin (queries_in ts ++ entered_by action (packet_given c.sent action) (apply m c.sent action).done.answer)) (sym (acked-push ts (applied c action b (apply m c.sent action)).turn))
           (within-more (queries_in ts) (acked_in ts) (entered_by action (packet_given c.sent action) (apply m c.sent action).done.answer) (map query_answered (filter is_ack (answers_in (apply m c.sent action).done.packets)))
-          serving.acked (subst (AllPairs (λ x y. x ≢ y)) queries once) (adds m c.sent action sends.makes)));
+          serving.acked (subst (AllPairs (λ x y. x ≢ y)) queries once) (adds lower m c.sent action sends.makes)));
     }

@@ -1,5 +1,6 @@
 -- What each action adds to the histories of its agent.
 use Rattle.serf_model.proofs.Names.{◌≡◌, ℕ, ◌+◌, Bool, true, cond, List, [], ◌∷◌, ◌++◌, Option, Some, None, Result, Ok, refl, sym, ap, subst, ◌∙◌, map, WireFault, decoded, Message, push_pull, event_of, TimedEntry, MergeFault, IdealAgent, IsSound, merge_refusal, view_of}
+use Rattle.serf_model.specs.Below.{Below}
 use Rattle.serf_model.specs.declared.action.Action.{Action}
 use Rattle.serf_model.specs.declared.line.Answer.TheVariants as lines
 use Rattle.serf_model.specs.Bounds.{is_restarted}
@@ -67,8 +68,8 @@ keeps-effect m action given o sound (is_asked to number packet now q is new) = r
 keeps-effect m action given o sound (counts to number now packet r q true is at none kind) = record { config = refl; life = refl; events = enters-nothing; queries = enters-nothing; fired = λ t e. cc; asked = λ t e. cc }
 keeps-effect m action given o sound _ = record { config = refl; life = refl; events = enters-nothing; queries = enters-nothing; fired = λ t e. cc; asked = λ t e. cc }
 
-pub keeps-apply : (m : IdealNode) (sent : List (List ℕ)) (action : Action) → IsSound m.agent → (let o = apply m sent action in Keeps m.agent o.node.agent o.done (entered_by action (packet_given sent action) o.done.answer))
-keeps-apply m sent action sound = keeps-effect m action (packet_given sent action) (apply m sent action) sound (effect m sent action)
+pub keeps-apply : Below → (m : IdealNode) (sent : List (List ℕ)) (action : Action) → IsSound m.agent → (let o = apply m sent action in Keeps m.agent o.node.agent o.done (entered_by action (packet_given sent action) o.done.answer))
+keeps-apply lower m sent action sound = keeps-effect m action (packet_given sent action) (apply m sent action) sound (effect lower m sent action)
 
 -- ---- what an action leaves of its agent's other half
 

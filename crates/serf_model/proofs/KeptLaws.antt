@@ -1,6 +1,7 @@
 -- Every run keeps all promises.
 use Rattle.serf_model.proofs.Names.{List, arith, All, EventBody, SlotLaws, Config}
 use Rattle.std.specs.Prelude.{ℕ}
+use Rattle.serf_model.specs.Below.{Below}
 use Rattle.serf_model.specs.declared.action.Action.{Action}
 use Rattle.serf_model.specs.Cluster.{Run, run_of, start}
 use Rattle.serf_model.specs.Kept.{KeepsPromises}
@@ -16,13 +17,13 @@ use Rattle.serf_model.proofs.QueriesEntered.{query-only-fired}
 use Rattle.serf_model.proofs.SentPromises.{open-sent}
 use Rattle.serf_model.proofs.TurnLaws.{at_each_nil}
 
-pub kept : SlotLaws EventBody → SlotLaws ℕ → (configs : List Config) (actions : List Action) → AreConfigs configs → All HasSizes actions → KeepsPromises configs (run_of configs actions)
-kept event_laws query_laws configs actions ok sized =
+pub kept : Below → SlotLaws EventBody → SlotLaws ℕ → (configs : List Config) (actions : List Action) → AreConfigs configs → All HasSizes actions → KeepsPromises configs (run_of configs actions)
+kept lower event_laws query_laws configs actions ok sized =
     let r : Run = run_of configs actions in
-    let going = promised configs actions ok in
-    let out = handing-out configs actions in
-    let counting = counting-run configs actions ok in
-    let served = served-run configs actions sized ok in
+    let going = promised lower configs actions ok in
+    let out = handing-out lower configs actions in
+    let counting = counting-run lower configs actions ok in
+    let served = served-run lower configs actions sized ok in
     record {
       once = going.once;
       fired = going.only_fired;
@@ -31,13 +32,13 @@ kept event_laws query_laws configs actions ok sized =
       query_once = going.query_once;
       query_later = going.query_later;
       query_handed = going.query_handed;
-      query_fired = query-fired configs actions;
-      query_only_fired = query-only-fired configs actions sized;
+      query_fired = query-fired lower configs actions;
+      query_only_fired = query-only-fired lower configs actions sized;
       only_to_actor = out.to_actor;
       hands_out_given = out.given;
       new_is_handed = out.new;
-      hands_out_entered = (entering-run configs actions).entered;
-      messages_fired = (messaging-run configs actions sized).fired;
+      hands_out_entered = (entering-run lower configs actions).entered;
+      messages_fired = (messaging-run lower configs actions sized).fired;
       counted_once = counted-once r.cluster r.turns counting;
       counted_in_time = counting.in_time;
       counted_sent = counting.sent;
@@ -46,8 +47,8 @@ kept event_laws query_laws configs actions ok sized =
       answers_made = served.made;
       acked_once = acked-once configs r.cluster r.turns served;
       replied_once = replied-once configs r.cluster r.turns served;
-      events_bounded = events-bounded event_laws query_laws configs actions ok;
-      queries_bounded = queries-bounded event_laws query_laws configs actions ok;
+      events_bounded = events-bounded lower event_laws query_laws configs actions ok;
+      queries_bounded = queries-bounded lower event_laws query_laws configs actions ok;
     }
 
 -- of no turns anything holds

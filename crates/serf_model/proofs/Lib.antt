@@ -1,3 +1,4 @@
+pub mod ReadCases
 pub mod TurnLaws
 pub mod StepCases
 pub mod PerTimeBound

@@ -50,6 +50,9 @@ pub use Rattle.serf_agent.specs.declared.outcome.ReceiveFault.{ReceiveFault}
 pub use Rattle.serf_agent.specs.declared.outcome.RespondFault.{RespondFault}
 pub use Rattle.serf_lamport.specs.Clock.{observed}
 pub use Rattle.serf_pack.specs.Reading.{whole_at}
+pub use Rattle.serf_pack.specs.Tree.{Tree, array, flag, int, nil, pairs, raw}
+pub use Rattle.serf_pack.specs.View.{pair_list}
+pub use Rattle.serf_pack.specs.declared.fault.PackFault.{PackFault}
 pub use Rattle.serf_snap.specs.Clocks.{clock_line, is_whole, last_clock}
 pub use Rattle.serf_snap.specs.Device.{FailurePlan, fresh_device}
 pub use Rattle.serf_snap.specs.Notes.{Failed, IsObservable, Kept, MayReplace, MayWrite, SnapshotView, Writing, compacted, compaction_of, last_line}
@@ -62,10 +65,14 @@ pub use Rattle.serf_window.specs.Texts.{event_of, same_texts}
 pub use Rattle.serf_window.specs.Window.{EachAtMost, SlotOf, TimedEntry, count_at, entries_of, greatest_time, held_at, held_count, slot_of, slots_of}
 pub use Rattle.serf_wire.specs.Canonical.{has_long, without_events}
 unfoldable pub use Rattle.serf_wire.specs.Canonical.{canonical}
+pub use Rattle.serf_wire.specs.Decoded.{read_value}
 unfoldable pub use Rattle.serf_wire.specs.Decoded.{decoded}
+pub use Rattle.serf_wire.specs.Faults.{first, message_faults}
 pub use Rattle.serf_wire.specs.Message.{Message, PushPull, Query, QueryResponse, UserEvent, foreign, push_pull, query, query_response, response_of}
 pub use Rattle.serf_wire.specs.Message.{user_event}
 pub use Rattle.serf_wire.specs.Ranges.{IsRangedPushPull, IsRangedQuery, IsRangedResponse, IsTimed}
+pub use Rattle.serf_wire.specs.Reading.{message_in, unless_fault}
 pub use Rattle.serf_wire.specs.Slots.{SlotContent, empty, held}
 pub use Rattle.serf_wire.specs.declared.fault.WireFault.{WireFault}
+pub use Rattle.serf_wire.specs.declared.layout.MessageType.{MessageType}
 pub use Rattle.serf_wire.specs.declared.texts.EventBody.{EventBody}

@@ -1,19 +1,17 @@
 -- Which events the packets carry that agents send.
-use Rattle.serf_model.proofs.Names.{◌≡◌, ℕ, ◌<◌, ◌≤◌, ◌-◌, ◌^◌, ◌==◌, Bool, false, List, [], ◌∷◌, refl, sym, ap, subst, arith, map, All, AllByRecursion, All-nil, All-head, All-tail, All-append, All-map, All-filter, All-weaker, whole_at, EventBody, canonical, has_long, without_events, decoded, UserEvent, Query, PushPull, user_event, query, push_pull, response_of, IsRangedPushPull, IsTimed, held, event_of, TimedEntry, SlotOf, slots_of, event_packet, texts_len, IdealAgent, Past, state_of, slot_sent, events_of, events_of_slot, of_life, view_of}
+use Rattle.serf_model.proofs.Names.{◌≡◌, ℕ, ◌<◌, ◌≤◌, ◌-◌, ◌^◌, ◌==◌, Bool, false, List, [], ◌∷◌, refl, sym, ap, subst, arith, map, All, AllByRecursion, All-nil, All-head, All-tail, All-append, All-contains, All-map, All-filter, All-weaker, whole_at, EventBody, canonical, has_long, without_events, decoded, UserEvent, Query, PushPull, user_event, query, push_pull, response_of, IsRangedPushPull, IsTimed, held, event_of, TimedEntry, SlotOf, slots_of, event_packet, texts_len, IdealAgent, Past, state_of, slot_sent, events_of, events_of_slot, of_life, view_of}
 use Rattle.serf_wire.specs.declared.layout.MessageType.TheVariants as types
-use Rattle.serf_wire.proofs.CanonicalPackets.{canonical_spells}
-use Rattle.serf_wire.proofs.Packets.{read_has, spelled_decoded}
-use Rattle.serf_window.proofs.WindowLaws.{slots_of-each, slots_of-below}
-use Rattle.serf_agent.proofs.WireLaws.{event-not_long}
+use Rattle.serf_model.proofs.ReadCases.{read_has}
+use Rattle.serf_model.specs.Below.{Below}
 use Rattle.serf_model.specs.Trace.{events_in_packet, events_brought, query_brought}
 use Rattle.serf_model.specs.Ready.{IsRepresentable}
 
 -- ---- an event's packet
 
-pub events_in_packet-event : (t : ℕ) (what : EventBody) (coalesce : Bool) → t < 2 ^ 64 - 1 → texts_len what ≤ 9216 → events_in_packet (event_packet t what coalesce) ≡ record { time = t; key = event_of what.name what.payload } ∷ []
-events_in_packet-event t what coalesce small short =
+pub events_in_packet-event : Below → (t : ℕ) (what : EventBody) (coalesce : Bool) → t < 2 ^ 64 - 1 → texts_len what ≤ 9216 → events_in_packet (event_packet t what coalesce) ≡ record { time = t; key = event_of what.name what.payload } ∷ []
+events_in_packet-event lower t what coalesce small short =
     let e : UserEvent = record { time = t; name = what.name; payload = what.payload; coalesce = coalesce } in
-    ap events_brought (spelled_decoded (canonical (user_event e)) (user_event e) (canonical_spells (user_event e) small (event-not_long t what.name what.payload coalesce short)))
+    ap events_brought (lower.spelled (canonical (user_event e)) (user_event e) (lower.canonical (user_event e) small (lower.short.event_fits t what.name what.payload coalesce short)))
 
 -- ---- packets of other types carry no events
 
@@ -83,8 +81,8 @@ slots-timed (s ∷ ss) all =
 in-life : (P : TimedEntry EventBody → Type 0) (life : ℕ) (h : List (Past EventBody)) → All (λ p. P p.entry) h → All P (of_life life h)
 in-life P life h all = All-map P (λ (p : Past EventBody). p.entry) _ (All-filter (λ (p : Past EventBody). p.life == life) (λ p. P p.entry) h all)
 
-state-ranged : (i : IdealAgent) → IsRepresentable i → IsRangedPushPull (state_of (view_of i) [] [])
-state-ranged i g =
+state-ranged : Below → (i : IdealAgent) → IsRepresentable i → IsRangedPushPull (state_of (view_of i) [] [])
+state-ranged lower i g =
     let member_clock : i.member_clock ≤ 2 ^ 64 - 1 = g.consistent.sound.member_clock in
     let low : All (λ p. p.entry.time < 2 ^ 64 - 1) i.events.history =
     All-weaker (λ p. p.entry.time < i.events.clock) (λ p. p.entry.time < 2 ^ 64 - 1) (λ p h. omega (arith, g.events)) i.events.history g.consistent.sound.events.below_clock in
@@ -93,13 +91,18 @@ state-ranged i g =
       status = tt;
       event_clock = omega (arith, g.events);
       slots = slots-timed (slots_of i.config.event_buffer (of_life i.life i.events.history))
-          (slots_of-below i.config.event_buffer (2 ^ 64 - 1) (of_life i.life i.events.history) (omega arith) (in-life (λ e. e.time < 2 ^ 64 - 1) i.life i.events.history low));
+          (lower.slots.below i.config.event_buffer (2 ^ 64 - 1) (of_life i.life i.events.history) (omega arith) (in-life (λ e. e.time < 2 ^ 64 - 1) i.life i.events.history low));
       query_clock = omega (arith, g.queries);
     }
 
-pub state-carries : (P : TimedEntry EventBody → Type 0) (i : IdealAgent) → IsRepresentable i → has_long (push_pull (state_of (view_of i) [] [])) ≡ false → All (λ p. P p.entry) i.events.history → All P (events_in_packet (canonical (push_pull (state_of (view_of i) [] []))))
-state-carries P i g short all =
+-- what holds of each entry holds of what each slot holds, at the slot's time
+slots-each : Below → (P : TimedEntry EventBody → Type 0) (n : ℕ) (es : List (TimedEntry EventBody)) → All P es → All (λ s. All (λ what. P (record { time = s.time; key = what })) s.held) (slots_of n es)
+slots-each lower P n es each =
+    All-weaker _ _ (λ s held. All-weaker _ _ (λ what there. All-contains P es (record { time = s.time; key = what }) each there) s.held held) (slots_of n es) (lower.slots.only_entered n es)
+
+pub state-carries : Below → (P : TimedEntry EventBody → Type 0) (i : IdealAgent) → IsRepresentable i → has_long (push_pull (state_of (view_of i) [] [])) ≡ false → All (λ p. P p.entry) i.events.history → All P (events_in_packet (canonical (push_pull (state_of (view_of i) [] []))))
+state-carries lower P i g short all =
     let m : PushPull = state_of (view_of i) [] [] in
-    let reads = spelled_decoded (canonical (push_pull m)) _ (canonical_spells (push_pull m) (state-ranged i g) short) in
+    let reads = lower.spelled (canonical (push_pull m)) _ (lower.canonical (push_pull m) (state-ranged lower i g) short) in
     subst (All P) (sym (ap events_brought reads))
-    (slots-carry P (slots_of i.config.event_buffer (of_life i.life i.events.history)) (slots_of-each P i.config.event_buffer (of_life i.life i.events.history) (in-life P i.life i.events.history all)))
+    (slots-carry P (slots_of i.config.event_buffer (of_life i.life i.events.history)) (slots-each lower P i.config.event_buffer (of_life i.life i.events.history) (in-life P i.life i.events.history all)))

@@ -1,5 +1,6 @@
 -- What every run promises of events and queries, whatever is done in it.
 use Rattle.serf_model.proofs.Names.{◌≡◌, List, ◌++◌, ap, Config}
+use Rattle.serf_model.specs.Below.{Below}
 use Rattle.serf_model.specs.declared.action.Action.{Action}
 use Rattle.serf_model.specs.Cluster.{Run, after, start, run_of, trace_of}
 use Rattle.serf_model.specs.Promises.{Once, OnlyFired, Later, Held, SeenWasHanded, QueryOnce, QueryLater, QueryHandedOnce, QueryFired}
@@ -25,22 +26,22 @@ record IsGoing (r : Run) : Type 0 where
   handed : IsHanded r.turns
   read : AtEach IsRead r.turns
 
-going-step : (r : Run) (action : Action) → IsGoing r → IsGoing (after r action)
-going-step r action h = record {
-  after = after-step r action h.after;
-  fired = fired-step r action h.after h.fired;
-  later = later-step r action h.after h.later;
-  query_later = query-later-step r action h.after h.query_later;
-  seen = seen-step r action h.after h.seen;
-  handed = handed-step r action h.after h.handed;
+going-step : Below → (r : Run) (action : Action) → IsGoing r → IsGoing (after r action)
+going-step lower r action h = record {
+  after = after-step lower r action h.after;
+  fired = fired-step lower r action h.after h.fired;
+  later = later-step lower r action h.after h.later;
+  query_later = query-later-step lower r action h.after h.query_later;
+  seen = seen-step lower r action h.after h.seen;
+  handed = handed-step lower r action h.after h.handed;
   read = read-step r action h.after h.read;
 }
 
-going-start : (configs : List Config) → AreConfigs configs → IsGoing (start configs)
-going-start configs ok = record { after = after-start configs ok; fired = fired-start configs; later = later-start; query_later = query-later-start; seen = seen-start; handed = handed-start; read = read-start }
+going-start : Below → (configs : List Config) → AreConfigs configs → IsGoing (start configs)
+going-start lower configs ok = record { after = after-start lower configs ok; fired = fired-start configs; later = later-start; query_later = query-later-start; seen = seen-start; handed = handed-start; read = read-start }
 
-going-run : (configs : List Config) (actions : List Action) → AreConfigs configs → IsGoing (run_of configs actions)
-going-run configs actions ok = fold_keeps IsGoing after (start configs) actions (going-start configs ok) going-step
+going-run : Below → (configs : List Config) (actions : List Action) → AreConfigs configs → IsGoing (run_of configs actions)
+going-run lower configs actions ok = fold_keeps IsGoing after (start configs) actions (going-start lower configs ok) (going-step lower)
 
 -- what is promised of a run's turns
 pub record IsPromised (turns : List Turn) : Type 0 where
@@ -52,10 +53,10 @@ pub record IsPromised (turns : List Turn) : Type 0 where
   pub query_later : QueryLater turns
   pub query_handed : QueryHandedOnce turns
 
-pub promised : (configs : List Config) (actions : List Action) → AreConfigs configs → IsPromised (run_of configs actions).turns
-promised configs actions ok =
+pub promised : Below → (configs : List Config) (actions : List Action) → AreConfigs configs → IsPromised (run_of configs actions).turns
+promised lower configs actions ok =
     let r : Run = run_of configs actions in
-    let h : IsGoing (run_of configs actions) = going-run configs actions ok in
+    let h : IsGoing (run_of configs actions) = going-run lower configs actions ok in
     record {
       once = once r.cluster r.turns h.after;
       only_fired = h.fired.handed_out;
@@ -67,11 +68,11 @@ promised configs actions ok =
     }
 
 -- this needs nothing of the settings
-pub query-fired : (configs : List Config) (actions : List Action) → QueryFired (run_of configs actions).turns
-query-fired configs actions = (fold_keeps (λ (r : Run). IsAsked r.cluster r.turns) after (start configs) actions (asked-start configs) asked-step).fired
+pub query-fired : Below → (configs : List Config) (actions : List Action) → QueryFired (run_of configs actions).turns
+query-fired lower configs actions = (fold_keeps (λ (r : Run). IsAsked r.cluster r.turns) after (start configs) actions (asked-start configs) (asked-step lower)).fired
 
 -- the turns of a run are read off its first actions and its trace
-pub shown : (configs : List Config) (done left : List Action) → AreConfigs configs → turns_of (done ++ left) (trace_of (run_of configs done)) ≡ (run_of configs done).turns
-shown configs done left ok =
-    let h : IsGoing (run_of configs done) = going-run configs done ok in
+pub shown : Below → (configs : List Config) (done left : List Action) → AreConfigs configs → turns_of (done ++ left) (trace_of (run_of configs done)) ≡ (run_of configs done).turns
+shown lower configs done left ok =
+    let h : IsGoing (run_of configs done) = going-run lower configs done ok in
     reads (run_of configs done) (done ++ left) left h.after h.read (ap (λ l. l ++ left) (actions-of (start configs) done))

@@ -1,9 +1,7 @@
 -- Each query that enters was fired, or is forged.
 use Rattle.serf_model.proofs.Names.{Ok, ◌≡◌, ℕ, ◌<◌, ◌≤◌, ◌^◌, inl, inr, Bool, true, false, List, [], ◌∷◌, ◌++◌, Option, Some, None, refl, sym, ap, subst, ◌∙◌, arith, length, All, Contains, fold, flat_map, ltb-false, flat_map-append, All-nil, All-cons, All-head, All-tail, All-append, All-contains, All-contains_itself, All-weaker, Contains-append_left, Contains-append_right, canonical, decoded, Query, query, IsRangedQuery, TimedEntry, Config, QueryParams, drawn, IdealAgent, flags_of, is_too_large_query, query_at, query_fault}
-use Rattle.serf_wire.proofs.CanonicalPackets.{canonical_spells}
-use Rattle.serf_wire.proofs.Packets.{spelled_decoded}
 use Rattle.serf_agent.specs.declared.outcome.QueryFault.TheVariants as asks
-use Rattle.serf_agent.proofs.WireLaws.{query-not_long}
+use Rattle.serf_model.specs.Below.{Below}
 use Rattle.serf_model.specs.declared.action.Action.{Action}
 use Rattle.serf_model.specs.declared.line.Answer.{Answer}
 use Rattle.serf_model.specs.declared.line.Answer.TheVariants as answers
@@ -44,17 +42,17 @@ asked-short i id name payload params is =
     subst (λ (t : ℕ). length (canonical (query (query_at t i.config.name id name payload params))) ≤ 1024) same (ltb-false 1024 _ large.0)
 
 -- the packet of a fired query spells it
-pub own-decoded : (i : IdealAgent) (id : ℕ) (name payload : List ℕ) (params : QueryParams) → IsSized id params.port params.relay_factor params.timeout → query_fault i id name payload params ≡ None
+pub own-decoded : Below → (i : IdealAgent) (id : ℕ) (name payload : List ℕ) (params : QueryParams) → IsSized id params.port params.relay_factor params.timeout → query_fault i id name payload params ≡ None
     → (let q = query_at i.queries.clock i.config.name id name payload params in decoded (canonical (query q)) ≡ Ok (query q))
-own-decoded i id name payload params sized is =
+own-decoded lower i id name payload params sized is =
     let may = may-ask i id name payload params is in
     let q : Query = query_at i.queries.clock i.config.name id name payload params in
     let ranged : IsRangedQuery q = record { time = omega (arith, may.clock); id = sized.id_fits; port = sized.port_fits; flags = flags-fit params.want_ack params.no_broadcast; relay_factor = sized.relay_factor_fits; timeout = sized.timeout_fits } in
-    spelled_decoded (canonical (query q)) (query q) (canonical_spells (query q) ranged (query-not_long q (asked-short i id name payload params is)))
+    lower.spelled (canonical (query q)) (query q) (lower.canonical (query q) ranged (lower.short.query_fits q (asked-short i id name payload params is)))
 
-brings-own : (i : IdealAgent) (id : ℕ) (name payload : List ℕ) (params : QueryParams) → IsSized id params.port params.relay_factor params.timeout → query_fault i id name payload params ≡ None
+brings-own : Below → (i : IdealAgent) (id : ℕ) (name payload : List ℕ) (params : QueryParams) → IsSized id params.port params.relay_factor params.timeout → query_fault i id name payload params ≡ None
     → query_brought (decoded (canonical (query (query_at i.queries.clock i.config.name id name payload params)))) ≡ only_query i.queries.clock id
-brings-own i id name payload params sized is = ap query_brought (own-decoded i id name payload params sized is)
+brings-own lower i id name payload params sized is = ap query_brought (own-decoded lower i id name payload params sized is)
 
 -- ---- what an action sends as a fired query's own
 
@@ -66,25 +64,25 @@ own-nothing : (P : List ℕ → Type 0) (answer : Answer) → All P (query_packe
 own-nothing P (answers.Queried t) = All-nil P
 own-nothing P _ = All-nil P
 
-own-effect : (m : IdealNode) (action : Action) (given : Option (List ℕ)) (o : Applied) → Effect m action given o → HasSizes action → BringsOwn action o.done
-own-effect m action given o (hears j outs answer heard idle) sized = own-nothing (Brings (Contains (queried_by action answer))) answer
-own-effect m action given o (asks agent now id name payload params may) sized =
+own-effect : Below → (m : IdealNode) (action : Action) (given : Option (List ℕ)) (o : Applied) → Effect m action given o → HasSizes action → BringsOwn action o.done
+own-effect lower m action given o (hears j outs answer heard idle) sized = own-nothing (Brings (Contains (queried_by action answer))) answer
+own-effect lower m action given o (asks agent now id name payload params may) sized =
     let q : Query = query_at m.agent.queries.clock m.agent.config.name id name payload params in
     let own : List (TimedEntry ℕ) = only_query m.agent.queries.clock id in
-    All-cons (Brings (Contains own)) (canonical (query q)) [] (subst (All (Contains own)) (sym (brings-own m.agent id name payload params sized may)) (All-contains_itself own)) (All-nil (Brings (Contains own)))
-own-effect m action given o (counts to number now packet r q true is at none kind) sized = All-nil (Brings (Contains []))
-own-effect m action given o _ sized = All-nil (Brings (Contains []))
+    All-cons (Brings (Contains own)) (canonical (query q)) [] (subst (All (Contains own)) (sym (brings-own lower m.agent id name payload params sized may)) (All-contains_itself own)) (All-nil (Brings (Contains own)))
+own-effect lower m action given o (counts to number now packet r q true is at none kind) sized = All-nil (Brings (Contains []))
+own-effect lower m action given o _ sized = All-nil (Brings (Contains []))
 
-own-apply : (m : IdealNode) (sent : List (List ℕ)) (action : Action) → HasSizes action → BringsOwn action (apply m sent action).done
-own-apply m sent action sized = own-effect m action (packet_given sent action) (apply m sent action) (effect m sent action) sized
+own-apply : Below → (m : IdealNode) (sent : List (List ℕ)) (action : Action) → HasSizes action → BringsOwn action (apply m sent action).done
+own-apply lower m sent action sized = own-effect lower m action (packet_given sent action) (apply m sent action) (effect lower m sent action) sized
 
 -- ---- a turn
 
 abbrev OwnTurn : Turn → Type 0
 OwnTurn turn = All (Brings (Contains (queried_by turn.action turn.line.answer))) (query_packets turn.line.answer turn.packets)
 
-own-step : (c : Cluster) (action : Action) → HasSizes action → OwnTurn (step c action).turn
-own-step c action sized = step-cases (λ s. OwnTurn s.turn) c action (λ actor. All-nil (Brings (Contains []))) (λ b actor at. All-nil (Brings (Contains []))) (λ b m actor at. own-apply m c.sent action sized)
+own-step : Below → (c : Cluster) (action : Action) → HasSizes action → OwnTurn (step c action).turn
+own-step lower c action sized = step-cases (λ s. OwnTurn s.turn) c action (λ actor. All-nil (Brings (Contains []))) (λ b actor at. All-nil (Brings (Contains []))) (λ b m actor at. own-apply lower m c.sent action sized)
 
 -- what enters is what was fired, or what the given packet brings
 entered-from : (P : TimedEntry ℕ → Type 0) (action : Action) (given : Option (List ℕ)) (answer : Answer) → All P (queried_by action answer) → ((packet : List ℕ) → answer ≡ answers.Query → given ≡ Some packet → Brings P packet)
@@ -158,19 +156,19 @@ only-now turns turn own asked =
     (All-weaker (Contains fired) W (λ q h. inl (fired-now turns turn q h)) fired (All-contains_itself fired))
     (λ packet says given. All-weaker (WasQueried turns) W (was-queried-more turns turn) (query_brought (decoded packet)) (asked-brings turns packet own (asked packet says given)))
 
-queried-step : (r : Run) (action : Action) → HasSizes action → IsQueried r → IsQueried (after r action)
-queried-step r action sized h =
+queried-step : Below → (r : Run) (action : Action) → HasSizes action → IsQueried r → IsQueried (after r action)
+queried-step lower r action sized h =
     let turn : Turn = (step r.cluster action).turn in
-    let asked = asked-step r action h.asked in
+    let asked = asked-step lower r action h.asked in
     record {
       asked = asked;
-      own = own-push r.turns turn h.own (own-step r.cluster action sized);
+      own = own-push r.turns turn h.own (own-step lower r.cluster action sized);
       only = at_each_push OnlyAt r.turns turn h.only (only-now r.turns turn h.own (asked.fired r.turns turn [] refl));
     }
 
-queried-fold : (r : Run) (actions : List Action) → All HasSizes actions → IsQueried r → IsQueried (fold after r actions)
-queried-fold r [] sized h = h
-queried-fold r (action ∷ actions) sized h = queried-fold (after r action) actions (All-tail HasSizes action actions sized) (queried-step r action (All-head HasSizes action actions sized) h)
+queried-fold : Below → (r : Run) (actions : List Action) → All HasSizes actions → IsQueried r → IsQueried (fold after r actions)
+queried-fold lower r [] sized h = h
+queried-fold lower r (action ∷ actions) sized h = queried-fold lower (after r action) actions (All-tail HasSizes action actions sized) (queried-step lower r action (All-head HasSizes action actions sized) h)
 
-pub query-only-fired : (configs : List Config) (actions : List Action) → All HasSizes actions → QueryOnlyFired (run_of configs actions).turns
-query-only-fired configs actions sized = (queried-fold (start configs) actions sized (record { asked = asked-start configs; own = All-nil (Brings (Contains [])); only = at_each_nil OnlyAt })).only
+pub query-only-fired : Below → (configs : List Config) (actions : List Action) → All HasSizes actions → QueryOnlyFired (run_of configs actions).turns
+query-only-fired lower configs actions sized = (queried-fold lower (start configs) actions sized (record { asked = asked-start configs; own = All-nil (Brings (Contains [])); only = at_each_nil OnlyAt })).only

@@ -1,5 +1,6 @@
 -- Where the queries come from that enter as packets.
 use Rattle.serf_model.proofs.Names.{◌≡◌, ℕ, ◌⊎◌, inl, inr, true, List, [], ◌∷◌, ◌++◌, Option, Some, None, refl, sym, ap, subst, ◌∙◌, All, Contains, not, option_to_list, append-nil, All-nil, All-cons, All-head, All-append, All-weaker, All-contains_itself, Contains-append_left, Contains-append_right, canonical, decoded, PushPull, Query, query, push_pull, event_of, Config, event_packet, query_at, ack_if_passed, ack_packet, ack_flag, has_flag, no_broadcast_flag, response_packet, state_of, view_of}
+use Rattle.serf_model.specs.Below.{Below}
 use Rattle.serf_model.specs.declared.action.Action.{Action}
 use Rattle.serf_model.specs.declared.line.Answer.TheVariants as lines
 use Rattle.serf_model.specs.Cluster.{Applied, IdealNode, Cluster, Done, Run, Stepped, apply, applied, after, injects, on_agent, start}
@@ -86,12 +87,12 @@ FiredAt before turn = (packet : List ℕ) → turn.line.answer ≡ lines.Query �
 all-more : (turns : List Turn) (turn : Turn) (ps : List (List ℕ)) → All (IsOf (WasAsked turns)) ps → All (IsOf (WasAsked (turns ++ turn ∷ []))) ps
 all-more turns turn ps all = All-weaker (IsOf (WasAsked turns)) (IsOf (WasAsked (turns ++ turn ∷ []))) (asked-more turns turn) ps all
 
-asked-applied : (c : Cluster) (turns : List Turn) (action : Action) (b : ℕ) (m : IdealNode) → IsAsked c turns → (let s = applied c action b (apply m c.sent action) in IsAsked s.cluster (turns ++ s.turn ∷ []))
-asked-applied c turns action b m h =
+asked-applied : Below → (c : Cluster) (turns : List Turn) (action : Action) (b : ℕ) (m : IdealNode) → IsAsked c turns → (let s = applied c action b (apply m c.sent action) in IsAsked s.cluster (turns ++ s.turn ∷ []))
+asked-applied lower c turns action b m h =
     let turn : Turn = (applied c action b (apply m c.sent action)).turn in
     let W : List ℕ → Type 0 = WasAsked (turns ++ turn ∷ []) in
     let packets : All (IsOf W) c.sent = all-more turns turn c.sent h.packets in
-    let s = sends-effect W m action (packet_given c.sent action) (apply m c.sent action) (effect m c.sent action) (λ p is. given-sent (IsOf W) c.sent action p packets is) (asks-now turns turn) in
+    let s = sends-effect W m action (packet_given c.sent action) (apply m c.sent action) (effect lower m c.sent action) (λ p is. given-sent (IsOf W) c.sent action p packets is) (asks-now turns turn) in
     record {
       packets = All-append (IsOf W) c.sent (apply m c.sent action).done.packets packets s.packets;
       fired = at_each_push FiredAt turns turn h.fired (λ p says given. by p says given (s.brings p given says) (given-sent (IsOf (WasAsked turns)) c.sent action p h.packets given));
@@ -109,11 +110,11 @@ asked-still c turns s h sent never all =
       fired = at_each_push FiredAt turns s.turn h.fired (λ p says given. absurd (never says));
     }
 
-pub asked-step : (r : Run) (action : Action) → IsAsked r.cluster r.turns → IsAsked (after r action).cluster (after r action).turns
-asked-step r action h =
+pub asked-step : Below → (r : Run) (action : Action) → IsAsked r.cluster r.turns → IsAsked (after r action).cluster (after r action).turns
+asked-step lower r action h =
     let now : Stepped = injects r.cluster action (injects_of action) in
     step-cases (λ s. IsAsked s.cluster (r.turns ++ s.turn ∷ [])) r.cluster action (λ actor. asked-still r.cluster r.turns now h refl (λ e. cc) (injects-now r.turns now.turn))
-    (λ b actor at. asked-still r.cluster r.turns (on_agent r.cluster action b None) h (sym (append-nil r.cluster.sent)) (λ e. cc) (All-nil (IsOf (WasAsked (r.turns ++ (on_agent r.cluster action b None).turn ∷ []))))) (λ b m actor at. asked-applied r.cluster r.turns action b m h)
+    (λ b actor at. asked-still r.cluster r.turns (on_agent r.cluster action b None) h (sym (append-nil r.cluster.sent)) (λ e. cc) (All-nil (IsOf (WasAsked (r.turns ++ (on_agent r.cluster action b None).turn ∷ []))))) (λ b m actor at. asked-applied lower r.cluster r.turns action b m h)
 
 pub asked-start : (configs : List Config) → IsAsked (start configs).cluster []
 asked-start configs = record { packets = All-nil (IsOf (WasAsked [])); fired = at_each_nil FiredAt }

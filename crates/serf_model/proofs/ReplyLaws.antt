@@ -1,6 +1,7 @@
 -- Which queries an agent answered: each of them is taken out of those that it can answer.
 use Rattle.serf_model.proofs.Names.{zero, suc, ◌≡◌, ◌≢◌, ℕ, inl, inr, true, false, List, [], ◌∷◌, ◌++◌, Option, Some, None, refl, sym, ap, subst, ◌∙◌, arith, map, set, All, AllPairs, Contains, not, slice_get, flat_map, option_to_list, append-nil, map-append, All-nil, All-push, All-weaker, Contains-append_left, Contains-push, filter-append, all_pairs_push, QueryResponse, TimedEntry, Handed, is_ack}
 use Rattle.std.specs.Prelude.{filter}
+use Rattle.serf_model.specs.Below.{Below}
 use Rattle.serf_model.specs.declared.action.Action.{Action}
 use Rattle.serf_model.specs.AnswerPromises.{answers_in, query_answered}
 use Rattle.serf_model.specs.Cluster.{Applied, Cluster, IdealNode, applied, apply, with_handed}
@@ -138,9 +139,9 @@ awaiting-new ts us handed q h same queries before old once = record {
 
 -- ---- the turn of an agent
 
-pub awaiting-more : (c : Cluster) (ts : List Turn) (action : Action) (b : ℕ) (m : IdealNode) → IsAwaiting ts m.handed → Makes m action (apply m c.sent action).done
+pub awaiting-more : Below → (c : Cluster) (ts : List Turn) (action : Action) (b : ℕ) (m : IdealNode) → IsAwaiting ts m.handed → Makes m action (apply m c.sent action).done
     → (let o = apply m c.sent action in AllPairs (λ x y. x ≢ y) (queries_in (ts ++ (applied c action b o).turn ∷ [])) → IsAwaiting (ts ++ (applied c action b o).turn ∷ []) (with_handed o.done.handed o.node).handed)
-awaiting-more c ts action b m h makes once = by (apply m c.sent action).done.handed refl
+awaiting-more lower c ts action b m h makes once = by (apply m c.sent action).done.handed refl
   where
     turn : Turn
     turn = (applied c action b (apply m c.sent action)).turn
@@ -149,13 +150,13 @@ awaiting-more c ts action b m h makes once = by (apply m c.sent action).done.han
     new = entered_by action (packet_given c.sent action) (apply m c.sent action).done.answer
 
     r : Replies m (apply m c.sent action)
-    r = replies-effect m action (packet_given c.sent action) (apply m c.sent action) (effect m c.sent action) makes
+    r = replies-effect m action (packet_given c.sent action) (apply m c.sent action) (effect lower m c.sent action) makes
 
     queries : queries_in (ts ++ (applied c action b (apply m c.sent action)).turn ∷ []) ≡ queries_in ts ++ entered_by action (packet_given c.sent action) (apply m c.sent action).done.answer
     queries = flat_map-push (λ t. entered_by t.action t.given t.line.answer) ts (applied c action b (apply m c.sent action)).turn
 
     old : IsAwaiting (ts ++ (applied c action b (apply m c.sent action)).turn ∷ []) (apply m c.sent action).node.handed
-    old = awaiting-old ts (applied c action b (apply m c.sent action)).turn m action (packet_given c.sent action) (apply m c.sent action) (effect m c.sent action) h r refl
+    old = awaiting-old ts (applied c action b (apply m c.sent action)).turn m action (packet_given c.sent action) (apply m c.sent action) (effect lower m c.sent action) h r refl
         (entered_by action (packet_given c.sent action) (apply m c.sent action).done.answer) queries
 
     by : (d : Option Handed) → (apply m c.sent action).done.handed ≡ d → IsAwaiting (ts ++ (applied c action b (apply m c.sent action)).turn ∷ []) ((apply m c.sent action).node.handed ++ map (λ q. Some q) (option_to_list d))
@@ -163,8 +164,8 @@ awaiting-more c ts action b m h makes once = by (apply m c.sent action).done.han
     by (Some q) is =
         awaiting-new ts (ts ++ (applied c action b (apply m c.sent action)).turn ∷ []) (apply m c.sent action).node.handed q old
         (replied-push ts (applied c action b (apply m c.sent action)).turn ∙ ap (λ l. replied_in ts ++ l) (none-handed m (apply m c.sent action) q r is) ∙ append-nil (replied_in ts))
-        (queries ∙ ap (λ l. queries_in ts ++ l) (hands-apply m c.sent action q is)) h.replied
-        (λ number g waits. h.entered number g (stood m action (packet_given c.sent action) (apply m c.sent action) (effect m c.sent action) number g waits).at) once
+        (queries ∙ ap (λ l. queries_in ts ++ l) (hands-apply lower m c.sent action q is)) h.replied
+        (λ number g waits. h.entered number g (stood m action (packet_given c.sent action) (apply m c.sent action) (effect lower m c.sent action) number g waits).at) once
 
 pub awaiting-none : IsAwaiting [] []
 awaiting-none = record { entered = λ number h is. absurd (cc is); unanswered = λ number h is. absurd (cc is); apart = λ j k g h is. absurd (cc is); replied = record { within = All-nil _; once = λ i j d lt within. absurd (omega arith) } }

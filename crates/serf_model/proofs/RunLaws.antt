@@ -1,5 +1,6 @@
 -- What is true after every run: the agents are sound, and their histories are what the turns say.
 use Rattle.serf_model.proofs.Names.{zero, suc, ◌≡◌, ◌≢◌, ℕ, ◌==◌, Bool, true, false, cond, List, [], ◌∷◌, ◌++◌, Option, Some, None, refl, sym, ap, subst, ◌∙◌, map, set, slice_get, AllByRecursion, filter, flat_map, eqb-true, eqb-false, append-nil, map-append, filter-append, EventBody, TimedEntry, EventOut}
+use Rattle.serf_model.specs.Below.{Below}
 use Rattle.serf_model.specs.declared.action.Action.{Action}
 use Rattle.serf_model.specs.declared.line.EventLine.{EventLine}
 use Rattle.serf_model.specs.Cluster.{IdealNode, Cluster, Applied, Stepped, Run, apply, applied, injects, on_agent, step, after, event_line, with_handed}
@@ -142,16 +143,16 @@ after-applied c turns action b m o h actor at representable keeps = record {
         ∙ ap (λ b. queries_at a turns ++ cond b (entered_by action (packet_given c.sent action) o.done.answer) []) (ap (is_agent a) actor ∙ t)
         ∙ append-nil (queries_at a turns))
 
-pub after-acts : (c : Cluster) (turns : List Turn) (action : Action) (b : ℕ) (m : IdealNode) → IsAfter c turns → actor_of action ≡ Some b → slice_get c.nodes b ≡ Some m
+pub after-acts : Below → (c : Cluster) (turns : List Turn) (action : Action) (b : ℕ) (m : IdealNode) → IsAfter c turns → actor_of action ≡ Some b → slice_get c.nodes b ≡ Some m
     → (let s = applied c action b (apply m c.sent action) in IsAfter s.cluster (turns ++ s.turn ∷ []))
-after-acts c turns action b m h actor at =
+after-acts lower c turns action b m h actor at =
     let representable = all-at (λ m. IsRepresentable m.agent) c.nodes b m h.representable at in
-    after-applied c turns action b m (apply m c.sent action) h actor at (representable-apply m c.sent action representable) (keeps-apply m c.sent action representable.consistent.sound)
+    after-applied c turns action b m (apply m c.sent action) h actor at (representable-apply lower m c.sent action representable) (keeps-apply lower m c.sent action representable.consistent.sound)
 
-pub after-step : (r : Run) (action : Action) → IsAfter r.cluster r.turns → IsAfter (after r action).cluster (after r action).turns
-after-step r action h =
+pub after-step : Below → (r : Run) (action : Action) → IsAfter r.cluster r.turns → IsAfter (after r action).cluster (after r action).turns
+after-step lower r action h =
     step-cases (λ s. IsAfter s.cluster (r.turns ++ s.turn ∷ [])) r.cluster action (λ actor. after-still r.cluster r.turns (injects r.cluster action (injects_of action)) h refl refl refl refl)
-    (λ b actor at. after-still r.cluster r.turns (on_agent r.cluster action b None) h refl (sym (append-nil r.cluster.sent)) refl refl) (λ b m actor at. after-acts r.cluster r.turns action b m h actor at)
+    (λ b actor at. after-still r.cluster r.turns (on_agent r.cluster action b None) h refl (sym (append-nil r.cluster.sent)) refl refl) (λ b m actor at. after-acts lower r.cluster r.turns action b m h actor at)
 
 -- ---- what a turn says of its action
 

@@ -1,11 +1,9 @@
 -- Which acks and responses each action of an agent sends.
 use Rattle.serf_model.proofs.Names.{◌≡◌, ℕ, ◌-◌, ◌^◌, ◌<◌, ◌≤◌, nat_lt, Bool, true, false, cond, List, [], ◌∷◌, ◌++◌, length, Option, Some, None, Result, Ok, refl, sym, ap, subst, ◌∙◌, arith, slice_get, not, option_to_list, and_parts, leb-true, ltb-false, flat_map-append, whole_at, WireFault, EventBody, canonical, decoded, Message, PushPull, Query, QueryResponse, query, query_response, push_pull, IsRangedResponse, event_of, event_packet, Handed, ack_flag, ack_packet, all_pass, handed_query, has_flag, no_broadcast_flag, query_at, response_packet, state_of, view_of}
 use Rattle.serf_wire.specs.declared.layout.MessageType.TheVariants as types
-use Rattle.serf_wire.proofs.CanonicalPackets.{canonical_spells}
-use Rattle.serf_wire.proofs.Packets.{read_has, spelled_decoded}
-use Rattle.serf_wire.proofs.SpelledRanges.{decoded_ranged}
+use Rattle.serf_model.proofs.ReadCases.{read_has}
 use Rattle.serf_agent.specs.declared.outcome.RespondFault.TheVariants as responding
-use Rattle.serf_agent.proofs.WireLaws.{response-not_long, response-short}
+use Rattle.serf_model.specs.Below.{Below}
 use Rattle.serf_model.specs.declared.action.Action.{Action}
 use Rattle.serf_model.specs.declared.action.Action.TheVariants as actions
 use Rattle.serf_model.specs.declared.line.Answer.{Answer}
@@ -46,10 +44,10 @@ unfolding canonical
 none-in-state m = ap (λ l. l ++ []) (none-behind-state _)
 
 -- the packet of an answer brings just that
-one-in-answer : (r : QueryResponse) → IsRangedResponse r → length r.from ≤ 9216 → length r.payload ≤ 9216 → answers_in (canonical (query_response r) ∷ []) ≡ r ∷ []
-one-in-answer r ranged from payload =
+one-in-answer : Below → (r : QueryResponse) → IsRangedResponse r → length r.from ≤ 9216 → length r.payload ≤ 9216 → answers_in (canonical (query_response r) ∷ []) ≡ r ∷ []
+one-in-answer lower r ranged from payload =
     let reads : decoded (canonical (query_response r)) ≡ Ok (query_response r) =
-    spelled_decoded (canonical (query_response r)) (query_response r) (canonical_spells (query_response r) ranged (response-not_long r.time r.id r.from r.flags r.payload from payload)) in
+    lower.spelled (canonical (query_response r)) (query_response r) (lower.canonical (query_response r) ranged (lower.short.response_fits r.time r.id r.from r.flags r.payload from payload)) in
     ap (λ (d : Result Message WireFault). answer_brought d ++ []) reads
 
 -- ---- what an action sends
@@ -96,15 +94,15 @@ sends-nothing : (m : IdealNode) (action : Action) (done : Done) → done.handed 
 sends-nothing m action done handed packets = hands-nothing m action done handed (ap answers_in packets)
 
 -- a query that enters is acked where it is handed out
-sends-entered : (m : IdealNode) (action : Action) (answer : Answer) (now : ℕ) (q : Query) (front : List (List ℕ)) (passes wants : Bool) → IsRepresentable m.agent → answers_in front ≡ [] → q.time < 2 ^ 64 - 1 → q.id < 2 ^ 32
+sends-entered : Below → (m : IdealNode) (action : Action) (answer : Answer) (now : ℕ) (q : Query) (front : List (List ℕ)) (passes wants : Bool) → IsRepresentable m.agent → answers_in front ≡ [] → q.time < 2 ^ 64 - 1 → q.id < 2 ^ 32
     → Sends m action (record {
       answer = answer;
       packets = front ++ option_to_list (cond passes (cond wants (Some (ack_packet m.agent.config.name q)) None) None);
       events = [];
       handed = cond passes (Some (handed_query m.agent.config.name now q)) None;
     })
-sends-entered m action answer now q front false wants representable brings time id = hands-nothing m action _ refl (flat_map-append (λ p. answer_brought (decoded p)) front [] ∙ ap (λ l. l ++ []) brings)
-sends-entered m action answer now q front true wants representable brings time id = record { makes = by wants; hands = handable }
+sends-entered lower m action answer now q front false wants representable brings time id = hands-nothing m action _ refl (flat_map-append (λ p. answer_brought (decoded p)) front [] ∙ ap (λ l. l ++ []) brings)
+sends-entered lower m action answer now q front true wants representable brings time id = record { makes = by wants; hands = handable }
   where
     h : Handed
     h = handed_query m.agent.config.name now q
@@ -119,38 +117,38 @@ sends-entered m action answer now q front true wants representable brings time i
         makes_ack (handed_query m.agent.config.name now q) refl
         (flat_map-append (λ p. answer_brought (decoded p)) front (ack_packet m.agent.config.name q ∷ [])
         ∙ ap (λ l. l ++ answers_in (ack_packet m.agent.config.name q ∷ [])) brings
-        ∙ one-in-answer (ack_of m.agent.config.name (handed_query m.agent.config.name now q)) (record { time = omega arith; id = id; flags = omega arith }) (omega arith) (omega arith))
+        ∙ one-in-answer lower (ack_of m.agent.config.name (handed_query m.agent.config.name now q)) (record { time = omega arith; id = id; flags = omega arith }) (omega arith) (omega arith))
 
 -- the queries that can be answered
 abbrev pub AreHandable : IdealNode → Type 0
 AreHandable m = (number : ℕ) (h : Handed) → slice_get m.handed number ≡ Some (Some h) → IsHandable m.agent.config.name h
 
-sends-effect : (m : IdealNode) (action : Action) (given : Option (List ℕ)) (o : Applied) → Effect m action given o → IsRepresentable m.agent → AreHandable m → HasSizes action → Sends m action o.done
-sends-effect m action given o (hears j outs answer heard idle) representable slots ranged = sends-nothing m action _ refl refl
-sends-effect m action given o (fires agent name payload coalesce may) representable slots ranged = hands-nothing m _ _ refl (none-in-event m.agent.events.clock (event_of name payload) coalesce)
-sends-effect m action given o (passes_on packet e is new) representable slots ranged = hands-nothing m action _ refl (ap (λ (d : Result Message WireFault). answer_brought d ++ []) is)
-sends-effect m action given o (asks agent now id name payload params may) representable slots ranged =
+sends-effect : Below → (m : IdealNode) (action : Action) (given : Option (List ℕ)) (o : Applied) → Effect m action given o → IsRepresentable m.agent → AreHandable m → HasSizes action → Sends m action o.done
+sends-effect lower m action given o (hears j outs answer heard idle) representable slots ranged = sends-nothing m action _ refl refl
+sends-effect lower m action given o (fires agent name payload coalesce may) representable slots ranged = hands-nothing m _ _ refl (none-in-event m.agent.events.clock (event_of name payload) coalesce)
+sends-effect lower m action given o (passes_on packet e is new) representable slots ranged = hands-nothing m action _ refl (ap (λ (d : Result Message WireFault). answer_brought d ++ []) is)
+sends-effect lower m action given o (asks agent now id name payload params may) representable slots ranged =
     let q : Query = query_at m.agent.queries.clock m.agent.config.name id name payload params in
-    sends-entered m _ (lines.Queried q.time) now q (canonical (query q) ∷ []) (all_pass q.filters m.agent.config.name) (has_flag ack_flag q.flags) representable (none-in-query q) (may-ask m.agent id name payload params may).clock ranged.id_fits
-sends-effect m action given o (is_asked to number packet now q is new) representable slots ranged =
-    let has = decoded_ranged packet (query q) is in
-    sends-entered m action lines.Query now q (cond (not (has_flag no_broadcast_flag q.flags)) (packet ∷ []) []) (all_pass q.filters m.agent.config.name) (has_flag ack_flag q.flags) representable (front (not (has_flag no_broadcast_flag q.flags))) has.time has.id
+    sends-entered lower m _ (lines.Queried q.time) now q (canonical (query q) ∷ []) (all_pass q.filters m.agent.config.name) (has_flag ack_flag q.flags) representable (none-in-query q) (may-ask m.agent id name payload params may).clock ranged.id_fits
+sends-effect lower m action given o (is_asked to number packet now q is new) representable slots ranged =
+    let has = lower.in_range packet (query q) is in
+    sends-entered lower m action lines.Query now q (cond (not (has_flag no_broadcast_flag q.flags)) (packet ∷ []) []) (all_pass q.filters m.agent.config.name) (has_flag ack_flag q.flags) representable (front (not (has_flag no_broadcast_flag q.flags))) has.time has.id
   where
     front : (b : Bool) → answers_in (cond b (packet ∷ []) []) ≡ []
     front true = ap (λ (d : Result Message WireFault). answer_brought d ++ []) is
     front false = refl
-sends-effect m action given o (tells fits) representable slots ranged = hands-nothing m action _ refl (none-in-state (state_of (view_of m.agent) [] []))
-sends-effect m action given o (replies agent number now payload h at may) representable slots ranged =
+sends-effect lower m action given o (tells fits) representable slots ranged = hands-nothing m action _ refl (none-in-state (state_of (view_of m.agent) [] []))
+sends-effect lower m action given o (replies agent number now payload h at may) representable slots ranged =
     let late = none-if (nat_lt h.deadline now) responding.PastDeadline _ may in
     let large = none-if (nat_lt 1024 (length (response_packet h payload))) responding.TooLarge None late.1 in
-    let short = response-short h.time h.id h.node 0 payload (ltb-false 1024 (length (response_packet h payload)) large.0) in
+    let short = lower.short.texts_short h.time h.id h.node 0 payload (ltb-false 1024 (length (response_packet h payload)) large.0) in
     let s = slots number h at in
     let time : h.time < 2 ^ 64 - 1 = s.time in
     record {
-      makes = makes_reply agent number now payload h refl at refl (one-in-answer (reply_of h payload) (record { time = omega arith; id = s.id; flags = omega arith }) short.0 short.1) (ltb-false h.deadline now late.0);
+      makes = makes_reply agent number now payload h refl at refl (one-in-answer lower (reply_of h payload) (record { time = omega arith; id = s.id; flags = omega arith }) short.0 short.1) (ltb-false h.deadline now late.0);
       hands = λ h e. absurd (cc e);
     }
-sends-effect m action given o _ representable slots ranged = sends-nothing m _ _ refl refl
+sends-effect lower m action given o _ representable slots ranged = sends-nothing m _ _ refl refl
 
-pub sends-apply : (m : IdealNode) (sent : List (List ℕ)) (action : Action) → IsRepresentable m.agent → AreHandable m → HasSizes action → Sends m action (apply m sent action).done
-sends-apply m sent action representable slots ranged = sends-effect m action (packet_given sent action) (apply m sent action) (effect m sent action) representable slots ranged
+pub sends-apply : Below → (m : IdealNode) (sent : List (List ℕ)) (action : Action) → IsRepresentable m.agent → AreHandable m → HasSizes action → Sends m action (apply m sent action).done
+sends-apply lower m sent action representable slots ranged = sends-effect lower m action (packet_given sent action) (apply m sent action) (effect lower m sent action) representable slots ranged

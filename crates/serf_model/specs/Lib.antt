@@ -11,3 +11,4 @@ pub mod HandOuts
 pub mod Alone
 pub mod Kept
 pub mod Merging
+pub mod Below

@@ -1,6 +1,6 @@
 -- What a run answers.
-use Rattle.std.specs.Prelude.{◌≡◌, ◌<◌, ◌⊎◌, ℕ, ◌++◌, Bool, if◌then◌else◌, not, List, [], ◌∷◌, length, take, position, Option, Some, None, Result, Ok, Err}
-use Rattle.std.specs.List.{list_any}
+use Rattle.std.specs.Prelude.{◌≡◌, ◌<◌, ◌⊎◌, ℕ, ◌++◌, Bool, true, if◌then◌else◌, not, List, [], ◌∷◌, length, take, position, Option, Some, None, Result, Ok, Err}
+use Rattle.std.specs.List.{AllByRecursion, list_any}
 use Rattle.std.specs.Str.{bytes_eq}
 use Rattle.serf_agent.specs.declared.config.Config.{Config}
 use Rattle.serf_agent.specs.Config.{is_sound}
@@ -34,6 +34,10 @@ first_bad configs = position (λ c. not (is_sound c)) configs
 pub record AreConfigs (configs : List Config) : Type 0 where
   pub names : first_twice configs ≡ None
   pub sound : first_bad configs ≡ None
+
+-- settings of which none is bad are sound, each of them
+abbrev pub NoneBadIsSound : Type 0
+NoneBadIsSound = (configs : List Config) → first_bad configs ≡ None → AllByRecursion (λ c. is_sound c ≡ true) configs
 
 -- why a cluster isn't made
 abbrev pub IsNewFault : List Config → NewFault → Type 0

@@ -10,6 +10,7 @@ ghost use Rattle.serf_agent.specs.Sound.{IsSound};
 ghost use Rattle.serf_model.specs.declared.action.Action.{Action};
 ghost use Rattle.serf_model.specs.Alone.{IsAlone};
 ghost use Rattle.serf_model.specs.AnswerPromises.{AckedOnce, AnswersMade, CountedInTime, CountedOnce, CountedSent, OpenQueriesHold, RepliedOnce};
+ghost use Rattle.serf_model.specs.Below.{Below};
 ghost use Rattle.serf_model.specs.Bounds.{EventsBounded, QueriesBounded};
 ghost use Rattle.serf_model.specs.Cluster.{IdealNode, apply, delivers, merges_given, run_of, start, text_after, trace_of};
 ghost use Rattle.serf_model.specs.HandOuts.{HandsOutEntered, HandsOutGiven, MessagesFired, NewIsHanded, OnlyToActor};
@@ -18,11 +19,27 @@ ghost use Rattle.serf_model.specs.Merging.{MergesRepresentable};
 ghost use Rattle.serf_model.specs.Promises.{Held, Later, Once, OnlyFired, QueryFired, QueryHandedOnce, QueryLater, QueryOnce};
 ghost use Rattle.serf_model.specs.Queried.{QueryOnlyFired};
 ghost use Rattle.serf_model.specs.Ready.{AreRepresentable, IsRepresentable};
-ghost use Rattle.serf_model.specs.Runs.{AreConfigs};
+ghost use Rattle.serf_model.specs.Runs.{AreConfigs, NoneBadIsSound};
 ghost use Rattle.serf_model.specs.Sizes.{HasSizes};
 ghost use Rattle.serf_model.specs.Trace.{turns_by, turns_of};
 
+use serf_agent::{short_packets, sound_steps};
+use serf_snap::text_laws;
 use serf_window::slot_laws;
+use serf_wire::{canonical_packets, decoded_ranges, exact_decoding};
+
+/// What the crates below promise, as far as a run rests on it. Does nothing.
+fn laws_below()
+    ensures { Below }
+{
+    exact_decoding();
+    decoded_ranges();
+    canonical_packets();
+    slot_laws();
+    text_laws();
+    short_packets();
+    sound_steps();
+}
 
 /// Every run keeps every promise, whatever its settings and its actions are. Does nothing.
 ///
@@ -67,13 +84,16 @@ pub fn run_promises()
     // After it the agents' open queries hold what was counted.
     ensures open_queries { (configs : List Config) (actions : List Action) → AreConfigs configs → OpenQueriesHold (run_of configs actions) }
 {
+    laws_below();
     slot_laws();
 }
 
 /// The turns of a run are what its actions and its trace show, whatever actions come behind. Does nothing.
 pub fn turns_shown()
     ensures { (configs : List Config) (done left : List Action) → AreConfigs configs → turns_of (done ++ left) (trace_of (run_of configs done)) ≡ (run_of configs done).turns }
-{}
+{
+    laws_below();
+}
 
 /// The turns of one agent in a run show what comes of its calls where it is alone, each call with its packet by its
 /// bytes; and the run leaves it as it is then. So an agent can be held against the model by itself. Does nothing.
@@ -89,12 +109,21 @@ pub fn representable_agents()
     ensures apply { (m : IdealNode) (sent : List (List ℕ)) (action : Action) → IsRepresentable m.agent → IsRepresentable (apply m sent action).node.agent }
     ensures unopened { (config : Config) → is_sound config ≡ true → IsSound (unopened config (opened [] (fresh_device []))) }
     ensures text { (m : IdealNode) (tail : List ℕ) → IsRepresentable m.agent → IsInText m.agent (text_after m.agent tail) }
+{
+    laws_below();
+}
+
+/// Settings of which none is bad are sound, each of them. Does nothing.
+pub fn sound_settings()
+    ensures { NoneBadIsSound }
 {}
 
 /// A merge leaves its agent representable, at each event. Does nothing.
 pub fn merged_agents()
     ensures { MergesRepresentable }
-{}
+{
+    laws_below();
+}
 
 /// A delivery and a merge leave the queries that were handed to their agent. Does nothing.
 pub fn handed_queries()

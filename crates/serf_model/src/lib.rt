@@ -18,7 +18,8 @@ pub use action::{Action, SinkCall};
 pub use boxed::{BoxedBytes, BoxedParams};
 pub use fault::{NewFault, RunFault};
 pub use laws::{
-    agents_alone, handed_queries, merged_agents, representable_agents, run_promises, turns_shown,
+    agents_alone, handed_queries, merged_agents, representable_agents, run_promises,
+    sound_settings, turns_shown,
 };
 pub use line::{Answer, EventLine, HandedLine, Line, Refusal};
 pub use lists::{EventLines, Lines, Numbers};

@@ -1,2 +1,1 @@
 pub mod PairLaws
-pub mod TwiceLaws

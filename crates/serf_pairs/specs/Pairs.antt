@@ -18,19 +18,3 @@ pub record IsFirstPair {K : Type 0} (eq : K → K → Bool) (keys : List K) (ear
   pub pair : IsPair eq keys earlier later
   pub least_later : (i j : ℕ) → IsPair eq keys i j → later ≤ j
   pub least_earlier : (i : ℕ) → IsPair eq keys i later → earlier ≤ i
-
--- one item stands at two places, one behind the other
-pub record IsTwice {X : Type 0} (items : List X) (earlier later : ℕ) : Type 0 where
-  pub before : earlier < later
-  pub item : X
-  pub first_at : slice_get items earlier ≡ Some item
-  pub second_at : slice_get items later ≡ Some item
-
-abbrev pub HasNoTwo : {X : Type 0} → List X → Type 0
-HasNoTwo items = (i j : ℕ) → IsTwice items i j → ⊥
-
--- the first two places of one item: the later is the least, and with it the earlier one
-pub record AreFirstTwo {X : Type 0} (items : List X) (earlier later : ℕ) : Type 0 where
-  pub twice : IsTwice items earlier later
-  pub least_later : (i j : ℕ) → IsTwice items i j → later ≤ j
-  pub least_earlier : (i : ℕ) → IsTwice items i later → earlier ≤ i

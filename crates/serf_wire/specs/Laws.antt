@@ -30,6 +30,10 @@ OneMessage = (packet : List ℕ) (m n : Message) → Spells m packet → Spells 
 abbrev pub CanonicalSpells : Type 0
 CanonicalSpells = (m : Message) → InRange m → has_long m ≡ false → Spells (without_empty_slots m) (canonical m)
 
+-- what is decoded is in range
+abbrev pub DecodesInRange : Type 0
+DecodesInRange = (packet : List ℕ) (m : Message) → decoded packet ≡ Ok m → InRange m
+
 -- a filter's reading lets a node pass just where the filter does
 abbrev pub PassesExactly : Type 0
 PassesExactly = (filter node : List ℕ) → (passes_of filter node ≡ true) ↔ Passes filter node

@@ -1,6 +1,6 @@
 //! What holds of packets, whichever they are.
 
-ghost use Rattle.serf_wire.specs.Laws.{DecodesSpelled, DecodesFaulty, OneMessage, CanonicalSpells, PassesExactly, FaultsInOrder};
+ghost use Rattle.serf_wire.specs.Laws.{DecodesInRange, DecodesSpelled, DecodesFaulty, OneMessage, CanonicalSpells, PassesExactly, FaultsInOrder};
 
 /// Decoding, as a function of a byte list, is exact: it gives just the message that the bytes spell, and just
 /// the first fault of bytes that spell none. So a byte list spells at most one message.
@@ -8,6 +8,11 @@ pub fn exact_decoding()
     ensures spells { DecodesSpelled }
     ensures fault { DecodesFaulty }
     ensures one { OneMessage }
+{}
+
+/// Each number of a message that was decoded has its type's size, and each of its times is a time.
+pub fn decoded_ranges()
+    ensures { DecodesInRange }
 {}
 
 /// The canonical packet of a message spells it, but that slots without events are empty.

@@ -1,6 +1,6 @@
 use Rattle.std.proofs.Common.{◌≡◌, ◌∙◌, map, ap}
 use Rattle.std.proofs.lemmas.Result.{IfOk-weaker}
-use Rattle.serf_pairs.proofs.TwiceLaws.{twice-from-pairs}
+use Rattle.serf_judge.proofs.TwiceLaws.{twice-from-pairs}
 use Rattle.serf_judge.specs.Identity.{event_identity, key_identity}
 use Rattle.serf_judge.proofs.KeyLaws.{event_key_eq, event-key-decides}
 use Rattle.serf_judge.proofs.once.first_event_twice.Goals as goal

@@ -1,6 +1,6 @@
 use Rattle.std.proofs.Common.{◌≡◌, ◌∙◌, map, ap}
 use Rattle.std.proofs.lemmas.Result.{IfOk-weaker}
-use Rattle.serf_pairs.proofs.TwiceLaws.{twice-from-pairs}
+use Rattle.serf_judge.proofs.TwiceLaws.{twice-from-pairs}
 use Rattle.serf_judge.specs.Identity.{query_identity, query_key_identity}
 use Rattle.serf_judge.proofs.KeyLaws.{query_key_eq, query-key-decides}
 use Rattle.serf_judge.proofs.once.first_query_twice.Goals as goal

@@ -4,13 +4,13 @@ use Rattle.serf_model.proofs.StartLaws.{representable-start}
 use Rattle.serf_model.proofs.laws.representable_agents.Goals as goal
 
 pub returns-clause-start : goal.returns-clause-start
-returns-clause-start c = representable-start
+returns-clause-start c = (representable-start c.laws_below.ensures)
 
 pub returns-clause-apply : goal.returns-clause-apply
-returns-clause-apply c = representable-apply
+returns-clause-apply c = (representable-apply c.laws_below.ensures)
 
 pub returns-clause-unopened : goal.returns-clause-unopened
-returns-clause-unopened c = unopened-sound
+returns-clause-unopened c = (unopened-sound c.laws_below.ensures)
 
 pub returns-clause-text : goal.returns-clause-text
-returns-clause-text c = λ m tail representable. text-has m.agent tail representable.consistent
+returns-clause-text c = λ m tail representable. (text-has c.laws_below.ensures) m.agent tail representable.consistent

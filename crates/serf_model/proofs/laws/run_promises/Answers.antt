@@ -10,76 +10,76 @@ use Rattle.serf_model.proofs.QueriesEntered.{query-only-fired}
 use Rattle.serf_model.proofs.laws.run_promises.Goals as goal
 
 pub returns-clause-promises : goal.returns-clause-promises
-returns-clause-promises c = kept c.slot_laws.ensures.events c.slot_laws.ensures.queries
+returns-clause-promises c = (kept c.laws_below.ensures) c.slot_laws.ensures.events c.slot_laws.ensures.queries
 
 pub returns-clause-start : goal.returns-clause-start
 returns-clause-start c = kept-start
 
 pub returns-clause-once : goal.returns-clause-once
-returns-clause-once c = λ configs actions ok. (promised configs actions ok).once
+returns-clause-once c = λ configs actions ok. ((promised c.laws_below.ensures) configs actions ok).once
 
 pub returns-clause-fired : goal.returns-clause-fired
-returns-clause-fired c = λ configs actions ok. (promised configs actions ok).only_fired
+returns-clause-fired c = λ configs actions ok. ((promised c.laws_below.ensures) configs actions ok).only_fired
 
 pub returns-clause-later : goal.returns-clause-later
-returns-clause-later c = λ configs actions ok. (promised configs actions ok).later
+returns-clause-later c = λ configs actions ok. ((promised c.laws_below.ensures) configs actions ok).later
 
 pub returns-clause-held : goal.returns-clause-held
-returns-clause-held c = λ configs actions ok. (promised configs actions ok).held
+returns-clause-held c = λ configs actions ok. ((promised c.laws_below.ensures) configs actions ok).held
 
 pub returns-clause-query_once : goal.returns-clause-query_once
-returns-clause-query_once c = λ configs actions ok. (promised configs actions ok).query_once
+returns-clause-query_once c = λ configs actions ok. ((promised c.laws_below.ensures) configs actions ok).query_once
 
 pub returns-clause-query_later : goal.returns-clause-query_later
-returns-clause-query_later c = λ configs actions ok. (promised configs actions ok).query_later
+returns-clause-query_later c = λ configs actions ok. ((promised c.laws_below.ensures) configs actions ok).query_later
 
 pub returns-clause-query_handed : goal.returns-clause-query_handed
-returns-clause-query_handed c = λ configs actions ok. (promised configs actions ok).query_handed
+returns-clause-query_handed c = λ configs actions ok. ((promised c.laws_below.ensures) configs actions ok).query_handed
 
 pub returns-clause-query_fired : goal.returns-clause-query_fired
-returns-clause-query_fired c = query-fired
+returns-clause-query_fired c = (query-fired c.laws_below.ensures)
 
 pub returns-clause-query_only_fired : goal.returns-clause-query_only_fired
-returns-clause-query_only_fired c = query-only-fired
+returns-clause-query_only_fired c = (query-only-fired c.laws_below.ensures)
 
 pub returns-clause-only_to_actor : goal.returns-clause-only_to_actor
-returns-clause-only_to_actor c = λ configs actions. (handing-out configs actions).to_actor
+returns-clause-only_to_actor c = λ configs actions. ((handing-out c.laws_below.ensures) configs actions).to_actor
 
 pub returns-clause-hands_out_given : goal.returns-clause-hands_out_given
-returns-clause-hands_out_given c = λ configs actions. (handing-out configs actions).given
+returns-clause-hands_out_given c = λ configs actions. ((handing-out c.laws_below.ensures) configs actions).given
 
 pub returns-clause-new_is_handed : goal.returns-clause-new_is_handed
-returns-clause-new_is_handed c = λ configs actions. (handing-out configs actions).new
+returns-clause-new_is_handed c = λ configs actions. ((handing-out c.laws_below.ensures) configs actions).new
 
 pub returns-clause-hands_out_entered : goal.returns-clause-hands_out_entered
-returns-clause-hands_out_entered c = λ configs actions. (entering-run configs actions).entered
+returns-clause-hands_out_entered c = λ configs actions. ((entering-run c.laws_below.ensures) configs actions).entered
 
 pub returns-clause-messages_fired : goal.returns-clause-messages_fired
-returns-clause-messages_fired c = λ configs actions sized. (messaging-run configs actions sized).fired
+returns-clause-messages_fired c = λ configs actions sized. ((messaging-run c.laws_below.ensures) configs actions sized).fired
 
 pub returns-clause-counted_once : goal.returns-clause-counted_once
-returns-clause-counted_once c = λ configs actions ok. counted-once (run_of configs actions).cluster (run_of configs actions).turns (counting-run configs actions ok)
+returns-clause-counted_once c = λ configs actions ok. counted-once (run_of configs actions).cluster (run_of configs actions).turns ((counting-run c.laws_below.ensures) configs actions ok)
 
 pub returns-clause-counted_in_time : goal.returns-clause-counted_in_time
-returns-clause-counted_in_time c = λ configs actions ok. (counting-run configs actions ok).in_time
+returns-clause-counted_in_time c = λ configs actions ok. ((counting-run c.laws_below.ensures) configs actions ok).in_time
 
 pub returns-clause-counted_sent : goal.returns-clause-counted_sent
-returns-clause-counted_sent c = λ configs actions ok. (counting-run configs actions ok).sent
+returns-clause-counted_sent c = λ configs actions ok. ((counting-run c.laws_below.ensures) configs actions ok).sent
 
 pub returns-clause-answers_made : goal.returns-clause-answers_made
-returns-clause-answers_made c = λ configs actions sized ok. (served-run configs actions sized ok).made
+returns-clause-answers_made c = λ configs actions sized ok. ((served-run c.laws_below.ensures) configs actions sized ok).made
 
 pub returns-clause-acked_once : goal.returns-clause-acked_once
-returns-clause-acked_once c = λ configs actions sized ok. acked-once configs (run_of configs actions).cluster (run_of configs actions).turns (served-run configs actions sized ok)
+returns-clause-acked_once c = λ configs actions sized ok. acked-once configs (run_of configs actions).cluster (run_of configs actions).turns ((served-run c.laws_below.ensures) configs actions sized ok)
 
 pub returns-clause-replied_once : goal.returns-clause-replied_once
-returns-clause-replied_once c = λ configs actions sized ok. replied-once configs (run_of configs actions).cluster (run_of configs actions).turns (served-run configs actions sized ok)
+returns-clause-replied_once c = λ configs actions sized ok. replied-once configs (run_of configs actions).cluster (run_of configs actions).turns ((served-run c.laws_below.ensures) configs actions sized ok)
 
 pub returns-clause-events_bounded : goal.returns-clause-events_bounded
-returns-clause-events_bounded c = events-bounded c.slot_laws.ensures.events c.slot_laws.ensures.queries
+returns-clause-events_bounded c = (events-bounded c.laws_below.ensures) c.slot_laws.ensures.events c.slot_laws.ensures.queries
 
 pub returns-clause-queries_bounded : goal.returns-clause-queries_bounded
-returns-clause-queries_bounded c = queries-bounded c.slot_laws.ensures.events c.slot_laws.ensures.queries
+returns-clause-queries_bounded c = (queries-bounded c.laws_below.ensures) c.slot_laws.ensures.events c.slot_laws.ensures.queries
 
 pub returns-clause-open_queries : goal.returns-clause-open_queries
-returns-clause-open_queries c = λ configs actions ok. open-hold (run_of configs actions) (counting-run configs actions ok)
+returns-clause-open_queries c = λ configs actions ok. open-hold (run_of configs actions) ((counting-run c.laws_below.ensures) configs actions ok)

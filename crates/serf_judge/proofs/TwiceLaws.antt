@@ -3,7 +3,8 @@ use Rattle.std.proofs.Common.{◌≡◌, ◌∙◌, ℕ, Bool, true, List, Optio
 use Rattle.std.specs.Prelude.{MatchOption, slice_get}
 use Rattle.std.specs.Option.{option_map}
 use Rattle.std.proofs.lemmas.Option.{slice_get-map}
-use Rattle.serf_pairs.specs.Pairs.{AreFirstTwo, HasNoPair, HasNoTwo, IsFirstPair, IsPair, IsTwice}
+use Rattle.serf_pairs.specs.Pairs.{HasNoPair, IsFirstPair, IsPair}
+use Rattle.serf_judge.specs.Twice.{AreFirstTwo, HasNoTwo, IsTwice}
 
 -- a key with this view
 record HasKey {K X : Type 0} (view : K → X) (found : Option K) (x : X) : Type 0 where

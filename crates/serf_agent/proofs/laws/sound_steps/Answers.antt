@@ -1,0 +1,20 @@
+use Rattle.serf_agent.proofs.SoundLaws.{admission-new, query_admission-new, sound-compact, sound-event_entered, sound-event_observed, sound-joined, sound-note_failed, sound-query_asked, sound-query_entered, sound-query_observed, sound-restarted, sound-saved, sound-unopened}
+use Rattle.serf_agent.proofs.laws.sound_steps.Goals as goal
+
+pub returns-clause-sound : goal.returns-clause-sound
+returns-clause-sound c = record {
+  fails_note = sound-note_failed;
+  observes_event = sound-event_observed;
+  enters_event = sound-event_entered;
+  observes_query = sound-query_observed;
+  enters_query = sound-query_entered;
+  asks_query = sound-query_asked;
+  joins = sound-joined;
+  saves = sound-saved;
+  compacts = sound-compact;
+  restarts = sound-restarted;
+  begins = sound-unopened;
+}
+
+pub returns-clause-admits : goal.returns-clause-admits
+returns-clause-admits c = record { event_new = admission-new; query_new = query_admission-new }

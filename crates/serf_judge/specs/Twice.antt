@@ -1,0 +1,18 @@
+-- An item that stands twice in a list.
+use Rattle.std.specs.Prelude.{◌≡◌, ℕ, ◌<◌, ◌≤◌, List, Some, slice_get}
+
+-- one item stands at two places, one behind the other
+pub record IsTwice {X : Type 0} (items : List X) (earlier later : ℕ) : Type 0 where
+  pub before : earlier < later
+  pub item : X
+  pub first_at : slice_get items earlier ≡ Some item
+  pub second_at : slice_get items later ≡ Some item
+
+abbrev pub HasNoTwo : {X : Type 0} → List X → Type 0
+HasNoTwo items = (i j : ℕ) → IsTwice items i j → ⊥
+
+-- the first two places of one item: the later is the least, and with it the earlier one
+pub record AreFirstTwo {X : Type 0} (items : List X) (earlier later : ℕ) : Type 0 where
+  pub twice : IsTwice items earlier later
+  pub least_later : (i j : ℕ) → IsTwice items i j → later ≤ j
+  pub least_earlier : (i : ℕ) → IsTwice items i later → earlier ≤ i

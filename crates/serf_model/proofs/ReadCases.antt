@@ -1,0 +1,15 @@
+-- What holds of each fault and of each message of a type holds of what is read of a value.
+use Rattle.serf_model.proofs.Names.{ℕ, List, Option, Some, None, Result, Ok, Err, PackFault, Tree, nil, flag, int, raw, array, pairs, pair_list, WireFault, MessageType, read_value, message_faults, first, Message, message_in, unless_fault}
+
+pub read_has : (P : Result Message WireFault → Type 0) (message : MessageType) (r : Result Tree PackFault) → ((f : WireFault) → P (Err f)) → ((ps : List (Tree × Tree)) → P (Ok (message_in message ps))) → P (read_value message r)
+read_has P message (Err f) bad good = bad _
+read_has P message (Ok (nil p)) bad good = bad _
+read_has P message (Ok (flag p b)) bad good = bad _
+read_has P message (Ok (int p z)) bad good = bad _
+read_has P message (Ok (raw p s)) bad good = bad _
+read_has P message (Ok (array p vs)) bad good = bad _
+read_has P message (Ok (pairs p ps)) bad good = by (first (message_faults message (pair_list ps)))
+  where
+    by : (o : Option WireFault) → P (unless_fault o (message_in message (pair_list ps)))
+    by None = good (pair_list ps)
+    by (Some f) = bad f
