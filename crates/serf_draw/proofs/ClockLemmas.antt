@@ -1,0 +1,18 @@
+-- The event clock of an agent that a world stores.
+use Rattle.std.proofs.Common.{◌≡◌, ℕ, List, Option, Some, None, refl, sym, ap, ◌∙◌}
+use Rattle.std.specs.Prelude.{slice_get}
+use Rattle.std.specs.Option.{option_map}
+use Rattle.std.proofs.lemmas.Option.{slice_get-map}
+use Rattle.serf_model.specs.Cluster.{Cluster, IdealNode}
+use Rattle.serf_world.specs.View.{IsViewed, NodeState, WorldState, agent_at, node_of}
+use Rattle.serf_draw.specs.Drawing.{clock_in}
+
+mapped : (o : Option IdealNode) → option_map (λ s. s.events.clock) (option_map (λ s. s.concrete) (option_map node_of o)) ≡ option_map (λ m. m.agent.events.clock) o
+mapped None = refl
+mapped (Some m) = refl
+
+pub clock_viewed : (c : Cluster) (w : WorldState) (a : ℕ) → IsViewed c w → option_map (λ s. s.events.clock) (agent_at w a) ≡ clock_in c (Some a)
+clock_viewed c w a h =
+    ap (λ (ns : List NodeState). option_map (λ s. s.events.clock) (option_map (λ s. s.concrete) (slice_get ns a))) (sym h.nodes)
+    ∙ ap (λ (o : Option NodeState). option_map (λ s. s.events.clock) (option_map (λ s. s.concrete) o)) (slice_get-map node_of c.nodes a)
+    ∙ mapped (slice_get c.nodes a)

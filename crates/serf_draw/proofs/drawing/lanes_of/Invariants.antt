@@ -1,0 +1,9 @@
+use Rattle.std.proofs.Common.{◌≡◌, ◌++◌, drop, filter}
+use Rattle.serf_draw.specs.Asked.{is_chosen}
+use Rattle.serf_draw.specs.Drawing.{lanes_from, shown_lanes}
+use Rattle.serf_draw.proofs.drawing.lanes_of.Given as goal
+
+-- the lanes so far, and then those of the agents that are left
+abbrev pub invariant-loop-config : goal.invariant-loop-config
+invariant-loop-config l = (l.agent ≡ l.config-index)
+    × (l.lanes.items ++ filter (λ x. is_chosen l.asked.agents.items x.agent) (lanes_from l.agent (drop l.config-index l.configs)) ≡ shown_lanes l.asked l.configs)

@@ -1,0 +1,5 @@
+pub mod Asked
+pub mod Escape
+pub mod Label
+pub mod Drawing
+pub mod Svg

@@ -1,0 +1,162 @@
+//! The picture of a schedule's run.
+
+ghost use Rattle.std.specs.Prelude.{◌≡◌, ◌++◌, ◌∷◌, ◌+◌, [], filter, length, IfOk, OnOk};
+ghost use Rattle.serf_replay.specs.Schedule.{parsed_of, schedule_of};
+ghost use Rattle.serf_draw.specs.Asked.{is_chosen};
+ghost use Rattle.serf_draw.specs.Drawing.{Drawing, Draws, IsDrawn, drawing_of, IsPicture, drawn, row_with, shown_lanes, shown_rows};
+
+use crate::clock::{changed_clock, event_clock};
+use crate::label::{first_words, label};
+use crate::picture::{Arrow, Asked, Lane, Picture, Row, Sender};
+use crate::row::{actor, add_senders, arrow, given_packet, is_restart, tone};
+use serf_agent::Config;
+use serf_replay::{Schedule, ScheduleFault, parse_schedule};
+use serf_wire::Bytes;
+use serf_world::{Action, Line, Roster, World};
+use std::alloc::{AllocError, Global};
+
+/// The row of an action that began with these words, from its line.
+fn row(
+    action: u64,
+    agent: Option<u64>,
+    words: Vec<u8>,
+    arrow: Arrow,
+    event_clock: Option<u64>,
+    line: &Line,
+) -> Result<Row, AllocError>
+    ensures { IfOk result (λ row. row ≡ row_with action agent words.items arrow event_clock line.now) }
+{
+    Ok(Row {
+        action,
+        agent,
+        tone: tone(line.answer),
+        label: label(words, line.answer)?,
+        arrow,
+        event_clock,
+        restarts: is_restart(line.answer),
+    })
+}
+
+/// Adds a row, where it is asked for.
+fn add_row(rows: &mut Vec<Row>, asked: &Asked, row: Row) -> Result<(), AllocError>
+    ensures { OnOk result (rows.new.items ≡ rows.old.items ++ shown_rows asked.now (row ∷ [])) }
+{
+    if asked.shows(row.action, row.agent) {
+        rows.push(row)?;
+    }
+    Ok(())
+}
+
+/// Does an action, and adds its row.
+fn draw_action(
+    alloc: Global,
+    world: &mut World,
+    senders: &mut Vec<Sender>,
+    rows: &mut Vec<Row>,
+    asked: &Asked,
+    number: u64,
+    action: &Action,
+) -> Result<(), AllocError>
+    ensures { (d : Drawing) → IsDrawn asked.now d world.old senders.old.items rows.old.items → number ≡ length d.rows + 1 → OnOk result (IsDrawn asked.now (drawn d action.now) world.new senders.new.items rows.new.items) }
+{
+    let agent = actor(action);
+    let words = first_words(alloc, action, given_packet(action, world.sent()))?;
+    let before = event_clock(world, agent);
+    let arrow = arrow(senders, action);
+    let Ok(line) = world.step(alloc, action) else {
+        return Err(AllocError);
+    };
+    let clock = changed_clock(before, event_clock(world, agent));
+    let sender = Sender {
+        agent,
+        action: number,
+    };
+    add_senders(senders, sender, line.sent.as_slice())?;
+    let row = row(number, agent, words, arrow, clock, &line)?;
+    add_row(rows, asked, row)
+}
+
+/// The rows of the run of these actions.
+fn rows_of(
+    alloc: Global,
+    agents: Roster,
+    actions: &[Action],
+    asked: &Asked,
+) -> Result<Vec<Row>, AllocError>
+    ensures { IfOk result (λ rows. rows.items ≡ shown_rows asked.now (drawing_of agents actions.now).rows) }
+{
+    let mut world = World::new(alloc, agents)?;
+    let mut senders = Vec::new(alloc);
+    let mut rows = Vec::new(alloc);
+    let mut number: u64 = 0;
+    for action in actions {
+        number += 1;
+        draw_action(
+            alloc,
+            &mut world,
+            &mut senders,
+            &mut rows,
+            asked,
+            number,
+            action,
+        )?;
+    }
+    Ok(rows)
+}
+
+/// Adds a lane, where it is asked for.
+fn add_lane(lanes: &mut Vec<Lane>, asked: &Asked, lane: Lane) -> Result<(), AllocError>
+    ensures { OnOk result (lanes.new.items ≡ lanes.old.items ++ filter (λ l. is_chosen asked.now.agents.items l.agent) (lane ∷ [])) }
+{
+    if asked.is_chosen(lane.agent) {
+        lanes.push(lane)?;
+    }
+    Ok(())
+}
+
+/// The lanes of these agents.
+fn lanes_of(alloc: Global, configs: &[Config], asked: &Asked) -> Result<Vec<Lane>, AllocError>
+    ensures { IfOk result (λ lanes. lanes.items ≡ shown_lanes asked.now configs.now) }
+{
+    let mut lanes = Vec::new(alloc);
+    let mut agent: u64 = 0;
+    for config in configs {
+        let lane = Lane {
+            agent,
+            name: Bytes::copy_of(alloc, config.name.as_slice())?,
+        };
+        add_lane(&mut lanes, asked, lane)?;
+        agent += 1;
+    }
+    Ok(lanes)
+}
+
+/// The picture of a schedule's run.
+fn picture_of(alloc: Global, schedule: Schedule, asked: &Asked) -> Result<Picture, AllocError>
+    ensures { IfOk result (IsPicture asked.now (parsed_of schedule)) }
+{
+    let Schedule { agents, actions } = schedule;
+    let lanes = lanes_of(alloc, agents.as_slice(), asked)?;
+    let rows = rows_of(alloc, agents, actions.as_slice(), asked)?;
+    let top = asked.from.saturating_sub(1);
+    let bottom = asked.to.min(actions.len() as u64).max(top);
+    Ok(Picture {
+        lanes,
+        rows,
+        top,
+        bottom,
+    })
+}
+
+/// The picture of the run of the schedule that a text stands for, as far as it is asked for.
+///
+/// `BadLine` comes exactly where a line is not sound, and says the first, as [`serf_replay::replay`] does.
+pub fn draw_picture(alloc: Global, text: &[u8], asked: &Asked) -> Result<Picture, ScheduleFault>
+    ensures { Draws asked.now result (schedule_of text.now) }
+{
+    let schedule = parse_schedule(alloc, text)?;
+    match picture_of(alloc, schedule, asked) {
+        Ok(picture) => Ok(picture),
+        Err(_) => Err(ScheduleFault::OutOfMemory),
+    }
+}
