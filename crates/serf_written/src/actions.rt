@@ -79,7 +79,7 @@ fn count_at(pieces: &[Piece], place: usize) -> Result<u64, LineFault>
 }
 
 #[tactic(auto, unfolding(crate::specs::Lines::firing_of))]
-fn firing(alloc: Global, agents: &[Config], pieces: &[Piece]) -> Result<Deed, LineFault>
+pub(crate) fn firing(alloc: Global, agents: &[Config], pieces: &[Piece]) -> Result<Deed, LineFault>
     ensures { Gives actions_of result (firing_of agents.now pieces.now) }
 {
     let agent = agent_at(agents, pieces, 2)?;
@@ -96,7 +96,11 @@ fn firing(alloc: Global, agents: &[Config], pieces: &[Piece]) -> Result<Deed, Li
 }
 
 #[tactic(auto, unfolding(crate::specs::Lines::delivery_of))]
-fn delivery(agents: &[Config], labels: &[Label], pieces: &[Piece]) -> Result<Deed, LineFault>
+pub(crate) fn delivery(
+    agents: &[Config],
+    labels: &[Label],
+    pieces: &[Piece],
+) -> Result<Deed, LineFault>
     ensures { Gives actions_of result (delivery_of agents.now labels.now pieces.now) }
 {
     let to = agent_at(agents, pieces, 2)?;
@@ -107,7 +111,11 @@ fn delivery(agents: &[Config], labels: &[Label], pieces: &[Piece]) -> Result<Dee
 }
 
 #[tactic(auto, unfolding(crate::specs::Lines::merging_of))]
-fn merging(agents: &[Config], labels: &[Label], pieces: &[Piece]) -> Result<Deed, LineFault>
+pub(crate) fn merging(
+    agents: &[Config],
+    labels: &[Label],
+    pieces: &[Piece],
+) -> Result<Deed, LineFault>
     ensures { Gives actions_of result (merging_of agents.now labels.now pieces.now) }
 {
     let to = agent_at(agents, pieces, 2)?;
@@ -118,7 +126,7 @@ fn merging(agents: &[Config], labels: &[Label], pieces: &[Piece]) -> Result<Deed
 }
 
 #[tactic(auto, unfolding(crate::specs::Lines::answer_of))]
-fn answer(alloc: Global, agents: &[Config], pieces: &[Piece]) -> Result<Deed, LineFault>
+pub(crate) fn answer(alloc: Global, agents: &[Config], pieces: &[Piece]) -> Result<Deed, LineFault>
     ensures { Gives actions_of result (answer_of agents.now pieces.now) }
 {
     let agent = agent_at(agents, pieces, 2)?;
@@ -135,7 +143,11 @@ fn answer(alloc: Global, agents: &[Config], pieces: &[Piece]) -> Result<Deed, Li
 }
 
 #[tactic(auto, unfolding(crate::specs::Lines::restart_of))]
-fn restarting(alloc: Global, agents: &[Config], pieces: &[Piece]) -> Result<Deed, LineFault>
+pub(crate) fn restarting(
+    alloc: Global,
+    agents: &[Config],
+    pieces: &[Piece],
+) -> Result<Deed, LineFault>
     ensures { Gives actions_of result (restart_of agents.now pieces.now) }
 {
     let agent = agent_at(agents, pieces, 2)?;
@@ -145,7 +157,7 @@ fn restarting(alloc: Global, agents: &[Config], pieces: &[Piece]) -> Result<Deed
 }
 
 #[tactic(auto, unfolding(crate::specs::Lines::break_of))]
-fn breaking(agents: &[Config], pieces: &[Piece]) -> Result<Deed, LineFault>
+pub(crate) fn breaking(agents: &[Config], pieces: &[Piece]) -> Result<Deed, LineFault>
     ensures { Gives actions_of result (break_of agents.now pieces.now) }
 {
     let agent = agent_at(agents, pieces, 2)?;
@@ -156,7 +168,7 @@ fn breaking(agents: &[Config], pieces: &[Piece]) -> Result<Deed, LineFault>
 }
 
 #[tactic(auto, unfolding(crate::specs::Lines::injection_of))]
-fn injection(alloc: Global, pieces: &[Piece]) -> Result<Deed, LineFault>
+pub(crate) fn injection(alloc: Global, pieces: &[Piece]) -> Result<Deed, LineFault>
     ensures { Gives actions_of result (injection_of pieces.now) }
 {
     let bytes = bytes_at(alloc, pieces, 2)?;
@@ -165,7 +177,7 @@ fn injection(alloc: Global, pieces: &[Piece]) -> Result<Deed, LineFault>
 }
 
 #[tactic(auto, unfolding(crate::specs::Lines::closing_of))]
-fn closing(agents: &[Config], pieces: &[Piece]) -> Result<Deed, LineFault>
+pub(crate) fn closing(agents: &[Config], pieces: &[Piece]) -> Result<Deed, LineFault>
     ensures { Gives actions_of result (closing_of agents.now pieces.now) }
 {
     let agent = agent_at(agents, pieces, 2)?;
@@ -175,7 +187,7 @@ fn closing(agents: &[Config], pieces: &[Piece]) -> Result<Deed, LineFault>
 }
 
 #[tactic(auto, unfolding(crate::specs::Lines::lone_of))]
-fn sending_state(agents: &[Config], pieces: &[Piece]) -> Result<Deed, LineFault>
+pub(crate) fn sending_state(agents: &[Config], pieces: &[Piece]) -> Result<Deed, LineFault>
     ensures { Gives actions_of result (lone_of (λ agent. State agent) agents.now pieces.now) }
 {
     let agent = agent_at(agents, pieces, 2)?;
@@ -184,7 +196,7 @@ fn sending_state(agents: &[Config], pieces: &[Piece]) -> Result<Deed, LineFault>
 }
 
 #[tactic(auto, unfolding(crate::specs::Lines::lone_of))]
-fn saving(agents: &[Config], pieces: &[Piece]) -> Result<Deed, LineFault>
+pub(crate) fn saving(agents: &[Config], pieces: &[Piece]) -> Result<Deed, LineFault>
     ensures { Gives actions_of result (lone_of (λ agent. Save agent) agents.now pieces.now) }
 {
     let agent = agent_at(agents, pieces, 2)?;
@@ -193,7 +205,7 @@ fn saving(agents: &[Config], pieces: &[Piece]) -> Result<Deed, LineFault>
 }
 
 #[tactic(auto, unfolding(crate::specs::Lines::lone_of))]
-fn compacting(agents: &[Config], pieces: &[Piece]) -> Result<Deed, LineFault>
+pub(crate) fn compacting(agents: &[Config], pieces: &[Piece]) -> Result<Deed, LineFault>
     ensures { Gives actions_of result (lone_of (λ agent. Compact agent) agents.now pieces.now) }
 {
     let agent = agent_at(agents, pieces, 2)?;
@@ -203,7 +215,12 @@ fn compacting(agents: &[Config], pieces: &[Piece]) -> Result<Deed, LineFault>
 
 /// Bytes are injected, as the packet of the number `sent`, and the agent gets them.
 #[tactic(auto, unfolding(crate::specs::Lines::giving_of))]
-fn giving(alloc: Global, agents: &[Config], sent: u64, pieces: &[Piece]) -> Result<Deed, LineFault>
+pub(crate) fn giving(
+    alloc: Global,
+    agents: &[Config],
+    sent: u64,
+    pieces: &[Piece],
+) -> Result<Deed, LineFault>
     ensures { Gives actions_of result (giving_of agents.now sent pieces.now) }
 {
     let to = agent_at(agents, pieces, 2)?;
@@ -222,7 +239,12 @@ fn giving(alloc: Global, agents: &[Config], sent: u64, pieces: &[Piece]) -> Resu
 
 /// Bytes are injected, as the packet of the number `sent`, and the agent merges them.
 #[tactic(auto, unfolding(crate::specs::Lines::taking_of))]
-fn taking(alloc: Global, agents: &[Config], sent: u64, pieces: &[Piece]) -> Result<Deed, LineFault>
+pub(crate) fn taking(
+    alloc: Global,
+    agents: &[Config],
+    sent: u64,
+    pieces: &[Piece],
+) -> Result<Deed, LineFault>
     ensures { Gives actions_of result (taking_of agents.now sent pieces.now) }
 {
     let to = agent_at(agents, pieces, 2)?;
