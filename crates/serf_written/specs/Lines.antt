@@ -1,12 +1,12 @@
 -- What a line does, and what it adds.
-use Rattle.std.specs.Prelude.{◌≡◌, ℕ, pos, ◌==◌, ◌+◌, ◌-◌, ◌++◌, ◌&&◌, ◌||◌, nat_lt, nat_le, Bool, true, false, not, if◌then◌else◌, List, [], ◌∷◌, length, take, drop, codes, position, slice_index, Option, Some, None, Result, Ok, Err}
+use Rattle.std.specs.Prelude.{ℕ, ◌==◌, ◌+◌, ◌++◌, nat_lt, Bool, true, false, not, if◌then◌else◌, List, [], ◌∷◌, length, take, drop, codes, position, Option, Some, None, Result, Ok}
 use Rattle.std.specs.Str.{bytes_eq}
 use Rattle.serf_agent.specs.declared.config.Config.{Config}
 use Rattle.serf_agent.specs.Config.{is_sound}
 use Rattle.serf_model.specs.declared.action.Action.{Action}
 use Rattle.serf_model.specs.declared.action.Action.TheVariants as actions
 use Rattle.serf_world.specs.Runs.{has_name}
-use Rattle.serf_replay.specs.Words.{between, bytes_of, number_of}
+use Rattle.serf_replay.specs.Words.{between, number_of}
 use Rattle.serf_written.specs.declared.fault.Fault.{Fault}
 use Rattle.serf_written.specs.declared.fault.Wanted.TheVariants as wanted
 use Rattle.serf_written.specs.declared.actions.Deed.{Deed}
@@ -15,7 +15,7 @@ use Rattle.serf_written.specs.declared.label.Label.{Label}
 use Rattle.serf_written.specs.declared.piece.Piece.{Piece}
 use Rattle.serf_written.specs.declared.piece.Piece.TheVariants.{Word, Text}
 use Rattle.serf_written.specs.Gives.{◌>>=◌, wrong, or_wrong}
-use Rattle.serf_written.specs.Values.{agent_in, bytes_in, bytes_or_none, ends_behind, mode_in, moment_in, number_in, packet_in, piece_at, sink_call_in, time_in, time_of, word_at, word_of}
+use Rattle.serf_written.specs.Values.{agent_in, bytes_in, bytes_or_none, ends_behind, mode_in, moment_in, number_in, packet_in, piece_at, sink_call_in, word_at, word_of}
 
 -- Agents
 

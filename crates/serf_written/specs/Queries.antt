@@ -1,5 +1,5 @@
 -- What a query's line says.
-use Rattle.std.specs.Prelude.{ℕ, pos, ◌==◌, ◌+◌, ◌-◌, ◌++◌, Bool, true, false, if◌then◌else◌, List, [], ◌∷◌, length, take, drop, codes, position, Option, Some, None, Result, Ok, Err}
+use Rattle.std.specs.Prelude.{ℕ, pos, ◌==◌, ◌+◌, ◌++◌, true, false, if◌then◌else◌, List, [], ◌∷◌, take, drop, codes, position, Option, Some, None, Result, Ok}
 use Rattle.std.specs.Str.{bytes_eq}
 use Rattle.serf_agent.specs.declared.config.Config.{Config}
 use Rattle.serf_model.specs.declared.action.Action.{Action}

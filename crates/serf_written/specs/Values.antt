@@ -1,10 +1,10 @@
 -- What the pieces of a line stand for.
-use Rattle.std.specs.Prelude.{ℕ, ◌==◌, ◌+◌, ◌-◌, ◌*◌, nat_lt, nat_le, Bool, true, false, if◌then◌else◌, List, [], ◌∷◌, length, take, drop, codes, position, not, slice_get, Option, Some, None, Result, Ok, Err}
+use Rattle.std.specs.Prelude.{ℕ, ◌==◌, ◌+◌, ◌-◌, ◌*◌, nat_lt, nat_le, Bool, if◌then◌else◌, List, [], length, take, drop, codes, position, not, slice_get, Option, Some, None, Result, Ok}
 use Rattle.std.specs.Char.{is_ascii_digit}
 use Rattle.std.specs.Str.{bytes_eq}
 use Rattle.serf_agent.specs.declared.config.Config.{Config}
 use Rattle.serf_model.specs.declared.action.SinkCall.{SinkCall}
-use Rattle.serf_replay.specs.Words.{between, bytes_of, choice_of, number_of, sink_call_of}
+use Rattle.serf_replay.specs.Words.{bytes_of, choice_of, number_of, sink_call_of}
 use Rattle.serf_written.specs.declared.fault.Fault.{Fault}
 use Rattle.serf_written.specs.declared.fault.Wanted.TheVariants as wanted
 use Rattle.serf_written.specs.declared.label.Label.{Label}

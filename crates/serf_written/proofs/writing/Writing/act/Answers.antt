@@ -1,4 +1,4 @@
-use Rattle.std.proofs.Common.{◌≡◌, ◌++◌, ◌∷◌, List, [], All, IsTrue, rules, subst, sym}
+use Rattle.std.proofs.Common.{◌≡◌, ◌++◌, ◌∷◌, List, [], All, rules, subst, sym}
 use Rattle.std.proofs.lemmas.List.Elements.{All-push}
 use Rattle.serf_model.specs.declared.action.Action.{Action}
 use Rattle.serf_schedule_text.specs.Sayable.{IsSayable}
@@ -12,8 +12,7 @@ invariant_of-self-2 c =
     let done : HasWorld c.self.inside.agents (before ++ c.args.action ∷ []) c.in_ok-world-2.world =
     subst (λ (x : List Action). HasWorld c.self.inside.agents (x ++ c.args.action ∷ []) c.in_ok-world-2.world) c.as_slice-2.ensures.value c.in_ok-world-2.ensures in
     let sayable : IsSayable c.args.action = search rules in
-    let all : All IsSayable (before ++ c.args.action ∷ []) = All-push IsSayable before c.args.action c.self.invariant.1 sayable in
-    (
+    let all : All IsSayable (before ++ c.args.action ∷ []) = All-push IsSayable before c.args.action c.self.invariant.1 sayable in (
       subst (λ (x : List Action). HasWorld c.self.inside.agents x c.in_ok-world-2.world) (sym items) done,
       subst (All IsSayable) (sym items) all,
     )
