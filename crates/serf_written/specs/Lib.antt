@@ -1,0 +1,10 @@
+pub mod Gives
+pub mod Lines
+pub mod Pieces
+pub mod Placed
+pub mod Queries
+pub mod Running
+pub mod Values
+pub mod Verbs
+pub mod Whole
+pub mod Written

@@ -1,0 +1,11 @@
+//! Labels of lines.
+
+use serf_wire::Bytes;
+
+/// The label of a line, and the numbers of the packets that its line sent: from `first` on, and below `past`.
+#[derive(Debug, Drop)]
+pub struct Label {
+    pub name: Bytes,
+    pub first: u64,
+    pub past: u64,
+}
