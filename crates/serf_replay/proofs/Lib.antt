@@ -4,3 +4,4 @@ pub mod ShownLaws
 pub mod SlotLemmas
 pub mod WordLemmas
 pub mod SizedLaws
+pub mod GrownLaws

@@ -30,7 +30,7 @@ lines-kept sent more n k (p ∷ ps) h =
     ap (λ l. l ++ flat_map (sent_line (sent ++ more) n) (numbers_from (k + 1) ps)) (line-kept sent more n k (omega (arith, h)))
     ∙ ap (λ l. sent_line sent n k ++ l) (lines-kept sent more n (k + 1) ps (omega (arith, h)))
 
-action-kept : (sent more : List (List ℕ)) (n k : ℕ) (line : Line) (packets : List (List ℕ)) → line.sent ≡ numbers_from k packets → k + length packets ≤ length sent
+pub action-kept : (sent more : List (List ℕ)) (n k : ℕ) (line : Line) (packets : List (List ℕ)) → line.sent ≡ numbers_from k packets → k + length packets ≤ length sent
     → action_text (sent ++ more) n line ≡ action_text sent n line
 unfolding action_text
 action-kept sent more n k line packets is h =
@@ -39,7 +39,7 @@ action-kept sent more n k line packets is h =
 
 -- ---- one more line
 
-actions-push : (sent : List (List ℕ)) (n : ℕ) (lines : List Line) (line : Line)
+pub actions-push : (sent : List (List ℕ)) (n : ℕ) (lines : List Line) (line : Line)
     → actions_text sent n (lines ++ line ∷ []) ≡ actions_text sent n lines ++ action_text sent (n + length lines) line
 actions-push sent n [] line =
     let none : n ≡ n + 0 = omega arith in
@@ -52,11 +52,11 @@ actions-push sent n (l ∷ ls) line =
 -- ---- what a step sends
 
 -- a step sends its packets behind those that were sent, and its line says their numbers
-record Sends (c : Cluster) (action : Action) : Type 0 where
+pub record Sends (c : Cluster) (action : Action) : Type 0 where
   pub sent : (step c action).cluster.sent ≡ c.sent ++ (step c action).turn.packets
   pub numbers : (step c action).turn.line.sent ≡ numbers_from (length c.sent) (step c action).turn.packets
 
-sends : (c : Cluster) (action : Action) → Sends c action
+pub sends : (c : Cluster) (action : Action) → Sends c action
 sends c action = record { sent = (by (actor_of action)).0; numbers = (by (actor_of action)).1 }
   where
     at : (a : ℕ) (m : Option IdealNode) → ((on_agent c action a m).cluster.sent ≡ c.sent ++ (on_agent c action a m).turn.packets)
