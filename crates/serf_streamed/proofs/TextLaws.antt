@@ -1,8 +1,7 @@
 -- The text of all turns, from the answers to the lines.
-use Rattle.std.proofs.Common.{◌≡◌, ◌≤◌, ◌+◌, ◌++◌, ◌∙◌, ◌⊎◌, inl, inr, ℕ, List, [], ◌∷◌, Option, Some, None, Result, Ok, Err, refl, sym, ap, subst, arith, map, length, length-append, append-nil, append_assoc}
+use Rattle.std.proofs.Common.{◌≡◌, ◌≤◌, ◌+◌, ◌++◌, ◌∙◌, inl, inr, ℕ, List, [], ◌∷◌, Option, Some, None, Result, Ok, Err, refl, sym, ap, subst, arith, map, length, length-append, append-nil, append_assoc}
 use Rattle.std.specs.Prelude.{All}
 use Rattle.std.specs.List.{fold}
-use Rattle.std.specs.Io.KnownBytes.{Appends}
 use Rattle.std.proofs.lemmas.List.{length-map, map-append}
 use Rattle.serf_agent.specs.declared.config.Config.{Config}
 use Rattle.serf_model.specs.declared.action.Action.{Action}
@@ -14,10 +13,9 @@ use Rattle.serf_model.specs.Sizes.{HasSizes}
 use Rattle.serf_model.specs.Trace.{Turn, turns_of}
 use Rattle.serf_replay.specs.declared.cause.Cause.{Cause}
 use Rattle.serf_replay.specs.declared.schedule.Schedule.{Schedule}
-use Rattle.serf_replay.specs.Grown.{with_turn}
 use Rattle.serf_replay.specs.Line.{Parsed, after_line}
 use Rattle.serf_replay.specs.Output.{TracesRun, output_of, text_of}
-use Rattle.serf_replay.specs.Schedule.{BadLine, parsed_of, schedule_of}
+use Rattle.serf_replay.specs.Schedule.{BadLine}
 use Rattle.serf_replay.specs.Show.{action_text, actions_text, trace_text}
 use Rattle.serf_replay.proofs.GrownLaws.{AllOk, Grows, grown}
 use Rattle.serf_replay.proofs.ShownLaws.{Sends, action-kept, actions-push, sends}

@@ -1,5 +1,5 @@
 -- The text of one more turn.
-use Rattle.std.proofs.Common.{◌≡◌, ◌+◌, ◌-◌, ◌<◌, ◌≤◌, ◌++◌, ◌∙◌, ℕ, List, [], ◌∷◌, Option, Some, None, refl, sym, ap, subst, map, length, length-append, append-nil, take, drop, arith}
+use Rattle.std.proofs.Common.{◌≡◌, ◌+◌, ◌<◌, ◌≤◌, ◌++◌, ◌∙◌, ℕ, List, [], ◌∷◌, Option, Some, None, refl, sym, ap, subst, map, length, length-append, append-nil, drop, arith}
 use Rattle.std.specs.Prelude.{slice_get}
 use Rattle.std.specs.Option.{option_to_list}
 use Rattle.std.specs.List.{fold}
@@ -8,7 +8,7 @@ use Rattle.std.proofs.lemmas.List.Sums.{fold-append}
 use Rattle.serf_agent.specs.declared.config.Config.{Config}
 use Rattle.serf_model.specs.declared.action.Action.{Action}
 use Rattle.serf_model.specs.declared.line.Line.{Line}
-use Rattle.serf_model.specs.Cluster.{Run, after, run_of, start, step}
+use Rattle.serf_model.specs.Cluster.{Run, after, start, step}
 use Rattle.serf_model.specs.Trace.{Turn}
 use Rattle.serf_replay.specs.Grown.{with_turn}
 use Rattle.serf_replay.specs.Line.{Parsed}
@@ -119,5 +119,5 @@ went-on said first (Some b) actions rest a n old acting before text are many all
         stands = subst (λ (r : Run). StandsAt r acting.world) (sym run) did.stands;
       },
       did.text_is ∙ ap (λ t. t ++ text_behind_turns (length (run_in said).turns) (after (run_in said) a)) empty
-      ∙ ap (λ k. text_behind_turns k (after (run_in said) a)) count ∙ ap (text_behind_turns (length said.actions)) (sym run),
+          ∙ ap (λ k. text_behind_turns k (after (run_in said) a)) count ∙ ap (text_behind_turns (length said.actions)) (sym run),
     )

@@ -1,4 +1,3 @@
-use Rattle.std.proofs.Common.{◌≡◌}
 use Rattle.std.proofs.lemmas.Result.{IfErr-weaker, on_ok_weaker}
 use Rattle.serf_streamed.proofs.TextLaws.{halted, start-follows, whole}
 use Rattle.serf_streamed.proofs.job.replay_lines.Goals as goal

@@ -1,7 +1,7 @@
-use Rattle.std.proofs.Common.{◌≡◌, ◌∙◌, ℕ, List, ap, sym}
+use Rattle.std.proofs.Common.{◌∙◌, ℕ, List, ap, sym}
 use Rattle.std.specs.Prelude.{Result, Ok}
 use Rattle.serf_replay.specs.declared.cause.Cause.{Cause}
-use Rattle.serf_streamed.proofs.LineLaws.{Reads, answer-ok, bad-line, line-more, reads-line}
+use Rattle.serf_streamed.proofs.LineLaws.{answer-ok, bad-line, line-more, reads-line}
 use Rattle.serf_streamed.proofs.job.take_line.Goals as goal
 
 pub returns-in-Ok-do_action-clause-done : goal.returns-in-Ok-do_action-clause-done
