@@ -5,3 +5,4 @@ pub mod SlotLemmas
 pub mod WordLemmas
 pub mod SizedLaws
 pub mod Names
+pub mod GrownLaws

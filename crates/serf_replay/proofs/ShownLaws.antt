@@ -20,7 +20,7 @@ lines-kept sent more n k (p ∷ ps) h =
     ap (λ l. l ++ flat_map (sent_line (sent ++ more) n) (numbers_from (k + 1) ps)) (line-kept sent more n k (omega (arith, h)))
     ∙ ap (λ l. sent_line sent n k ++ l) (lines-kept sent more n (k + 1) ps (omega (arith, h)))
 
-action-kept : (sent more : List (List ℕ)) (n k : ℕ) (line : Line) (packets : List (List ℕ)) → line.sent ≡ numbers_from k packets → k + length packets ≤ length sent
+pub action-kept : (sent more : List (List ℕ)) (n k : ℕ) (line : Line) (packets : List (List ℕ)) → line.sent ≡ numbers_from k packets → k + length packets ≤ length sent
     → action_text (sent ++ more) n line ≡ action_text sent n line
 unfolding action_text
 action-kept sent more n k line packets is h =
@@ -29,7 +29,7 @@ action-kept sent more n k line packets is h =
 
 -- ---- one more line
 
-actions-push : (sent : List (List ℕ)) (n : ℕ) (lines : List Line) (line : Line)
+pub actions-push : (sent : List (List ℕ)) (n : ℕ) (lines : List Line) (line : Line)
     → actions_text sent n (lines ++ line ∷ []) ≡ actions_text sent n lines ++ action_text sent (n + length lines) line
 actions-push sent n [] line =
     let none : n ≡ n + 0 = omega arith in

@@ -13,3 +13,4 @@ pub mod TextParts
 pub mod WireText
 pub mod Words
 pub mod Running
+pub mod Grown

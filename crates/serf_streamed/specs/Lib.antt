@@ -1,0 +1,3 @@
+pub mod Streamed
+pub mod Steps
+pub mod Stopped

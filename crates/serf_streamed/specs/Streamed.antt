@@ -1,0 +1,31 @@
+-- What the lines of a schedule are answered, one after another.
+use Rattle.std.specs.Prelude.{ℕ, ◌+◌, List, [], length, map, drop, Result, Ok, Err}
+use Rattle.serf_model.specs.Cluster.{Run, run_of}
+use Rattle.serf_replay.specs.declared.cause.Cause.{Cause}
+use Rattle.serf_replay.specs.Line.{Parsed, after_line}
+use Rattle.serf_replay.specs.Schedule.{BadLine, after_lines}
+use Rattle.serf_replay.specs.Show.{actions_text}
+
+-- the schedule that lines stand for, or the first bad one
+abbrev pub schedule_in : List (List ℕ) → Result Parsed BadLine
+schedule_in lines = after_lines 1 (record { configs = []; actions = [] }) lines
+
+abbrev pub run_in : Parsed → Run
+run_in s = run_of s.configs s.actions
+
+-- the text of the turns of a run behind the first of them
+abbrev pub text_behind_turns : ℕ → Run → List ℕ
+text_behind_turns n r = actions_text r.cluster.sent (n + 1) (drop n (map (λ t. t.line) r.turns))
+
+-- the text of the turn that a line adds, or what is wrong with the line
+abbrev pub added_text : Parsed → Result Parsed Cause → Result (List ℕ) Cause
+added_text before (Ok after) = Ok (text_behind_turns (length before.actions) (run_in after))
+added_text before (Err cause) = Err cause
+
+abbrev pub answer_behind : Result Parsed BadLine → List ℕ → Result (List ℕ) Cause
+answer_behind (Ok before) line = added_text before (after_line before line)
+answer_behind (Err bad) line = Ok []
+
+-- a line is answered by the text of the turn that it adds to those before it
+abbrev pub turn_answer : List (List ℕ) → List ℕ → Result (List ℕ) Cause
+turn_answer lines line = answer_behind (schedule_in lines) line

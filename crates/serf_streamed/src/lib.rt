@@ -1,0 +1,7 @@
+//! Schedules without an end: a line is read, done in the cluster, written and let go.
+#![tactic(auto)]
+
+mod job;
+mod turn;
+
+pub use job::replay_lines;
