@@ -2,6 +2,7 @@
 
 use crate::conform_job::Comparison;
 use crate::random_job::{ask_of, random_command};
+use crate::write_job::write_command;
 use clap::{Arg, ArgAction, ArgMatches, Command, Error};
 use serf_conform::Rules;
 use serf_random::Ask;
@@ -20,6 +21,8 @@ pub enum Job<'a> {
     Random(Option<Ask>),
     /// Judges the log of a file, or of standard input, beside snapshots, each as `NODE=SNAPSHOT`.
     Judge(Option<&'a str>, Vec<&'a str>),
+    /// Writes the schedule of the text in a file, or of standard input.
+    Write(Option<&'a str>),
     /// Holds an agent on standard input and output against the reference.
     Conform(Comparison<'a>),
     /// The word of an option is none that it may have.
@@ -130,6 +133,7 @@ fn whole_command<'a>(alloc: Global) -> Result<Command<'a>, AllocError> {
     let program = with_job(program, clocks_command(alloc))?;
     let program = with_job(program, random_command(alloc))?;
     let program = with_job(program, judge_command(alloc))?;
+    let program = with_job(program, write_command(alloc))?;
     with_job(program, conform_command(alloc))
 }
 
@@ -172,6 +176,7 @@ fn job_of<'a>(alloc: Global, matches: &ArgMatches<'a>) -> Result<Option<Job<'a>>
         "clocks" => inner.get_str("FILE").map(|file| Job::Clocks(file)),
         "random" => Some(Job::Random(ask_of(inner))),
         "conform" => conform_of(inner),
+        "write" => Some(Job::Write(inner.get_str("FILE"))),
         "judge" => Some(Job::Judge(inner.get_str("LOG"), kept_of(alloc, inner)?)),
         _ => None,
     })
