@@ -217,10 +217,10 @@ def no_memory(count):
 
 
 def command_line(count):
-    for words in (["--help"], ["replay", "--help"], ["decode", "--help"], ["clocks", "--help"], ["judge", "--help"], ["--version"]):
+    for words in (["--help"], ["replay", "--help"], ["decode", "--help"], ["clocks", "--help"], ["judge", "--help"], ["write", "--help"], ["--version"]):
         ran = run(words)
         count.check(" ".join(words), ran.returncode == 0 and ran.stdout and not ran.stderr, str(ran))
-    for command in ("replay", "decode", "clocks", "judge"):
+    for command in ("replay", "decode", "clocks", "judge", "write"):
         example = b"Example: serf-replay " + command.encode()
         count.check(f"an example in the help of {command}", example in run([command, "--help"]).stdout)
     for words in ([], ["bogus"], ["replay", "a", "b"], ["decode", "a", "b"], ["clocks"]):

@@ -3,6 +3,7 @@
 use crate::conform_job::Comparison;
 use crate::draw_job::{Drawing, draw_command, drawing_of};
 use crate::random_job::{ask_of, random_command};
+use crate::write_job::write_command;
 use clap::{Arg, ArgAction, ArgMatches, Command, Error};
 use serf_conform::Rules;
 use serf_random::Ask;
@@ -23,6 +24,8 @@ pub enum Job<'a> {
     Judge(Option<&'a str>, Vec<&'a str>),
     /// Draws the run of a schedule.
     Draw(Drawing<'a>),
+    /// Writes the schedule of the text in a file, or of standard input.
+    Write(Option<&'a str>),
     /// Holds an agent on standard input and output against the reference.
     Conform(Comparison<'a>),
     /// The word of an option is none that it may have.
@@ -134,6 +137,7 @@ fn whole_command<'a>(alloc: Global) -> Result<Command<'a>, AllocError> {
     let program = with_job(program, random_command(alloc))?;
     let program = with_job(program, judge_command(alloc))?;
     let program = with_job(program, draw_command(alloc))?;
+    let program = with_job(program, write_command(alloc))?;
     with_job(program, conform_command(alloc))
 }
 
@@ -180,6 +184,7 @@ fn job_of<'a>(alloc: Global, matches: &ArgMatches<'a>) -> Result<Option<Job<'a>>
             Some(drawing) => Job::Draw(drawing),
             None => Job::BadOption("agent"),
         }),
+        "write" => Some(Job::Write(inner.get_str("FILE"))),
         "judge" => Some(Job::Judge(inner.get_str("LOG"), kept_of(alloc, inner)?)),
         _ => None,
     })

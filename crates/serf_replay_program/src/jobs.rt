@@ -6,6 +6,7 @@ use crate::decode_lines_job::run_decode_lines;
 use crate::draw_job::run_draw;
 use crate::judge_job::run_judge;
 use crate::progress::Progress;
+use crate::write_job::run_write;
 use clap::Error;
 use clap::error::ErrorKind;
 use hex::FromHexError;
@@ -197,6 +198,7 @@ pub fn run<F: Files, R: Clock + Input + Print + Eprint + AllocGlobal>(
         Ok(Some(Job::Decode(None))) => run_decode_lines(rt),
         Ok(Some(Job::Clocks(file))) => run_clocks(files, rt, file),
         Ok(Some(Job::Random(ask))) => run_random(rt, ask),
+        Ok(Some(Job::Write(file))) => run_write(files, rt, file),
         Ok(Some(Job::Judge(file, kept))) => run_judge(files, rt, file, &kept),
         Ok(Some(Job::Conform(asked))) => run_conform(files, rt, &asked),
         Ok(Some(Job::Draw(drawing))) => run_draw(files, rt, &drawing),
