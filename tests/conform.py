@@ -293,6 +293,24 @@ def rules(cases):
     cases.replies("all rules", replies, path + ".schedule", 0, said, ["--agent", "1", "--rules", "own"])
 
 
+def seeds(cases):
+    """Random schedules: an agent that agrees, one that doesn't, one that ends, and words that are refused."""
+    good = [sys.executable, AGENT]
+    for kind in ("mixed", "merges", "restarts", "queries", "devices", "gossip"):
+        said = ["2 seeds and ", " calls agree"]
+        cases.run(f"seeds, {kind}", good, "--random", 0, said, ["1-2", "--kind", kind, "--actions", "80"])
+    cases.run("one seed", good, "--random", 0, ["1 seeds and "], ["7", "--agents", "2", "--actions", "20"])
+    cases.run("Serf's rules on a seed", good, "--random", 0, ["1 seeds and "], ["9", "--rules", "serf"])
+    cases.run("a wrong agent", [*good, "--wrong", "never_seen"], "--random", 1, ["seed ", " seeds and ", "agent ", "  wanted: ", "  got: "], ["1-20"])
+    cases.run("no agent for a seed", ["false"], "--random", 3, ["seed 1: "], ["1-2"])
+    for word in ("x", "3-1", "1-", "-1", "1-2-3", "0-18446744073709551615"):
+        cases.run(f"seeds {word}", ["cat"], f"--random={word}", 2, ["--random"])
+    cases.run("seeds of no kind", ["cat"], "--random", 2, ["--kind"], ["1-2", "--kind", "mixd"])
+    cases.run("seeds and a file", ["cat"], os.path.join(TOP, "examples", "deploy_gossiped_twice.schedule"), 2, ["--random"], ["--random", "1"])
+    ran = subprocess.run([PROGRAM, "conform"], stdin=subprocess.DEVNULL, capture_output=True, timeout=LIMIT)
+    cases.count.check("neither", (ran.returncode, ran.stdout) == (2, b""), ran)
+
+
 def main():
     global PROGRAM
     if len(sys.argv) > 1:
@@ -305,7 +323,7 @@ def main():
             return 1
     with tempfile.TemporaryDirectory() as folder:
         cases = Cases(folder)
-        for part in (examples, by_meaning, states, refused, rules):
+        for part in (examples, by_meaning, states, refused, rules, seeds):
             part(cases)
     print(f"{cases.count.passed} passed, {cases.count.failed} failed")
     return 1 if cases.count.failed else 0

@@ -16,7 +16,7 @@ use Rattle.serf_conform.specs.declared.asking.Asked.{Asked}
 use Rattle.serf_conform.specs.declared.asking.Asked.TheVariants as asks
 use Rattle.serf_conform.specs.declared.verdict.End.TheVariants as ends
 use Rattle.serf_conform.specs.declared.verdict.Verdict.{Verdict}
-use Rattle.serf_conform.specs.Session.{AskedOf, Concludes, IsAlong, IsAsked, IsTaken, RestIs, Session, Taken, after_asked, agreeing_in, asked_by, asked_in, asked_of, ending_of, session_from, taken_of, turn_at}
+use Rattle.serf_conform.specs.Session.{AskedOf, Concludes, IsAlong, IsAsked, IsLeft, IsTaken, RestIs, Session, Taken, after_asked, agreeing_in, asked_by, asked_in, asked_of, ending_of, session_from, taken_of, turn_at}
 
 -- where no verdict comes of a call, it goes on
 pub after_goes : (asked : Asked) (action calls : ℕ) (w rest : List ℕ) (next : ℕ → List ℕ → List ℕ → Session) → ending_of asked action calls ≡ None
@@ -38,13 +38,22 @@ rest_goes asks.Ended action calls new rest none is = cc
 
 -- where one comes of it, it is the session's
 pub after_ends : (asked : Asked) (action calls : ℕ) (w rest : List ℕ) (next : ℕ → List ℕ → List ℕ → Session) (v : Verdict) → ending_of asked action calls ≡ Some v
-    → record { verdict = v; written = w } ≡ after_asked asked action calls w rest next
+    → record { verdict = v; written = w; rest = rest } ≡ after_asked asked action calls w rest next
 after_ends asks.Skipped action calls w rest next v is = cc
 after_ends asks.Agrees action calls w rest next v is = cc
-after_ends asks.OwnRule action calls w rest next v is = let same : v ≡ record { calls = calls; action = action; end = ends.OwnRule } = cc in ap (λ (x : Verdict). record { verdict = x; written = w }) same
-after_ends asks.Unsupported action calls w rest next v is = let same : v ≡ record { calls = calls; action = action; end = ends.Unsupported } = cc in ap (λ (x : Verdict). record { verdict = x; written = w }) same
-after_ends (asks.Differs text) action calls w rest next v is = let same : v ≡ record { calls = calls; action = action; end = ends.Differs text } = cc in ap (λ (x : Verdict). record { verdict = x; written = w }) same
-after_ends asks.Ended action calls w rest next v is = let same : v ≡ record { calls = calls; action = action; end = ends.Ended } = cc in ap (λ (x : Verdict). record { verdict = x; written = w }) same
+after_ends asks.OwnRule action calls w rest next v is = let same : v ≡ record { calls = calls; action = action; end = ends.OwnRule } = cc in ap (λ (x : Verdict). record { verdict = x; written = w; rest = rest }) same
+after_ends asks.Unsupported action calls w rest next v is = let same : v ≡ record { calls = calls; action = action; end = ends.Unsupported } = cc in ap (λ (x : Verdict). record { verdict = x; written = w; rest = rest }) same
+after_ends (asks.Differs text) action calls w rest next v is = let same : v ≡ record { calls = calls; action = action; end = ends.Differs text } = cc in ap (λ (x : Verdict). record { verdict = x; written = w; rest = rest }) same
+after_ends asks.Ended action calls w rest next v is = let same : v ≡ record { calls = calls; action = action; end = ends.Ended } = cc in ap (λ (x : Verdict). record { verdict = x; written = w; rest = rest }) same
+
+-- what is left behind a verdict
+pub left_behind : (asked : Asked) (action calls : ℕ) (new : Option (List ℕ)) (rest : List ℕ) (v : Verdict) → ending_of asked action calls ≡ Some v → RestIs asked new rest → IsLeft v.end new rest
+left_behind asks.Skipped action calls new rest v is left = cc
+left_behind asks.Agrees action calls new rest v is left = cc
+left_behind asks.OwnRule action calls new rest v is left = let same : record { calls = calls; action = action; end = ends.OwnRule } ≡ v = cc in subst (λ (x : Verdict). IsLeft x.end new rest) same left
+left_behind asks.Unsupported action calls new rest v is left = let same : record { calls = calls; action = action; end = ends.Unsupported } ≡ v = cc in subst (λ (x : Verdict). IsLeft x.end new rest) same left
+left_behind (asks.Differs text) action calls new rest v is left = let same : record { calls = calls; action = action; end = ends.Differs text } ≡ v = cc in subst (λ (x : Verdict). IsLeft x.end new rest) same left
+left_behind asks.Ended action calls new rest v is left = let same : record { calls = calls; action = action; end = ends.Ended } ≡ v = cc in subst (λ (x : Verdict). IsLeft x.end new rest) same tt
 
 -- a turn that agrees, or is no call
 pub along_on : (old now new held mid holds : Option (List ℕ)) (whole : List ℕ → Session) (serf : Bool) (a action calls : ℕ) (t : Turn) (ts : List Turn) (asked : Asked)
@@ -69,16 +78,17 @@ pub along_ends : (old now new held mid holds : Option (List ℕ)) (whole : List 
     → IsAlong old now held mid whole (λ w rest. session_from serf a action calls w (t ∷ ts) rest)
     → IfSome now (λ input. IsTaken (taken_of serf a t input) asked new mid holds)
     → ending_of asked action calls ≡ Some v
-    → IfSome old (λ input. Concludes (whole input) v held holds)
+    → IfSome old (λ input. Concludes (whole input) v new held holds)
 along_ends None now new held mid holds whole serf a action calls t ts asked v along taken is = tt
 along_ends (Some i) None new held mid holds whole serf a action calls t ts asked v along taken is = absurd along
 along_ends (Some i) (Some r) new held mid holds whole serf a action calls t ts asked v along taken is =
     let s : Taken = taken_of serf a t r in
     let next : ℕ → List ℕ → List ℕ → Session = λ c w rest. session_from serf a (action + 1) c w ts rest in
-    let same : record { verdict = v; written = along.0 ++ s.written } ≡ whole i =
+    let same : record { verdict = v; written = along.0 ++ s.written; rest = s.rest } ≡ whole i =
     after_ends asked action calls (along.0 ++ s.written) s.rest next v is
     ∙ (ap (λ (x : Asked). after_asked x action calls (along.0 ++ s.written) s.rest next) taken.asked_is ∙ along.2) in
-    subst (λ (x : Session). Concludes x v held holds) same (record { verdict_is = refl; written = Appends-trans _ _ _ _ _ along.1 taken.written })
+    subst (λ (x : Session). Concludes x v new held holds) same
+    (record { verdict_is = refl; written = Appends-trans _ _ _ _ _ along.1 taken.written; left = left_behind asked action calls new s.rest v is taken.rest })
 
 -- The same, of the turn whose action and line are the first that are left.
 pub next_on : (old now new held mid holds : Option (List ℕ)) (whole : List ℕ → Session) (serf : Bool) (a action calls n : ℕ) (sent : List (List ℕ)) (xs : List Action) (ys : List Line)
@@ -100,7 +110,7 @@ pub next_ends : (old now new held mid holds : Option (List ℕ)) (whole : List �
     → IsAlong old now held mid whole (λ w rest. session_from serf a action calls w (turns_from n sent xs ys) rest)
     → IfSome now (λ input. IsTaken (taken_of serf a (turn_at n sent x y) input) asked new mid holds)
     → ending_of asked action calls ≡ Some v
-    → IfSome old (λ input. Concludes (whole input) v held holds)
+    → IfSome old (λ input. Concludes (whole input) v new held holds)
 next_ends old now new held mid holds whole serf a action calls n sent [] ys x y asked v some is somey isy along taken ends = absurd (omega arith)
 next_ends old now new held mid holds whole serf a action calls n sent (x' ∷ xs) [] x y asked v some is somey isy along taken ends = absurd (omega arith)
 next_ends old now new held mid holds whole serf a action calls n sent (x' ∷ xs) (y' ∷ ys) x y asked v some is somey isy along taken ends =
@@ -142,13 +152,13 @@ agreeing_one given wanted None none = cc
 agreeing_one given wanted (Some cut) none = agreeing_by (judged given wanted (reply_of cut.text)) cut.text none
 
 -- an agent that was opened, and the turns behind that
-pub opened_on : (old new held mid last : Option (List ℕ)) (asked : Asked) (line : List ℕ) (next : ℕ → List ℕ → List ℕ → Session) (result : Result Verdict ConformFault)
+pub opened_on : (old new fin held mid last : Option (List ℕ)) (asked : Asked) (line : List ℕ) (next : ℕ → List ℕ → List ℕ → Session) (result : Result Verdict ConformFault)
     → IfSome old (λ input. IsAsked (asked_of [] opening input) asked new) → Appends held mid line → ending_of asked 0 0 ≡ None
-    → ((w : List ℕ) (from : Option (List ℕ)) → Appends from mid w → IfOk result (λ v. IfSome new (λ rest. Concludes (next 1 w rest) v from last)))
-    → IfOk result (λ v. IfSome old (λ input. Concludes (after_asked (asked_of [] opening input).asked 0 0 line (asked_of [] opening input).rest next) v held last))
-opened_on old new held mid last asked line next (Err fault) is written none rest = tt
-opened_on None new held mid last asked line next (Ok v) is written none rest = tt
-opened_on (Some i) new held mid last asked line next (Ok v) is written none rest =
+    → ((w : List ℕ) (from : Option (List ℕ)) → Appends from mid w → IfOk result (λ v. IfSome new (λ rest. Concludes (next 1 w rest) v fin from last)))
+    → IfOk result (λ v. IfSome old (λ input. Concludes (after_asked (asked_of [] opening input).asked 0 0 line (asked_of [] opening input).rest next) v fin held last))
+opened_on old new fin held mid last asked line next (Err fault) is written none rest = tt
+opened_on None new fin held mid last asked line next (Ok v) is written none rest = tt
+opened_on (Some i) new fin held mid last asked line next (Ok v) is written none rest =
     let s : AskedOf = asked_of [] opening i in
     let left : new ≡ Some s.rest = rest_goes asked 0 0 new s.rest none is.rest in
     let agrees : agreeing_in s.asked ≡ 1 = agreeing_one [] opening (first_reply i) (ap (λ (x : Asked). ending_of x 0 0) (sym is.asked_is) ∙ none) in
@@ -156,19 +166,19 @@ opened_on (Some i) new held mid last asked line next (Ok v) is written none rest
     after_goes s.asked 0 0 line s.rest next (ap (λ (x : Asked). ending_of x 0 0) (sym is.asked_is) ∙ none) in
     let one : 0 + agreeing_in s.asked ≡ 1 = omega arith in
     let same : after_asked s.asked 0 0 line s.rest next ≡ next 1 line s.rest = goes ∙ ap (λ (k : ℕ). next k line s.rest) one in
-    let whole : IfSome (Some s.rest) (λ r. Concludes (next 1 line r) v held last) = subst (λ (n : Option (List ℕ)). IfSome n (λ r. Concludes (next 1 line r) v held last)) left (rest line held written) in
-    subst (λ (x : Session). Concludes x v held last) (sym same) whole
+    let whole : IfSome (Some s.rest) (λ r. Concludes (next 1 line r) v fin held last) = subst (λ (n : Option (List ℕ)). IfSome n (λ r. Concludes (next 1 line r) v fin held last)) left (rest line held written) in
+    subst (λ (x : Session). Concludes x v fin held last) (sym same) whole
 
 -- The same, of the turns of these lines and packets.
-pub opened_all : (old new held mid last : Option (List ℕ)) (asked : Asked) (line : List ℕ) (serf : Bool) (a : ℕ) (actions : List Action) (lines lines' : List Line) (sent sent' : List (List ℕ))
+pub opened_all : (old new fin held mid last : Option (List ℕ)) (asked : Asked) (line : List ℕ) (serf : Bool) (a : ℕ) (actions : List Action) (lines lines' : List Line) (sent sent' : List (List ℕ))
     (result : Result Verdict ConformFault)
     → IfSome old (λ input. IsAsked (asked_of [] opening input) asked new) → Appends held mid line → ending_of asked 0 0 ≡ None
-    → ((w : List ℕ) (from : Option (List ℕ)) → Appends from mid w → IfOk result (λ v. IfSome new (λ r. Concludes (session_from serf a 1 1 w (turns_from 0 sent' actions lines') r) v from last)))
+    → ((w : List ℕ) (from : Option (List ℕ)) → Appends from mid w → IfOk result (λ v. IfSome new (λ r. Concludes (session_from serf a 1 1 w (turns_from 0 sent' actions lines') r) v fin from last)))
     → lines' ≡ lines → sent' ≡ sent
     → IfOk result (λ v. IfSome old (λ input. Concludes (after_asked (asked_of [] opening input).asked 0 0 line (asked_of [] opening input).rest
-    (λ c w rest. session_from serf a 1 c w (turns_from 0 sent actions lines) rest)) v held last))
-opened_all old new held mid last asked line serf a actions lines lines' sent sent' result is written none rest e1 e2 =
+    (λ c w rest. session_from serf a 1 c w (turns_from 0 sent actions lines) rest)) v fin held last))
+opened_all old new fin held mid last asked line serf a actions lines lines' sent sent' result is written none rest e1 e2 =
     let P : List Line → List (List ℕ) → Type 0 =
-    λ ls ss. (w : List ℕ) (from : Option (List ℕ)) → Appends from mid w → IfOk result (λ v. IfSome new (λ r. Concludes (session_from serf a 1 1 w (turns_from 0 ss actions ls) r) v from last)) in
-    opened_on old new held mid last asked line (λ c w rest. session_from serf a 1 c w (turns_from 0 sent actions lines) rest) result is written none
+    λ ls ss. (w : List ℕ) (from : Option (List ℕ)) → Appends from mid w → IfOk result (λ v. IfSome new (λ r. Concludes (session_from serf a 1 1 w (turns_from 0 ss actions ls) r) v fin from last)) in
+    opened_on old new fin held mid last asked line (λ c w rest. session_from serf a 1 c w (turns_from 0 sent actions lines) rest) result is written none
     (subst (λ (ss : List (List ℕ)). P lines ss) e2 (subst (λ (ls : List Line). P ls sent') e1 rest))

@@ -39,13 +39,13 @@ asked_in given wanted (Some cut) = record { asked = asked_by (judged given wante
 abbrev pub asked_of : List ℕ → Said → List ℕ → AskedOf
 asked_of given wanted input = asked_in given wanted (first_reply input)
 
--- where it goes on, the reader has the rest left
+-- where the agent has not ended, the reader has the rest left
 abbrev pub RestIs : Asked → Option (List ℕ) → List ℕ → Type 0
 RestIs asks.Skipped new rest = new ≡ Some rest
 RestIs asks.Agrees new rest = new ≡ Some rest
-RestIs asks.OwnRule new rest = Unit {0}
-RestIs asks.Unsupported new rest = Unit {0}
-RestIs (asks.Differs text) new rest = Unit {0}
+RestIs asks.OwnRule new rest = new ≡ Some rest
+RestIs asks.Unsupported new rest = new ≡ Some rest
+RestIs (asks.Differs text) new rest = new ≡ Some rest
 RestIs asks.Ended new rest = Unit {0}
 
 pub record IsAsked (s : AskedOf) (asked : Asked) (new : Option (List ℕ)) : Type 0 where
@@ -97,26 +97,27 @@ pub record IsTaken (s : Taken) (asked : Asked) (new : Option (List ℕ)) (held :
 
 -- All turns
 
--- a verdict, and what was written up to there
+-- a verdict, what was written up to there, and what the agent writes from there on
 pub record Session : Type 0 where
   pub verdict : Verdict
   pub written : List ℕ
+  pub rest : List ℕ
 
-abbrev pub ends_at : ℕ → ℕ → End → List ℕ → Session
-ends_at action calls end written = record { verdict = record { calls = calls; action = action; end = end }; written = written }
+abbrev pub ends_at : ℕ → ℕ → End → List ℕ → List ℕ → Session
+ends_at action calls end written rest = record { verdict = record { calls = calls; action = action; end = end }; written = written; rest = rest }
 
 -- It goes on with the calls that agree, what was written, and what the agent writes from there on.
 abbrev pub after_asked : Asked → ℕ → ℕ → List ℕ → List ℕ → (ℕ → List ℕ → List ℕ → Session) → Session
 after_asked asks.Skipped action calls written rest next = next calls written rest
 after_asked asks.Agrees action calls written rest next = next (calls + 1) written rest
-after_asked asks.OwnRule action calls written rest next = ends_at action calls ends.OwnRule written
-after_asked asks.Unsupported action calls written rest next = ends_at action calls ends.Unsupported written
-after_asked (asks.Differs text) action calls written rest next = ends_at action calls (ends.Differs text) written
-after_asked asks.Ended action calls written rest next = ends_at action calls ends.Ended written
+after_asked asks.OwnRule action calls written rest next = ends_at action calls ends.OwnRule written rest
+after_asked asks.Unsupported action calls written rest next = ends_at action calls ends.Unsupported written rest
+after_asked (asks.Differs text) action calls written rest next = ends_at action calls (ends.Differs text) written rest
+after_asked asks.Ended action calls written rest next = ends_at action calls ends.Ended written rest
 
 -- the turns that are left, from the one of this action on
 abbrev pub session_from : Bool → ℕ → ℕ → ℕ → List ℕ → List Turn → List ℕ → Session
-session_from serf a action calls written [] input = ends_at action calls ends.AllAgree written
+session_from serf a action calls written [] input = ends_at action calls ends.AllAgree written input
 session_from serf a action calls written (t ∷ ts) input =
     let s = taken_of serf a t input in
     after_asked s.asked action calls (written ++ s.written) s.rest (λ c w rest. session_from serf a (action + 1) c w ts rest)
@@ -127,10 +128,19 @@ session serf a config turns input =
     let s = asked_of [] opening input in
     after_asked s.asked 0 0 (open_line config []) s.rest (λ c w rest. session_from serf a 1 c w turns rest)
 
--- the verdict, and what was written
-pub record Concludes (s : Session) (verdict : Verdict) (held : Option (List ℕ)) (holds : Option (List ℕ)) : Type 0 where
+-- where the agent has not ended, the reader has the rest left
+abbrev pub IsLeft : End → Option (List ℕ) → List ℕ → Type 0
+IsLeft ends.AllAgree new rest = new ≡ Some rest
+IsLeft ends.OwnRule new rest = new ≡ Some rest
+IsLeft ends.Unsupported new rest = new ≡ Some rest
+IsLeft (ends.Differs text) new rest = new ≡ Some rest
+IsLeft ends.Ended new rest = Unit {0}
+
+-- the verdict, what was written, and what the reader has left
+pub record Concludes (s : Session) (verdict : Verdict) (new held holds : Option (List ℕ)) : Type 0 where
   pub verdict_is : verdict ≡ s.verdict
   pub written : Appends held holds s.written
+  pub left : IsLeft verdict.end new s.rest
 
 -- On the way there: what is left of the input gives the session that the whole gives.
 abbrev pub IsAlong : Option (List ℕ) → Option (List ℕ) → Option (List ℕ) → Option (List ℕ) → (List ℕ → Session) → (List ℕ → List ℕ → Session) → Type 0

@@ -83,8 +83,8 @@ pub(crate) fn ask<R: Read, W: Write>(
     }
 }
 
-/// Whether an action is one of this agent.
-fn is_of(action: &Action, agent: u64) -> bool
+/// Whether an action is one of this agent. Takes no memory.
+pub fn is_of(action: &Action, agent: u64) -> bool
     ensures { result ≡ is_agent agent (actor_of action.now) }
 {
     match action {

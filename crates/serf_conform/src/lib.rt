@@ -9,7 +9,7 @@ mod replies;
 mod session;
 mod verdict;
 
-pub use asking::given_packet;
+pub use asking::{given_packet, is_of};
 pub use judging::{Judgement, judge};
 pub use laws::projection;
 pub use meaning::{line_means, reply_means};

@@ -73,7 +73,7 @@ fn hold_on<R: Read, W: Write>(
 ) -> Result<Verdict, ConformFault>
     ensures { (w : List ℕ) (held : Option (List ℕ)) → Appends held (W.contents writer.old) w → IfOk result (λ verdict. IfSome (R.remaining reader.old) (λ input. Concludes
         (session_from (is_serf rules) agent 1 1 w (turns_from 0 sent.now actions.now lines.now) input)
-        verdict held (W.contents writer.new))) }
+        verdict (R.remaining reader.new) held (W.contents writer.new))) }
 {
     let mut actions = actions;
     let mut lines = lines;
@@ -114,7 +114,8 @@ fn hold_on<R: Read, W: Write>(
 /// the trace of these actions, and compares each reply by its meaning ([`crate::line_means`]).
 ///
 /// A call is written only once the reply to the one before is read and agrees. A delivery or a merge that names no
-/// packet is no call. After a fault the agent may have got a part of a call.
+/// packet is no call. Where the agent has not ended, just the replies to the calls were read, so that the next `hold` on
+/// these devices opens it anew. After a fault the agent may have got a part of a call.
 pub fn hold<R: Read, W: Write>(
     alloc: Global,
     reader: &mut R,
@@ -125,10 +126,10 @@ pub fn hold<R: Read, W: Write>(
     actions: &[Action],
     trace: &Trace,
 ) -> Result<Verdict, ConformFault>
-    // The verdict, and what was written, are those of what the agent writes.
+    // The verdict, what was written, and what is left to read, are those of what the agent writes.
     ensures { IfOk result (λ verdict. IfSome (R.remaining reader.old) (λ input. Concludes
         (session (is_serf rules) agent config.now (turns_of actions.now (outcome_of trace.now)) input)
-        verdict (W.contents writer.old) (W.contents writer.new))) }
+        verdict (R.remaining reader.new) (W.contents writer.old) (W.contents writer.new))) }
 {
     let asked = open(alloc, reader, writer, config)?;
     if let Some(verdict) = ending(asked, 0, 0) {

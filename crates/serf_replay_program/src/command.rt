@@ -2,8 +2,9 @@
 
 use crate::conform_job::Comparison;
 use crate::draw_job::{Drawing, draw_command, drawing_of};
-use crate::random_job::{ask_of, random_command};
 use crate::write_job::write_command;
+use crate::hunt_job::{Search, search_of};
+use crate::random_job::{actions, agents, ask_of, kind, random_command};
 use clap::{Arg, ArgAction, ArgMatches, Command, Error};
 use serf_conform::Rules;
 use serf_random::Ask;
@@ -28,6 +29,8 @@ pub enum Job<'a> {
     Write(Option<&'a str>),
     /// Holds an agent on standard input and output against the reference.
     Conform(Comparison<'a>),
+    /// Holds an agent on standard input and output against random schedules.
+    Search(Search),
     /// The word of an option is none that it may have.
     BadOption(&'a str),
 }
@@ -95,18 +98,23 @@ fn option<'a>(alloc: Global, name: &'a str, help: &'a str) -> Arg<'a> {
 }
 
 fn conform_command<'a>(alloc: Global) -> Result<Command<'a>, AllocError> {
-    let help = "The schedule whose calls are made";
+    let help = "The schedule whose calls are made; left out where --random is given";
     let about = "Holds an agent on standard input and output against the reference (docs/PIPE.md)";
     let example =
         "Example: mkfifo f; ./my-agent <f | serf-replay conform examples/what_is_refused.schedule >f";
-    let file = place(alloc, "FILE", help).required(true);
+    let file = place(alloc, "FILE", help);
     let agent = "The number of the only agent that is held; all of them where it is left out";
     let rules =
         "`serf` ends before the first turn that rests on a rule of this project's own; `own` (as when left out) \
                  compares all";
+    let random = "Seeds as A-B: the random schedules of these are made, and their calls";
     job_command(alloc, "conform", about, example, file)?
         .arg(option(alloc, "agent", agent))?
-        .arg(option(alloc, "rules", rules))
+        .arg(option(alloc, "rules", rules))?
+        .arg(option(alloc, "random", random))?
+        .arg(kind(alloc))?
+        .arg(agents(alloc))?
+        .arg(actions(alloc))
 }
 
 /// The program, without its jobs.
@@ -155,11 +163,14 @@ fn conform_of<'a>(matches: &ArgMatches<'a>) -> Option<Job<'a>> {
         Some("serf") => Rules::Serf,
         Some(_) => return Some(Job::BadOption("rules")),
     };
-    Some(Job::Conform(Comparison {
-        file: matches.get_str("FILE")?,
-        agent,
-        rules,
-    }))
+    match (matches.get_str("FILE"), matches.get_str("random")) {
+        (Some(file), None) => Some(Job::Conform(Comparison { file, agent, rules })),
+        (None, Some(word)) => Some(match search_of(word, matches, rules) {
+            Ok(search) => Job::Search(search),
+            Err(name) => Job::BadOption(name),
+        }),
+        _ => Some(Job::BadOption("random")),
+    }
 }
 
 /// The snapshots that are given, each as `NODE=SNAPSHOT`.

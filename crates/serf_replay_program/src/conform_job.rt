@@ -1,22 +1,22 @@
 //! Any agent, held against the reference: calls go to standard output, replies come on standard input, and the report goes
 //! to standard error.
 
-use serf_agent::Config;
 use serf_conform::{ConformFault, End, Rules, Verdict, given_packet, hold, opening, wanted};
+use serf_hunt::{Case, case_of};
 use serf_pipe::{Reply, put_call, put_open, put_reply_line};
 use serf_replay::{ScheduleFault, parse_schedule};
-use serf_world::{Action, Line, Trace, run};
+use serf_world::Line;
 use std::alloc::{AllocError, Global};
 use std::io::{self, BufReader, Read, Write};
 
 /// All agents agree.
-const AGREES: u8 = 0;
+pub(crate) const AGREES: u8 = 0;
 
 /// An agent disagrees, or the schedule was refused.
-const DISAGREES: u8 = 1;
+pub(crate) const DISAGREES: u8 = 1;
 
 /// A device failed, memory ran out, or the agent ended.
-const DEVICE: u8 = 3;
+pub(crate) const DEVICE: u8 = 3;
 
 /// How many bytes of a line are shown.
 const SHOWN: usize = 240;
@@ -29,14 +29,6 @@ pub struct Comparison<'a> {
     /// The agent's number; `None` for all of them, one after another.
     pub agent: Option<u64>,
     pub rules: Rules,
-}
-
-/// A schedule's agents, its actions, and what came of them.
-#[derive(Drop)]
-struct Run {
-    configs: Vec<Config>,
-    actions: Vec<Action>,
-    trace: Trace,
 }
 
 /// Prints a line on standard error: bytes that are no printable ASCII as `?`, and at most so many.
@@ -111,16 +103,16 @@ fn sent_before(lines: &[Line], number: u64) -> usize {
 /// The text of the call at which a verdict stands, and the reply that is wanted of it.
 fn call_and_wanted(
     alloc: Global,
-    run: &Run,
+    case: &Case,
     agent: u64,
     number: u64,
 ) -> Result<(Vec<u8>, Reply), AllocError> {
     let mut call = Vec::new(alloc);
     let place = (number as usize).saturating_sub(1);
-    let lines = run.trace.lines.as_slice();
-    match (run.actions.get(place), lines.get(place)) {
+    let lines = case.trace.lines.as_slice();
+    match (case.actions.get(place), lines.get(place)) {
         (Some(action), Some(line)) if number > 0 => {
-            let sent = run.trace.sent.as_slice();
+            let sent = case.trace.sent.as_slice();
             let count = sent_before(lines, number).min(sent.len());
             let given = given_packet(action, &sent[..count]).unwrap_or(&[]);
             put_call(&mut call, action, given)?;
@@ -129,7 +121,7 @@ fn call_and_wanted(
             Ok((call, reply))
         }
         _ => {
-            if let Some(config) = run.configs.get(agent as usize) {
+            if let Some(config) = case.configs.get(agent as usize) {
                 put_open(&mut call, config, &[])?;
             }
             let reply = opening(alloc)?;
@@ -142,17 +134,17 @@ fn call_and_wanted(
 fn tell<R: Eprint + AllocGlobal>(
     rt: &R,
     text: &[u8],
-    run: &Run,
+    case: &Case,
     agent: u64,
     number: u64,
     got: &[u8],
 ) -> Result<(), AllocError> {
-    let (call, reply) = call_and_wanted(rt.alloc(), run, agent, number)?;
+    let (call, reply) = call_and_wanted(rt.alloc(), case, agent, number)?;
     let mut head = Vec::new(rt.alloc());
     let place = if number == 0 {
         format!(in rt.alloc(); "agent {agent}: ")?
     } else {
-        let line = line_of_action(text, run.configs.len(), number);
+        let line = line_of_action(text, case.configs.len(), number);
         format!(in rt.alloc(); "agent {agent}: action {number}, line {line}: ")?
     };
     head.extend_from_slice(place.as_bytes())?;
@@ -165,10 +157,10 @@ fn tell<R: Eprint + AllocGlobal>(
 }
 
 /// Prints a verdict, and gives its status.
-fn report<R: Eprint + AllocGlobal>(
+pub(crate) fn report<R: Eprint + AllocGlobal>(
     rt: &R,
     text: &[u8],
-    run: &Run,
+    case: &Case,
     agent: u64,
     verdict: &Verdict,
 ) -> u8 {
@@ -190,42 +182,47 @@ fn report<R: Eprint + AllocGlobal>(
             );
             AGREES
         }
-        End::Differs(got) => match tell(rt, text, run, agent, *action, got.as_slice()) {
+        End::Differs(got) => match tell(rt, text, case, agent, *action, got.as_slice()) {
             Ok(()) => DISAGREES,
             Err(_) => no_memory(rt),
         },
-        End::Ended => match tell(rt, text, run, agent, *action, b"the agent ended") {
+        End::Ended => match tell(rt, text, case, agent, *action, b"the agent ended") {
             Ok(()) => DEVICE,
             Err(_) => no_memory(rt),
         },
     }
 }
 
-fn no_memory(rt: &impl Eprint) -> u8 {
+pub(crate) fn no_memory(rt: &impl Eprint) -> u8 {
     let _ = eprintln!(rt; "no memory");
     DEVICE
 }
 
-fn fault_told(rt: &impl Eprint, agent: u64, fault: ConformFault) -> u8 {
-    let _ = eprintln!(rt; "agent {agent}: {fault}");
+/// The status of a fault: a reply that is too long is a disagreement.
+pub(crate) fn status_of(fault: ConformFault) -> u8 {
     match fault {
         ConformFault::ReplyTooLong => DISAGREES,
         _ => DEVICE,
     }
 }
 
+fn fault_told(rt: &impl Eprint, agent: u64, fault: ConformFault) -> u8 {
+    let _ = eprintln!(rt; "agent {agent}: {fault}");
+    status_of(fault)
+}
+
 /// Holds these agents, one after another, and gives the status: the greatest of theirs. An agent that ended ends all.
 fn hold_agents<R: Eprint + AllocGlobal, I: Read, O: Write>(
     rt: &R,
     text: &[u8],
-    run: &Run,
+    case: &Case,
     asked: &Comparison,
     reader: &mut I,
     writer: &mut O,
 ) -> u8 {
     let mut status = AGREES;
     let mut agent: u64 = 0;
-    for config in &run.configs {
+    for config in &case.configs {
         let number = agent;
         agent = agent.saturating_add(1);
         if asked.agent.is_some() && asked.agent != Some(number) {
@@ -238,11 +235,11 @@ fn hold_agents<R: Eprint + AllocGlobal, I: Read, O: Write>(
             asked.rules,
             number,
             config,
-            run.actions.as_slice(),
-            &run.trace,
+            case.actions.as_slice(),
+            &case.trace,
         );
         let came = match outcome {
-            Ok(verdict) => report(rt, text, run, number, &verdict),
+            Ok(verdict) => report(rt, text, case, number, &verdict),
             Err(fault) => return fault_told(rt, number, fault),
         };
         if came == DEVICE {
@@ -253,17 +250,11 @@ fn hold_agents<R: Eprint + AllocGlobal, I: Read, O: Write>(
     status
 }
 
-/// The run of a schedule's text.
-fn run_of(alloc: Global, text: &[u8]) -> Result<Run, ScheduleFault> {
+/// The case of a schedule's text.
+fn case_in(alloc: Global, text: &[u8]) -> Result<Case, ScheduleFault> {
     let schedule = parse_schedule(alloc, text)?;
-    let again = parse_schedule(alloc, text)?;
-    let configs = again.agents.into_vec();
-    match run(alloc, schedule.agents.into_vec(), &schedule.actions) {
-        Ok(trace) => Ok(Run {
-            configs,
-            actions: schedule.actions,
-            trace,
-        }),
+    match case_of(alloc, schedule) {
+        Ok(case) => Ok(case),
         Err(_) => Err(ScheduleFault::OutOfMemory),
     }
 }
@@ -275,8 +266,8 @@ pub fn conform<R: Input + Print + Eprint + AllocGlobal>(
     asked: &Comparison,
     text: &[u8],
 ) -> u8 {
-    let run = match run_of(rt.alloc(), text) {
-        Ok(run) => run,
+    let case = match case_in(rt.alloc(), text) {
+        Ok(case) => case,
         Err(ScheduleFault::BadLine { line, cause }) => {
             let _ = eprintln!(rt; "bad line {line} {cause}");
             return DISAGREES;
@@ -284,7 +275,7 @@ pub fn conform<R: Input + Print + Eprint + AllocGlobal>(
         Err(ScheduleFault::OutOfMemory) => return no_memory(rt),
     };
     if let Some(agent) = asked.agent
-        && agent as usize >= run.configs.len()
+        && agent as usize >= case.configs.len()
     {
         let _ = eprintln!(rt; "no agent {agent}");
         return DISAGREES;
@@ -292,5 +283,5 @@ pub fn conform<R: Input + Print + Eprint + AllocGlobal>(
     let Ok(mut reader) = BufReader::new(rt.alloc(), rt.reader()) else {
         return no_memory(rt);
     };
-    hold_agents(rt, text, &run, asked, &mut reader, &mut io::writer(rt))
+    hold_agents(rt, text, &case, asked, &mut reader, &mut io::writer(rt))
 }

@@ -4,6 +4,7 @@ use crate::command::{Job, job_in};
 use crate::conform_job::{Comparison, conform};
 use crate::decode_lines_job::run_decode_lines;
 use crate::draw_job::run_draw;
+use crate::hunt_job::run_hunt;
 use crate::judge_job::run_judge;
 use crate::progress::Progress;
 use crate::write_job::run_write;
@@ -202,6 +203,7 @@ pub fn run<F: Files, R: Clock + Input + Print + Eprint + AllocGlobal>(
         Ok(Some(Job::Judge(file, kept))) => run_judge(files, rt, file, &kept),
         Ok(Some(Job::Conform(asked))) => run_conform(files, rt, &asked),
         Ok(Some(Job::Draw(drawing))) => run_draw(files, rt, &drawing),
+        Ok(Some(Job::Search(asked))) => run_hunt(rt, &asked),
         Ok(Some(Job::BadOption(name))) => {
             let _ = eprintln!(rt; "error: a bad word for --{name}");
             COMMAND_LINE

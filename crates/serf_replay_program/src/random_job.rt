@@ -24,7 +24,8 @@ fn seed<'a>(alloc: Global) -> Arg<'a> {
         .value_parser(value_parser!(u64))
 }
 
-fn kind<'a>(alloc: Global) -> Arg<'a> {
+/// The option that names a kind.
+pub(crate) fn kind<'a>(alloc: Global) -> Arg<'a> {
     Arg::new(alloc, "kind")
         .long("kind")
         .help(
@@ -33,37 +34,44 @@ fn kind<'a>(alloc: Global) -> Arg<'a> {
         .action(ArgAction::Set)
 }
 
+/// The option that says how many agents there are.
+pub(crate) fn agents<'a>(alloc: Global) -> Arg<'a> {
+    let help = "How many agents, at most 64; by the seed where left out";
+    number(alloc, "agents", help)
+}
+
+/// The option that says how many actions there are.
+pub(crate) fn actions<'a>(alloc: Global) -> Arg<'a> {
+    let help = "How many actions at most, 200 where left out";
+    number(alloc, "actions", help)
+}
+
 /// The command's words.
 pub fn random_command<'a>(alloc: Global) -> Result<Command<'a>, AllocError> {
-    let agents = number(
-        alloc,
-        "agents",
-        "How many agents, at most 64; by the seed where left out",
-    );
-    let actions = number(
-        alloc,
-        "actions",
-        "How many actions at most, 200 where left out",
-    );
     Command::new(alloc, "random")
         .about("Writes a schedule that a seed gives, aimed at the edges of what agents decide")
         .after_help("Example: serf-replay random 7 --kind restarts | serf-replay replay")
         .arg(seed(alloc))?
         .arg(kind(alloc))?
-        .arg(agents)?
-        .arg(actions)
+        .arg(agents(alloc))?
+        .arg(actions(alloc))
 }
 
-/// What the words ask for; `None` where they name no kind.
-pub fn ask_of(matches: &ArgMatches) -> Option<Ask> {
+/// What the words ask for, of this seed; `None` where they name no kind.
+pub fn ask_with(matches: &ArgMatches, seed: u64) -> Option<Ask> {
     let kind = match matches.get_str("kind") {
         Some(name) => Kind::of_name(name.as_bytes())?,
         None => Kind::Mixed,
     };
     Some(Ask {
-        seed: matches.get_one::<u64>("SEED")?,
+        seed,
         kind,
         agents: matches.get_one::<u64>("agents").unwrap_or(0),
         actions: matches.get_one::<u64>("actions").unwrap_or(ACTIONS),
     })
+}
+
+/// What the words ask for; `None` where they name no kind.
+pub fn ask_of(matches: &ArgMatches) -> Option<Ask> {
+    ask_with(matches, matches.get_one::<u64>("SEED")?)
 }

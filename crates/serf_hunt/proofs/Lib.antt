@@ -1,0 +1,2 @@
+pub mod HuntLemmas
+pub mod SweepLemmas

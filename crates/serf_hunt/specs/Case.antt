@@ -1,0 +1,18 @@
+-- A schedule and what comes of it.
+use Rattle.std.specs.Prelude.{◌≡◌, List}
+use Rattle.serf_agent.specs.declared.config.Config.{Config}
+use Rattle.serf_model.specs.declared.action.Action.{Action}
+use Rattle.serf_model.specs.Cluster.{run_of, trace_of}
+use Rattle.serf_model.specs.Trace.{Turn, outcome_of, turns_of}
+use Rattle.serf_replay.specs.Line.{Parsed}
+use Rattle.serf_hunt.specs.declared.case.Case.{Case}
+
+-- the turns of a schedule's run
+abbrev pub turns_in : Parsed → List Turn
+turns_in p = turns_of p.actions (trace_of (run_of p.configs p.actions))
+
+-- a case is a schedule's, with the trace of its run
+pub record IsRunOf (p : Parsed) (c : Case) : Type 0 where
+  pub configs : c.configs.items ≡ p.configs
+  pub actions : c.actions.items ≡ p.actions
+  pub trace : outcome_of c.trace ≡ trace_of (run_of p.configs p.actions)

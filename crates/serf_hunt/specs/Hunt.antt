@@ -1,0 +1,45 @@
+-- Schedules of seeds, one after another.
+use Rattle.std.specs.Prelude.{◌≡◌, ℕ, ◌+◌, ◌++◌, Bool, zero, suc, List, Option, Some, None}
+use Rattle.std.specs.Io.KnownBytes.{Appends}
+use Rattle.serf_replay.specs.Line.{Parsed}
+use Rattle.serf_hunt.specs.declared.held.Held.{Held}
+use Rattle.serf_hunt.specs.declared.held.Other.{Other}
+use Rattle.serf_hunt.specs.declared.seeds.Hunted.{Hunted}
+use Rattle.serf_hunt.specs.Sweep.{Sweep, Sweeps, sweep, tally}
+
+-- what was found, and what was written for it
+pub record Hunt : Type 0 where
+  pub hunted : Hunted
+  pub written : List ℕ
+
+-- An agent that does otherwise ends it; else it goes on with what the subject writes then.
+abbrev pub AfterSweep : Option Other → ℕ → ℕ → List ℕ → Sweep → (ℕ → List ℕ → List ℕ → Hunt → Type 0) → Hunt → Type 0
+AfterSweep None seed calls written s Next h = Next (tally calls s.held.calls) (written ++ s.written) s.rest h
+AfterSweep (Some other) seed calls written s Next h =
+    h ≡ record { hunted = record { calls = tally calls s.held.calls; found = Some (record { seed = seed; other = other }) }; written = written ++ s.written }
+
+-- So many seeds from this one on: of each a schedule is made, and its agents are held.
+abbrev pub Hunts : (ℕ → Parsed → Type 0) → Bool → ℕ → ℕ → ℕ → List ℕ → List ℕ → Hunt → Type 0
+Hunts makes serf zero seed calls written input h = h ≡ record { hunted = record { calls = calls; found = None }; written = written }
+Hunts makes serf (suc n) seed calls written input h =
+    (p : Parsed) × makes seed p × AfterSweep (sweep serf p input).held.other seed calls written (sweep serf p input)
+    (λ c w rest k. Hunts makes serf n (seed + 1) c w rest k) h
+
+-- such a hunt found this, and wrote what was written
+pub record IsHunt (H : Hunt → Type 0) (hunted : Hunted) (from to : Option (List ℕ)) : Type 0 where
+  pub hunt : Hunt
+  pub is : H hunt
+  pub hunted_is : hunted ≡ hunt.hunted
+  pub written : Appends from to hunt.written
+
+-- On the way there: what follows the seeds so far is a hunt of all.
+abbrev pub IsHunting : Option (List ℕ) → Option (List ℕ) → Option (List ℕ) → Option (List ℕ) → (List ℕ → Hunt → Type 0) → (List ℕ → List ℕ → Hunt → Type 0) → Type 0
+IsHunting None now from to Whole Rest = Unit {0}
+IsHunting (Some input) None from to Whole Rest = ⊥
+IsHunting (Some input) (Some left) from to Whole Rest = (w : List ℕ) × Appends from to w × ((h : Hunt) → Rest w left h → Whole input h)
+
+-- a schedule of a seed was made, and its agents were held
+pub record HoldsSeed (Is : Parsed → Type 0) (serf : Bool) (input : List ℕ) (held : Held) (new from to : Option (List ℕ)) : Type 0 where
+  pub schedule : Parsed
+  pub made : Is schedule
+  pub sweeps : Sweeps (sweep serf schedule input) held new from to

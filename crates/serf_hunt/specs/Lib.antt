@@ -1,0 +1,4 @@
+pub mod Case
+pub mod Hunt
+pub mod Random
+pub mod Sweep

@@ -1,0 +1,64 @@
+-- Agents, held one after another.
+use Rattle.std.specs.Prelude.{◌≡◌, ℕ, ◌+◌, ◌-◌, ◌^◌, ◌++◌, Bool, true, false, min, List, [], ◌∷◌, Option, Some, None}
+use Rattle.std.specs.Io.KnownBytes.{Appends}
+use Rattle.serf_agent.specs.declared.config.Config.{Config}
+use Rattle.serf_model.specs.Trace.{Turn}
+use Rattle.serf_replay.specs.Line.{Parsed}
+use Rattle.serf_conform.specs.declared.verdict.End.{End}
+use Rattle.serf_conform.specs.declared.verdict.End.TheVariants as ends
+use Rattle.serf_conform.specs.Session.{IsLeft, Session, session}
+use Rattle.serf_hunt.specs.declared.held.Held.{Held}
+use Rattle.serf_hunt.specs.declared.held.Other.{Other}
+use Rattle.serf_hunt.specs.Case.{turns_in}
+
+-- a sum of 64 bits, or the greatest such number
+abbrev pub tally : ℕ → ℕ → ℕ
+tally a b = min (a + b) (2 ^ 64 - 1)
+
+-- an agent replied otherwise, or has ended
+abbrev pub is_other : End → Bool
+is_other ends.AllAgree = false
+is_other ends.OwnRule = false
+is_other ends.Unsupported = false
+is_other (ends.Differs text) = true
+is_other ends.Ended = true
+
+-- what is thought of the agents, what was written, and what they write from there on
+pub record Sweep : Type 0 where
+  pub held : Held
+  pub written : List ℕ
+  pub rest : List ℕ
+
+-- A session of agent a ends it where the agent is another; else it goes on.
+abbrev pub after_session : Bool → ℕ → ℕ → List ℕ → Session → (ℕ → List ℕ → List ℕ → Sweep) → Sweep
+after_session true a calls written s next =
+    record { held = record { calls = tally calls s.verdict.calls; other = Some (record { agent = a; verdict = s.verdict }) }; written = written ++ s.written; rest = s.rest }
+after_session false a calls written s next = next (tally calls s.verdict.calls) (written ++ s.written) s.rest
+
+-- the agents that are left, from number a on
+abbrev pub sweep_from : Bool → List Turn → ℕ → ℕ → List ℕ → List Config → List ℕ → Sweep
+sweep_from serf turns a calls written [] input = record { held = record { calls = calls; other = None }; written = written; rest = input }
+sweep_from serf turns a calls written (config ∷ configs) input =
+    let s = session serf a config turns input in
+    after_session (is_other s.verdict.end) a calls written s (λ c w rest. sweep_from serf turns (a + 1) c w configs rest)
+
+-- All agents of a schedule, in order, each opened anew and held by itself, up to the first other one.
+abbrev pub sweep : Bool → Parsed → List ℕ → Sweep
+sweep serf p input = sweep_from serf (turns_in p) 0 0 [] p.configs input
+
+-- where no agent has ended, the reader has the rest left
+abbrev pub IsLeftBehind : Option Other → Option (List ℕ) → List ℕ → Type 0
+IsLeftBehind None new rest = new ≡ Some rest
+IsLeftBehind (Some other) new rest = IsLeft other.verdict.end new rest
+
+-- what is thought of them, what was written, and what the reader has left
+pub record Sweeps (s : Sweep) (held : Held) (new from to : Option (List ℕ)) : Type 0 where
+  pub held_is : held ≡ s.held
+  pub written : Appends from to s.written
+  pub left : IsLeftBehind held.other new s.rest
+
+-- On the way there: what is left of the input gives what the whole gives.
+abbrev pub IsSweeping : Option (List ℕ) → Option (List ℕ) → Option (List ℕ) → Option (List ℕ) → (List ℕ → Sweep) → (List ℕ → List ℕ → Sweep) → Type 0
+IsSweeping None now from to whole rest_of = Unit {0}
+IsSweeping (Some input) None from to whole rest_of = ⊥
+IsSweeping (Some input) (Some rest) from to whole rest_of = (w : List ℕ) × Appends from to w × (rest_of w rest ≡ whole input)

@@ -1,0 +1,35 @@
+//! A schedule and what comes of it.
+
+ghost use Rattle.std.specs.Prelude.{IfOk};
+ghost use Rattle.serf_replay.specs.Schedule.{parsed_of};
+ghost use Rattle.serf_hunt.specs.Case.{IsRunOf};
+
+use crate::configs::copy_configs;
+use serf_agent::Config;
+use serf_replay::Schedule;
+use serf_world::{Action, Trace, run};
+use std::alloc::{AllocError, Global};
+
+/// A schedule and the trace of its run.
+#[derive(Debug, Drop)]
+pub struct Case {
+    pub configs: Vec<Config>,
+    pub actions: Vec<Action>,
+    pub trace: Trace,
+}
+
+/// Runs a schedule.
+pub fn case_of(alloc: Global, schedule: Schedule) -> Result<Case, AllocError>
+    ensures { IfOk result (IsRunOf (parsed_of schedule)) }
+{
+    let Schedule { agents, actions } = schedule;
+    let configs = copy_configs(alloc, agents.as_slice())?;
+    match run(alloc, agents.into_vec(), &actions) {
+        Ok(trace) => Ok(Case {
+            configs,
+            actions,
+            trace,
+        }),
+        Err(_) => Err(AllocError),
+    }
+}

@@ -1,0 +1,63 @@
+"""By hand, since it needs Go and Serf's sources: Serf's own code (conformance/serf), held against the reference.
+
+    tests/by_hand/real_serf.py [SEEDS]
+
+Serf's package and conformance/serf are compiled together, by `go` and the sources of Debian's packages
+golang-github-hashicorp-serf-dev and golang-github-hashicorp-memberlist-dev, or of SERF_GOPATH. Each example is held, and
+then the random schedules of SEEDS (1-2000 where left out), of each kind a share, all by Serf's rules. It prints each
+report, and fails where one is no agreement.
+"""
+
+import glob
+import os
+import shutil
+import subprocess
+import sys
+import tempfile
+
+TOP = os.path.dirname(os.path.dirname(os.path.dirname(os.path.abspath(__file__))))
+sys.path[:0] = [os.path.join(TOP, part) for part in ("tests", "tools")]
+sys.dont_write_bytecode = True
+import conform
+
+SOURCES = os.environ.get("SERF_GOPATH", "/usr/share/gocode")
+SERF = os.path.join("src", "github.com", "hashicorp", "serf")
+KINDS = ("mixed", "tiny", "merges", "restarts", "devices", "injections", "queries", "limits", "exhaustion", "per-time", "compactions", "gossip")
+
+
+def build(folder):
+    """Compiles Serf with its agent behind the pipe, and gives the program's path."""
+    package = os.path.join(folder, SERF, "serf")
+    shutil.copytree(os.path.join(SOURCES, SERF), os.path.join(folder, SERF), ignore=shutil.ignore_patterns("*_test.go"))
+    ours = os.path.join(TOP, "conformance", "serf")
+    shutil.copy(os.path.join(ours, "agent.go"), os.path.join(package, "pipe_agent.go"))
+    shutil.copytree(os.path.join(ours, "program"), os.path.join(folder, "src", "serf_pipe"))
+    program = os.path.join(folder, "serf_pipe")
+    paths = dict(os.environ, GO111MODULE="off", GOPATH=folder + ":" + SOURCES)
+    subprocess.run(["go", "build", "-o", program, "serf_pipe"], cwd=folder, env=paths, check=True)
+    return program
+
+
+def main(words):
+    first, _, last = (words[0] if words else "1-2000").partition("-")
+    first, last = int(first), int(last or first)
+    with tempfile.TemporaryDirectory(prefix="serf-") as folder:
+        agent = [build(folder), "-note-all"]
+        asked = [[path] for path in sorted(glob.glob(os.path.join(TOP, "examples", "*.schedule")))]
+        share = -(-(last + 1 - first) // len(KINDS))
+        for number, kind in enumerate(KINDS):
+            begin = first + number * share
+            end = min(begin + share - 1, last)
+            if begin <= end:
+                asked.append(["--random", f"{begin}-{end}", "--kind", kind])
+        failed = 0
+        for words in asked:
+            status, report = conform.compare([*words, "--rules", "serf"], agent)
+            print(" ".join(words) + ":\n" + report, end="", flush=True)
+            failed += status != 0
+    print(f"{len(asked) - failed} passed, {failed} failed")
+    return 1 if failed else 0
+
+
+if __name__ == "__main__":
+    sys.exit(main(sys.argv[1:]))
