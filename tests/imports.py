@@ -52,6 +52,13 @@ OPEN = {
         ("proofs/RoundTrip.antt", "serf_model", "StartLaws"),
         ("proofs/WordsBack.antt", "serf_replay", "NumberLemmas"),
     ),
+    "serf_streamed": (
+        ("proofs/LineLaws.antt", "serf_replay", "GrownLaws"),
+        ("proofs/TextLaws.antt", "serf_replay", "GrownLaws"),
+        ("proofs/TextLaws.antt", "serf_replay", "ShownLaws"),
+        ("proofs/TextLaws.antt", "serf_replay", "SizedLaws"),
+        ("proofs/TurnLaws.antt", "serf_replay", "GrownLaws"),
+    ),
     "serf_wire": (
         ("proofs/FastLists.antt", "serf_pack", "ReadIsSpelled"),
         ("proofs/FastPairs.antt", "serf_pack", "Canonical"),

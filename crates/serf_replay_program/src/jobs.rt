@@ -5,6 +5,7 @@ use crate::conform_job::{Comparison, conform};
 use crate::decode_lines_job::run_decode_lines;
 use crate::judge_job::run_judge;
 use crate::progress::Progress;
+use crate::stream_job::run_stream;
 use clap::Error;
 use clap::error::ErrorKind;
 use hex::FromHexError;
@@ -192,6 +193,7 @@ pub fn run<F: Files, R: Clock + Input + Print + Eprint + AllocGlobal>(
 ) -> u8 {
     match job_in(rt.alloc(), words) {
         Ok(Some(Job::Replay(file))) => run_replay(files, rt, is_terminal, file),
+        Ok(Some(Job::Stream(file))) => run_stream(files, rt, file),
         Ok(Some(Job::Decode(Some(text)))) => run_decode(rt, text),
         Ok(Some(Job::Decode(None))) => run_decode_lines(rt),
         Ok(Some(Job::Clocks(file))) => run_clocks(files, rt, file),

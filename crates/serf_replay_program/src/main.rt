@@ -9,6 +9,7 @@ mod judge_job;
 mod judge_text;
 mod progress;
 mod random_job;
+mod stream_job;
 
 use jobs::{COMMAND_LINE, DEVICE, run};
 use std::io::{self, IsTerminal};
