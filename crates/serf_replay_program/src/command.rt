@@ -5,6 +5,7 @@ use crate::draw_job::{Drawing, draw_command, drawing_of};
 use crate::write_job::write_command;
 use crate::hunt_job::{Search, search_of};
 use crate::random_job::{actions, agents, ask_of, kind, random_command};
+use crate::stream_job::stream_flag;
 use clap::{Arg, ArgAction, ArgMatches, Command, Error};
 use serf_conform::Rules;
 use serf_random::Ask;
@@ -15,6 +16,8 @@ use std::alloc::{AllocError, Global};
 pub enum Job<'a> {
     /// Runs the schedule of a file, or of standard input, and writes its trace.
     Replay(Option<&'a str>),
+    /// Does the lines of a file, or of standard input, one after another, and writes each one's turn.
+    Stream(Option<&'a str>),
     /// Prints the message that bytes in hex spell; without them, of each line of standard input.
     Decode(Option<&'a str>),
     /// Prints the clocks that the snapshot in a file keeps.
@@ -59,7 +62,8 @@ fn job_command<'a>(
 fn replay_command<'a>(alloc: Global) -> Result<Command<'a>, AllocError> {
     let help = "The schedule; standard input where it is left out or `-`";
     let about = "Runs a schedule and writes its trace";
-    job_command(alloc, "replay", about, EXAMPLE, place(alloc, "FILE", help))
+    let file = place(alloc, "FILE", help);
+    job_command(alloc, "replay", about, EXAMPLE, file)?.arg(stream_flag(alloc))
 }
 
 fn decode_command<'a>(alloc: Global) -> Result<Command<'a>, AllocError> {
@@ -186,6 +190,7 @@ fn job_of<'a>(alloc: Global, matches: &ArgMatches<'a>) -> Result<Option<Job<'a>>
         return Ok(None);
     };
     Ok(match name {
+        "replay" if inner.get_flag("stream") => Some(Job::Stream(inner.get_str("FILE"))),
         "replay" => Some(Job::Replay(inner.get_str("FILE"))),
         "decode" => Some(Job::Decode(inner.get_str("HEX"))),
         "clocks" => inner.get_str("FILE").map(|file| Job::Clocks(file)),

@@ -33,7 +33,8 @@ fn bad_line(rt: &impl Eprint, line: u64, cause: Cause) -> u8 {
     REFUSED
 }
 
-fn stopped(rt: &impl Eprint, fault: StreamFault<Cause>) -> u8 {
+/// The status of a stream of lines that ended at a fault, which gets a line on standard error.
+pub(crate) fn stopped(rt: &impl Eprint, fault: StreamFault<Cause>) -> u8 {
     match fault {
         StreamFault::ReadFault => read_failed(rt),
         StreamFault::BadLine { line, fault } => bad_line(rt, line, fault),

@@ -11,6 +11,7 @@ mod judge_job;
 mod judge_text;
 mod progress;
 mod random_job;
+mod stream_job;
 mod write_job;
 
 use jobs::{COMMAND_LINE, DEVICE, run};

@@ -1,0 +1,39 @@
+//! The job `replay --stream`: a schedule of any length, line by line.
+
+use crate::jobs::DONE;
+use crate::judge_job::stopped;
+use clap::{Arg, ArgAction};
+use serf_stream::StreamFault;
+use serf_streamed::replay_lines;
+use std::alloc::Global;
+use std::rt::Files;
+use std::{fs, io};
+
+/// The word that asks for it.
+pub fn stream_flag<'a>(alloc: Global) -> Arg<'a> {
+    Arg::new(alloc, "stream")
+        .long("stream")
+        .help("Does and writes line by line: a schedule of any length")
+        .action(ArgAction::SetTrue)
+}
+
+/// Does the lines of a file, or of standard input, and gives the status. A line that is bad ends it, behind the text of
+/// those before.
+pub fn run_stream<F: Files, R: Input + Print + Eprint + AllocGlobal>(
+    files: &F,
+    rt: &R,
+    file: Option<&str>,
+) -> u8 {
+    let mut writer = io::writer(rt);
+    let outcome = match file {
+        None | Some("-") => replay_lines(rt.alloc(), &mut rt.reader(), &mut writer),
+        Some(path) => match fs::open(files, path) {
+            Ok(mut reader) => replay_lines(rt.alloc(), &mut reader, &mut writer),
+            Err(_) => Err(StreamFault::ReadFault),
+        },
+    };
+    match outcome {
+        Ok(()) => DONE,
+        Err(fault) => stopped(rt, fault),
+    }
+}
