@@ -2,10 +2,10 @@
 
 use crate::conform_job::Comparison;
 use crate::draw_job::{Drawing, draw_command, drawing_of};
-use crate::write_job::write_command;
 use crate::hunt_job::{Search, search_of};
 use crate::random_job::{actions, agents, ask_of, kind, random_command};
 use crate::stream_job::stream_flag;
+use crate::write_job::write_command;
 use clap::{Arg, ArgAction, ArgMatches, Command, Error};
 use serf_conform::Rules;
 use serf_random::Ask;
