@@ -73,17 +73,21 @@ def framing(count):
 def judged(count):
     incident = os.path.join(TOP, "examples", "incident")
     log, kept = os.path.join(incident, "handlers.log"), os.path.join(incident, "beta.snapshot")
-    repeat = b'Once: line 7 repeats line 6: beta 3 "deploy" "v2"\nQueryOnce: holds\n'
+    repeat = b'Once: line 7 repeats line 6: beta 3 "deploy" "v2"\nQueryOnce: holds\nFired: not asked: no fired lines\n'
     open_again = b"beta keeps event-clock 2, and line 6 was handed out at 3: it can be handed out again\n"
     count.exactly("the incident", ["judge", log, "--kept", "beta=" + kept], 1, repeat + open_again, b"")
     count.exactly("its log alone", ["judge", log], 1, repeat, b"")
     count.exactly("its log on standard input", ["judge"], 1, repeat, b"", read("examples", "incident", "handlers.log"))
-    holds = b"Once: holds\nQueryOnce: holds\n"
+    holds = b"Once: holds\nQueryOnce: holds\nFired: not asked: no fired lines\n"
     count.exactly("no repeat", ["judge", "-"], 0, holds, b"", b"# two nodes\n\nevent a 1 x y\nevent b 1 x y\nrestarted a\nevent a 2 x y\nevent a 1 x z\n")
     count.exactly("the rest is kept", ["judge", "--kept", "gamma=" + kept], 0, holds + b"gamma keeps event-clock 2: nothing was handed out above it\n", b"", b"event gamma 2 x y\nevent beta 3 x y\n")
     count.exactly("an empty log", ["judge"], 0, holds, b"")
-    count.exactly("a query twice", ["judge"], 1, b"Once: holds\nQueryOnce: line 3 repeats line 1: a 7 9\n", b"", b"query a 7 9\nquery b 7 9\nquery a 7 9\nquery a 7 9\n")
-    count.exactly("any bytes", ["judge"], 1, b'Once: line 2 repeats line 1: a 1 "\\xff\\x22" "\\x5c"\nQueryOnce: holds\n', b"", b'event a 1 \xff" \\\n' * 2)
+    count.exactly("a query twice", ["judge"], 1, b"Once: holds\nQueryOnce: line 3 repeats line 1: a 7 9\nFired: not asked: no fired lines\n", b"", b"query a 7 9\nquery b 7 9\nquery a 7 9\nquery a 7 9\n")
+    count.exactly("any bytes", ["judge"], 1, b'Once: line 2 repeats line 1: a 1 "\\xff\\x22" "\\x5c"\nQueryOnce: holds\nFired: not asked: no fired lines\n', b"", b'event a 1 \xff" \\\n' * 2)
+    fired = b"Once: holds\nQueryOnce: holds\nFired: "
+    count.exactly("all fired", ["judge"], 0, fired + b"holds\n", b"", b"fired a 1 x y\nevent a 1 x y\nevent b 1 x y\n")
+    count.exactly("another payload than was fired", ["judge"], 1, fired + b'line 2 hands out what no line above it fired: b 1 "x" "z"\n', b"", b"fired a 1 x y\nevent b 1 x z\n")
+    count.exactly("fired behind it", ["judge"], 1, fired + b'line 2 hands out what no line above it fired: b 2 "x" "y"\n', b"", b"fired a 1 x y\nevent b 2 x y\nfired a 2 x y\n")
     for name, text, words in (
         ("a word that is none", b"event a 1 x y\nhanded a\n", b"bad line 2 UnknownWord\n"),
         ("a word less", b"event a 1 x\n", b"bad line 1 WordCount\n"),

@@ -1,5 +1,6 @@
 //! The text of the verdicts on a log.
 
+use serf_fired::first_unfired;
 use serf_judge::{EventEntry, Log, QueryEntry, first_above, first_event_twice, first_query_twice};
 use std::alloc::{AllocError, Global};
 
@@ -68,12 +69,27 @@ impl Verdicts {
             earlier.line,
             later.node.as_slice(),
         )?;
-        let time = later.time;
+        self.put_event(alloc, later)
+    }
+
+    /// Appends an event's time and texts, and ends the line.
+    fn put_event(&mut self, alloc: Global, event: &EventEntry) -> Result<(), AllocError> {
+        let time = event.time;
         let text = format!(in alloc; " {time}")?;
         self.text.extend_from_slice(text.as_bytes())?;
-        put_quoted(&mut self.text, later.name.as_slice())?;
-        put_quoted(&mut self.text, later.payload.as_slice())?;
+        put_quoted(&mut self.text, event.name.as_slice())?;
+        put_quoted(&mut self.text, event.payload.as_slice())?;
         self.text.extend_from_slice(b"\n")
+    }
+
+    /// Appends which line hands out what nobody fired.
+    fn put_unfired(&mut self, alloc: Global, event: &EventEntry) -> Result<(), AllocError> {
+        self.is_broken = true;
+        let line = event.line;
+        let text = format!(in alloc; "Fired: line {line} hands out what no line above it fired: ")?;
+        self.text.extend_from_slice(text.as_bytes())?;
+        self.text.extend_from_slice(event.node.as_slice())?;
+        self.put_event(alloc, event)
     }
 
     fn put_query_repeat(
@@ -116,10 +132,31 @@ impl Verdicts {
         self.put_holds("QueryOnce")
     }
 
+    /// Whether each event was fired on a line above, where the log tells of firings.
+    fn judge_fired(
+        &mut self,
+        alloc: Global,
+        fired: &[EventEntry],
+        events: &[EventEntry],
+    ) -> Result<(), AllocError> {
+        if fired.is_empty() {
+            return self
+                .text
+                .extend_from_slice(b"Fired: not asked: no fired lines\n");
+        }
+        if let Some(place) = first_unfired(alloc, fired, events)?
+            && let Some(event) = events.get(place)
+        {
+            return self.put_unfired(alloc, event);
+        }
+        self.put_holds("Fired")
+    }
+
     /// Judges a log.
     pub fn judge(&mut self, alloc: Global, log: &Log) -> Result<(), AllocError> {
         self.judge_events(alloc, log.events.as_slice())?;
-        self.judge_queries(alloc, log.queries.as_slice())
+        self.judge_queries(alloc, log.queries.as_slice())?;
+        self.judge_fired(alloc, log.fired.as_slice(), log.events.as_slice())
     }
 
     /// Judges what a node's snapshot leaves open, by the event clock that it keeps.
