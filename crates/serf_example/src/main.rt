@@ -36,7 +36,10 @@ fn open<'a, R: Files<File = File> + AllocGlobal>(
 
 /// What a deployment tool does once for each event.
 fn handle<R: Print>(rt: &R, agent: &str, event: &EventOut) -> Result<()> {
-    println!(rt; "{agent} runs its handler for the event of time {}", event.time.get())?;
+    println!(rt;
+        "{agent} runs its handler for the event of time {}",
+        event.time.get()
+    )?;
     Ok(())
 }
 

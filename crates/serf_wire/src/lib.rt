@@ -31,9 +31,7 @@ mod texts;
 pub use encode::{EncodeFault, encode_push_pull, encode_query, encode_response, encode_user_event};
 pub use fault::WireFault;
 pub use filter::{node_filter, passes};
-pub use laws::{
-    canonical_packets, decoded_ranges, exact_decoding, exact_filters, ordered_faults,
-};
+pub use laws::{canonical_packets, decoded_ranges, exact_decoding, exact_filters, ordered_faults};
 pub use length::{query_len, response_len, user_event_len};
 pub use lent_slots::{LentEventSlots, LentSlot, LentSlots};
 pub use lists::{EventView, EventViews, SlotView, SlotViews, StatusTime, StatusTimes, Texts};
