@@ -1,5 +1,5 @@
 -- A text that grows by reasons.
-use Rattle.std.proofs.Common.{◌≡◌, ℕ, ◌<◌, List, [], ◌∷◌, ◌++◌, refl, sym, ap, ◌∙◌, append_assoc, length, length-append, arith}
+use Rattle.std.proofs.Common.{◌≡◌, ℕ, ◌<◌, List, [], ◌∷◌, ◌++◌, refl, sym, ap, ◌∙◌, append_assoc, length, arith}
 use Rattle.std.specs.List.{flat_map}
 use Rattle.std.proofs.lemmas.List.{append-nil}
 use Rattle.serf_explain.specs.Because.{AddsReasons, AddsSome, because_line}
@@ -27,11 +27,22 @@ adds-both n a b c h k = record {
       ∙ ap (λ t. a ++ t) (sym (lines-append n h.reasons k.reasons));
 }
 
+some-behind : (rs : List (List ℕ)) (r : List ℕ) → 0 < length (rs ++ r ∷ [])
+some-behind [] r = omega arith
+some-behind (x ∷ rs) r = omega arith
+
 pub adds-last : (n : ℕ) (a b c reason : List ℕ) → AddsReasons n a b → c ≡ b ++ because_line n reason → AddsSome n a c
 adds-last n a b c reason h is =
-    let one : AddsSome n b c = adds-one n b c reason is in
-    let both : AddsReasons n a c = adds-both n a b c h (reasons-of n b c one) in
-    record { reasons = h.reasons ++ reason ∷ []; some = omega (arith, length-append h.reasons (reason ∷ [])); added = both.added }
+    let lines : List ℕ = because_line n reason in
+    let one : flat_map (because_line n) (reason ∷ []) ≡ lines = append-nil lines in
+    record {
+      reasons = h.reasons ++ reason ∷ [];
+      some = some-behind h.reasons reason;
+      added = is ∙ ap (λ t. t ++ lines) h.added
+          ∙ append_assoc a (flat_map (because_line n) h.reasons) lines
+          ∙ ap (λ t. a ++ (flat_map (because_line n) h.reasons ++ t)) (sym one)
+          ∙ ap (λ t. a ++ t) (sym (lines-append n h.reasons (reason ∷ [])));
+    }
 
 -- a text that is no longer than before has no reason more
 pub adds-some : (n : ℕ) (a b : List ℕ) → AddsReasons n a b → (length b ≡ length a → ⊥) → AddsSome n a b

@@ -79,6 +79,21 @@ fn add_turn(
     Ok(())
 }
 
+/// Does an action, adds what is shown of it, and lets it go.
+fn take_turn(
+    alloc: Global,
+    world: &mut World,
+    memory: &mut Memory,
+    out: &mut Vec<u8>,
+    range: &Range,
+    number: u64,
+    action: Action,
+) -> Result<(), AllocError>
+    ensures { (r : Run) → IsTold range.now r world.old out.old.items → number ≡ length r.turns + 1 → OnOk result (IsTold range.now (after r action) world.new out.new.items) }
+{
+    add_turn(alloc, world, memory, out, range, number, &action)
+}
+
 /// What is shown of the run of a schedule, of which nothing is left then.
 fn run_text<T: Watch>(
     alloc: Global,
@@ -97,14 +112,14 @@ fn run_text<T: Watch>(
     let mut number: u64 = 0;
     for action in actions {
         number += 1;
-        add_turn(
+        take_turn(
             alloc,
             &mut world,
             &mut memory,
             &mut out,
             range,
             number,
-            &action,
+            action,
         )?;
         watch.acted(number, all);
     }

@@ -23,7 +23,7 @@ loop-action-preserved g c =
     let next : into_iter_items c.loop-action.action-iterator ≡ c.in-Some.action ∷ into_iter_items c.next.new.self = grind (arith, common_steps) in
     let one : c.loop-action.number + 1 ≡ length r.turns + 1 = ap (λ n. n + 1) inv.2 in (
       after r c.in-Some.action,
-      c.in_ok-add_turn.ensures r inv.1 one,
+      c.in_ok-take_turn.ensures r inv.1 one,
       one ∙ sym (length-append r.turns ((step r.cluster c.in-Some.action).turn ∷ [])),
       omega (arith, ap length next, inv.3),
       ap (fold after r) (sym next) ∙ inv.4,
