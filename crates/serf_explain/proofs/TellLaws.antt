@@ -1,5 +1,5 @@
 -- The text of a run's turns with their reasons, as one action after another is done.
-use Rattle.std.proofs.Common.{◌≡◌, ℕ, ◌+◌, ◌<◌, List, [], ◌∷◌, ◌++◌, Option, Some, None, Bool, true, false, refl, subst, sym, ap, ◌∙◌, map, length, append_assoc, All, arith}
+use Rattle.std.proofs.Common.{◌≡◌, ℕ, ◌+◌, ◌<◌, List, [], ◌∷◌, ◌++◌, Option, Some, None, true, false, refl, subst, sym, ap, ◌∙◌, length, append_assoc, All, arith}
 use Rattle.std.specs.Prelude.{slice_get, if◌then◌else◌}
 use Rattle.std.specs.List.{flat_map}
 use Rattle.std.proofs.lemmas.List.{append-nil, length-map, map-append}
@@ -37,7 +37,7 @@ turns-push range sent n [] e =
 turns-push range sent n (x ∷ xs) e =
     let later : n + 1 + length xs ≡ n + length (x ∷ xs) = omega arith in
     ap (λ t. turn_text range sent n x.turn.action x.turn.line x.reasons ++ t)
-        (turns-push range sent (n + 1) xs e ∙ ap (λ m. turns_text range sent (n + 1) xs ++ turn_text range sent m e.turn.action e.turn.line e.reasons) later)
+    (turns-push range sent (n + 1) xs e ∙ ap (λ m. turns_text range sent (n + 1) xs ++ turn_text range sent m e.turn.action e.turn.line e.reasons) later)
     ∙ sym (append_assoc (turn_text range sent n x.turn.action x.turn.line x.reasons) (turns_text range sent (n + 1) xs) (turn_text range sent (n + length (x ∷ xs)) e.turn.action e.turn.line e.reasons))
 
 all-push : (es : List Explained) (e : Explained) → All (λ (e : Explained). 0 < length e.reasons) es → 0 < length e.reasons → All (λ (e : Explained). 0 < length e.reasons) (es ++ e ∷ [])
@@ -65,14 +65,14 @@ told-after range r action w new line text added n sends stays h count takes adds
       told = λ more.
           turns-push range (sent ++ more) 1 h.explained one
           ∙ ap (λ s. turns_text range s 1 h.explained ++ turn_text range (sent ++ more) (1 + length h.explained) turn.action turn.line adds.reasons)
-              (ap (λ s. s ++ more) sends ∙ append_assoc r.cluster.sent turn.packets more)
+          (ap (λ s. s ++ more) sends ∙ append_assoc r.cluster.sent turn.packets more)
           ∙ ap (λ t. t ++ turn_text range (sent ++ more) (1 + length h.explained) turn.action turn.line adds.reasons) (h.told (turn.packets ++ more))
           ∙ ap (λ t. text ++ t)
-              (ap (λ m. turn_text range (sent ++ more) m turn.action turn.line adds.reasons) place
-              ∙ ap (λ t. if is_shown range n (actor_of turn.action) then t ++ flat_map (because_line n) adds.reasons else []) (stays more)
-              ∙ ap (λ a. turn_text range sent n a turn.line adds.reasons) (acts r.cluster action)
-              ∙ ap (λ s. turn_text range s n action turn.line adds.reasons) takes.view.sent
-              ∙ ap (λ l. turn_text range new.sent n action l adds.reasons) (sym takes.line_is))
+          (ap (λ m. turn_text range (sent ++ more) m turn.action turn.line adds.reasons) place
+          ∙ ap (λ t. if is_shown range n (actor_of turn.action) then t ++ flat_map (because_line n) adds.reasons else []) (stays more)
+          ∙ ap (λ a. turn_text range sent n a turn.line adds.reasons) (acts r.cluster action)
+          ∙ ap (λ s. turn_text range s n action turn.line adds.reasons) takes.view.sent
+          ∙ ap (λ l. turn_text range new.sent n action l adds.reasons) (sym takes.line_is))
           ∙ sym adds.added;
     }
 

@@ -41,15 +41,19 @@ fn put_event_of(out: &mut Vec<u8>, message: &Message) -> Result<(), AllocError> 
 }
 
 /// Appends why an event that was delivered is new.
-fn put_new(
-    out: &mut Vec<u8>,
-    actor: &Actor,
-    message: &Message,
-) -> Result<(), AllocError> {
+fn put_new(out: &mut Vec<u8>, actor: &Actor, message: &Message) -> Result<(), AllocError> {
     put_event_of(out, message)?;
     put_name(out, actor.agent)?;
-    say(out, b" takes events from time ", actor.agent.event_minimum())?;
-    say(out, b" on, its event clock was ", actor.before.event_clock.value)?;
+    say(
+        out,
+        b" takes events from time ",
+        actor.agent.event_minimum(),
+    )?;
+    say(
+        out,
+        b" on, its event clock was ",
+        actor.before.event_clock.value,
+    )?;
     out.extend_from_slice(b", and it had not been handed this one")
 }
 
@@ -66,11 +70,7 @@ fn excluding<'a>(filters: Texts<'a>, node: &[u8]) -> Option<(u64, &'a [u8])> {
 }
 
 /// Appends whether a query is handed out, or which filter keeps it from that.
-fn put_filtered(
-    out: &mut Vec<u8>,
-    actor: &Actor,
-    filters: Texts,
-) -> Result<(), AllocError> {
+fn put_filtered(out: &mut Vec<u8>, actor: &Actor, filters: Texts) -> Result<(), AllocError> {
     match excluding(filters, actor.agent.config().name.as_slice()) {
         None => out.extend_from_slice(b", and each of its filters lets this node pass"),
         Some((number, filter)) => {
@@ -98,11 +98,7 @@ fn put_new_texts(
 }
 
 /// Appends why a query that was delivered is new, and why it is handed out or isn't.
-fn put_new_query(
-    out: &mut Vec<u8>,
-    actor: &Actor,
-    message: &Message,
-) -> Result<(), AllocError> {
+fn put_new_query(out: &mut Vec<u8>, actor: &Actor, message: &Message) -> Result<(), AllocError> {
     match *message {
         Message::Query {
             time,
@@ -143,12 +139,7 @@ fn put_counted(
 }
 
 /// Appends which action fired the query of a time.
-fn put_asked(
-    out: &mut Vec<u8>,
-    told: &Told,
-    actor: &Actor,
-    time: u64,
-) -> Result<(), AllocError> {
+fn put_asked(out: &mut Vec<u8>, told: &Told, actor: &Actor, time: u64) -> Result<(), AllocError> {
     match told.memory.asked_at(actor.number, time) {
         Some(asked) => {
             out.extend_from_slice(b", which ")?;
@@ -164,7 +155,11 @@ fn put_restarted(out: &mut Vec<u8>, actor: &Actor) -> Result<(), AllocError> {
     let agent = actor.agent;
     let events = agent.event_minimum();
     let queries = agent.query_minimum();
-    say(out, b"its snapshot keeps clock ", agent.member_time().saturating_sub(1))?;
+    say(
+        out,
+        b"its snapshot keeps clock ",
+        agent.member_time().saturating_sub(1),
+    )?;
     say(out, b", event-clock ", events.saturating_sub(1))?;
     say(out, b", query-clock ", queries.saturating_sub(1))?;
     say(out, b": it takes events from ", events)?;
@@ -213,12 +208,7 @@ fn put_replied(out: &mut Vec<u8>, told: &Told, actor: &Actor) -> Result<(), Allo
 }
 
 /// Appends how many queries were closed.
-fn put_closed(
-    out: &mut Vec<u8>,
-    told: &Told,
-    actor: &Actor,
-    count: u64,
-) -> Result<(), AllocError> {
+fn put_closed(out: &mut Vec<u8>, told: &Told, actor: &Actor, count: u64) -> Result<(), AllocError> {
     let now = match told.action {
         Action::Close { now, .. } => *now,
         _ => 0,
@@ -233,10 +223,22 @@ fn put_closed(
 fn put_own(out: &mut Vec<u8>, told: &Told, actor: &Actor) -> Result<(), AllocError> {
     match told.line.answer {
         Answer::Fired(time) => {
-            put_fired(out, actor, b"event", time.get(), actor.before.event_clock.since)
+            put_fired(
+                out,
+                actor,
+                b"event",
+                time.get(),
+                actor.before.event_clock.since,
+            )
         }
         Answer::Queried(time) => {
-            put_fired(out, actor, b"query", time.get(), actor.before.query_clock.since)
+            put_fired(
+                out,
+                actor,
+                b"query",
+                time.get(),
+                actor.before.query_clock.since,
+            )
         }
         Answer::State => put_state(out, actor),
         Answer::Replied => put_replied(out, told, actor),

@@ -53,7 +53,11 @@ pub(crate) fn put_too_old(
 /// Appends that a time has as many as are taken.
 pub(crate) fn put_full(out: &mut Vec<u8>, per_time: u64, time: u64) -> Result<(), AllocError> {
     say(out, b"", per_time)?;
-    say(out, b", as many as are taken of one time, were taken of time ", time)
+    say(
+        out,
+        b", as many as are taken of one time, were taken of time ",
+        time,
+    )
 }
 
 /// Appends why an event that was delivered is ignored.

@@ -33,12 +33,7 @@ fn put_nothing(out: &mut Vec<u8>, told: &Told)
 {}
 
 /// Appends what is shown of an action: its lines and those of its reasons, or nothing.
-fn put_turn(
-    alloc: Global,
-    out: &mut Vec<u8>,
-    is_shown: bool,
-    told: &Told,
-) -> Result<(), AllocError>
+fn put_turn(alloc: Global, out: &mut Vec<u8>, is_shown: bool, told: &Told) -> Result<(), AllocError>
     ensures { OnOk result (AddsTurn is_shown told.now.world.now.sent told.now.number told.now.line.now out.old.items out.new.items) }
 {
     match is_shown {

@@ -44,7 +44,9 @@ fn put_state_reasons(
 {
     match *message {
         Message::PushPull {
-            event_clock, slots, ..
+            event_clock,
+            slots,
+            ..
         } => put_merge(alloc, out, told, actor, event_clock, slots),
         Message::UserEvent { .. }
         | Message::Query { .. }
@@ -69,11 +71,7 @@ fn put_message_reasons(
 }
 
 /// Appends a line for each reason of an action: one at least.
-pub(crate) fn put_reasons(
-    alloc: Global,
-    out: &mut Vec<u8>,
-    told: &Told,
-) -> Result<(), AllocError>
+pub(crate) fn put_reasons(alloc: Global, out: &mut Vec<u8>, told: &Told) -> Result<(), AllocError>
     ensures { OnOk result (AddsSome told.now.number out.old.items out.new.items) }
 {
     match message_of(told) {

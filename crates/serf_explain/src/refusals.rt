@@ -122,9 +122,14 @@ fn put_too_large(out: &mut Vec<u8>, told: &Told, actor: &Actor) -> Result<(), Al
             ..
         } => put_event_sizes(out, actor, name.as_slice(), payload.as_slice(), *coalesce),
         Action::Query { name, payload, .. } => {
-            let texts = (name.as_slice().len() as u64)
-                .saturating_add(payload.as_slice().len() as u64);
-            say(out, b"the query's packet, whose name and payload have ", texts)?;
+            let texts = (name.as_slice().len() as u64).saturating_add(
+                payload.as_slice().len() as u64,
+            );
+            say(
+                out,
+                b"the query's packet, whose name and payload have ",
+                texts,
+            )?;
             out.extend_from_slice(b" bytes together, is longer than 1024 bytes")
         }
         Action::Respond { payload, .. } => {
@@ -173,20 +178,22 @@ pub(crate) fn put_refusal(
         Refusal::NoQuery => put_no_query(out, told, actor),
         Refusal::Stopped => put_stopped(out, actor),
         Refusal::TooLarge => put_too_large(out, told, actor),
-        Refusal::TooLong => {
-            out.extend_from_slice(b"a text or a list is longer than 4294967295")
-        }
+        Refusal::TooLong => { out.extend_from_slice(b"a text or a list is longer than 4294967295") }
         Refusal::Exhausted => {
             out.extend_from_slice(b"the clock stands at 18446744073709551615, which is no time")
         }
-        Refusal::ZeroTimeout => out.extend_from_slice(b"a query with a timeout of 0 takes no answer"),
+        Refusal::ZeroTimeout => out.extend_from_slice(
+            b"a query with a timeout of 0 takes no answer",
+        ),
         Refusal::PastDeadline => put_past_deadline(out, told),
         Refusal::NotPushPull => put_not_push_pull(out, told),
         Refusal::RespondersFull => put_responders(out, told, actor),
         Refusal::SinkFault => put_sink_fault(out, told, actor),
         Refusal::Wire(_) => {
             say(out, b"its ", packet_len(told))?;
-            out.extend_from_slice(b" bytes spell no message: the fault and its place stand in the line above")
+            out.extend_from_slice(
+                b" bytes spell no message: the fault and its place stand in the line above",
+            )
         }
     }
 }

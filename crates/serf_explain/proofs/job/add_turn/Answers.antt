@@ -10,4 +10,4 @@ returns c = λ r h count.
     (c.lines_stay.ensures.sent r.cluster c.args.action.now) (λ more. c.lines_stay.ensures.lines r.cluster c.args.action.now c.args.number more)
     h count (c.in-Ok.ensures.step r.cluster h.view h.representable)
     (subst (λ b. AddsTurn b c.step.new.self.sent c.args.number c.in-Ok.line c.args.out.now.items c.put_turn.new.out.items)
-        (c.shows.ensures ∙ ap (λ o. is_shown c.args.range.now c.args.number o) c.actor.ensures) c.in_ok-put_turn.ensures)
+    (c.shows.ensures ∙ ap (λ o. is_shown c.args.range.now c.args.number o) c.actor.ensures) c.in_ok-put_turn.ensures)
