@@ -1,0 +1,53 @@
+-- A text that grows by reasons.
+use Rattle.std.proofs.Common.{◌≡◌, ℕ, ◌<◌, List, [], ◌∷◌, ◌++◌, refl, sym, ap, ◌∙◌, append_assoc, length, arith}
+use Rattle.std.specs.List.{flat_map}
+use Rattle.std.proofs.lemmas.List.{append-nil}
+use Rattle.serf_explain.specs.Because.{AddsReasons, AddsSome, because_line}
+
+lines-append : (n : ℕ) (xs ys : List (List ℕ)) → flat_map (because_line n) (xs ++ ys) ≡ flat_map (because_line n) xs ++ flat_map (because_line n) ys
+lines-append n [] ys = refl
+lines-append n (x ∷ xs) ys =
+    ap (λ t. because_line n x ++ t) (lines-append n xs ys)
+    ∙ sym (append_assoc (because_line n x) (flat_map (because_line n) xs) (flat_map (because_line n) ys))
+
+pub adds-none : (n : ℕ) (text : List ℕ) → AddsReasons n text text
+adds-none n text = record { reasons = []; added = sym (append-nil text) }
+
+pub adds-one : (n : ℕ) (a b reason : List ℕ) → b ≡ a ++ because_line n reason → AddsSome n a b
+adds-one n a b reason is = record { reasons = reason ∷ []; some = omega arith; added = is ∙ ap (λ t. a ++ t) (sym (append-nil (because_line n reason))) }
+
+pub reasons-of : (n : ℕ) (a b : List ℕ) → AddsSome n a b → AddsReasons n a b
+reasons-of n a b h = record { reasons = h.reasons; added = h.added }
+
+pub adds-both : (n : ℕ) (a b c : List ℕ) → AddsReasons n a b → AddsReasons n b c → AddsReasons n a c
+adds-both n a b c h k = record {
+  reasons = h.reasons ++ k.reasons;
+  added = k.added ∙ ap (λ t. t ++ flat_map (because_line n) k.reasons) h.added
+      ∙ append_assoc a (flat_map (because_line n) h.reasons) (flat_map (because_line n) k.reasons)
+      ∙ ap (λ t. a ++ t) (sym (lines-append n h.reasons k.reasons));
+}
+
+some-behind : (rs : List (List ℕ)) (r : List ℕ) → 0 < length (rs ++ r ∷ [])
+some-behind [] r = omega arith
+some-behind (x ∷ rs) r = omega arith
+
+pub adds-last : (n : ℕ) (a b c reason : List ℕ) → AddsReasons n a b → c ≡ b ++ because_line n reason → AddsSome n a c
+adds-last n a b c reason h is =
+    let lines : List ℕ = because_line n reason in
+    let one : flat_map (because_line n) (reason ∷ []) ≡ lines = append-nil lines in
+    record {
+      reasons = h.reasons ++ reason ∷ [];
+      some = some-behind h.reasons reason;
+      added = is ∙ ap (λ t. t ++ lines) h.added
+          ∙ append_assoc a (flat_map (because_line n) h.reasons) lines
+          ∙ ap (λ t. a ++ (flat_map (because_line n) h.reasons ++ t)) (sym one)
+          ∙ ap (λ t. a ++ t) (sym (lines-append n h.reasons (reason ∷ [])));
+    }
+
+-- a text that is no longer than before has no reason more
+pub adds-some : (n : ℕ) (a b : List ℕ) → AddsReasons n a b → (length b ≡ length a → ⊥) → AddsSome n a b
+adds-some n a b h differs = by h.reasons h.added
+  where
+    by : (rs : List (List ℕ)) → b ≡ a ++ flat_map (because_line n) rs → AddsSome n a b
+    by [] is = absurd (differs (ap (λ (l : List ℕ). length l) (is ∙ append-nil a)))
+    by (r ∷ rs) is = record { reasons = r ∷ rs; some = omega arith; added = is }

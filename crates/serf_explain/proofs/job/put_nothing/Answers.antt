@@ -1,0 +1,5 @@
+use Rattle.serf_explain.proofs.TellLaws.{nothing-added}
+use Rattle.serf_explain.proofs.job.put_nothing.Goals as goal
+
+pub returns : goal.returns
+returns c = nothing-added c.args.told.now.world.now.sent c.args.told.now.number c.args.told.now.line.now c.args.out.now.items

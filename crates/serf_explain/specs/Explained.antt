@@ -1,0 +1,70 @@
+-- A trace with its reasons.
+use Rattle.std.specs.Prelude.{◌≡◌, ℕ, ◌+◌, ◌<◌, ◌++◌, Bool, if◌then◌else◌, List, [], ◌∷◌, Ok, All, length, map}
+use Rattle.std.specs.List.{flat_map}
+use Rattle.serf_agent.specs.declared.config.Config.{Config}
+use Rattle.serf_model.specs.declared.action.Action.{Action}
+use Rattle.serf_model.specs.declared.line.Line.{Line}
+use Rattle.serf_model.specs.Cluster.{Run, run_of, trace_of}
+use Rattle.serf_model.specs.Ready.{AreRepresentable}
+use Rattle.serf_model.specs.Trace.{Turn, actor_of}
+use Rattle.serf_world.specs.View.{IsViewed, WorldState}
+use Rattle.serf_replay.specs.Line.{Parsed}
+use Rattle.serf_replay.specs.Output.{output_of}
+use Rattle.serf_replay.specs.Schedule.{schedule_of}
+use Rattle.serf_replay.specs.Show.{action_text, trace_text}
+use Rattle.serf_explain.specs.declared.range.Range.{Range}
+use Rattle.serf_explain.specs.Because.{because_line}
+use Rattle.serf_explain.specs.Range.{is_shown}
+
+-- a turn of a run, and the reasons that are told of it
+pub record Explained : Type 0 where
+  pub turn : Turn
+  pub reasons : List (List ℕ)
+
+-- an action's lines just as its trace has them, and a line for each of its reasons behind them
+abbrev pub lines_text : List (List ℕ) → ℕ → Line → List (List ℕ) → List ℕ
+lines_text sent n line reasons = action_text sent n line ++ flat_map (because_line n) reasons
+
+-- an action that isn't shown has no line
+abbrev pub turn_text : Range → List (List ℕ) → ℕ → Action → Line → List (List ℕ) → List ℕ
+turn_text range sent n action line reasons = if is_shown range n (actor_of action) then lines_text sent n line reasons else []
+
+-- the actions from this number on
+abbrev pub turns_text : Range → List (List ℕ) → ℕ → List Explained → List ℕ
+turns_text range sent n [] = []
+turns_text range sent n (e ∷ es) = turn_text range sent n e.turn.action e.turn.line e.reasons ++ turns_text range sent (n + 1) es
+
+-- The turns of a run, each with a reason at least.
+pub record IsExplained (turns : List Turn) (explained : List Explained) : Type 0 where
+  pub turns_are : map (λ (e : Explained). e.turn) explained ≡ turns
+  pub reasons : All (λ (e : Explained). 0 < length e.reasons) explained
+
+-- The text is that of the run of these actions: of each action in the range the very lines of its trace, and a line for
+-- each of its reasons.
+pub record TellsRun (range : Range) (configs : List Config) (actions : List Action) (text : List ℕ) : Type 0 where
+  pub explained : List Explained
+  pub whole : IsExplained (run_of configs actions).turns explained
+  pub text_is : text ≡ turns_text range (run_of configs actions).cluster.sent 1 explained
+
+-- The input is a schedule of so many actions, and the text tells its run; and what `replay` writes of it is the run's
+-- trace.
+pub record Explains (range : Range) (input text : List ℕ) (count : ℕ) : Type 0 where
+  pub schedule : Parsed
+  pub reads : schedule_of input ≡ Ok schedule
+  pub replayed : output_of input ≡ Ok (trace_text (trace_of (run_of schedule.configs schedule.actions)))
+  pub tells : TellsRun range schedule.configs schedule.actions text
+  pub counted : count ≡ length schedule.actions
+
+-- The world stores what a run came to, and the text is that of its turns, whatever else will be sent.
+pub record IsTold (range : Range) (r : Run) (w : WorldState) (text : List ℕ) : Type 0 where
+  pub view : IsViewed r.cluster w
+  pub representable : AreRepresentable r.cluster
+  pub explained : List Explained
+  pub whole : IsExplained r.turns explained
+  pub told : (more : List (List ℕ)) → turns_text range (r.cluster.sent ++ more) 1 explained ≡ text
+
+-- a text grew by an action's lines and its reasons, of which there are some, or by nothing where it isn't shown
+pub record AddsTurn (is_shown : Bool) (sent : List (List ℕ)) (n : ℕ) (line : Line) (old new : List ℕ) : Type 0 where
+  pub reasons : List (List ℕ)
+  pub some : 0 < length reasons
+  pub added : new ≡ old ++ (if is_shown then lines_text sent n line reasons else [])

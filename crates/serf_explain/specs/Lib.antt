@@ -1,0 +1,3 @@
+pub mod Range
+pub mod Because
+pub mod Explained

@@ -1,0 +1,13 @@
+-- Which actions are explained.
+use Rattle.std.specs.Prelude.{ℕ, ◌&&◌, nat_le, Bool, true, Option, Some, None}
+use Rattle.serf_explain.specs.declared.range.Range.{Range}
+use Rattle.serf_model.specs.Trace.{is_agent}
+
+-- whether the actions of this actor are wanted: those of all, or of one agent
+abbrev pub is_wanted : Option ℕ → Option ℕ → Bool
+is_wanted None actor = true
+is_wanted (Some agent) actor = is_agent agent actor
+
+-- whether the action of this number is explained, and its lines are shown
+abbrev pub is_shown : Range → ℕ → Option ℕ → Bool
+is_shown range n actor = nat_le range.from n && nat_le n range.to && is_wanted range.agent actor

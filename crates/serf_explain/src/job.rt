@@ -1,0 +1,188 @@
+//! The whole job: a schedule in, its trace with its reasons out.
+
+ghost use Rattle.std.specs.Prelude.{◌≡◌, ◌<◌, ◌≤◌, ◌+◌, List, ℕ, true, false, Err, length, OnOk, IfOk, IfErr, IfSome, IsErrOf};
+ghost use Rattle.std.specs.Io.KnownBytes.{Appends, Consumes};
+ghost use Rattle.serf_world.specs.Cluster.{Run, after};
+ghost use Rattle.serf_replay.specs.Io.{AppendsFront};
+ghost use Rattle.serf_replay.specs.Output.{output_of};
+ghost use Rattle.serf_explain.specs.Explained.{AddsTurn, Explains, IsTold, TellsRun};
+
+use crate::memory::Memory;
+use crate::range::{Range, actor};
+use crate::reasons::put_reasons;
+use crate::told::Told;
+use serf_replay::{
+    Cause, InputFault, MAX_SCHEDULE_BYTES, ReplayFault, Schedule, ScheduleFault, Watch, lines_stay,
+    parse_schedule, put_action, read_input, write_output,
+};
+use serf_world::{Action, World};
+use std::alloc::{AllocError, Global};
+use std::io::{Read, Write};
+
+/// Appends an action's lines and those of its reasons.
+fn put_shown(alloc: Global, out: &mut Vec<u8>, told: &Told) -> Result<(), AllocError>
+    ensures { OnOk result (AddsTurn true told.now.world.now.sent told.now.number told.now.line.now out.old.items out.new.items) }
+{
+    put_action(out, told.world.sent(), told.number, told.line)?;
+    put_reasons(alloc, out, told)
+}
+
+/// Appends nothing.
+fn put_nothing(out: &mut Vec<u8>, told: &Told)
+    ensures { AddsTurn false told.now.world.now.sent told.now.number told.now.line.now out.old.items out.new.items }
+{}
+
+/// Appends what is shown of an action: its lines and those of its reasons, or nothing.
+fn put_turn(alloc: Global, out: &mut Vec<u8>, is_shown: bool, told: &Told) -> Result<(), AllocError>
+    ensures { OnOk result (AddsTurn is_shown told.now.world.now.sent told.now.number told.now.line.now out.old.items out.new.items) }
+{
+    match is_shown {
+        true => put_shown(alloc, out, told),
+        false => {
+            put_nothing(out, told);
+            Ok(())
+        }
+    }
+}
+
+/// Does an action, and adds what is shown of it.
+fn add_turn(
+    alloc: Global,
+    world: &mut World,
+    memory: &mut Memory,
+    out: &mut Vec<u8>,
+    range: &Range,
+    number: u64,
+    action: &Action,
+) -> Result<(), AllocError>
+    ensures { (r : Run) → IsTold range.now r world.old out.old.items → number ≡ length r.turns + 1 → OnOk result (IsTold range.now (after r action.now) world.new out.new.items) }
+{
+    lines_stay();
+    let Ok(line) = world.step(alloc, action) else {
+        return Err(AllocError);
+    };
+    memory.note_events(alloc, number, &line)?;
+    let told = Told {
+        number,
+        world,
+        memory,
+        action,
+        line: &line,
+    };
+    put_turn(alloc, out, range.shows(number, actor(action)), &told)?;
+    memory.note(alloc, world, number, action, &line)?;
+    Ok(())
+}
+
+/// Does an action, adds what is shown of it, and lets it go.
+fn take_turn(
+    alloc: Global,
+    world: &mut World,
+    memory: &mut Memory,
+    out: &mut Vec<u8>,
+    range: &Range,
+    number: u64,
+    action: Action,
+) -> Result<(), AllocError>
+    ensures { (r : Run) → IsTold range.now r world.old out.old.items → number ≡ length r.turns + 1 → OnOk result (IsTold range.now (after r action) world.new out.new.items) }
+{
+    add_turn(alloc, world, memory, out, range, number, &action)
+}
+
+/// What is shown of the run of a schedule, of which nothing is left then.
+fn run_text<T: Watch>(
+    alloc: Global,
+    schedule: Schedule,
+    range: &Range,
+    watch: &mut T,
+) -> Result<Vec<u8>, AllocError>
+    ensures { IfOk result (λ text. TellsRun range.now schedule.agents schedule.actions.items text.items) }
+{
+    let Schedule { agents, actions } = schedule;
+    let count = agents.as_slice().len();
+    let mut world = World::new(alloc, agents)?;
+    let mut memory = Memory::new(alloc, &world, count)?;
+    let mut out = Vec::new(alloc);
+    let all = actions.len() as u64;
+    let mut number: u64 = 0;
+    for action in actions {
+        number += 1;
+        take_turn(
+            alloc,
+            &mut world,
+            &mut memory,
+            &mut out,
+            range,
+            number,
+            action,
+        )?;
+        watch.acted(number, all);
+    }
+    Ok(out)
+}
+
+/// The text of a schedule's run with its reasons, and how many actions the schedule has.
+fn output_text<T: Watch>(
+    alloc: Global,
+    input: Vec<u8>,
+    range: &Range,
+    watch: &mut T,
+) -> Result<(Vec<u8>, u64), ScheduleFault>
+    ensures text { IfOk result (λ made. Explains range.now input.items made.0.items made.1) }
+    ensures bad_line { (line : ℕ) (cause : Cause) → IsErrOf result (ScheduleFault.BadLine line cause) → output_of input.items ≡ Err (record { line = line; cause = cause }) }
+{
+    let schedule = parse_schedule(alloc, &input)?;
+    drop(input);
+    let count = schedule.actions.len() as u64;
+    match run_text(alloc, schedule, range, watch) {
+        Ok(text) => Ok((text, count)),
+        Err(_) => Err(ScheduleFault::OutOfMemory),
+    }
+}
+
+/// Reads a schedule to its end, and writes the trace of its cluster with its reasons: of each action in the range the
+/// lines that [`serf_replay::replay`] writes, and behind them a line `N because ..` for each reason, one at least. The
+/// answer is how many actions the schedule has.
+///
+/// At most 16,777,217 bytes are read, and nothing is written before all is read, parsed and run. What a reason says is
+/// tested, and no contract says it; but no byte of it is a control byte, or is not ASCII. The faults are those of
+/// `replay`, and come where they come there. The watch is told of each action of the run that is done.
+pub fn explain<R: Read, W: Write, T: Watch>(
+    alloc: Global,
+    reader: &mut R,
+    writer: &mut W,
+    range: &Range,
+    watch: &mut T,
+) -> Result<u64, ReplayFault>
+    ensures done { IfOk result (λ count. IfSome (R.remaining reader.old) (λ input. (text : List ℕ)
+        × Explains range.now input text count × (length input ≤ MAX_SCHEDULE_BYTES)
+        × Appends (W.contents writer.old) (W.contents writer.new) text)) }
+    ensures too_long { IsErrOf result ReplayFault.ReadTooLong
+        → IfSome (R.remaining reader.old) (λ input. MAX_SCHEDULE_BYTES < length input) }
+    ensures bad_line { (line : ℕ) (cause : Cause) → IsErrOf result (ReplayFault.BadLine line cause)
+        → IfSome (R.remaining reader.old) (λ input. (length input ≤ MAX_SCHEDULE_BYTES)
+        × (output_of input ≡ Err (record { line = line; cause = cause }))) }
+    // A write that failed leaves a front of that text, and every other fault nothing.
+    ensures front { IsErrOf result ReplayFault.WriteFault
+        → IfSome (R.remaining reader.old) (λ input. (text : List ℕ) × (count : ℕ)
+        × Explains range.now input text count × (length input ≤ MAX_SCHEDULE_BYTES)
+        × AppendsFront (W.contents writer.old) (W.contents writer.new) text) }
+    ensures nothing { IfErr result (λ fault. (fault ≡ ReplayFault.WriteFault → ⊥) → writer.new ≡ writer.old) }
+    // At most one byte more than the greatest length is read.
+    ensures bounded { (bytes : List ℕ) × Consumes (R.remaining reader.old) (R.remaining reader.new) bytes
+        × (length bytes ≤ MAX_SCHEDULE_BYTES + 1) }
+{
+    let input = read_input(alloc, reader).map_err(|fault| match fault {
+        InputFault::ReadFault => ReplayFault::ReadFault,
+        InputFault::ReadTooLong => ReplayFault::ReadTooLong,
+        InputFault::OutOfMemory => ReplayFault::OutOfMemory,
+    })?;
+    let (text, count) = output_text(alloc, input, range, watch).map_err(|fault| match fault {
+        ScheduleFault::BadLine { line, cause } => ReplayFault::BadLine { line, cause },
+        ScheduleFault::OutOfMemory => ReplayFault::OutOfMemory,
+    })?;
+    match write_output(writer, &text) {
+        Ok(()) => Ok(count),
+        Err(_) => Err(ReplayFault::WriteFault),
+    }
+}

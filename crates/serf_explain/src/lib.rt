@@ -1,0 +1,19 @@
+//! The trace of a schedule with its reasons: behind each action's lines, lines that say in plain words why it was answered
+//! so.
+#![tactic(auto)]
+
+mod answers;
+mod because;
+mod ignored;
+mod job;
+mod marks;
+mod memory;
+mod merges;
+mod quoted;
+mod range;
+mod reasons;
+mod refusals;
+mod told;
+
+pub use job::explain;
+pub use range::Range;

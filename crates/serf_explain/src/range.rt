@@ -1,0 +1,59 @@
+//! Which actions are explained.
+
+ghost use Rattle.std.specs.Prelude.{◌≡◌};
+ghost use Rattle.serf_model.specs.Trace.{actor_of};
+
+use serf_world::Action;
+
+/// Which actions are explained: those of one agent, or of all, from one number to another. Actions count from 1.
+#[derive(Clone, Copy, Debug, PartialEq, Eq)]
+pub struct Range {
+    /// The agent whose actions are explained; those of all agents, and injections, where it is `None`.
+    pub agent: Option<u64>,
+    /// The first action that is explained.
+    pub from: u64,
+    /// The last one.
+    pub to: u64,
+}
+
+/// The number of the agent that acts.
+pub(crate) fn actor(action: &Action) -> Option<u64>
+    ensures { result ≡ actor_of action.now }
+{
+    match action {
+        Action::Fire { agent, .. } => Some(*agent),
+        Action::Deliver { to, .. } => Some(*to),
+        Action::State { agent } => Some(*agent),
+        Action::Merge { to, .. } => Some(*to),
+        Action::Query { agent, .. } => Some(*agent),
+        Action::Respond { agent, .. } => Some(*agent),
+        Action::Restart { agent, .. } => Some(*agent),
+        Action::Break { agent, .. } => Some(*agent),
+        Action::Inject { .. } => None,
+        Action::Close { agent, .. } => Some(*agent),
+        Action::Save { agent } => Some(*agent),
+        Action::Compact { agent } => Some(*agent),
+    }
+}
+
+impl Range {
+    ghost use Rattle.serf_explain.specs.Range.{is_shown, is_wanted};
+
+    /// Whether the actions of this actor are wanted.
+    fn wants(&self, actor: Option<u64>) -> bool
+        ensures { result ≡ is_wanted self.now.agent actor }
+    {
+        match (self.agent, actor) {
+            (None, _) => true,
+            (Some(_), None) => false,
+            (Some(agent), Some(actor)) => actor == agent,
+        }
+    }
+
+    /// Whether the action of this number, and of this actor, is explained.
+    pub(crate) fn shows(&self, number: u64, actor: Option<u64>) -> bool
+        ensures { result ≡ is_shown self.now number actor }
+    {
+        self.from <= number && number <= self.to && self.wants(actor)
+    }
+}

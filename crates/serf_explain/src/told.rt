@@ -1,0 +1,70 @@
+//! An action that was done, with what is known around it.
+
+use crate::marks::Marks;
+use crate::memory::Memory;
+use crate::quoted::put_quoted;
+use serf_agent::Agent;
+use serf_snap::MemSink;
+use serf_wire::{Message, decode};
+use serf_world::{Action, Line, World};
+use std::alloc::AllocError;
+
+/// An action and what came of it, the cluster behind it, and what is remembered of the actions before it.
+#[derive(Clone, Copy)]
+pub(crate) struct Told<'a> {
+    /// The action's number, counted from 1.
+    pub(crate) number: u64,
+    pub(crate) world: &'a World,
+    pub(crate) memory: &'a Memory,
+    pub(crate) action: &'a Action,
+    pub(crate) line: &'a Line,
+}
+
+/// Appends the name of an agent between quotes.
+pub(crate) fn put_name(out: &mut Vec<u8>, agent: &Agent<MemSink>) -> Result<(), AllocError> {
+    put_quoted(out, agent.config().name.as_slice())
+}
+
+/// The packet that an action gives to its agent.
+fn packet_of<'a>(told: &Told<'a>) -> Option<&'a [u8]> {
+    let number = match told.action {
+        Action::Deliver { packet, .. } => *packet,
+        Action::Merge { packet, .. } => *packet,
+        _ => return None,
+    };
+    let bytes = told.world.sent().get(number as usize)?;
+    Some(bytes.as_slice())
+}
+
+/// What the packet says that an action gives to its agent.
+pub(crate) fn message_of<'a>(told: &Told<'a>) -> Option<Message<'a>> {
+    match decode(packet_of(told)?) {
+        Ok(message) => Some(message),
+        Err(_) => None,
+    }
+}
+
+/// How many bytes the packet has that an action gives to its agent.
+pub(crate) fn packet_len(told: &Told) -> u64 {
+    match packet_of(told) {
+        Some(bytes) => bytes.len() as u64,
+        None => 0,
+    }
+}
+
+/// An agent behind the action, and what it was like before.
+#[derive(Clone, Copy)]
+pub(crate) struct Actor<'a> {
+    pub(crate) number: u64,
+    pub(crate) agent: &'a Agent<MemSink>,
+    pub(crate) before: &'a Marks,
+}
+
+/// The agent of this number.
+pub(crate) fn actor_at<'a>(told: &Told<'a>, number: u64) -> Option<Actor<'a>> {
+    Some(Actor {
+        number,
+        agent: told.world.agent(number)?,
+        before: told.memory.marks(number)?,
+    })
+}
