@@ -2,6 +2,7 @@
 
 use crate::conform_job::Comparison;
 use crate::draw_job::{Drawing, draw_command, drawing_of};
+use crate::explain_job::{Explanation, explain_command, explanation_of};
 use crate::hunt_job::{Search, search_of};
 use crate::random_job::{actions, agents, ask_of, kind, random_command};
 use crate::stream_job::stream_flag;
@@ -26,6 +27,8 @@ pub enum Job<'a> {
     Random(Option<Ask>),
     /// Judges the log of a file, or of standard input, beside snapshots, each as `NODE=SNAPSHOT`.
     Judge(Option<&'a str>, Vec<&'a str>),
+    /// Writes the trace of a schedule with its reasons.
+    Explain(Explanation<'a>),
     /// Draws the run of a schedule.
     Draw(Drawing<'a>),
     /// Writes the schedule of the text in a file, or of standard input.
@@ -148,6 +151,7 @@ fn whole_command<'a>(alloc: Global) -> Result<Command<'a>, AllocError> {
     let program = with_job(program, clocks_command(alloc))?;
     let program = with_job(program, random_command(alloc))?;
     let program = with_job(program, judge_command(alloc))?;
+    let program = with_job(program, explain_command(alloc))?;
     let program = with_job(program, draw_command(alloc))?;
     let program = with_job(program, write_command(alloc))?;
     with_job(program, conform_command(alloc))
@@ -196,6 +200,7 @@ fn job_of<'a>(alloc: Global, matches: &ArgMatches<'a>) -> Result<Option<Job<'a>>
         "clocks" => inner.get_str("FILE").map(|file| Job::Clocks(file)),
         "random" => Some(Job::Random(ask_of(inner))),
         "conform" => conform_of(inner),
+        "explain" => Some(Job::Explain(explanation_of(inner))),
         "draw" => Some(match drawing_of(alloc, inner)? {
             Some(drawing) => Job::Draw(drawing),
             None => Job::BadOption("agent"),

@@ -2,8 +2,10 @@
 
 use crate::jobs::{read_failed, replayed};
 use crate::progress::Progress;
+use clap::{Arg, ArgAction, ArgMatches, Command, value_parser};
 use serf_explain::{Range, explain};
 use serf_replay::ReplayFault;
+use std::alloc::{AllocError, Global};
 use std::rt::Files;
 use std::time::Clock;
 use std::{fs, io};
@@ -14,6 +16,48 @@ pub struct Explanation<'a> {
     /// The schedule's file; standard input where it is left out or `-`.
     pub file: Option<&'a str>,
     pub range: Range,
+}
+
+/// A number, behind a word of its own.
+fn number<'a>(alloc: Global, name: &'a str, value: &'a str, help: &'a str) -> Arg<'a> {
+    Arg::new(alloc, name)
+        .long(name)
+        .value_name(value)
+        .help(help)
+        .action(ArgAction::Set)
+        .value_parser(value_parser!(u64))
+}
+
+/// The command's words.
+pub fn explain_command<'a>(alloc: Global) -> Result<Command<'a>, AllocError> {
+    let file = Arg::new(alloc, "FILE")
+        .help("The schedule; standard input where it is left out or `-`")
+        .action(ArgAction::Set);
+    let agent = "The number of the only agent that is explained; all of them where it is left out";
+    Command::new(alloc, "explain")
+        .about("Writes a schedule's trace, and why each answer came")
+        .after_help("Example: serf-replay explain examples/deploy_gossiped_twice.schedule")
+        .arg(file)?
+        .arg(number(alloc, "agent", "AGENT", agent))?
+        .arg(number(
+            alloc,
+            "from",
+            "ACTION",
+            "The first action that is explained",
+        ))?
+        .arg(number(alloc, "to", "ACTION", "The last action that is explained"))
+}
+
+/// What the words ask for.
+pub fn explanation_of<'a>(matches: &ArgMatches<'a>) -> Explanation<'a> {
+    Explanation {
+        file: matches.get_str("FILE"),
+        range: Range {
+            agent: matches.get_one::<u64>("agent"),
+            from: matches.get_one::<u64>("from").unwrap_or(1),
+            to: matches.get_one::<u64>("to").unwrap_or(u64::MAX),
+        },
+    }
 }
 
 /// The status of an explanation. Where the range begins behind the last action, a line on standard error says so.
@@ -40,7 +84,13 @@ pub fn run_explain<F: Files, R: Clock + Input + Print + Eprint + AllocGlobal>(
     let mut progress = Progress::new(rt, is_terminal);
     let range = &asked.range;
     let outcome = match asked.file {
-        None | Some("-") => explain(rt.alloc(), &mut rt.reader(), &mut writer, range, &mut progress),
+        None | Some("-") => explain(
+            rt.alloc(),
+            &mut rt.reader(),
+            &mut writer,
+            range,
+            &mut progress,
+        ),
         Some(path) => match fs::open(files, path) {
             Ok(mut reader) => explain(rt.alloc(), &mut reader, &mut writer, range, &mut progress),
             Err(_) => Err(ReplayFault::ReadFault),

@@ -4,6 +4,7 @@ use crate::command::{Job, job_in};
 use crate::conform_job::{Comparison, conform};
 use crate::decode_lines_job::run_decode_lines;
 use crate::draw_job::run_draw;
+use crate::explain_job::run_explain;
 use crate::hunt_job::run_hunt;
 use crate::judge_job::run_judge;
 use crate::progress::Progress;
@@ -63,7 +64,7 @@ pub(crate) fn write_failed(rt: &impl Eprint) -> u8 {
 }
 
 /// The status of a replay, whose fault gets a line on standard error.
-fn replayed(rt: &impl Eprint, outcome: Result<(), ReplayFault>) -> u8 {
+pub fn replayed(rt: &impl Eprint, outcome: Result<(), ReplayFault>) -> u8 {
     match outcome {
         Ok(()) => DONE,
         Err(ReplayFault::BadLine { line, cause }) => {
@@ -204,6 +205,7 @@ pub fn run<F: Files, R: Clock + Input + Print + Eprint + AllocGlobal>(
         Ok(Some(Job::Write(file))) => run_write(files, rt, file),
         Ok(Some(Job::Judge(file, kept))) => run_judge(files, rt, file, &kept),
         Ok(Some(Job::Conform(asked))) => run_conform(files, rt, &asked),
+        Ok(Some(Job::Explain(asked))) => run_explain(files, rt, is_terminal, &asked),
         Ok(Some(Job::Draw(drawing))) => run_draw(files, rt, &drawing),
         Ok(Some(Job::Search(asked))) => run_hunt(rt, &asked),
         Ok(Some(Job::BadOption(name))) => {
