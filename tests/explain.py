@@ -262,8 +262,6 @@ def said_rows(count):
         ("no agent", AGENTS + b"fire 7 61 - 0\n", 1, b"no agent has the number 7: agents count from 0"),
         ("no packet", AGENTS + b"deliver 0 3 0\n", 1, b"no packet has the number 3: so many were sent, counted from 0: 0"),
         ("too large", AGENTS + b"fire 0 61 %s 0\n" % (b"41" * 600), 1, b"name and payload have 601 bytes together, and the packet 631; at most 512 may be fired"),
-        ("a filter", AGENTS + b"query 0 0 7 61 - 10 0 0091a161\ndeliver 1 0 0\n", 2, b'query 1 with ID 7 "a" "" is new to "b", and is not handed out: filter 0 "\\x00\\x91\\xa1a" excludes this node'),
-        ("closed", AGENTS + b"query 0 0 7 61 - 10 1\ndeliver 1 0 0\nclose 0 100\ndeliver 0 1 200\n", 4, b'"a" closed its query 1 at action 3'),
     ):
         got = reasons_of(schedule, number)
         count.check(name, got == [wanted], got)
