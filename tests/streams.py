@@ -89,7 +89,7 @@ def small(count):
 def long_ones(count):
     fire = b"fire 0 61 - 0\n"
     lines = AGENTS + fire + b"deliver 1 0 0\n" * 1_300_000
-    text = b"1 fired 1\n1 sent 0 " + ran(["replay"], AGENTS + fire)[1].split(b" ")[4].split(b"\n")[0] + b"\n"
+    text = b"1 fired 1\n1 sent 0 " + ran(["replay"], AGENTS + fire)[1].split(b" ")[5].split(b"\n")[0] + b"\n"
     got = ran(["replay", "--stream"], lines)
     count.holds("more than 16 MiB are too long for replay", ran(["replay"], lines)[::2] == (1, b"too long\n"))
     count.holds("and not for a stream", got[0] == 0 and got[2] == b"" and got[1].startswith(text) and got[1].count(b" ignored Seen\n") == 1_299_999, str(got)[:300])
