@@ -1,15 +1,16 @@
 """Wrong bodies, many in one check: each edit of crates/NAME/mutants turns one function, and its contract has to refuse it.
 
 Since each function is proved against the contracts of the others, edits of different functions stand in the sources
-together. `rattle check --only` looks at the edited functions alone, since each other function of the crate gets a hole
-for its proof, and is taken by its statement (`rt ci` has proved it). The check names the goals of each edited function
-that are open. An edit is refused where one of these is of meaning: a clause of an `ensures`, an invariant, or the
-`requires` of a call. It is not where only a sum may overflow, or a name is gone.
+together. `rattle check --only` looks at the edited functions alone, since each other function of the crate gets a body
+that does nothing and a hole for its proof, and is taken by its statement (`rt ci` has proved it). The check names the
+goals of each edited function that are open. An edit is refused where one of these is of meaning: a clause of an
+`ensures`, an invariant, or the `requires` of a call. It is not where only a sum may overflow, or a name is gone.
 
-    tests/mutants.py [CRATE..] [--list] [--over-ci]
+    tests/mutants.py [CRATE..] [--list] [--control] [--over-ci]
 
---list prints each edit with the functions that it turns, and tries none. --over-ci takes the libraries that `rt ci` left,
-as the gate does; without it they are built first. The files are as in must-fail/: 'file: src/lib.rt', and then pairs of
+--list prints each edit with the functions that it turns, and tries none. --control makes the same checks without the
+edits: each function that an edit turns has to be proved there, so that what refuses an edit is the edit. --over-ci takes
+the libraries that `rt ci` left, as the gate does; without it they are built first. The files are as in must-fail/: 'file: src/lib.rt', and then pairs of
 lines 'old: TEXT' and 'new: TEXT', each TEXT standing once in that file. A line 'turns: PATH' names a function whose
 contract has to refuse the edit; without one it is each function in which a text stands. An edit of a definition, in
 specs/, names so the law that a wrong definition breaks.
@@ -35,6 +36,9 @@ LANES = min(os.cpu_count() or 1, 5)
 
 # A line that begins or names a function.
 FUNCTION = re.compile(r'^(\s*(?:pub(?:\([^)]*\))? )?(?:const )?(?:extern "C" )?)fn (\w+)')
+
+# A clause of a contract.
+CLAUSE = re.compile(r"^ *(requires|ensures|ghost)\b")
 
 # The head of an impl: what it is of, and the trait.
 IMPL = re.compile(r"^impl(?P<generic><[^{]*?>)? (?:(?P<trait>[\w:]+)(?:<(?P<with>\w+)[^{]*>)? for )?(?:&(?:'\w+ )?)?(?P<type>\w+)(?:<(?P<of>\w+)>)?", re.M)
@@ -217,6 +221,48 @@ def stubs_for(crate, batch):
     return stubs
 
 
+def texts_of(crate, batch, is_control):
+    """The texts of a crate's files for a batch: its edits, but for a control, and no body but of the functions that they turn."""
+    texts = {} if is_control else applied(batch)
+    source = os.path.join(TOP, "crates", crate, "src")
+    for folder, _, files in sorted(os.walk(source)):
+        for file in sorted(files):
+            path = os.path.relpath(os.path.join(folder, file), os.path.dirname(source))
+            texts[path] = emptied(crate, path, texts.get(path) or text_of(crate, path), batch)
+    return texts
+
+
+def emptied(crate, file, text, batch):
+    """A file's text in which each function that no edit of a batch turns has a body that does nothing: its callers see
+    its contract alone, and its proof has a hole, so nothing of it has to be read."""
+    turned = {name for edit in batch for name in edit.functions}
+    kept = {name.split("::")[-1] for _, name, in_cycle in functions_in(crate, file) if in_cycle or name in turned}
+    lines, out, at = text.split("\n"), [], 0
+    while at < len(lines):
+        function = FUNCTION.match(lines[at])
+        body = body_at(lines, at) if function and function[2] not in kept and "const fn" not in lines[at] else None
+        if body:
+            begin, end = body
+            out += [*lines[at : begin + 1], "unreachable!()", lines[end]]
+            at = end + 1
+        else:
+            out.append(lines[at])
+            at += 1
+    return "\n".join(out)
+
+
+def body_at(lines, at):
+    """The lines that open and close the body of the function whose head begins at a line, or None where it has none."""
+    indent = re.match(r" *", lines[at])[0]
+    for begin in range(at, len(lines)):
+        if lines[begin].endswith((";", "{}")):
+            return None
+        # a body begins at the head's end, or on a line of its own behind the clauses
+        if lines[begin] == indent + "{" or lines[begin].endswith(" {") and not CLAUSE.match(lines[begin]):
+            return begin, lines.index(indent + "}", begin)
+    return None
+
+
 def edits_of(crate):
     folder = os.path.join(TOP, "crates", crate, "mutants")
     names = sorted(os.listdir(folder)) if os.path.isdir(folder) else []
@@ -275,15 +321,15 @@ def function_of(name):
     return "::".join(filter(None, found.groups())) if found else name
 
 
-def check(rt, crate, batch, kept):
-    """What the toolchain says of a copy of the crate with the edits of a batch in it."""
+def check(rt, crate, batch, kept, is_control):
+    """What the toolchain says of a copy of the crate with the edits of a batch in it, or with none for a control."""
     lib = rt.rtlib
     stubs = stubs_for(crate.name, batch)
     with tempfile.TemporaryDirectory(prefix="mutants-") as room:
         for part in lib.PARTS:
             if os.path.isdir(f"{crate.folder}/{part}"):
                 shutil.copytree(f"{crate.folder}/{part}", f"{room}/{part}")
-        for file, text in applied(batch).items():
+        for file, text in texts_of(crate.name, batch, is_control).items():
             with open(f"{room}/{file}", "w", encoding="utf-8") as it:
                 it.write(text)
         for folder, text in stubs.items():
@@ -298,9 +344,9 @@ def check(rt, crate, batch, kept):
         return subprocess.run([*lib.guarded(), *words], cwd=room, stdin=subprocess.DEVNULL, stdout=subprocess.PIPE, stderr=subprocess.STDOUT, text=True, errors="replace").stdout
 
 
-def tried(rt, crate, batch, kept):
+def tried(rt, crate, batch, kept, is_control):
     """For each edit of a batch, the goal that refuses it or None; and what the toolchain said."""
-    said = check(rt, crate, batch, kept)
+    said = check(rt, crate, batch, kept, is_control)
     goals = goals_in(said)
     found = []
     for edit in batch:
@@ -309,26 +355,31 @@ def tried(rt, crate, batch, kept):
     return found, said
 
 
-def try_crate(rt, crate):
-    """Tries the edits of a crate: the lines to print, how many were refused, and how many not."""
+def try_crate(rt, crate, is_control):
+    """Tries the edits of a crate: the lines to print, how many went as they should, and how many not."""
     edits = edits_of(crate.name)
     lines, failed = [], 0
     with tempfile.TemporaryDirectory(prefix="mutants-") as kept:
         for batch in batches_of(edits):
             began = time.monotonic()
-            found, said = tried(rt, crate, batch, kept)
+            found, said = tried(rt, crate, batch, kept, is_control)
             if os.environ.get("MUTANTS_LOG"):
                 with open(os.path.join(os.environ["MUTANTS_LOG"], f"{crate.name}.log"), "a") as log:
                     log.write(f"==== {time.monotonic() - began:.1f} {[edit.name for edit in batch]}\n{said}\n")
-            for edit, goal in zip(batch, found):
-                if goal:
-                    lines.append(f"{crate.name}/{edit.name}: refused at {goal}")
-                else:
-                    failed += 1
-                    lines.append(f"FAILED {crate.name}/{edit.name}: no goal of meaning is open in {', '.join(edit.functions)}")
-            if None in found:
+            told = [line_of(crate, edit, goal, is_control) for edit, goal in zip(batch, found)]
+            own_failed = sum(line.startswith("FAILED") for line in told)
+            lines, failed = lines + told, failed + own_failed
+            if own_failed:
                 lines += [line[:200] for line in said.split("\n") if re.search(r"error|not proved|no proof", line)][:40]
     return lines, len(edits) - failed, failed
+
+
+def line_of(crate, edit, goal, is_control):
+    """What is printed of an edit, by the goal that refused it, if any: of a control there is none."""
+    name = f"{crate.name}/{edit.name}"
+    if is_control:
+        return f"FAILED {name}: without the edit this goal is open: {goal}" if goal else f"{name}: proved without the edit"
+    return f"{name}: refused at {goal}" if goal else f"FAILED {name}: no goal of meaning is open in {', '.join(edit.functions)}"
 
 
 def built(crates):
@@ -367,7 +418,7 @@ def main(words):
     # the crates with most edits first
     crates = [crate for crate, edits in sorted(listed, key=lambda it: -len(it[1]))]
     with ThreadPoolExecutor(LANES) as pool:
-        for lines, refused, not_refused in pool.map(lambda crate: try_crate(rt, crate), crates):
+        for lines, refused, not_refused in pool.map(lambda crate: try_crate(rt, crate, "--control" in words), crates):
             print("\n".join(lines), flush=True)
             passed, failed = passed + refused, failed + not_refused
     used = resource.getrusage(resource.RUSAGE_CHILDREN)

@@ -1,0 +1,112 @@
+"""./release: from a green gate alone, the same bytes twice, and each file with its hash."""
+
+import hashlib
+import os
+import shutil
+import stat
+import subprocess
+import sys
+import tarfile
+import tempfile
+
+TOP = os.path.dirname(os.path.dirname(os.path.abspath(__file__)))
+sys.path.insert(0, os.path.join(TOP, "tools"))
+sys.dont_write_bytecode = True
+import green
+
+# What stands for the program and the library here: the gate's own are not looked into.
+PROGRAM = "#!/bin/sh\necho serf-replay 9.8.7\n"
+NAME = "serf-replay-9.8.7-x86_64-linux"
+
+
+class Count:
+    def __init__(self):
+        self.passed = self.failed = 0
+
+    def check(self, name, holds, said=""):
+        self.passed, self.failed = self.passed + bool(holds), self.failed + (not holds)
+        if not holds:
+            print(f"FAILED {name}: {said}")
+
+
+def write(path, text):
+    os.makedirs(os.path.dirname(path), exist_ok=True)
+    with open(path, "w", encoding="utf-8") as file:
+        file.write(text)
+
+
+def clone(root):
+    """A repository with what is committed and changed here, and with outputs that stand for the built ones."""
+    top = os.path.join(root, "clone")
+    names = subprocess.run(["git", "ls-files", "-co", "--exclude-standard"], cwd=TOP, check=True, stdout=subprocess.PIPE, text=True).stdout.split("\n")
+    for name in filter(None, names):
+        if os.path.isfile(os.path.join(TOP, name)) and not name.startswith(("crates/", "tests/")):
+            os.makedirs(os.path.dirname(os.path.join(top, name)) or top, exist_ok=True)
+            shutil.copy(os.path.join(TOP, name), os.path.join(top, name))
+    who = ["-c", "user.name=a", "-c", "user.email=a@localhost"]
+    for words in (["init", "-q"], ["add", "-A"], [*who, "commit", "-qm", "all"]):
+        subprocess.run(["git", *words], cwd=top, check=True)
+    program = os.path.join(top, "crates", "serf_replay_program", "out", "serf_replay_program")
+    write(program, PROGRAM)
+    os.chmod(program, os.stat(program).st_mode | stat.S_IXUSR)
+    write(os.path.join(top, "crates", "serf_agent_c", "out", "libserf_agent_c.a"), "library\n")
+    return top
+
+
+def release(top, folder):
+    os.makedirs(folder, exist_ok=True)
+    ran = subprocess.run([os.path.join(top, "release"), folder], stdin=subprocess.DEVNULL, capture_output=True, text=True)
+    return ran.returncode, ran.stderr
+
+
+def refused(count, top, root):
+    count.check("refused with no green gate", release(top, os.path.join(root, "none"))[0] == 3)
+    before = green.state(top)
+    write(os.path.join(top, "docs", "more.md"), "more\n")
+    green.keep(top, before)
+    count.check("no mark where a file came during the gate", not green.holds(top))
+    os.remove(os.path.join(top, "docs", "more.md"))
+    green.keep(top, before)
+    count.check("a mark where nothing changed", green.holds(top))
+    write(os.path.join(top, "docs", "more.md"), "more\n")
+    count.check("refused where a file came since", release(top, os.path.join(root, "none"))[0] == 3)
+    os.remove(os.path.join(top, "docs", "more.md"))
+
+
+def twice_the_same(count, top, root):
+    texts = []
+    for name in ("one", "two"):
+        status, said = release(top, os.path.join(root, name))
+        count.check(f"release {name}", status == 0, said)
+        with open(os.path.join(root, name, f"{NAME}.tar.gz"), "rb") as file:
+            texts.append(file.read())
+    count.check("twice the same bytes", texts[0] == texts[1])
+    with open(os.path.join(root, "one", f"{NAME}.tar.gz.sha256"), encoding="utf-8") as file:
+        count.check("its hash", file.read().split() == [hashlib.sha256(texts[0]).hexdigest(), f"{NAME}.tar.gz"])
+
+
+def unpacked(count, root):
+    with tarfile.open(os.path.join(root, "one", f"{NAME}.tar.gz")) as tar:
+        tar.extractall(os.path.join(root, "unpacked"), filter="data")
+    top = os.path.join(root, "unpacked", NAME)
+    checked = subprocess.run(["sha256sum", "-c", "--quiet", "SHA256SUMS"], cwd=top, capture_output=True, text=True)
+    count.check("each file's hash", checked.returncode == 0, checked.stdout + checked.stderr)
+    for path in ("README.md", "LICENSE", "bin/serf-replay", "lib/libserf_agent_c.a", "docs/COMMANDS.md", "examples/README.md", "include/serf_agent.h", "bindings/c/example.c"):
+        count.check(f"it has {path}", os.path.isfile(os.path.join(top, path)))
+    ran = subprocess.run([os.path.join(top, "bin", "serf-replay"), "--version"], capture_output=True, text=True)
+    count.check("the program runs", ran.stdout == "serf-replay 9.8.7\n", ran)
+
+
+def main():
+    count = Count()
+    with tempfile.TemporaryDirectory(prefix="release-") as root:
+        top = clone(root)
+        refused(count, top, root)
+        twice_the_same(count, top, root)
+        unpacked(count, root)
+    print(f"{count.passed} passed, {count.failed} failed")
+    return 1 if count.failed else 0
+
+
+if __name__ == "__main__":
+    sys.exit(main())
