@@ -22,16 +22,6 @@ OPEN = {
         ("proofs/LifeLaws.antt", "serf_wire", "SpelledRanges"),
         ("proofs/SoundLaws.antt", "serf_snap", "NoteLaws"),
     ),
-    "serf_wire": (
-        ("proofs/FastLists.antt", "serf_pack", "ReadIsSpelled"),
-        ("proofs/FastPairs.antt", "serf_pack", "Canonical"),
-        ("proofs/FastReading.antt", "serf_pack", "ReadIsSpelled"),
-        ("proofs/FastStatus.antt", "serf_pack", "ReadIsSpelled"),
-        ("proofs/NodeFilters.antt", "serf_pack", "Inputs"),
-        ("proofs/Packets.antt", "serf_pack", "Inputs"),
-        ("proofs/Passing.antt", "serf_pack", "Inputs"),
-        ("proofs/Spelling.antt", "serf_pack", "Canonical"),
-    ),
 }
 
 
