@@ -19,33 +19,7 @@ USING = re.compile(r"\busing\((\w+)::proofs::([\w:]+)\)")
 # What isn't closed yet: by crate, the file, and the crate and the module of the lemmas.
 OPEN = {
     "serf_agent": (
-        ("proofs/LifeLaws.antt", "serf_wire", "SpelledRanges"),
         ("proofs/SoundLaws.antt", "serf_snap", "NoteLaws"),
-    ),
-    "serf_random": (
-        ("proofs/CommentBack.antt", "serf_schedule_text", "LinesBack"),
-        ("proofs/CommentBack.antt", "serf_schedule_text", "PlainWords"),
-    ),
-    "serf_schedule_text": (
-        ("proofs/RoundTrip.antt", "serf_model", "StartLaws"),
-        ("proofs/WordsBack.antt", "serf_replay", "NumberLemmas"),
-    ),
-    "serf_streamed": (
-        ("proofs/LineLaws.antt", "serf_replay", "GrownLaws"),
-        ("proofs/TextLaws.antt", "serf_replay", "GrownLaws"),
-        ("proofs/TextLaws.antt", "serf_replay", "ShownLaws"),
-        ("proofs/TextLaws.antt", "serf_replay", "SizedLaws"),
-        ("proofs/TurnLaws.antt", "serf_replay", "GrownLaws"),
-    ),
-    "serf_wire": (
-        ("proofs/FastLists.antt", "serf_pack", "ReadIsSpelled"),
-        ("proofs/FastPairs.antt", "serf_pack", "Canonical"),
-        ("proofs/FastReading.antt", "serf_pack", "ReadIsSpelled"),
-        ("proofs/FastStatus.antt", "serf_pack", "ReadIsSpelled"),
-        ("proofs/NodeFilters.antt", "serf_pack", "Inputs"),
-        ("proofs/Packets.antt", "serf_pack", "Inputs"),
-        ("proofs/Passing.antt", "serf_pack", "Inputs"),
-        ("proofs/Spelling.antt", "serf_pack", "Canonical"),
     ),
 }
 

@@ -23,7 +23,7 @@ use Rattle.serf_model.specs.Trace.{Turn, AtEach, actor_of, handed_in, sent_in, t
 
 -- Lives
 
--- the turns of an agent in its present life
+-- what an agent did in its present life: its own turns of it
 abbrev pub life_of : ℕ → List Turn → List Turn
 life_of a turns = turns_by a (present_life a turns)
 

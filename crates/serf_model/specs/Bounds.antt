@@ -23,7 +23,7 @@ reopens a turn = is_agent a (actor_of turn.action) && is_restarted turn.line.ans
 abbrev pub lived_on : ℕ → List Turn → Turn → List Turn
 lived_on a life turn = if reopens a turn then [] else life ++ turn ∷ []
 
--- the turns of an agent's present life: those since it was last opened
+-- the turns of an agent's present life: those of all agents since it was last opened
 abbrev pub present_life : ℕ → List Turn → List Turn
 present_life a turns = fold (lived_on a) [] turns
 

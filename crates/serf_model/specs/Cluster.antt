@@ -89,7 +89,7 @@ does_nothing m done = record { node = m; done = done }
 abbrev pub called : {R : Type 0} → IdealNode → Step R → (R → Done) → Applied
 called m step gives = record { node = record { agent = step.agent; handed = m.handed }; done = gives step.answer }
 
--- Events
+-- Events. No ideal agent wants memory: here and below the rows of `OutOfMemory` are there for completeness alone.
 
 abbrev pub fire_refusal : FireFault → Refusal
 fire_refusal fires.Stopped = Stopped

@@ -155,10 +155,11 @@ entered_by action given _ = []
 abbrev pub queries_at : ℕ → List Turn → List (TimedEntry ℕ)
 queries_at a turns = flat_map (λ t. entered_by t.action t.given t.line.answer) (turns_by a turns)
 
--- the queries that were handed to an agent, in all its lives
+-- a query that was handed out, as it enters
 abbrev pub handed_in : HandedLine → TimedEntry ℕ
 handed_in h = record { time = h.time; key = h.id }
 
+-- the queries that were handed to an agent, in all its lives
 abbrev pub queries_to : ℕ → List Turn → List (TimedEntry ℕ)
 queries_to a turns = map handed_in (filter (λ h. h.agent == a) (flat_map (λ t. option_to_list t.line.handed) turns))
 

@@ -10,14 +10,10 @@ use Rattle.serf_pack.specs.Tree.{Tree, nil, flag, int, raw, array, pairs, Items,
 use Rattle.serf_pack.specs.Table.{row_of, meaning_of, head_at, head_by, place}
 use Rattle.serf_pack.specs.Reading.{Reader, ◌>>=◌, items_at, pairs_at, value_at, parts_by, too_deep}
 use Rattle.serf_pack.proofs.Steps.{done, ok_is, bind_ok, guard_ok}
+use Rattle.serf_pack.specs.Laws.{BeginsWith}
 use Rattle.serf_pack.specs.Packs.{IsField, IsHead, item_count, pair_count, Packs, PackItems, PackPairs}
 
 -- ---- heads
-
-pub record IsHeadOf (bytes rest : List ℕ) (h : Head) : Type 0 where
-  pub head : List ℕ
-  pub bytes_are : bytes ≡ head ++ rest
-  pub is : IsHead head h
 
 record IsFieldOf (r : Row) (bytes rest : List ℕ) (h : Head) : Type 0 where
   field : List ℕ
@@ -36,7 +32,7 @@ field_back p (Number f w) b bytes x e =
     subst (λ (y : Head × List ℕ). IsFieldOf (Number f w) bytes y.1 y.0) g.1 (record { field = take w bytes; bytes_are = split; is = (len, ap (meaning_of f w) number) })
 field_back p Unsupported b bytes x e = absurd cc
 
-pub head_back : (total : ℕ) (bytes : List ℕ) (x : Head × List ℕ) → head_at total bytes ≡ Ok x → IsHeadOf bytes x.1 x.0
+pub head_back : (total : ℕ) (bytes : List ℕ) (x : Head × List ℕ) → head_at total bytes ≡ Ok x → BeginsWith x.0 bytes x.1
 unfolding head_at
 head_back total [] x e = absurd cc
 head_back total (b ∷ bytes) x e =
@@ -110,7 +106,7 @@ pairs_back total d value tells (suc n) bytes x le e =
 
 -- what is behind a head
 module _ (total d : ℕ) (bytes : List ℕ) (le : length bytes ≤ total) where
-  array_back : (value : Reader Tree) → d < 8 → IsTrueReader total (d + 1) value → (n : ℕ) (rest : List ℕ) (x : Tree × List ℕ) → IsHeadOf bytes rest (heads.Array n)
+  array_back : (value : Reader Tree) → d < 8 → IsTrueReader total (d + 1) value → (n : ℕ) (rest : List ℕ) (x : Tree × List ℕ) → BeginsWith (heads.Array n) bytes rest
       → (items_at value n rest >>= λ vs. Ok (array (place total bytes) vs.0, vs.1)) ≡ Ok x → Spelled total d bytes x.0 x.1
   array_back value depth_left tells n rest x h e =
       let a = bind_ok (items_at value n rest) (λ vs. Ok (array (place total bytes) vs.0, vs.1)) x e in
@@ -122,7 +118,7 @@ module _ (total d : ℕ) (bytes : List ℕ) (le : length bytes ≤ total) where
         packs = (refl, depth_left, h.head, parts.text, subst (λ k. IsHead h.head (heads.Array k)) (sym parts.count) h.is, refl, subst (λ k. PackItems a.0.0 (d + 1) k parts.text) m.0 parts.packs);
       })
 
-  map_back : (value : Reader Tree) → d < 8 → IsTrueReader total (d + 1) value → (n : ℕ) (rest : List ℕ) (x : Tree × List ℕ) → IsHeadOf bytes rest (heads.Map n)
+  map_back : (value : Reader Tree) → d < 8 → IsTrueReader total (d + 1) value → (n : ℕ) (rest : List ℕ) (x : Tree × List ℕ) → BeginsWith (heads.Map n) bytes rest
       → (pairs_at value n rest >>= λ ps. Ok (pairs (place total bytes) ps.0, ps.1)) ≡ Ok x → Spelled total d bytes x.0 x.1
   map_back value depth_left tells n rest x h e =
       let a = bind_ok (pairs_at value n rest) (λ ps. Ok (pairs (place total bytes) ps.0, ps.1)) x e in
@@ -134,7 +130,7 @@ module _ (total d : ℕ) (bytes : List ℕ) (le : length bytes ≤ total) where
         packs = (refl, depth_left, h.head, parts.text, subst (λ k. IsHead h.head (heads.Map k)) (sym parts.count) h.is, refl, subst (λ k. PackPairs a.0.0 (d + 1) k parts.text) m.0 parts.packs);
       })
 
-  raw_back : (n : ℕ) (rest : List ℕ) (x : Tree × List ℕ) → IsHeadOf bytes rest (heads.Raw n)
+  raw_back : (n : ℕ) (rest : List ℕ) (x : Tree × List ℕ) → BeginsWith (heads.Raw n) bytes rest
       → cond (nat_lt (length rest) n) (Err (Truncated (place total bytes))) (Ok (raw (place total bytes) (take n rest), drop n rest)) ≡ Ok x → Spelled total d bytes x.0 x.1
   raw_back n rest x h e =
       let g = guard_ok (nat_lt (length rest) n) (Truncated (place total bytes)) (raw (place total bytes) (take n rest), drop n rest) x e in
@@ -146,11 +142,11 @@ module _ (total d : ℕ) (bytes : List ℕ) (le : length bytes ≤ total) where
         packs = (refl, h.head, subst (λ k. IsHead h.head (heads.Raw k)) (sym len) h.is, refl);
       })
 
-  plain_back : (h : Head) (v : Tree) (rest : List ℕ) (x : Tree × List ℕ) → IsHeadOf bytes rest h → ((head : List ℕ) → IsHead head h → Packs v d (place total bytes) head) → done (v, rest) ≡ Ok x → Spelled total d bytes x.0 x.1
+  plain_back : (h : Head) (v : Tree) (rest : List ℕ) (x : Tree × List ℕ) → BeginsWith h bytes rest → ((head : List ℕ) → IsHead head h → Packs v d (place total bytes) head) → done (v, rest) ≡ Ok x → Spelled total d bytes x.0 x.1
   plain_back g v rest x h packs e = subst (λ (y : Tree × List ℕ). Spelled total d bytes y.0 y.1) (ok_is (v, rest) x e) (record { text = h.head; bytes_are = h.bytes_are; packs = packs h.head h.is })
 
   -- with no room for a container
-  last_back : (g : Head) (rest : List ℕ) (x : Tree × List ℕ) → IsHeadOf bytes rest g
+  last_back : (g : Head) (rest : List ℕ) (x : Tree × List ℕ) → BeginsWith g bytes rest
       → parts_by (too_deep (place total bytes)) (too_deep (place total bytes)) (place total bytes) g rest ≡ Ok x → Spelled total d bytes x.0 x.1
   last_back heads.Nil rest x h e = plain_back heads.Nil (nil (place total bytes)) rest x h (λ t is. (refl, is)) e
   last_back (heads.Flag b) rest x h e = plain_back (heads.Flag b) (flag (place total bytes) b) rest x h (λ t is. (refl, is)) e
@@ -159,7 +155,7 @@ module _ (total d : ℕ) (bytes : List ℕ) (le : length bytes ≤ total) where
   last_back (heads.Array n) rest x h e = absurd cc
   last_back (heads.Map n) rest x h e = absurd cc
 
-  inner_back : (value : Reader Tree) → d < 8 → IsTrueReader total (d + 1) value → (g : Head) (rest : List ℕ) (x : Tree × List ℕ) → IsHeadOf bytes rest g
+  inner_back : (value : Reader Tree) → d < 8 → IsTrueReader total (d + 1) value → (g : Head) (rest : List ℕ) (x : Tree × List ℕ) → BeginsWith g bytes rest
       → parts_by (items_at value) (pairs_at value) (place total bytes) g rest ≡ Ok x → Spelled total d bytes x.0 x.1
   inner_back value depth_left tells heads.Nil rest x h e = plain_back heads.Nil (nil (place total bytes)) rest x h (λ t is. (refl, is)) e
   inner_back value depth_left tells (heads.Flag b) rest x h e = plain_back (heads.Flag b) (flag (place total bytes) b) rest x h (λ t is. (refl, is)) e

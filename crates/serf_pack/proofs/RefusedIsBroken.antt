@@ -12,7 +12,8 @@ use Rattle.serf_pack.specs.Reading.{Reader, ◌>>=◌, items_at, pairs_at, value
 use Rattle.serf_pack.specs.Packs.{item_count, pair_count, Packs, PackItems, PackPairs}
 use Rattle.serf_pack.specs.Breaks.{Breaks, at_end, unsupported, short_number, short_raw, deep_array, deep_map, in_array, in_key, in_value}
 use Rattle.serf_pack.proofs.Steps.{fault_is, bind_err, guard_err}
-use Rattle.serf_pack.proofs.ReadIsSpelled.{IsTrueReader, IsHeadOf, head_back, moved, value_back}
+use Rattle.serf_pack.specs.Laws.{BeginsWith}
+use Rattle.serf_pack.proofs.ReadIsSpelled.{IsTrueReader, head_back, moved, value_back}
 
 -- ---- heads
 
@@ -156,13 +157,13 @@ abbrev with_pairs : ℕ → Result (Pairs × List ℕ) PackFault → Result (Tre
 with_pairs p r = r >>= λ ps. Ok (pairs p ps.0, ps.1)
 
 module _ (total d : ℕ) (bytes : List ℕ) (le : length bytes ≤ total) where
-  raw_refused : (n : ℕ) (rest : List ℕ) (f : PackFault) → IsHeadOf bytes rest (heads.Raw n)
+  raw_refused : (n : ℕ) (rest : List ℕ) (f : PackFault) → BeginsWith (heads.Raw n) bytes rest
       → cond {A = Result (Tree × List ℕ) PackFault} (nat_lt (length rest) n) (Err (Truncated (place total bytes))) (Ok (raw (place total bytes) (take n rest), drop n rest)) ≡ Err f → Breaks d (place total bytes) bytes f
   raw_refused n rest f h e =
       let g = guard_err (nat_lt (length rest) n) (Truncated (place total bytes)) f (raw (place total bytes) (take n rest), drop n rest) e in
       short_raw d (place total bytes) bytes f h.head rest n h.bytes_are h.is (ltb-true _ _ g.0) g.1
 
-  array_refused : (value : Reader Tree) → d < 8 → IsTrueReader total (d + 1) value → IsFairReader total (d + 1) value → (n : ℕ) (rest : List ℕ) (f : PackFault) → IsHeadOf bytes rest (heads.Array n)
+  array_refused : (value : Reader Tree) → d < 8 → IsTrueReader total (d + 1) value → IsFairReader total (d + 1) value → (n : ℕ) (rest : List ℕ) (f : PackFault) → BeginsWith (heads.Array n) bytes rest
       → items_at value n rest ≡ Err f → Breaks d (place total bytes) bytes f
   array_refused value depth_left tells fair n rest f h e =
       let m = moved total bytes h.head rest h.bytes_are le in
@@ -170,7 +171,7 @@ module _ (total d : ℕ) (bytes : List ℕ) (le : length bytes ≤ total) where
       in_array d (place total bytes) bytes f h.head r.front r.rest n r.vs (h.bytes_are ∙ ap (λ (t : List ℕ). h.head ++ t) r.bytes_are) h.is depth_left
       (subst (λ k. PackItems r.vs (d + 1) k r.front) m.0 r.packs) r.count (subst (λ k. Breaks (d + 1) (k + length r.front) r.rest f) m.0 r.here)
 
-  map_refused : (value : Reader Tree) → d < 8 → IsTrueReader total (d + 1) value → IsFairReader total (d + 1) value → (n : ℕ) (rest : List ℕ) (f : PackFault) → IsHeadOf bytes rest (heads.Map n)
+  map_refused : (value : Reader Tree) → d < 8 → IsTrueReader total (d + 1) value → IsFairReader total (d + 1) value → (n : ℕ) (rest : List ℕ) (f : PackFault) → BeginsWith (heads.Map n) bytes rest
       → pairs_at value n rest ≡ Err f → Breaks d (place total bytes) bytes f
   map_refused value depth_left tells fair n rest f h e =
       let m = moved total bytes h.head rest h.bytes_are le in
@@ -184,7 +185,7 @@ module _ (total d : ℕ) (bytes : List ℕ) (le : length bytes ≤ total) where
             (subst (λ k. Breaks (d + 1) (k + length r.front + length r.key) r.rest f) m.0 r.here)
       ]
 
-  last_refused : (g : Head) (rest : List ℕ) (f : PackFault) → 8 ≤ d → IsHeadOf bytes rest g
+  last_refused : (g : Head) (rest : List ℕ) (f : PackFault) → 8 ≤ d → BeginsWith g bytes rest
       → parts_by (too_deep (place total bytes)) (too_deep (place total bytes)) (place total bytes) g rest ≡ Err f → Breaks d (place total bytes) bytes f
   last_refused heads.Nil rest f full h e = absurd cc
   last_refused (heads.Flag b) rest f full h e = absurd cc
@@ -201,7 +202,7 @@ module _ (total d : ℕ) (bytes : List ℕ) (le : length bytes ≤ total) where
   pairs_only (Ok x) f e = absurd cc
   pairs_only (Err g) f e = let same : g ≡ f = cc in rw same refl
 
-  inner_refused : (value : Reader Tree) → d < 8 → IsTrueReader total (d + 1) value → IsFairReader total (d + 1) value → (g : Head) (rest : List ℕ) (f : PackFault) → IsHeadOf bytes rest g
+  inner_refused : (value : Reader Tree) → d < 8 → IsTrueReader total (d + 1) value → IsFairReader total (d + 1) value → (g : Head) (rest : List ℕ) (f : PackFault) → BeginsWith g bytes rest
       → parts_by (items_at value) (pairs_at value) (place total bytes) g rest ≡ Err f → Breaks d (place total bytes) bytes f
   inner_refused value depth_left tells fair heads.Nil rest f h e = absurd cc
   inner_refused value depth_left tells fair (heads.Flag b) rest f h e = absurd cc

@@ -7,6 +7,7 @@ use Rattle.serf_pack.specs.declared.head.Row.TheVariants.{Whole, Number, Unsuppo
 use Rattle.serf_pack.specs.Tree.{Tree, nil, flag, int, raw, array, pairs, Items, no_items, item, Pairs, no_pairs, pair}
 use Rattle.serf_pack.specs.Table.{row_of, head_at, head_by, place}
 use Rattle.serf_pack.specs.Reading.{Reader, items_at, pairs_at, value_at}
+use Rattle.serf_pack.specs.Laws.{BeginsWith}
 use Rattle.serf_pack.specs.Packs.{IsField, IsHead, item_count, pair_count, Packs, PackItems, PackPairs}
 use Rattle.serf_pack.proofs.ByHead.{read_nil, read_flag, read_int, read_raw, read_array, read_map}
 
@@ -23,6 +24,9 @@ pub head_read : (total : ℕ) (head rest : List ℕ) (h : Head) → IsHead head 
 unfolding head_at
 head_read total [] rest h is = absurd is
 head_read total (b ∷ field) rest h is = field_read (place total (b ∷ (field ++ rest))) (row_of b) b field rest h is
+
+pub head_begins : (total : ℕ) (bytes rest : List ℕ) (h : Head) → BeginsWith h bytes rest → head_at total bytes ≡ Ok (h, rest)
+head_begins total bytes rest h b = ap (head_at total) b.bytes_are ∙ head_read total b.head rest h b.is
 
 -- ---- one part after another
 

@@ -1,6 +1,7 @@
 -- Laws of spellings and faults.
 use Rattle.std.specs.Prelude.{FitsSigned, ◌≡◌, ◌<◌, ◌+◌, ◌^◌, ◌↔◌, ℕ, ℤ, pos, negsuc, Bool, List, ◌++◌, Ok, Err, length}
 use Rattle.std.specs.Int.{w64}
+use Rattle.serf_pack.specs.declared.head.Head.{Head}
 use Rattle.serf_pack.specs.declared.head.Head.TheVariants as heads
 use Rattle.serf_pack.specs.Canonical.{map_head, array_head, raw_head, raw_bytes, uint_bytes, negative_bytes, int_bytes, flag_bytes, nil_bytes}
 use Rattle.serf_pack.specs.declared.fault.PackFault.{PackFault}
@@ -9,6 +10,7 @@ use Rattle.serf_pack.specs.Tree as trees
 use Rattle.serf_pack.specs.Packs.{IsHead, Packs, PackItems, PackPairs, item_count, pair_count}
 use Rattle.serf_pack.specs.Breaks.{IsFaulty}
 use Rattle.serf_pack.specs.Reading.{whole_at}
+use Rattle.serf_pack.specs.Table.{head_at}
 
 -- a byte list spells at most one value
 abbrev pub OneTree : Type 0
@@ -22,10 +24,18 @@ OneFault = (bytes : List ℕ) (f g : PackFault) → IsFaulty bytes f → IsFault
 abbrev pub NeverBoth : Type 0
 NeverBoth = (bytes : List ℕ) (v : Tree) (f : PackFault) → Packs v 0 0 bytes → IsFaulty bytes f → ⊥
 
--- the reading gives just the value that the bytes spell, inside at most eight containers, and just the first fault
+-- the bytes begin with a head, and these are behind it
+pub record BeginsWith (h : Head) (bytes rest : List ℕ) : Type 0 where
+  pub head : List ℕ
+  pub bytes_are : bytes ≡ head ++ rest
+  pub is : IsHead head h
+
+-- the reading gives just the value that the bytes spell, inside at most eight containers, and just the first fault; and
+-- what it takes for a head is one
 pub record ReadsExactly : Type 0 where
   pub value : (bytes : List ℕ) (v : Tree) → (whole_at 8 bytes ≡ Ok v) ↔ Packs v 0 0 bytes
   pub fault : (bytes : List ℕ) (f : PackFault) → (whole_at 8 bytes ≡ Err f) ↔ IsFaulty bytes f
+  pub head : (total : ℕ) (bytes rest : List ℕ) (h : Head) → (head_at total bytes ≡ Ok (h, rest)) ↔ BeginsWith h bytes rest
 
 -- what the appenders write is a head, and of integers the whole spelling
 pub record CanonicalHeads : Type 0 where

@@ -12,7 +12,7 @@ use crate::draft::add_action;
 use crate::player::Player;
 use crate::settings::{add_agents, copy_of};
 use serf_replay::{MAX_SCHEDULE_BYTES, Schedule};
-use serf_schedule_text::know_read_back;
+use serf_schedule_text::{comments_skipped, know_read_back};
 use serf_world::{Action, Roster};
 use std::alloc::{AllocError, Global};
 
@@ -69,6 +69,7 @@ pub fn random_schedule(alloc: Global, ask: &Ask) -> Result<Made, AllocError>
     let agents = add_agents(alloc, ask, &mut text)?;
     let actions = add_actions(alloc, ask, copy_of(alloc, &agents)?, &mut text)?;
     let schedule = Schedule { agents, actions };
+    comments_skipped();
     know_numbers(ask);
     know_read_back(&schedule);
     Ok(Made { schedule, text })

@@ -1,6 +1,6 @@
 -- What a line adds to the schedule before it.
-use Rattle.std.proofs.Common.{◌≡◌, ◌<◌, ◌≤◌, ◌+◌, ◌++◌, ◌==◌, ◌||◌, ◌⊎◌, inl, inr, ℕ, Bool, true, false, cond, nat_lt, not, List, [], ◌∷◌, Option, Some, None, Result, Ok, Err, refl, sym, ap, arith, length, append-nil}
-use Rattle.std.specs.Prelude.{take, drop}
+use Rattle.std.proofs.Common.{◌≡◌, ◌<◌, ◌==◌, ◌||◌, inl, inr, ℕ, Bool, true, false, cond, nat_lt, not, List, [], ◌∷◌, Option, Some, None, Result, Ok, Err, refl, sym, ap, arith, length, append-nil}
+use Rattle.std.specs.Prelude.{IfOk, take, drop}
 use Rattle.std.proofs.lemmas.Bool.Decides.{nat_tests}
 use Rattle.serf_agent.specs.declared.config.Config.{Config}
 use Rattle.serf_agent.specs.Config.{is_sound}
@@ -14,29 +14,22 @@ use Rattle.serf_replay.specs.Command.{command_of, count_of}
 use Rattle.serf_replay.specs.Gives.{◌>>=◌}
 use Rattle.serf_replay.specs.Words.{word_at, words_of}
 use Rattle.serf_replay.specs.Line.{Parsed, action_of, add_action, add_agent, after_line, agent_of, command_line, is_skipped, query_of, said_by}
-use Rattle.serf_replay.specs.Grown.{with_turn}
+use Rattle.serf_replay.specs.Grown.{AddsSame, Grows, with_turn}
+use Rattle.serf_replay.specs.Laws.{LateLinesAddSame, LinesGrow}
 
 -- ---- steps that may fail
 
--- what holds of a value that is found
-abbrev pub AllOk : {A : Type 0} → (A → Type 0) → Result A Cause → Type 0
-AllOk P (Ok x) = P x
-AllOk P (Err e) = Unit {0}
-
-if-ok : {A : Type 0} (P : A → Type 0) (b : Bool) (e : Cause) (r : Result A Cause) → AllOk P r → AllOk P (cond b (Err e) r)
+if-ok : {A : Type 0} (P : A → Type 0) (b : Bool) (e : Cause) (r : Result A Cause) → IfOk r P → IfOk (cond b (Err e) r) P
 if-ok P true e r h = tt
 if-ok P false e r h = h
 
-next-ok : {A B : Type 0} (P : B → Type 0) (r : Result A Cause) (f : A → Result B Cause) → ((x : A) → AllOk P (f x)) → AllOk P (r >>= f)
+next-ok : {A B : Type 0} (P : B → Type 0) (r : Result A Cause) (f : A → Result B Cause) → ((x : A) → IfOk (f x) P) → IfOk (r >>= f) P
 next-ok P (Ok x) f h = h x
 next-ok P (Err e) f h = tt
 
 -- ---- at most one action more, and no agent behind an action
 
-abbrev pub Grows : Parsed → Parsed → Type 0
-Grows before after = ((before.actions ≡ []) × (after.actions ≡ [])) ⊎ ((turn : Option Action) × (after ≡ with_turn before turn))
-
-pub no-turn : (p : Parsed) → p ≡ with_turn p None
+no-turn : (p : Parsed) → p ≡ with_turn p None
 no-turn p = ap (λ (turns : List Action). let q : Parsed = record { configs = p.configs; actions = turns } in q) (sym (append-nil p.actions))
 
 no-actions : (actions : List Action) → nat_lt 0 (length actions) ≡ false → actions ≡ []
@@ -46,17 +39,17 @@ no-actions (a ∷ rest) is = let less : 0 < length (a ∷ rest) = omega arith in
 late : (actions : List Action) → 0 < length actions → nat_lt 0 (length actions) ≡ true
 late actions some = grind (arith, nat_tests)
 
-grown-added : (before : Parsed) (r : Result Action Cause) → AllOk (Grows before) (r >>= add_action before)
+grown-added : (before : Parsed) (r : Result Action Cause) → IfOk (r >>= add_action before) (Grows before)
 grown-added before r = next-ok (Grows before) r (add_action before) (λ action. inr (Some action, refl))
 
-grown-agent : (before : Parsed) (config : Config) → before.actions ≡ [] → AllOk (Grows before) (add_agent before config)
+grown-agent : (before : Parsed) (config : Config) → before.actions ≡ [] → IfOk (add_agent before config) (Grows before)
 grown-agent before config none = if-ok (Grows before) (not (is_sound config)) BadConfig _ (if-ok (Grows before) (has_name before.configs config.name) NameTwice _ (inl (none, none)))
 
-grown-command : (c : Option Command) (before : Parsed) (words : List (List ℕ)) → AllOk (Grows before) (command_line c before words)
+grown-command : (c : Option Command) (before : Parsed) (words : List (List ℕ)) → IfOk (command_line c before words) (Grows before)
 grown-command None before words = tt
 grown-command (Some Agent) before words = by (nat_lt 0 (length before.actions)) refl
   where
-    by : (b : Bool) → nat_lt 0 (length before.actions) ≡ b → AllOk (Grows before) (cond b (Err LateAgent) (cond (not ((length words == 7) || (length words == 8))) (Err WordCount) (agent_of words >>= add_agent before)))
+    by : (b : Bool) → nat_lt 0 (length before.actions) ≡ b → IfOk (cond b (Err LateAgent) (cond (not ((length words == 7) || (length words == 8))) (Err WordCount) (agent_of words >>= add_agent before))) (Grows before)
     by true is = tt
     by false is =
         if-ok (Grows before) (not ((length words == 7) || (length words == 8))) WordCount (agent_of words >>= add_agent before)
@@ -68,21 +61,15 @@ grown-command (Some Query) before words =
 grown-command (Some (Act verb)) before words =
     if-ok (Grows before) (not (length words == count_of verb)) WordCount (action_of verb words >>= add_action before) (grown-added before (action_of verb words))
 
-pub grown : (before : Parsed) (line : List ℕ) → AllOk (Grows before) (after_line before line)
+pub grown : LinesGrow
 unfolding after_line
 grown before line = by (is_skipped line)
   where
-    by : (b : Bool) → AllOk (Grows before) (cond b (Ok before) (said_by before (words_of line)))
+    by : (b : Bool) → IfOk (cond b (Ok before) (said_by before (words_of line))) (Grows before)
     by true = inr (None, no-turn before)
     by false = grown-command (command_of (word_at 1 (words_of line))) before (words_of line)
 
 -- ---- behind an action a line adds the same to each schedule
-
-abbrev pub AddsSame : Parsed → Parsed → Result Parsed Cause → Result Parsed Cause → Type 0
-AddsSame p q (Ok a) (Ok b) = (turn : Option Action) × (a ≡ with_turn p turn) × (b ≡ with_turn q turn)
-AddsSame p q (Ok a) (Err f) = ⊥
-AddsSame p q (Err e) (Ok b) = ⊥
-AddsSame p q (Err e) (Err f) = e ≡ f
 
 same-if : (p q : Parsed) (b : Bool) (e : Cause) (r s : Result Parsed Cause) → AddsSame p q r s → AddsSame p q (cond b (Err e) r) (cond b (Err e) s)
 same-if p q true e r s h = refl
@@ -102,7 +89,7 @@ same-command (Some Query) p q words m n =
 same-command (Some (Act verb)) p q words m n =
     same-if p q (not (length words == count_of verb)) WordCount (action_of verb words >>= add_action p) (action_of verb words >>= add_action q) (same-added p q (action_of verb words))
 
-pub late-same : (p q : Parsed) (line : List ℕ) → 0 < length p.actions → 0 < length q.actions → AddsSame p q (after_line p line) (after_line q line)
+pub late-same : LateLinesAddSame
 unfolding after_line
 late-same p q line m n = by (is_skipped line)
   where

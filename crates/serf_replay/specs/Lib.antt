@@ -14,3 +14,4 @@ pub mod WireText
 pub mod Words
 pub mod Running
 pub mod Grown
+pub mod Laws

@@ -1,13 +1,24 @@
-//! What holds of the text of every step, as clauses of a function that does nothing.
+//! What holds of every schedule that is read line by line, and of the text of every step: clauses of functions that do
+//! nothing.
 
-ghost use Rattle.std.specs.Prelude.{◌≡◌, ◌++◌, ℕ, List};
-ghost use Rattle.serf_model.specs.declared.action.Action.{Action};
-ghost use Rattle.serf_world.specs.Cluster.{Cluster, step};
-ghost use Rattle.serf_replay.specs.Show.{action_text};
+ghost use Rattle.serf_replay.specs.Laws.{LateLinesAddSame, LinesFollow, LinesGrow, LinesStay, SchedulesAreSized, SendsBehind};
 
-/// A step sends its packets behind those that were sent, and what is sent later changes none of its lines. Does nothing.
+/// A step sends its packets behind those that were sent, and what is sent later changes none of its lines. The lines of
+/// one action more stand behind those of the others. Does nothing.
 pub fn lines_stay()
-    ensures sent { (c : Cluster) (action : Action) → (step c action).cluster.sent ≡ c.sent ++ (step c action).turn.packets }
-    ensures lines { (c : Cluster) (action : Action) (n : ℕ) (more : List (List ℕ))
-        → action_text ((step c action).cluster.sent ++ more) n (step c action).turn.line ≡ action_text (step c action).cluster.sent n (step c action).turn.line }
+    ensures sent { SendsBehind }
+    ensures lines { LinesStay }
+    ensures follow { LinesFollow }
+{}
+
+/// A line adds an action at most to the schedule before it, and an agent only where there is no action yet. Behind an
+/// action it adds the same to each schedule, or is refused for the same cause. Does nothing.
+pub fn lines_grow()
+    ensures grow { LinesGrow }
+    ensures late { LateLinesAddSame }
+{}
+
+/// The numbers of the actions that a text stands for have their types' sizes. Does nothing.
+pub fn sized_schedules()
+    ensures { SchedulesAreSized }
 {}

@@ -23,7 +23,7 @@ pub use cause::{Cause, LineFault};
 pub use clock_lines::clocks_text;
 pub use input::{InputFault, MAX_SCHEDULE_BYTES, read_input};
 pub use job::{ReplayFault, replay};
-pub use laws::lines_stay;
+pub use laws::{lines_grow, lines_stay, sized_schedules};
 pub use message_lines::{DecodeTextFault, decode_text, put_members, put_message, put_slot};
 pub use output::{WriteFault, write_output};
 pub use parse::{ScheduleFault, parse_schedule, read_schedule_line};

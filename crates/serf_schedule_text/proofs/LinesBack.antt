@@ -2,7 +2,8 @@
 use Rattle.serf_schedule_text.proofs.Names.{◌≡◌, ◌<◌, ◌≤◌, ◌∙◌, ℕ, List, [], ◌∷◌, ◌++◌, length, true, false, refl, ap, arith, append_assoc, ◌==◌, filter, nat_lt, AllByRecursion, slice_split, common_steps, append-nil, All-append, All-cons, All-nil, slice_split_at, slice_split_none, words_of}
 use Rattle.std.specs.List.{All}
 use Rattle.serf_schedule_text.specs.ScheduleText.{line_text, spaced}
-use Rattle.serf_schedule_text.proofs.PlainWords.{IsWord, above-space}
+use Rattle.serf_schedule_text.specs.Comments.{IsWord}
+use Rattle.serf_schedule_text.proofs.PlainWords.{above-space}
 
 above : (s b : ℕ) → s < b → (b == s) ≡ false
 above s b h = grind (arith, common_steps)

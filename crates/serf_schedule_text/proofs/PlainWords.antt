@@ -1,16 +1,8 @@
 -- Words that stand in a line as they are.
-use Rattle.serf_schedule_text.proofs.Names.{◌≡◌, ◌/◌, ◌%◌, ◌<◌, ◌≤◌, ◌^◌, ℕ, zero, suc, List, [], ◌∷◌, length, Bool, true, inl, inr, refl, sym, subst, arith, decimal, map, ◌&&◌, nat_le, slice_index, is_ascii_digit, AllByRecursion, list_all, and_parts, cases_lt, decimal_nonempty, digits_decimal, common_steps, All-cons, All-nil, IsBytes, encode_lower, encode_with, lower_digits, length-encode_with, hex_text}
+use Rattle.serf_schedule_text.proofs.Names.{◌≡◌, ◌/◌, ◌%◌, ◌<◌, ◌≤◌, ◌^◌, ℕ, zero, suc, List, [], ◌∷◌, Bool, true, inl, inr, refl, sym, subst, arith, decimal, map, ◌&&◌, slice_index, is_ascii_digit, AllByRecursion, list_all, and_parts, cases_lt, decimal_nonempty, digits_decimal, common_steps, All-cons, All-nil, IsBytes, encode_lower, encode_with, lower_digits, length-encode_with, hex_text}
 use Rattle.std.specs.List.{All}
+use Rattle.serf_schedule_text.specs.Comments.{IsWord, is_plain}
 use Rattle.serf_schedule_text.proofs.WordsBack.{digits, hex-some}
-
--- a byte above the space
-abbrev pub is_plain : ℕ → Bool
-is_plain b = nat_le 33 b
-
--- some bytes, each above the space
-pub record IsWord (word : List ℕ) : Type 0 where
-  pub some : 0 < length word
-  pub plain : list_all is_plain word ≡ true
 
 both : (a b : Bool) → a ≡ true → b ≡ true → (a && b) ≡ true
 both a b p q = rw (p, q) refl

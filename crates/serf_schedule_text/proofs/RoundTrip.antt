@@ -2,12 +2,13 @@
 use Rattle.serf_schedule_text.proofs.Names.{◌≡◌, ◌+◌, ◌<◌, ◌^◌, ◌∙◌, ℕ, List, [], ◌∷◌, ◌++◌, length, Bool, true, false, Option, Some, None, Ok, refl, sym, ap, subst, arith, codes, append_assoc, cond, ◌==◌, slice_index, signed_decimal, AllByRecursion, flat_map, slice_split, common_steps, append-nil, recursion_from_All, IsBytes, Config, QueryParams, is_sound, Action, SinkCall, Append, Flush, ReplaceOld, ReplaceNew, AreConfigs, has_name, twice_after, command_of, Parsed, after_line, agent_of, per_time_in, said_by, with_action, after_lines, schedule_of, flag_text, bytes_in, choice_in, choice_of, number_in}
 use Rattle.std.specs.List.{All}
 use Rattle.serf_model.specs.declared.action.Action.TheVariants as actions
-use Rattle.serf_model.proofs.StartLaws.{all-sound}
+use Rattle.serf_model.specs.Runs.{NoneBadIsSound}
 use Rattle.serf_schedule_text.specs.Sayable.{AreSayable, HasByteName, IsSayable}
 use Rattle.serf_schedule_text.specs.ScheduleText.{action_text, action_words, agent_text, agent_words, flags_of, join_word, mode_word, schedule_text, sink_call_word, spaced}
 use Rattle.serf_schedule_text.proofs.ActionsBack.{action-back}
 use Rattle.serf_schedule_text.proofs.LinesBack.{body, line-off, words-back}
-use Rattle.serf_schedule_text.proofs.PlainWords.{IsWord, hex-word, hex-words, number-word}
+use Rattle.serf_schedule_text.specs.Comments.{IsWord}
+use Rattle.serf_schedule_text.proofs.PlainWords.{hex-word, hex-words, number-word}
 use Rattle.serf_schedule_text.proofs.WordsBack.{bytes-back, number-back}
 
 -- Agents
@@ -240,7 +241,7 @@ agents-back n before (c ∷ cs) rest actions names sound bytes more =
     ∙ ap (λ cs. Ok (record { configs = cs; actions = actions })) (append_assoc before (c ∷ []) cs)
 
 -- the text of a schedule stands for it
-pub reads_back : (p : Parsed) → AreConfigs p.configs → All HasByteName p.configs → All IsSayable p.actions → schedule_of (schedule_text p) ≡ Ok p
-reads_back p ok bytes sayable =
+pub reads_back : NoneBadIsSound → (p : Parsed) → AreConfigs p.configs → All HasByteName p.configs → All IsSayable p.actions → schedule_of (schedule_text p) ≡ Ok p
+reads_back all-sound p ok bytes sayable =
     agents-back 1 [] p.configs (flat_map action_text p.actions) p.actions ok.names (all-sound p.configs ok.sound) (recursion_from_All HasByteName p.configs bytes)
     (λ m configs. actions-back m (record { configs = configs; actions = [] }) p.actions (recursion_from_All IsSayable p.actions sayable))

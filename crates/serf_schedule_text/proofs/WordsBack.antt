@@ -1,6 +1,5 @@
 -- Words that are written, read back.
 use Rattle.serf_schedule_text.proofs.Names.{◌≡◌, ◌<◌, ◌^◌, ◌∙◌, ℕ, List, [], ◌∷◌, length, true, false, Some, refl, ap, arith, rules, decimal, ◌==◌, is_ascii_digit, list_all, digits_value, decimal_nonempty, digits_decimal, digits_value-decimal, common_steps, IsNumeralModel, numerals_by_value, IsBytes, encode_lower, lower_digits, decode_of-encode_lower, length-encode_with, hex_text, bytes_of, number_of}
-use Rattle.serf_replay.proofs.NumberLemmas.{is_number}
 
 -- Numbers
 
@@ -9,8 +8,9 @@ digits = numerals_by_value _ (search rules)
 
 pub number-back : (n : ℕ) → n < 2 ^ 64 → number_of (decimal n) ≡ Some n
 number-back n h =
+    let some = decimal_nonempty n h in
     let value : digits_value 10 (decimal n) ≡ n = digits_value-decimal digits n h in
-    is_number (decimal n) (decimal_nonempty n h) (digits_decimal digits n h) (omega (arith, value)) ∙ ap Some value
+    rw (digits_decimal digits n h, value) (grind (arith, common_steps))
 
 -- Bytes
 

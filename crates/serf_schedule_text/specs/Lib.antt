@@ -1,3 +1,4 @@
+pub mod Comments
 pub mod Sayable
 pub mod ScheduleText
 pub mod Words

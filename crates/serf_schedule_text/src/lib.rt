@@ -7,7 +7,7 @@ mod sayable;
 mod whole;
 mod words;
 
-pub use laws::text_reads_back;
+pub use laws::{comments_skipped, text_reads_back};
 pub use lines::{put_action, put_agent};
 pub use sayable::{has_byte_name, is_sayable};
 pub use whole::{know_read_back, put_schedule};

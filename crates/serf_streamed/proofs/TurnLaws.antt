@@ -12,7 +12,6 @@ use Rattle.serf_model.specs.Cluster.{Run, after, start, step}
 use Rattle.serf_model.specs.Trace.{Turn}
 use Rattle.serf_replay.specs.Grown.{with_turn}
 use Rattle.serf_replay.specs.Line.{Parsed}
-use Rattle.serf_replay.proofs.GrownLaws.{no-turn}
 use Rattle.serf_replay.specs.Show.{action_text, actions_text}
 use Rattle.serf_streamed.specs.Streamed.{run_in, text_behind_turns}
 use Rattle.serf_world.specs.View.{WorldState}
@@ -87,7 +86,7 @@ pub stayed : (said : Parsed) (first : Action) (turn : Option Action) (actions : 
     → HasActed said acting → text ≡ [] → (length actions ≡ 1) × HasActed (with_turn said turn) acting × (text ≡ text_behind_turns (length said.actions) (run_in (with_turn said turn)))
 stayed said first (Some a) actions acting text are few h empty = let two = ap length are in absurd (omega (arith, two))
 stayed said first None actions acting text are few h empty =
-    let same : said ≡ with_turn said None = no-turn said in
+    let same : said ≡ with_turn said None = ap (λ (xs : List Action). let q : Parsed = record { configs = said.configs; actions = xs } in q) (sym (append-nil said.actions)) in
     let none : text_behind_turns (length said.actions) (run_in said) ≡ [] = ap (λ n. text_behind_turns n (run_in said)) (sym (turn-count said)) ∙ text-of-none (run_in said) in
     (ap length are, subst (λ (p : Parsed). HasActed p acting) same h, empty ∙ sym none ∙ ap (λ (p : Parsed). text_behind_turns (length said.actions) (run_in p)) same)
 

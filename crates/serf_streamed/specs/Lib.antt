@@ -1,3 +1,4 @@
 pub mod Streamed
 pub mod Steps
 pub mod Stopped
+pub mod Below

@@ -5,17 +5,30 @@ ghost use Rattle.std.specs.Io.KnownBytes.{Appends, Consumes, IsAtEnd};
 ghost use Rattle.serf_stream.specs.Lines.{IsSaid};
 ghost use Rattle.serf_replay.specs.Line.{Parsed};
 ghost use Rattle.serf_replay.specs.Output.{TracesRun, output_of};
+ghost use Rattle.serf_streamed.specs.Below.{Below};
 ghost use Rattle.serf_streamed.specs.Streamed.{run_in, text_behind_turns, turn_answer};
 ghost use Rattle.serf_streamed.specs.Steps.{Follows, IsStage, Takes};
 ghost use Rattle.serf_streamed.specs.Stopped.{IsHalted};
 
 use crate::turn::{Acting, begin, go_on};
 use serf_model::{run_promises, turns_shown};
-use serf_replay::{Cause, LineFault as ReadFault, Schedule, read_schedule_line};
+use serf_replay::{
+    Cause, LineFault as ReadFault, Schedule, lines_grow, lines_stay, read_schedule_line,
+    sized_schedules,
+};
 use serf_stream::{LineFault, LineJob, StreamFault, answer_lines};
 use serf_world::Roster;
 use std::alloc::{AllocError, Global};
 use std::io::{Read, Write};
+
+/// What the crates below promise, as far as a schedule read line by line rests on it. Does nothing.
+fn laws_below()
+    ensures { Below }
+{
+    lines_grow();
+    lines_stay();
+    sized_schedules();
+}
 
 /// Does the action that a line put into the schedule, where there is one, and appends the text of its turn.
 fn do_action(
@@ -48,6 +61,7 @@ fn take_line(
         → OnOk result ((turn_answer lines line.entry.now ≡ Ok text.new.items) × Follows schedule.new acting.new (lines ++ line.entry.now ∷ [])) }
     ensures refused { (lines : List (List ℕ)) → Follows schedule.old acting.old lines → IfErr result (IsSaid (turn_answer lines line.entry.now)) }
 {
+    laws_below();
     match read_schedule_line(alloc, schedule, line) {
         Ok(()) => match do_action(alloc, schedule, acting, text) {
             Ok(()) => Ok(()),
@@ -105,6 +119,7 @@ pub fn replay_lines<R: Read, W: Write>(
     ensures stopped { IfErr result (λ fault. (bytes : List ℕ) × Consumes (R.remaining reader.old) (R.remaining reader.new) bytes
         × IsHalted fault bytes (W.contents writer.old) (W.contents writer.new)) }
 {
+    laws_below();
     run_promises();
     turns_shown();
     let mut job = ScheduleLines {

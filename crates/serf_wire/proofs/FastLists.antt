@@ -1,7 +1,7 @@
 -- Lists at the front of bytes.
 use Rattle.serf_wire.proofs.Names.{◌≡◌, ℕ, ◌+◌, ◌-◌, ◌<◌, ◌≤◌, List, [], ◌∷◌, ◌++◌, map, length, take, Option, Some, Ok, refl, sym, ap, subst, ◌∙◌, arith, append_assoc, append-nil, length-append, take_at, length_push, flat_map, head_at, Tree, nil, array, no_items, Packs, IsHead, PacksAlone}
 use Rattle.serf_pack.specs.declared.head.Head.TheVariants as heads
-use Rattle.serf_pack.proofs.ReadIsSpelled.{head_back}
+use Rattle.serf_wire.specs.Below.{Below}
 use Rattle.serf_wire.specs.declared.fault.WireFault.{WireFault}
 use Rattle.serf_wire.specs.Fields.{text, list}
 use Rattle.serf_wire.specs.Fast.{ReadsIn, Spans, AreParts, Item, AreItems}
@@ -18,8 +18,8 @@ nil_reads limit meaning x bytes rest means e = record { front = 0xc0 ∷ []; tre
 pub nil_spans : {A : Type 0} (limit : ℕ) (meaning : Tree → Option A) (x : A) (bytes rest : List ℕ) → ((p : ℕ) → meaning (nil p) ≡ Some x) → bytes ≡ 0xc0 ∷ rest → Spans limit meaning bytes rest
 nil_spans limit meaning x bytes rest means e = record { value = x; reads = nil_reads limit meaning x bytes rest means e }
 
-pub nil_texts : (bytes rest : List ℕ) → bytes ≡ 0xc0 ∷ rest → ReadsIn 8 (list text) [] bytes rest
-nil_texts bytes rest e = anywhere 8 (list text) [] bytes rest (nil_front (list text) [] bytes rest (λ p. refl) e)
+pub nil_texts : Below → (bytes rest : List ℕ) → bytes ≡ 0xc0 ∷ rest → ReadsIn 8 (list text) [] bytes rest
+nil_texts below bytes rest e = anywhere 8 (list text) [] bytes rest (nil_front below (list text) [] bytes rest (λ p. refl) e)
 
 pub no_texts : (bytes rest : List ℕ) → bytes ≡ 0x90 ∷ rest → ReadsIn 8 (list text) [] bytes rest
 no_texts bytes rest e = record { front = 0x90 ∷ []; tree = λ p. array p no_items; bytes_are = e; packs = λ d p room. (refl, room, 0x90 ∷ [], [], (refl, refl), refl, refl); means = λ p. refl }
@@ -51,9 +51,9 @@ one_item_more limit meaning n bytes mid rest a s = one_part_more (λ (t : Item l
 abbrev pub part_of : {A : Type 0} → (limit : ℕ) → (meaning : Tree → Option A) → Item limit meaning → Part
 part_of limit meaning t = record { bytes = t.front; tree = t.tree }
 
-pub list_spans : {A : Type 0} (limit : ℕ) (meaning : Tree → Option A) (n : ℕ) (bytes items rest : List ℕ) → limit ≤ 8 → head_at 0 bytes ≡ Ok (heads.Array n, items) → AreItems (limit + 1) meaning n items rest → Spans limit (list meaning) bytes rest
-list_spans limit meaning n bytes items rest small e a =
-    let h = head_back 0 bytes (heads.Array n, items) e in
+pub list_spans : Below → {A : Type 0} (limit : ℕ) (meaning : Tree → Option A) (n : ℕ) (bytes items rest : List ℕ) → limit ≤ 8 → head_at 0 bytes ≡ Ok (heads.Array n, items) → AreItems (limit + 1) meaning n items rest → Spans limit (list meaning) bytes rest
+list_spans below limit meaning n bytes items rest small e a =
+    let h = (below.reading.head 0 bytes items (heads.Array n)).0 e in
     let all = all_true a.parts in record {
       value = map (λ t. t.value) a.parts;
       reads = record {

@@ -1,7 +1,7 @@
 -- Pair after pair of a map in compact spellings.
 use Rattle.serf_wire.proofs.Names.{◌≡◌, ℕ, suc, ◌+◌, ◌-◌, ◌<◌, ◌≤◌, List, [], ◌∷◌, ◌++◌, length, lit<, true, false, cond, Option, Some, None, IfSome, unwrap_or, refl, sym, ap, subst, ◌∙◌, arith, append_assoc, append-nil, Tree, nil, raw, pairs, Pairs, no_pairs, pair, Packs, PackPairs, IsHead, pair_count, pair_list, raw_head, raw_bytes}
 use Rattle.serf_pack.specs.declared.head.Head.TheVariants as heads
-use Rattle.serf_pack.proofs.Canonical.{raw_head_is}
+use Rattle.serf_wire.specs.Below.{Below}
 use Rattle.serf_wire.specs.Fields.{number, is_key, values_of, sole}
 use Rattle.serf_wire.specs.Fast.{Reads, ReadsIn, Shows, Extends, IsReadSoFar}
 use Rattle.serf_wire.specs.Spells.{HasRawKeys}
@@ -22,17 +22,17 @@ record IsLonger (ps : Pairs) (d p : ℕ) (bytes name : List ℕ) (value : ℕ �
   list : pair_list longer ≡ pair_list ps ++ (raw at_key name, value at_value) ∷ []
 
 module _ (d : ℕ) (name text : List ℕ) (value : ℕ → Tree) (short : length name < 4294967296) (is : (p : ℕ) → Packs (value p) d p text) where
-  one_more : (ps : Pairs) (p : ℕ) (bytes : List ℕ) → PackPairs ps d p bytes → IsLonger ps d p (bytes ++ (raw_bytes name ++ text)) name value
-  one_more no_pairs p bytes packs = record {
+  one_more : Below → (ps : Pairs) (p : ℕ) (bytes : List ℕ) → PackPairs ps d p bytes → IsLonger ps d p (bytes ++ (raw_bytes name ++ text)) name value
+  one_more below no_pairs p bytes packs = record {
     longer = pair (raw p name) (value (p + length (raw_bytes name))) no_pairs;
-    packs = (raw_bytes name, text, [], ap (λ b. b ++ (raw_bytes name ++ text)) packs ∙ sym (append-nil (raw_bytes name ++ text)), (refl, raw_head (length name), raw_head_is (length name) short, refl), is (p + length (raw_bytes name)), refl);
+    packs = (raw_bytes name, text, [], ap (λ b. b ++ (raw_bytes name ++ text)) packs ∙ sym (append-nil (raw_bytes name ++ text)), (refl, raw_head (length name), below.heads.raw (length name) short, refl), is (p + length (raw_bytes name)), refl);
     count = refl;
     at_key = p;
     at_value = p + length (raw_bytes name);
     list = refl;
   }
-  one_more (pair k v ps) p bytes packs =
-      let more = one_more ps (p + length packs.0 + length packs.1) packs.2 packs.6 in
+  one_more below (pair k v ps) p bytes packs =
+      let more = one_more below ps (p + length packs.0 + length packs.1) packs.2 packs.6 in
       record {
         longer = pair k v more.longer;
         packs = (packs.0, packs.1, packs.2 ++ (raw_bytes name ++ text), ap (λ b. b ++ (raw_bytes name ++ text)) packs.3 ∙ append_assoc (packs.0 ++ packs.1) packs.2 (raw_bytes name ++ text), packs.4, packs.5, more.packs);
@@ -46,9 +46,9 @@ module _ {F : Type 0} (IsSoFar : F → List (Tree × Tree) → Type 0) where
   pub nothing_read : (found : F) (bytes : List ℕ) → IsSoFar found [] → IsReadSoFar IsSoFar found 0 bytes bytes
   nothing_read found bytes is = record { pairs = no_pairs; text = []; bytes_are = refl; packs = refl; count = refl; is = is }
 
-  pub more_read : (old new : F) (n : ℕ) (bytes mid rest : List ℕ) → IsReadSoFar IsSoFar old n bytes mid → Extends IsSoFar old new mid rest → IsReadSoFar IsSoFar new (n + 1) bytes rest
-  more_read old new n bytes mid rest r e =
-      let m = one_more 1 e.name e.text e.value e.short e.packs r.pairs 1 r.text r.packs in
+  pub more_read : Below → (old new : F) (n : ℕ) (bytes mid rest : List ℕ) → IsReadSoFar IsSoFar old n bytes mid → Extends IsSoFar old new mid rest → IsReadSoFar IsSoFar new (n + 1) bytes rest
+  more_read below old new n bytes mid rest r e =
+      let m = one_more 1 e.name e.text e.value e.short e.packs below r.pairs 1 r.text r.packs in
       let count : pair_count m.longer ≡ n + 1 = omega (arith, m.count, r.count) in
       record {
         pairs = m.longer;

@@ -2,7 +2,7 @@
 use Rattle.serf_wire.proofs.Names.{◌≡◌, ℕ, suc, ℤ, pos, negsuc, ◌+◌, ◌-◌, ◌<◌, ◌≤◌, List, [], ◌∷◌, ◌++◌, length, take, drop, get_or, Bool, true, false, cond, nat_lt, nat_le, Option, Some, None, IfSome, Ok, refl, sym, ap, subst, ◌∙◌, arith, append_assoc, take-append-drop, nat_tests, drop_more, take_rest, length-take-le, big_number, Head, Field, Whole, Number, row_of, meaning_of, head_at, Tree, nil, flag, int, raw, array, pairs, Packs, IsHead, raw_of}
 use Rattle.serf_pack.specs.declared.head.Head.TheVariants as heads
 use Rattle.serf_pack.specs.declared.head.Field.TheVariants as fields
-use Rattle.serf_pack.proofs.ReadIsSpelled.{head_back}
+use Rattle.serf_wire.specs.Below.{Below}
 use Rattle.serf_wire.specs.Fields.{text, truth, number, up_to}
 use Rattle.serf_wire.specs.Fast.{Reads, ReadsIn}
 use Rattle.serf_wire.proofs.Spelling.{within}
@@ -34,23 +34,23 @@ anywhere limit meaning x bytes rest r = record { front = r.front; tree = r.tree;
 
 -- ---- heads
 
-reads_head : {A : Type 0} (meaning : Tree → Option A) (x : A) (bytes rest : List ℕ) (h : Head) (tree : ℕ → Tree) → head_at 0 bytes ≡ Ok (h, rest) → ((d p : ℕ) (head : List ℕ) → IsHead head h → Packs (tree p) d p head) → ((p : ℕ) → meaning (tree p) ≡ Some x) → Reads meaning x bytes rest
-reads_head meaning x bytes rest h tree e packs means =
-    let b = head_back 0 bytes (h, rest) e in
+reads_head : Below → {A : Type 0} (meaning : Tree → Option A) (x : A) (bytes rest : List ℕ) (h : Head) (tree : ℕ → Tree) → head_at 0 bytes ≡ Ok (h, rest) → ((d p : ℕ) (head : List ℕ) → IsHead head h → Packs (tree p) d p head) → ((p : ℕ) → meaning (tree p) ≡ Some x) → Reads meaning x bytes rest
+reads_head below meaning x bytes rest h tree e packs means =
+    let b = (below.reading.head 0 bytes rest h).0 e in
     record { front = b.head; tree = tree; bytes_are = b.bytes_are; packs = λ d p. packs d p b.head b.is; means = means }
 
-pub reads_number : (max n : ℕ) (bytes rest : List ℕ) → n ≤ max → head_at 0 bytes ≡ Ok (heads.Int (pos n), rest) → Reads (number max) n bytes rest
-reads_number max n bytes rest le e = reads_head (number max) n bytes rest (heads.Int (pos n)) (λ p. int p (pos n)) e (λ d p head is. (refl, is)) (λ p. within max n le)
+pub reads_number : Below → (max n : ℕ) (bytes rest : List ℕ) → n ≤ max → head_at 0 bytes ≡ Ok (heads.Int (pos n), rest) → Reads (number max) n bytes rest
+reads_number below max n bytes rest le e = reads_head below (number max) n bytes rest (heads.Int (pos n)) (λ p. int p (pos n)) e (λ d p head is. (refl, is)) (λ p. within max n le)
 
-pub reads_nil : {A : Type 0} (meaning : Tree → Option A) (x : A) (bytes rest : List ℕ) → ((p : ℕ) → meaning (nil p) ≡ Some x) → head_at 0 bytes ≡ Ok (heads.Nil, rest) → Reads meaning x bytes rest
-reads_nil meaning x bytes rest means e = reads_head meaning x bytes rest heads.Nil nil e (λ d p head is. (refl, is)) means
+pub reads_nil : Below → {A : Type 0} (meaning : Tree → Option A) (x : A) (bytes rest : List ℕ) → ((p : ℕ) → meaning (nil p) ≡ Some x) → head_at 0 bytes ≡ Ok (heads.Nil, rest) → Reads meaning x bytes rest
+reads_nil below meaning x bytes rest means e = reads_head below meaning x bytes rest heads.Nil nil e (λ d p head is. (refl, is)) means
 
-pub reads_flag : (b : Bool) (bytes rest : List ℕ) → head_at 0 bytes ≡ Ok (heads.Flag b, rest) → Reads truth b bytes rest
-reads_flag b bytes rest e = reads_head truth b bytes rest (heads.Flag b) (λ p. flag p b) e (λ d p head is. (refl, is)) (λ p. refl)
+pub reads_flag : Below → (b : Bool) (bytes rest : List ℕ) → head_at 0 bytes ≡ Ok (heads.Flag b, rest) → Reads truth b bytes rest
+reads_flag below b bytes rest e = reads_head below truth b bytes rest (heads.Flag b) (λ p. flag p b) e (λ d p head is. (refl, is)) (λ p. refl)
 
-reads_raw : (n : ℕ) (bytes rest : List ℕ) → n ≤ length rest → head_at 0 bytes ≡ Ok (heads.Raw n, rest) → Reads raw_of (take n rest) bytes (drop n rest)
-reads_raw n bytes rest le e =
-    let b = head_back 0 bytes (heads.Raw n, rest) e in
+reads_raw : Below → (n : ℕ) (bytes rest : List ℕ) → n ≤ length rest → head_at 0 bytes ≡ Ok (heads.Raw n, rest) → Reads raw_of (take n rest) bytes (drop n rest)
+reads_raw below n bytes rest le e =
+    let b = (below.reading.head 0 bytes rest (heads.Raw n)).0 e in
     let len : length (take n rest) ≡ n = length-take-le n rest le in
     record {
       front = b.head ++ take n rest;
@@ -92,37 +92,39 @@ narrower (pairs p ps) max n narrow e le = absurd cc
 pub after_byte : (b : ℕ) (bytes : List ℕ) → 1 ≤ length bytes → get_or bytes 0 0 ≡ b → bytes ≡ b ∷ take (length bytes - 1) (drop 1 bytes)
 after_byte b bytes le is = starts (b ∷ []) bytes le (is, tt)
 
-pub small_number : (b : ℕ) (bytes rest : List ℕ) → bytes ≡ b ∷ rest → b < 128 → Reads (number 0xffff_ffff_ffff_ffff) b bytes rest
-small_number b bytes rest e lt =
-    let yes : nat_lt b 128 ≡ true = grind (arith, nat_tests) in
-    reads_number 0xffff_ffff_ffff_ffff b bytes rest (omega arith) (ap (head_at 0) e ∙ whole_head b (heads.Int (pos b)) rest (rw yes refl))
+is_small : (b : ℕ) → b < 128 → nat_lt b 128 ≡ true
+is_small b lt = grind (arith, nat_tests)
 
-pub nil_front : {A : Type 0} (meaning : Tree → Option A) (x : A) (bytes rest : List ℕ) → ((p : ℕ) → meaning (nil p) ≡ Some x) → bytes ≡ 0xc0 ∷ rest → Reads meaning x bytes rest
-nil_front meaning x bytes rest means e = reads_nil meaning x bytes rest means (ap (head_at 0) e ∙ whole_head 0xc0 heads.Nil rest refl)
+pub small_number : Below → (b : ℕ) (bytes rest : List ℕ) → bytes ≡ b ∷ rest → b < 128 → Reads (number 0xffff_ffff_ffff_ffff) b bytes rest
+small_number below b bytes rest e lt =
+    reads_number below 0xffff_ffff_ffff_ffff b bytes rest (omega arith) (ap (head_at 0) e ∙ whole_head b (heads.Int (pos b)) rest (rw (is_small b lt) refl))
 
-pub flag_front : (b : Bool) (k : ℕ) (bytes rest : List ℕ) → row_of k ≡ Whole (heads.Flag b) → bytes ≡ k ∷ rest → Reads truth b bytes rest
-flag_front b k bytes rest row e = reads_flag b bytes rest (ap (head_at 0) e ∙ whole_head k (heads.Flag b) rest row)
+pub nil_front : Below → {A : Type 0} (meaning : Tree → Option A) (x : A) (bytes rest : List ℕ) → ((p : ℕ) → meaning (nil p) ≡ Some x) → bytes ≡ 0xc0 ∷ rest → Reads meaning x bytes rest
+nil_front below meaning x bytes rest means e = reads_nil below meaning x bytes rest means (ap (head_at 0) e ∙ whole_head 0xc0 heads.Nil rest refl)
 
-pub wide_number : {X : Type 0} (r : Option X) (value : X → ℕ) (behind : X → List ℕ) (b w limit : ℕ) (bytes rest : List ℕ) → limit ≤ 18446744073709551616 → bytes ≡ b ∷ rest → row_of b ≡ Number fields.Unsigned w
+pub flag_front : Below → (b : Bool) (k : ℕ) (bytes rest : List ℕ) → row_of k ≡ Whole (heads.Flag b) → bytes ≡ k ∷ rest → Reads truth b bytes rest
+flag_front below b k bytes rest row e = reads_flag below b bytes rest (ap (head_at 0) e ∙ whole_head k (heads.Flag b) rest row)
+
+pub wide_number : Below → {X : Type 0} (r : Option X) (value : X → ℕ) (behind : X → List ℕ) (b w limit : ℕ) (bytes rest : List ℕ) → limit ≤ 18446744073709551616 → bytes ≡ b ∷ rest → row_of b ≡ Number fields.Unsigned w
     → IfSome r (λ x. w ≤ length rest) → IfSome r (λ x. value x ≡ big_number w rest) → IfSome r (λ x. value x < limit) → IfSome r (λ x. behind x ≡ drop w rest)
     → IfSome r (λ x. Reads (number 0xffff_ffff_ffff_ffff) (value x) bytes (behind x))
-wide_number None value behind b w limit bytes rest high e row room is small drops = tt
-wide_number (Some x) value behind b w limit bytes rest high e row room is small drops =
-    reads_number 0xffff_ffff_ffff_ffff (value x) bytes (behind x) (omega arith)
+wide_number below None value behind b w limit bytes rest high e row room is small drops = tt
+wide_number below (Some x) value behind b w limit bytes rest high e row room is small drops =
+    reads_number below 0xffff_ffff_ffff_ffff (value x) bytes (behind x) (omega arith)
     (ap (head_at 0) e ∙ wide_head b w fields.Unsigned rest row room ∙ rw (is, drops) refl)
 
 -- a text of a length that its format byte says
-short_raw : {X : Type 0} (r : Option X) (front behind : X → List ℕ) (b n : ℕ) (bytes rest : List ℕ) → bytes ≡ b ∷ rest → row_of b ≡ Whole (heads.Raw n)
+short_raw : Below → {X : Type 0} (r : Option X) (front behind : X → List ℕ) (b n : ℕ) (bytes rest : List ℕ) → bytes ≡ b ∷ rest → row_of b ≡ Whole (heads.Raw n)
     → IfSome r (λ x. n ≤ length rest) → IfSome r (λ x. front x ≡ take n rest) → IfSome r (λ x. behind x ≡ drop n rest) → IfSome r (λ x. Reads raw_of (front x) bytes (behind x))
-short_raw None front behind b n bytes rest e row room is drops = tt
-short_raw (Some x) front behind b n bytes rest e row room is drops = rw (is, drops) (reads_raw n bytes rest room (ap (head_at 0) e ∙ whole_head b (heads.Raw n) rest row))
+short_raw below None front behind b n bytes rest e row room is drops = tt
+short_raw below (Some x) front behind b n bytes rest e row room is drops = rw (is, drops) (reads_raw below n bytes rest room (ap (head_at 0) e ∙ whole_head b (heads.Raw n) rest row))
 
 -- a text of a length in the bytes behind it
-pub wide_raw : {X : Type 0} (r : Option X) (front behind : X → List ℕ) (b w n : ℕ) (bytes rest after : List ℕ) → bytes ≡ b ∷ rest → row_of b ≡ Number fields.Raw w → w ≤ length rest → n ≡ big_number w rest → after ≡ drop w rest
+pub wide_raw : Below → {X : Type 0} (r : Option X) (front behind : X → List ℕ) (b w n : ℕ) (bytes rest after : List ℕ) → bytes ≡ b ∷ rest → row_of b ≡ Number fields.Raw w → w ≤ length rest → n ≡ big_number w rest → after ≡ drop w rest
     → IfSome r (λ x. n ≤ length after) → IfSome r (λ x. front x ≡ take n after) → IfSome r (λ x. behind x ≡ drop n after) → IfSome r (λ x. Reads raw_of (front x) bytes (behind x))
-wide_raw None front behind b w n bytes rest after e row len num drops room is ends = tt
-wide_raw (Some x) front behind b w n bytes rest after e row len num drops room is ends =
-    rw (is, ends) (reads_raw n bytes after room (ap (head_at 0) e ∙ wide_head b w fields.Raw rest row len ∙ rw (num, drops) refl))
+wide_raw below None front behind b w n bytes rest after e row len num drops room is ends = tt
+wide_raw below (Some x) front behind b w n bytes rest after e row len num drops room is ends =
+    rw (is, ends) (reads_raw below n bytes after room (ap (head_at 0) e ∙ wide_head b w fields.Raw rest row len ∙ rw (num, drops) refl))
 
 raw_row : (b : ℕ) → 160 ≤ b → b ≤ 191 → row_of b ≡ Whole (heads.Raw (b - 160))
 raw_row b low high = rw (no 128 (omega arith), no 144 (omega arith), no 160 (omega arith), yes) refl
@@ -133,9 +135,9 @@ raw_row b low high = rw (no 128 (omega arith), no 144 (omega arith), no 160 (ome
     yes : nat_lt b 192 ≡ true
     yes = grind (arith, nat_tests)
 
-pub fix_raw : {X : Type 0} (r : Option X) (front behind : X → List ℕ) (b : ℕ) (bytes rest : List ℕ) → bytes ≡ b ∷ rest → 160 ≤ b → b ≤ 191
+pub fix_raw : Below → {X : Type 0} (r : Option X) (front behind : X → List ℕ) (b : ℕ) (bytes rest : List ℕ) → bytes ≡ b ∷ rest → 160 ≤ b → b ≤ 191
     → IfSome r (λ x. b - 160 ≤ length rest) → IfSome r (λ x. front x ≡ take (b - 160) rest) → IfSome r (λ x. behind x ≡ drop (b - 160) rest) → IfSome r (λ x. Reads raw_of (front x) bytes (behind x))
-fix_raw r front behind b bytes rest e low high = short_raw r front behind b (b - 160) bytes rest e (raw_row b low high)
+fix_raw below r front behind b bytes rest e low high = short_raw below r front behind b (b - 160) bytes rest e (raw_row b low high)
 
 -- a byte string is a text
 raw_text : (v : Tree) (s : List ℕ) → raw_of v ≡ Some s → text v ≡ Some s

@@ -1,7 +1,7 @@
 -- Names with their times at the front of bytes.
 use Rattle.serf_wire.proofs.Names.{◌≡◌, ℕ, ◌+◌, List, [], ◌∷◌, ◌++◌, map, length, Some, Ok, refl, sym, ap, subst, ◌∙◌, arith, append_assoc, flat_map, head_at, pairs, IsHead, raw_of, pair_list}
 use Rattle.serf_pack.specs.declared.head.Head.TheVariants as heads
-use Rattle.serf_pack.proofs.ReadIsSpelled.{head_back}
+use Rattle.serf_wire.specs.Below.{Below}
 use Rattle.serf_wire.specs.Fields.{number, all, status, status_time}
 use Rattle.serf_wire.specs.Fast.{Reads, Spans, AreParts, StatusPart, SpansStatusTime, status_part_bytes}
 use Rattle.serf_wire.proofs.Spelling.{Part, pairs_by, count_pairs, pairs_pack, all_true}
@@ -24,9 +24,9 @@ status_read : (ts : List StatusPart) (p : ℕ) → all status_time (pair_list (p
 status_read [] p = refl
 status_read (t ∷ ts) p = rw (t.name.means p, t.time.means (p + length t.name.front), status_read ts (p + length t.name.front + length t.time.front)) refl
 
-pub status_spans : (n : ℕ) (bytes parts rest : List ℕ) → head_at 0 bytes ≡ Ok (heads.Map n, parts) → AreParts status_part_bytes n parts rest → Spans 8 status bytes rest
-status_spans n bytes parts rest e a =
-    let h = head_back 0 bytes (heads.Map n, parts) e in
+pub status_spans : Below → (n : ℕ) (bytes parts rest : List ℕ) → head_at 0 bytes ≡ Ok (heads.Map n, parts) → AreParts status_part_bytes n parts rest → Spans 8 status bytes rest
+status_spans below n bytes parts rest e a =
+    let h = (below.reading.head 0 bytes parts (heads.Map n)).0 e in
     let all = all_true a.parts in record {
       value = map (λ t. (t.name.value, t.time.value)) a.parts;
       reads = record {

@@ -1,6 +1,6 @@
 -- What packets are, exactly.
 use Rattle.serf_wire.proofs.Names.{◌≡◌, ℕ, List, [], ◌∷◌, Option, Some, None, Result, Ok, Err, MatchResult, IfOk, IfErr, IsOkAnd, refl, sym, ap, subst, ◌∙◌, PackFault, Tree, nil, flag, int, raw, array, pairs, Pairs, Packs, Gives, whole_at, pair_list, kind_of, Map}
-use Rattle.serf_pack.proofs.Inputs.{packs_whole, whole_packs, faulty_whole, whole_faulty}
+use Rattle.serf_wire.specs.Below.{Below}
 use Rattle.serf_wire.specs.declared.fault.WireFault.{WireFault}
 use Rattle.serf_wire.specs.declared.fault.WireFault.TheVariants as faults
 use Rattle.serf_wire.specs.declared.layout.MessageType.{MessageType}
@@ -87,80 +87,80 @@ no_map_read message (raw p s) not = refl
 no_map_read message (array p vs) not = refl
 no_map_read message (pairs p ps) not = absurd (not refl)
 
-value_answer : (message : MessageType) (bytes : List ℕ) (r : Result Tree PackFault) → whole_at 8 bytes ≡ r → IsAnswer message bytes (read_value message r)
-value_answer message bytes (Ok v) e = tree_answer message bytes v (whole_packs bytes v e)
-value_answer message bytes (Err f) e = no_value message bytes _ f (whole_faulty bytes f e) refl
+value_answer : Below → (message : MessageType) (bytes : List ℕ) (r : Result Tree PackFault) → whole_at 8 bytes ≡ r → IsAnswer message bytes (read_value message r)
+value_answer below message bytes (Ok v) e = tree_answer message bytes v ((below.reading.value bytes v).0 e)
+value_answer below message bytes (Err f) e = no_value message bytes _ f ((below.reading.fault bytes f).0 e) refl
 
 abbrev IsPacketAnswer : List ℕ → Result Message WireFault → Type 0
 IsPacketAnswer packet r = MatchResult r (λ m. Spells m packet) (λ f. IsFirstFault packet f)
 
-behind_answer : (class : Class) (kind : ℕ) (bytes : List ℕ) → MatchResult (decoded_behind class kind bytes) (λ m. SpellsBehind class kind m bytes) (λ f. IsFirstFaultBehind class kind bytes f)
-behind_answer (classes.Read message) kind bytes = value_answer message bytes (whole_at 8 bytes) refl
-behind_answer classes.Foreign kind bytes = refl
-behind_answer classes.Unknown kind bytes = refl
+behind_answer : Below → (class : Class) (kind : ℕ) (bytes : List ℕ) → MatchResult (decoded_behind class kind bytes) (λ m. SpellsBehind class kind m bytes) (λ f. IsFirstFaultBehind class kind bytes f)
+behind_answer below (classes.Read message) kind bytes = value_answer below message bytes (whole_at 8 bytes) refl
+behind_answer below classes.Foreign kind bytes = refl
+behind_answer below classes.Unknown kind bytes = refl
 
 -- what a packet decodes to is what it spells, or its first fault
-packet_answer : (packet : List ℕ) → IsPacketAnswer packet (decoded packet)
+packet_answer : Below → (packet : List ℕ) → IsPacketAnswer packet (decoded packet)
 unfolding decoded
-packet_answer [] = refl
-packet_answer (kind ∷ bytes) = behind_answer (class_of kind) kind bytes
+packet_answer below [] = refl
+packet_answer below (kind ∷ bytes) = behind_answer below (class_of kind) kind bytes
 
 -- ---- and the other way
 
-pub spelled_map : (message : MessageType) (bytes : List ℕ) (m : Message) → SpellsMap message m bytes → read_value message (whole_at 8 bytes) ≡ Ok m
-spelled_map message bytes m s =
+pub spelled_map : Below → (message : MessageType) (bytes : List ℕ) (m : Message) → SpellsMap message m bytes → read_value message (whole_at 8 bytes) ≡ Ok m
+spelled_map below message bytes m s =
     let c = fields_clean message m (pair_list s.0) s.2 in
-    ap (read_value message) (packs_whole bytes (pairs 0 s.0) s.1) ∙ rw c.0 (ap (λ n. Ok n) c.1)
+    ap (read_value message) ((below.reading.value bytes (pairs 0 s.0)).1 s.1) ∙ rw c.0 (ap (λ n. Ok n) c.1)
 
-faulty_map : (message : MessageType) (bytes : List ℕ) (f : WireFault) → IsFirstMapFault message bytes f → read_value message (whole_at 8 bytes) ≡ Err f
-faulty_map message bytes f (no_value _ _ _ g faulty e) = ap (read_value message) (faulty_whole bytes g faulty) ∙ ap (λ h. Err h) (sym e)
-faulty_map message bytes f (no_map _ _ _ w spelled not e) = ap (read_value message) (packs_whole bytes w spelled) ∙ no_map_read message w not ∙ ap (λ g. Err g) (sym e)
-faulty_map message bytes f (in_map _ _ _ ps spelled e) = ap (read_value message) (packs_whole bytes (pairs 0 ps) spelled) ∙ rw e refl
+faulty_map : Below → (message : MessageType) (bytes : List ℕ) (f : WireFault) → IsFirstMapFault message bytes f → read_value message (whole_at 8 bytes) ≡ Err f
+faulty_map below message bytes f (no_value _ _ _ g faulty e) = ap (read_value message) ((below.reading.fault bytes g).1 faulty) ∙ ap (λ h. Err h) (sym e)
+faulty_map below message bytes f (no_map _ _ _ w spelled not e) = ap (read_value message) ((below.reading.value bytes w).1 spelled) ∙ no_map_read message w not ∙ ap (λ g. Err g) (sym e)
+faulty_map below message bytes f (in_map _ _ _ ps spelled e) = ap (read_value message) ((below.reading.value bytes (pairs 0 ps)).1 spelled) ∙ rw e refl
 
-spelled_behind : (class : Class) (kind : ℕ) (bytes : List ℕ) (m : Message) → SpellsBehind class kind m bytes → decoded_behind class kind bytes ≡ Ok m
-spelled_behind (classes.Read message) kind bytes m s = spelled_map message bytes m s
-spelled_behind classes.Foreign kind bytes m s = ap (λ n. Ok n) (sym s)
-spelled_behind classes.Unknown kind bytes m s = absurd s
+spelled_behind : Below → (class : Class) (kind : ℕ) (bytes : List ℕ) (m : Message) → SpellsBehind class kind m bytes → decoded_behind class kind bytes ≡ Ok m
+spelled_behind below (classes.Read message) kind bytes m s = spelled_map below message bytes m s
+spelled_behind below classes.Foreign kind bytes m s = ap (λ n. Ok n) (sym s)
+spelled_behind below classes.Unknown kind bytes m s = absurd s
 
-faulty_behind : (class : Class) (kind : ℕ) (bytes : List ℕ) (f : WireFault) → IsFirstFaultBehind class kind bytes f → decoded_behind class kind bytes ≡ Err f
-faulty_behind (classes.Read message) kind bytes f h = faulty_map message bytes f h
-faulty_behind classes.Foreign kind bytes f h = absurd h
-faulty_behind classes.Unknown kind bytes f h = ap (λ g. Err g) (sym h)
+faulty_behind : Below → (class : Class) (kind : ℕ) (bytes : List ℕ) (f : WireFault) → IsFirstFaultBehind class kind bytes f → decoded_behind class kind bytes ≡ Err f
+faulty_behind below (classes.Read message) kind bytes f h = faulty_map below message bytes f h
+faulty_behind below classes.Foreign kind bytes f h = absurd h
+faulty_behind below classes.Unknown kind bytes f h = ap (λ g. Err g) (sym h)
 
-pub spelled_decoded : (packet : List ℕ) (m : Message) → Spells m packet → decoded packet ≡ Ok m
+pub spelled_decoded : Below → (packet : List ℕ) (m : Message) → Spells m packet → decoded packet ≡ Ok m
 unfolding decoded
-spelled_decoded [] m s = absurd s
-spelled_decoded (kind ∷ bytes) m s = spelled_behind (class_of kind) kind bytes m s
+spelled_decoded below [] m s = absurd s
+spelled_decoded below (kind ∷ bytes) m s = spelled_behind below (class_of kind) kind bytes m s
 
-pub faulty_decoded : (packet : List ℕ) (f : WireFault) → IsFirstFault packet f → decoded packet ≡ Err f
+pub faulty_decoded : Below → (packet : List ℕ) (f : WireFault) → IsFirstFault packet f → decoded packet ≡ Err f
 unfolding decoded
-faulty_decoded [] f h = ap (λ g. Err g) (sym h)
-faulty_decoded (kind ∷ bytes) f h = faulty_behind (class_of kind) kind bytes f h
+faulty_decoded below [] f h = ap (λ g. Err g) (sym h)
+faulty_decoded below (kind ∷ bytes) f h = faulty_behind below (class_of kind) kind bytes f h
 
-pub decoded_spelled : (packet : List ℕ) (m : Message) → decoded packet ≡ Ok m → Spells m packet
-decoded_spelled packet m e = subst (IsPacketAnswer packet) e (packet_answer packet)
+pub decoded_spelled : Below → (packet : List ℕ) (m : Message) → decoded packet ≡ Ok m → Spells m packet
+decoded_spelled below packet m e = subst (IsPacketAnswer packet) e (packet_answer below packet)
 
-pub decoded_faulty : (packet : List ℕ) (f : WireFault) → decoded packet ≡ Err f → IsFirstFault packet f
-decoded_faulty packet f e = subst (IsPacketAnswer packet) e (packet_answer packet)
+pub decoded_faulty : Below → (packet : List ℕ) (f : WireFault) → decoded packet ≡ Err f → IsFirstFault packet f
+decoded_faulty below packet f e = subst (IsPacketAnswer packet) e (packet_answer below packet)
 
-pub one_message : (packet : List ℕ) (m n : Message) → Spells m packet → Spells n packet → m ≡ n
-one_message packet m n s t = let same = sym (spelled_decoded packet m s) ∙ spelled_decoded packet n t in cc
+pub one_message : Below → (packet : List ℕ) (m n : Message) → Spells m packet → Spells n packet → m ≡ n
+one_message below packet m n s t = let same = sym (spelled_decoded below packet m s) ∙ spelled_decoded below packet n t in cc
 
 -- ---- the clauses of a result that shows what is decoded
 
 module _ (packet : List ℕ) where
-  pub result_spells : (r : Result Lent WireFault) → Gives message_of r (decoded packet) → IfOk r (λ m. Spells (message_of m) packet)
-  result_spells (Ok x) e = decoded_spelled packet (message_of x) e
-  result_spells (Err f) e = tt
+  pub result_spells : Below → (r : Result Lent WireFault) → Gives message_of r (decoded packet) → IfOk r (λ m. Spells (message_of m) packet)
+  result_spells below (Ok x) e = decoded_spelled below packet (message_of x) e
+  result_spells below (Err f) e = tt
 
-  pub result_only : (r : Result Lent WireFault) → Gives message_of r (decoded packet) → (m : Message) → Spells m packet → IsOkAnd r (λ x. message_of x ≡ m)
-  result_only (Ok x) e m s = let same = sym e ∙ spelled_decoded packet m s in cc
-  result_only (Err f) e m s = let same = sym e ∙ spelled_decoded packet m s in absurd cc
+  pub result_only : Below → (r : Result Lent WireFault) → Gives message_of r (decoded packet) → (m : Message) → Spells m packet → IsOkAnd r (λ x. message_of x ≡ m)
+  result_only below (Ok x) e m s = let same = sym e ∙ spelled_decoded below packet m s in cc
+  result_only below (Err f) e m s = let same = sym e ∙ spelled_decoded below packet m s in absurd cc
 
-  pub result_fault : (r : Result Lent WireFault) → Gives message_of r (decoded packet) → IfErr r (IsFirstFault packet)
-  result_fault (Ok x) e = tt
-  result_fault (Err f) e = decoded_faulty packet f e
+  pub result_fault : Below → (r : Result Lent WireFault) → Gives message_of r (decoded packet) → IfErr r (IsFirstFault packet)
+  result_fault below (Ok x) e = tt
+  result_fault below (Err f) e = decoded_faulty below packet f e
 
-  pub result_only_fault : (r : Result Lent WireFault) → Gives message_of r (decoded packet) → (f : WireFault) → IsFirstFault packet f → r ≡ Err f
-  result_only_fault (Ok x) e f h = let same = sym e ∙ faulty_decoded packet f h in absurd cc
-  result_only_fault (Err g) e f h = let same = sym e ∙ faulty_decoded packet f h in cc
+  pub result_only_fault : Below → (r : Result Lent WireFault) → Gives message_of r (decoded packet) → (f : WireFault) → IsFirstFault packet f → r ≡ Err f
+  result_only_fault below (Ok x) e f h = let same = sym e ∙ faulty_decoded below packet f h in absurd cc
+  result_only_fault below (Err g) e f h = let same = sym e ∙ faulty_decoded below packet f h in cc

@@ -5,7 +5,7 @@ use Rattle.serf_wire.specs.Faults.{first, list_faults, text_faults}
 use Rattle.serf_wire.specs.Lookups.{text_in, list_in}
 use Rattle.serf_wire.proofs.Stepping.{no_first}
 use Rattle.serf_wire.proofs.Meanings.{list_exact, text_exact}
-use Rattle.serf_pack.proofs.Inputs.{packs_whole, whole_packs}
+use Rattle.serf_wire.specs.Below.{Below}
 use Rattle.serf_wire.specs.Fields.{text, all}
 use Rattle.serf_wire.specs.Passes.{NamesNode, Passes, is_among, names_node, value_names_node, passes_of}
 use Rattle.serf_wire.proofs.Sound.{same_text, text_is}
@@ -33,26 +33,26 @@ tree_named bytes node (raw p s) packs e = absurd cc
 tree_named bytes node (array p vs) packs e = among_by bytes node vs (subst (λ q. Packs (array q vs) 0 0 bytes) packs.0 packs) _ refl e
 tree_named bytes node (pairs p ps) packs e = absurd cc
 
-value_named : (bytes node : List ℕ) (r : Result Tree PackFault) → whole_at 8 bytes ≡ r → value_names_node node r ≡ true → NamesNode bytes node
-value_named bytes node (Ok v) is e = tree_named bytes node v (whole_packs bytes v is) e
-value_named bytes node (Err f) is e = absurd cc
+value_named : Below → (bytes node : List ℕ) (r : Result Tree PackFault) → whole_at 8 bytes ≡ r → value_names_node node r ≡ true → NamesNode bytes node
+value_named below bytes node (Ok v) is e = tree_named bytes node v ((below.reading.value bytes v).0 is) e
+value_named below bytes node (Err f) is e = absurd cc
 
-named_value : (bytes node : List ℕ) → NamesNode bytes node → value_names_node node (whole_at 8 bytes) ≡ true
-named_value bytes node n = rw (packs_whole bytes (array 0 n.items) n.packs, n.are) (contains_any node n.names n.among)
+named_value : Below → (bytes node : List ℕ) → NamesNode bytes node → value_names_node node (whole_at 8 bytes) ≡ true
+named_value below bytes node n = rw ((below.reading.value bytes (array 0 n.items)).1 n.packs, n.are) (contains_any node n.names n.among)
 
-kind_by : (kind : ℕ) (bytes node : List ℕ) (b : Bool) → (kind == 0) ≡ b → cond b (value_names_node node (whole_at 8 bytes)) false ≡ true → Passes (kind ∷ bytes) node
-kind_by kind bytes node true is e = (eqb-true _ _ is, value_named bytes node (whole_at 8 bytes) refl e)
-kind_by kind bytes node false is e = absurd cc
+kind_by : Below → (kind : ℕ) (bytes node : List ℕ) (b : Bool) → (kind == 0) ≡ b → cond b (value_names_node node (whole_at 8 bytes)) false ≡ true → Passes (kind ∷ bytes) node
+kind_by below kind bytes node true is e = (eqb-true _ _ is, value_named below bytes node (whole_at 8 bytes) refl e)
+kind_by below kind bytes node false is e = absurd cc
 
-pub passes_from : (filter node : List ℕ) → passes_of filter node ≡ true → Passes filter node
+pub passes_from : Below → (filter node : List ℕ) → passes_of filter node ≡ true → Passes filter node
 unfolding passes_of
-passes_from [] node e = absurd cc
-passes_from (kind ∷ bytes) node e = kind_by kind bytes node _ refl e
+passes_from below [] node e = absurd cc
+passes_from below (kind ∷ bytes) node e = kind_by below kind bytes node _ refl e
 
-pub passes_is : (filter node : List ℕ) → Passes filter node → passes_of filter node ≡ true
+pub passes_is : Below → (filter node : List ℕ) → Passes filter node → passes_of filter node ≡ true
 unfolding passes_of
-passes_is [] node p = absurd p
-passes_is (kind ∷ bytes) node p = rw p.0 (named_value bytes node p.1)
+passes_is below [] node p = absurd p
+passes_is below (kind ∷ bytes) node p = rw p.0 (named_value below bytes node p.1)
 
 -- ---- a list that is read without faults, or has one
 

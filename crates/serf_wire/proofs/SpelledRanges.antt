@@ -1,6 +1,7 @@
 -- The numbers of a message that a packet spells are in range.
 use Rattle.serf_wire.proofs.Names.{◌≡◌, ℕ, ◌<◌, ◌≤◌, nat_le, nat_lt, Bool, true, false, cond, List, [], ◌∷◌, Option, Some, None, Ok, ℤ, pos, negsuc, refl, sym, subst, arith, AllByRecursion, leb-true, same_Some, cond_some, Tree, nil, flag, int, raw, array, pairs, raw_of, item_list, pair_list}
 use Rattle.std.specs.Prelude.{codes}
+use Rattle.serf_wire.specs.Below.{Below}
 use Rattle.serf_wire.specs.declared.layout.MessageType.{MessageType}
 use Rattle.serf_wire.specs.declared.layout.MessageType.TheVariants as types
 use Rattle.serf_wire.specs.declared.layout.Class.{Class}
@@ -151,5 +152,5 @@ pub spelled_ranged : (packet : List ℕ) (m : Message) → Spells m packet → I
 spelled_ranged [] m s = absurd s
 spelled_ranged (kind ∷ bytes) m s = behind_ranged (class_of kind) kind bytes m refl s
 
-pub decoded_ranged : (packet : List ℕ) (m : Message) → decoded packet ≡ Ok m → InRange m
-decoded_ranged packet m e = spelled_ranged packet m (decoded_spelled packet m e)
+pub decoded_ranged : Below → (packet : List ℕ) (m : Message) → decoded packet ≡ Ok m → InRange m
+decoded_ranged below packet m e = spelled_ranged packet m (decoded_spelled below packet m e)

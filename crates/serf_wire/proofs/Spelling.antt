@@ -1,7 +1,7 @@
 -- Canonical packets are spellings: parts of values, put together.
 use Rattle.serf_wire.proofs.Names.{◌≡◌, ℕ, suc, ℤ, pos, negsuc, ◌+◌, ◌<◌, ◌≤◌, List, [], ◌∷◌, ◌++◌, map, length, Bool, true, false, ◌||◌, cond, Option, Some, None, nat_le, nat_lt, refl, sym, ap, subst, arith, nat_tests, flat_map, list_any, AllByRecursion, Tree, flag, int, raw, array, pairs, Items, no_items, item, Pairs, no_pairs, pair, Packs, PackItems, PackPairs, item_count, pair_count, IsHead, map_head, array_head, raw_head, raw_bytes, uint_bytes, int_bytes, flag_bytes, item_list}
 use Rattle.serf_pack.specs.declared.head.Head.TheVariants as heads
-use Rattle.serf_pack.proofs.Canonical.{map_head_is, array_head_is, raw_head_is, uint_is, negative_is}
+use Rattle.serf_wire.specs.Below.{Below}
 use Rattle.serf_wire.specs.Canonical.{entry}
 use Rattle.serf_wire.specs.Fields.{all, up_to, fits}
 
@@ -25,11 +25,11 @@ int_part z = record { bytes = int_bytes z; tree = λ p. int p z }
 abbrev pub flag_part : Bool → Part
 flag_part b = record { bytes = flag_bytes b; tree = λ p. flag p b }
 
-pub text_is_part : (d : ℕ) (s : List ℕ) → length s < 4294967296 → IsPart d (text_part s)
-text_is_part d s lt = λ p. (refl, raw_head (length s), raw_head_is (length s) lt, refl)
+pub text_is_part : Below → (d : ℕ) (s : List ℕ) → length s < 4294967296 → IsPart d (text_part s)
+text_is_part below d s lt = λ p. (refl, raw_head (length s), below.heads.raw (length s) lt, refl)
 
-pub number_is_part : (d n : ℕ) → n < 18446744073709551616 → IsPart d (number_part n)
-number_is_part d n lt = λ p. (refl, uint_is n lt)
+pub number_is_part : Below → (d n : ℕ) → n < 18446744073709551616 → IsPart d (number_part n)
+number_is_part below d n lt = λ p. (refl, below.heads.uint n lt)
 
 pub flag_is_part : (d : ℕ) (b : Bool) → IsPart d (flag_part b)
 flag_is_part d true = λ p. (refl, (refl, refl))
@@ -39,9 +39,9 @@ below_by : {A : Type 0} (n m : ℕ) (x y : A) (b : Bool) → nat_lt n m ≡ b �
 below_by n m x y true is e = grind (arith, nat_tests)
 below_by n m x y false is e = absurd cc
 
-pub int_is_part : (d : ℕ) (z : ℤ) → fits z ≡ Some z → IsPart d (int_part z)
-int_is_part d (pos n) e = let lt = below_by n 9223372036854775808 (pos n) (pos n) _ refl e in λ p. (refl, uint_is n (omega arith))
-int_is_part d (negsuc k) e = let lt = below_by k 9223372036854775808 (negsuc k) (negsuc k) _ refl e in λ p. (refl, negative_is k (omega arith))
+pub int_is_part : Below → (d : ℕ) (z : ℤ) → fits z ≡ Some z → IsPart d (int_part z)
+int_is_part below d (pos n) e = let lt = below_by n 9223372036854775808 (pos n) (pos n) _ refl e in λ p. (refl, below.heads.uint n (omega arith))
+int_is_part below d (negsuc k) e = let lt = below_by k 9223372036854775808 (negsuc k) (negsuc k) _ refl e in λ p. (refl, below.heads.negative k (omega arith))
 
 -- ---- arrays
 
@@ -63,13 +63,13 @@ items_pack d part ok are [] oks p = refl
 items_pack d part ok are (x ∷ xs) oks p =
     ((part x).bytes, flat_map (λ y. (part y).bytes) xs, refl, are x oks.0 p, items_pack d part ok are xs oks.1 (p + length (part x).bytes))
 
-pub array_is_part : {A : Type 0} (d : ℕ) (part : A → Part) (ok : A → Type 0) → d < 8 → ((x : A) → ok x → IsPart (d + 1) (part x)) → (xs : List A) → AllByRecursion ok xs → length xs < 4294967296 → IsPart d (array_part part xs)
-array_is_part d part ok room are xs oks lt = λ p. (
+pub array_is_part : Below → {A : Type 0} (d : ℕ) (part : A → Part) (ok : A → Type 0) → d < 8 → ((x : A) → ok x → IsPart (d + 1) (part x)) → (xs : List A) → AllByRecursion ok xs → length xs < 4294967296 → IsPart d (array_part part xs)
+array_is_part below d part ok room are xs oks lt = λ p. (
   refl,
   room,
   array_head (length xs),
   flat_map (λ x. (part x).bytes) xs,
-  subst (λ n. IsHead (array_head (length xs)) (heads.Array n)) (sym (count_items part (p + length (array_head (length xs))) xs)) (array_head_is (length xs) lt),
+  subst (λ n. IsHead (array_head (length xs)) (heads.Array n)) (sym (count_items part (p + length (array_head (length xs))) xs)) (below.heads.array (length xs) lt),
   refl,
   items_pack (d + 1) part ok are xs oks (p + length (array_head (length xs))),
 )
@@ -114,23 +114,23 @@ pairs_pack d key value ok keys values (x ∷ xs) oks p = (
   pairs_pack d key value ok keys values xs oks.1 (p + length (key x).bytes + length (value x).bytes),
 )
 
-pub map_is_part : {A : Type 0} (d : ℕ) (make : A → Entry) (ok : A → Type 0) → d < 8 → ((x : A) → ok x → IsEntry (d + 1) (make x)) → (xs : List A) → AllByRecursion ok xs → length xs < 4294967296 → IsPart d (map_part make xs)
-map_is_part d make ok room are xs oks lt = λ p. (
+pub map_is_part : Below → {A : Type 0} (d : ℕ) (make : A → Entry) (ok : A → Type 0) → d < 8 → ((x : A) → ok x → IsEntry (d + 1) (make x)) → (xs : List A) → AllByRecursion ok xs → length xs < 4294967296 → IsPart d (map_part make xs)
+map_is_part below d make ok room are xs oks lt = λ p. (
   refl,
   room,
   map_head (length xs),
   flat_map (λ x. entry_bytes (make x)) xs,
-  subst (λ n. IsHead (map_head (length xs)) (heads.Map n)) (sym (count_pairs (λ x. text_part (make x).name) (λ x. (make x).value) (p + length (map_head (length xs))) xs)) (map_head_is (length xs) lt),
+  subst (λ n. IsHead (map_head (length xs)) (heads.Map n)) (sym (count_pairs (λ x. text_part (make x).name) (λ x. (make x).value) (p + length (map_head (length xs))) xs)) (below.heads.map (length xs) lt),
   refl,
-  pairs_pack (d + 1) (λ x. text_part (make x).name) (λ x. (make x).value) ok (λ x ok. text_is_part (d + 1) (make x).name (are x ok).short) (λ x ok. (are x ok).is) xs oks (p + length (map_head (length xs))),
+  pairs_pack (d + 1) (λ x. text_part (make x).name) (λ x. (make x).value) ok (λ x ok. text_is_part below (d + 1) (make x).name (are x ok).short) (λ x ok. (are x ok).is) xs oks (p + length (map_head (length xs))),
 )
 
 -- a map of just these entries
 abbrev pub entries_part : List Entry → Part
 entries_part es = map_part (λ e. e) es
 
-pub entries_are_part : (d : ℕ) (es : List Entry) → d < 8 → AllByRecursion (IsEntry (d + 1)) es → length es < 4294967296 → IsPart d (entries_part es)
-entries_are_part d es room oks lt = map_is_part d (λ e. e) (IsEntry (d + 1)) room (λ e is. is) es oks lt
+pub entries_are_part : Below → (d : ℕ) (es : List Entry) → d < 8 → AllByRecursion (IsEntry (d + 1)) es → length es < 4294967296 → IsPart d (entries_part es)
+entries_are_part below d es room oks lt = map_is_part below d (λ e. e) (IsEntry (d + 1)) room (λ e is. is) es oks lt
 
 -- ---- what the items of a written list are read as
 

@@ -18,3 +18,4 @@ pub mod Parts
 pub mod Passes
 pub mod Ranges
 pub mod Laws
+pub mod Below

@@ -14,6 +14,7 @@ ghost use Rattle.serf_wire.specs.Fields.{text, truth, number, list};
 ghost use Rattle.serf_wire.specs.Fast.{Reads, ReadsIn, Spans, AreItems};
 ghost use Rattle.serf_wire.specs.Lists.{texts_left};
 
+use crate::laws::laws_below;
 use crate::lists::Texts;
 use serf_pack::{View, view_packed};
 
@@ -80,6 +81,7 @@ fn eight_bytes(bytes: &[u8]) -> Option<(u64, &[u8])>
 pub fn read_number(bytes: &[u8]) -> Option<(u64, &[u8])>
     ensures { IfSome result (λ x. Reads (number 0xffff_ffff_ffff_ffff) x.0 bytes.now x.1.now) }
 {
+    laws_below();
     let [head, rest @ ..] = bytes else {
         return None;
     };
@@ -127,6 +129,7 @@ fn split(n: usize, bytes: &[u8]) -> Option<(&[u8], &[u8])>
 pub fn read_raw(bytes: &[u8]) -> Option<(&[u8], &[u8])>
     ensures { IfSome result (λ x. Reads raw_of x.0.now bytes.now x.1.now) }
 {
+    laws_below();
     let [head, rest @ ..] = bytes else {
         return None;
     };
@@ -156,6 +159,7 @@ pub fn skip_nil(bytes: &[u8]) -> Option<&[u8]>
 pub fn read_text(bytes: &[u8]) -> Option<(&[u8], &[u8])>
     ensures { IfSome result (λ x. Reads text x.0.now bytes.now x.1.now) }
 {
+    laws_below();
     match read_raw(bytes) {
         Some(found) => Some(found),
         None => {
@@ -210,6 +214,7 @@ pub fn view_before<'a>(bytes: &'a [u8], rest: &[u8]) -> View<'a>
 fn read_flag(bytes: &[u8]) -> Option<(bool, &[u8])>
     ensures { IfSome result (λ x. Reads truth x.0 bytes.now x.1.now) }
 {
+    laws_below();
     let [head, rest @ ..] = bytes else {
         return None;
     };
@@ -277,6 +282,7 @@ fn skip_texts(count: u64, bytes: &[u8]) -> Option<&[u8]>
 fn skip_text_list(bytes: &[u8]) -> Option<&[u8]>
     ensures { IfSome result (λ rest. Spans 8 (list text) bytes.now rest.now) }
 {
+    laws_below();
     let (count, items) = read_array_head(bytes)?;
     skip_texts(count, items)
 }
@@ -295,6 +301,7 @@ fn read_texts(bytes: &[u8]) -> Option<(Texts<'_>, &[u8])>
 fn read_no_texts(bytes: &[u8]) -> Option<&[u8]>
     ensures { IfSome result (λ rest. ReadsIn 8 (list text) [] bytes.now rest.now) }
 {
+    laws_below();
     let [head, rest @ ..] = bytes else {
         return None;
     };

@@ -11,6 +11,7 @@ ghost use Rattle.serf_wire.specs.Spells.{Spells};
 ghost use Rattle.serf_wire.specs.Fields.{fits};
 ghost use Rattle.serf_wire.specs.Ranges.{IsRangedQuery, IsRangedPushPull};
 
+use crate::laws::laws_below;
 use crate::long::{is_long_push_pull, is_long_query, is_long_text};
 use crate::parts::{PushPullParts, QueryParts};
 use crate::put::{
@@ -176,6 +177,7 @@ pub fn encode_user_event(
     ensures spells { IfOk result (λ packet. Spells (user_event_of time name.now payload.now coalesce) packet.items) }
     ensures too_long { (result ≡ Err EncodeFault.TooLong) ↔ IsTrue (has_long (user_event_of time name.now payload.now coalesce)) }
 {
+    laws_below();
     if is_long_text(name) || is_long_text(payload) {
         return Err(EncodeFault::TooLong);
     }
@@ -189,6 +191,7 @@ pub fn encode_query(alloc: Global, parts: &QueryParts) -> Result<Vec<u8>, Encode
     ensures spells { IfOk result (λ packet. Spells (query (query_of parts.now)) packet.items) }
     ensures too_long { (result ≡ Err EncodeFault.TooLong) ↔ IsTrue (has_long (query (query_of parts.now))) }
 {
+    laws_below();
     if is_long_query(parts) {
         return Err(EncodeFault::TooLong);
     }
@@ -210,6 +213,7 @@ pub fn encode_response(
     ensures spells { IfOk result (λ packet. Spells (response_of time id from.now flags payload.now) packet.items) }
     ensures too_long { (result ≡ Err EncodeFault.TooLong) ↔ IsTrue (has_long (response_of time id from.now flags payload.now)) }
 {
+    laws_below();
     if is_long_text(from) || is_long_text(payload) {
         return Err(EncodeFault::TooLong);
     }
@@ -223,6 +227,7 @@ pub fn encode_push_pull(alloc: Global, parts: &PushPullParts) -> Result<Vec<u8>,
     ensures spells { IfOk result (λ packet. Spells (without_empty_slots (push_pull (push_pull_of parts.now))) packet.items) }
     ensures too_long { (result ≡ Err EncodeFault.TooLong) ↔ IsTrue (has_long (push_pull (push_pull_of parts.now))) }
 {
+    laws_below();
     if is_long_push_pull(parts) {
         return Err(EncodeFault::TooLong);
     }

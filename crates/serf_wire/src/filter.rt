@@ -12,6 +12,7 @@ ghost use Rattle.serf_pack.specs.Reading.{whole_at};
 
 use crate::encode::EncodeFault;
 use crate::faults::texts_fault;
+use crate::laws::laws_below;
 use crate::lists::Texts;
 use crate::long::{LONGEST, has_long_text};
 use crate::put::put_texts;
@@ -73,6 +74,7 @@ pub fn passes(filter: &[u8], node: &[u8]) -> bool
     ensures passes { IsTrue result ↔ Passes filter.now node.now }
     ensures exact { result ≡ passes_of filter.now node.now }
 {
+    laws_below();
     lets_pass(filter, node)
 }
 
@@ -95,6 +97,7 @@ pub fn node_filter(alloc: Global, names: &[&[u8]]) -> Result<Vec<u8>, EncodeFaul
     ensures passes { IfOk result (λ filter. (node : List ℕ) → Passes filter.items node ↔ Contains (map (λ t. t.now) names.now) node) }
     ensures too_long { (result ≡ Err EncodeFault.TooLong) ↔ IsTrue (is_long names.now || list_any (λ t. is_long t.now) names.now) }
 {
+    laws_below();
     if names.len() > LONGEST || has_long_text(names) {
         return Err(EncodeFault::TooLong);
     }

@@ -1,6 +1,18 @@
 //! What holds of packets, whichever they are.
 
+ghost use Rattle.serf_wire.specs.Below.{Below};
 ghost use Rattle.serf_wire.specs.Laws.{DecodesInRange, DecodesSpelled, DecodesFaulty, OneMessage, CanonicalSpells, PassesExactly, FaultsInOrder};
+
+use serf_pack::{canonical_heads, exact_reading};
+
+/// What `serf_pack` promises of spellings, as far as this crate rests on it. Does nothing.
+#[inline(always)]
+pub(crate) fn laws_below()
+    ensures { Below }
+{
+    exact_reading();
+    canonical_heads();
+}
 
 /// Decoding, as a function of a byte list, is exact: it gives just the message that the bytes spell, and just
 /// the first fault of bytes that spell none. So a byte list spells at most one message.
@@ -8,22 +20,30 @@ pub fn exact_decoding()
     ensures spells { DecodesSpelled }
     ensures fault { DecodesFaulty }
     ensures one { OneMessage }
-{}
+{
+    laws_below();
+}
 
 /// Each number of a message that was decoded has its type's size, and each of its times is a time.
 pub fn decoded_ranges()
     ensures { DecodesInRange }
-{}
+{
+    laws_below();
+}
 
 /// The canonical packet of a message spells it, but that slots without events are empty.
 pub fn canonical_packets()
     ensures { CanonicalSpells }
-{}
+{
+    laws_below();
+}
 
 /// The reading of a filter, by which contracts above say whom a query asks, is the relation `Passes`.
 pub fn exact_filters()
     ensures { PassesExactly }
-{}
+{
+    laws_below();
+}
 
 /// A map's list of faults, whose first one `decode` answers, is in reading order: their places in the packet never
 /// fall. So no place before the first fault's has one.

@@ -18,6 +18,7 @@ use crate::fault::WireFault;
 use crate::faults::find_message;
 use crate::fields::{flag_or_false, natural_or_zero, signed_or_zero, text_or_empty, time_or_zero};
 use crate::found::FoundFields;
+use crate::laws::laws_below;
 use crate::layout::{Class, MessageType, class_for};
 use crate::lists::{SlotViews, StatusTimes, Texts};
 use crate::message::Message;
@@ -117,6 +118,7 @@ fn read_fast(message: MessageType, bytes: &[u8]) -> Option<Message<'_>>
 fn read_map(message: MessageType, bytes: &[u8]) -> Result<Message<'_>, WireFault>
     ensures { Gives message_of result (read_value message (whole_at 8 bytes.now)) }
 {
+    laws_below();
     match read_fast(message, bytes) {
         Some(found) => Ok(found),
         None => read_checked(message, bytes),
@@ -154,5 +156,6 @@ pub fn decode(packet: &[u8]) -> Result<Message<'_>, WireFault>
     // The same as a function.
     ensures exact { Gives message_of result (decoded packet.now) }
 {
+    laws_below();
     read_packet(packet)
 }

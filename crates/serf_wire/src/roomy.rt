@@ -24,9 +24,10 @@ impl<T> Model for RoomyList<T> {
 }
 
 impl<T> RoomyList<T> {
-    /// No items. Takes no memory.
+    /// No items, and no room. Takes no memory.
     pub fn new(alloc: Global) -> RoomyList<T>
-        ensures { result.items ≡ [] }
+        ensures items { result.items ≡ [] }
+        ensures room { result.room ≡ 0 }
     {
         RoomyList {
             items: Vec::new(alloc),
@@ -48,9 +49,10 @@ impl<T> RoomyList<T> {
         self.items.as_slice()
     }
 
-    /// The vector of the items. Takes no memory.
+    /// The vector of the items, with its spare room. Takes no memory.
     pub fn into_vec(self) -> Vec<T>
-        ensures { result.items ≡ self.items }
+        ensures items { result.items ≡ self.items }
+        ensures room { vec_capacity result - vec_len result ≡ self.room }
     {
         let RoomyList { items } = self;
         items

@@ -9,6 +9,7 @@ ghost use Rattle.serf_wire.specs.declared.layout.MessageType.TheVariants as type
 
 use crate::compact::{once_flag, once_number, once_text, read_map_head};
 use crate::key::{EventKey, read_event_key};
+use crate::laws::laws_below;
 use crate::message::Message;
 use serf_lamport::Time;
 
@@ -54,6 +55,7 @@ fn read_pair<'a>(found: &mut EventFields<'a>, bytes: &'a [u8]) -> Option<&'a [u8
 fn read_pairs(count: u8, bytes: &[u8]) -> Option<(EventFields<'_>, &[u8])>
     ensures { IfSome result (λ x. IsReadSoFar IsEventSoFar x.0 count bytes.now x.1.now) }
 {
+    laws_below();
     let mut found = EventFields {
         time: None,
         name: None,

@@ -9,6 +9,7 @@ ghost use Rattle.serf_wire.specs.Lists.{event_of, events_left, slot_of, slots_le
 ghost use Rattle.serf_wire.specs.Slots.{held};
 
 use crate::compact::{read_array_head, read_number, read_text, skip_nil, view_before};
+use crate::laws::laws_below;
 use crate::lists::{EventView, EventViews, SlotView, SlotViews};
 use serf_lamport::Time;
 
@@ -39,6 +40,7 @@ fn read_payload(bytes: &[u8]) -> Option<(&[u8], &[u8])>
 pub fn read_event(bytes: &[u8]) -> Option<(EventView<'_>, &[u8])>
     ensures { IfSome result (λ x. ReadsIn 8 event_body (event_of x.0) bytes.now x.1.now) }
 {
+    laws_below();
     let [0x82, fields @ ..] = bytes else {
         return None;
     };
@@ -66,6 +68,7 @@ fn skip_events(count: u64, bytes: &[u8]) -> Option<&[u8]>
 fn skip_event_list(bytes: &[u8]) -> Option<&[u8]>
     ensures { IfSome result (λ rest. Spans 7 (list event_body) bytes.now rest.now) }
 {
+    laws_below();
     let (count, items) = read_array_head(bytes)?;
     skip_events(count, items)
 }
@@ -111,6 +114,7 @@ fn read_time(bytes: &[u8]) -> Option<(u64, &[u8])>
 fn read_time_first(fields: &[u8]) -> Option<(u64, EventViews<'_>, &[u8])>
     ensures { IfSome result (λ x. ReadsIn 6 slot (held x.0 (events_left x.1)) (0x82 ∷ fields.now) x.2.now) }
 {
+    laws_below();
     match read_time(fields) {
         Some((time, next)) => match read_events(next) {
             Some((events, rest)) => Some((time, events, rest)),
@@ -125,6 +129,7 @@ fn read_time_first(fields: &[u8]) -> Option<(u64, EventViews<'_>, &[u8])>
 fn read_events_first(fields: &[u8]) -> Option<(u64, EventViews<'_>, &[u8])>
     ensures { IfSome result (λ x. ReadsIn 6 slot (held x.0 (events_left x.1)) (0x82 ∷ fields.now) x.2.now) }
 {
+    laws_below();
     match read_events(fields) {
         Some((events, next)) => match read_time(next) {
             Some((time, rest)) => Some((time, events, rest)),
@@ -183,6 +188,7 @@ fn skip_slots(count: u64, bytes: &[u8]) -> Option<&[u8]>
 fn skip_slot_list(bytes: &[u8]) -> Option<&[u8]>
     ensures { IfSome result (λ rest. Spans 5 (list slot) bytes.now rest.now) }
 {
+    laws_below();
     match skip_nil(bytes) {
         Some(rest) => Some(rest),
         None => {

@@ -12,6 +12,7 @@ use super::slots::once_slots;
 use super::status::once_status;
 use crate::compact::{once_number, once_texts, or_none, or_zero, read_map_head};
 use crate::key::{StateKey, read_state_key};
+use crate::laws::laws_below;
 use crate::lists::{SlotViews, StatusTimes, Texts};
 use crate::message::Message;
 
@@ -70,6 +71,7 @@ fn read_pair<'a>(found: &mut StateFields<'a>, bytes: &'a [u8]) -> Option<&'a [u8
 fn read_pairs(count: u8, bytes: &[u8]) -> Option<(StateFields<'_>, &[u8])>
     ensures { IfSome result (λ x. IsReadSoFar IsStateSoFar x.0 count bytes.now x.1.now) }
 {
+    laws_below();
     let mut found = StateFields {
         member_clock: None,
         status: None,

@@ -9,6 +9,7 @@ ghost use Rattle.serf_wire.specs.Fast.{ReadsIn, Spans, SpansStatusTime, AreParts
 ghost use Rattle.serf_wire.specs.Lists.{status_left};
 
 use crate::compact::{read_long_map_head, read_number, read_raw, skip_nil, view_before};
+use crate::laws::laws_below;
 use crate::lists::StatusTimes;
 
 /// What follows a name and its time at the front.
@@ -39,6 +40,7 @@ fn skip_status_times(count: u64, bytes: &[u8]) -> Option<&[u8]>
 fn skip_status(bytes: &[u8]) -> Option<&[u8]>
     ensures { IfSome result (λ rest. Spans 8 status bytes.now rest.now) }
 {
+    laws_below();
     match skip_nil(bytes) {
         Some(rest) => Some(rest),
         None => {

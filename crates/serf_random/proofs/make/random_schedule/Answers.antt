@@ -1,8 +1,6 @@
-use Rattle.std.proofs.Common.{◌≡◌, ◌++◌, ◌∙◌, All, ap, subst, sym}
-use Rattle.std.specs.List.{flat_map}
+use Rattle.std.proofs.Common.{◌≡◌, ◌∙◌, All, ap, subst, sym}
 use Rattle.serf_replay.specs.Schedule.{schedule_of}
 use Rattle.serf_schedule_text.specs.Sayable.{IsSayable}
-use Rattle.serf_schedule_text.specs.ScheduleText.{action_text, agent_text, schedule_text}
 use Rattle.serf_random.specs.Comment.{comment_text}
 use Rattle.serf_random.specs.Draft.{IsShort}
 use Rattle.serf_random.proofs.CommentBack.{behind-comment, comment-short}
@@ -15,7 +13,7 @@ returns-clause-reads_back c =
     let text = whole_text (comment_text c.args.ask.now) c.put_comment.new.out.items c.add_agents.new.text.items c.add_actions.new.text.items
     c.in_ok-agents.agents c.args.ask.now.actions c.in_ok-actions.actions.items first c.in_ok-agents.ensures c.in_ok-actions.ensures in
     let sayable : All IsSayable c.in_ok-actions.actions.items = subst (All IsSayable) (sym c.in_ok-actions.ensures.actions) c.in_ok-actions.ensures.sayable in
-    ap schedule_of text ∙ behind-comment c.args.ask.now _ _ c.know_numbers.ensures (c.know_read_back.ensures sayable)
+    ap schedule_of text ∙ behind-comment c.comments_skipped.ensures.skipped c.comments_skipped.ensures.numbers c.args.ask.now _ _ c.know_numbers.ensures (c.know_read_back.ensures sayable)
 
 pub returns-clause-short : goal.returns-clause-short
 returns-clause-short c =

@@ -14,4 +14,4 @@ pub returns-clause-spells : goal.returns-clause-spells
 returns-clause-spells c =
     let m : Message = push_pull (push_pull_of c.args.parts.now) in
     subst (Spells (without_empty_slots m)) (canonical_parts c.args.parts.now ∙ sym c.in_ok-write_push_pull.ensures.bytes)
-    (canonical_spells m c.in_ok-write_push_pull.ensures.ranged (sym c.is_long_push_pull.ensures ∙ c.if-is_long_push_pull.false))
+    (canonical_spells c.laws_below.ensures m c.in_ok-write_push_pull.ensures.ranged (sym c.is_long_push_pull.ensures ∙ c.if-is_long_push_pull.false))

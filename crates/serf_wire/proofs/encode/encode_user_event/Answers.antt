@@ -9,4 +9,4 @@ pub returns-clause-spells : goal.returns-clause-spells
 returns-clause-spells c =
     let m : Message = user_event_of c.args.time c.args.name.now c.args.payload.now c.args.coalesce in
     let none = short_event_texts c.args.time c.args.name.now c.args.payload.now c.args.coalesce (sym c.is_long_text.ensures ∙ c.if-is_long_text.false) (sym c.is_long_text-else-is_long_text.ensures ∙ c.if-is_long_text-2.false) in
-    subst (Spells m) (sym c.in_ok-write_user_event.ensures.bytes) (canonical_spells m c.in_ok-write_user_event.ensures.time none)
+    subst (Spells m) (sym c.in_ok-write_user_event.ensures.bytes) (canonical_spells c.laws_below.ensures m c.in_ok-write_user_event.ensures.time none)

@@ -7,5 +7,5 @@ returns-clause-canonical c = c.in_ok-write_node_filter.ensures ∙ lent_filter (
 
 pub returns-clause-passes : goal.returns-clause-passes
 returns-clause-passes c =
-    lent_passes (λ t. t.now) c.args.names.now c.in_ok-write_node_filter.field-0.items (c.in_ok-write_node_filter.ensures ∙ lent_filter (λ t. t.now) c.args.names.now) (omega arith)
+    lent_passes c.laws_below.ensures (λ t. t.now) c.args.names.now c.in_ok-write_node_filter.field-0.items (c.in_ok-write_node_filter.ensures ∙ lent_filter (λ t. t.now) c.args.names.now) (omega arith)
     (sym c.has_long_text.ensures ∙ c.if-has_long_text.false)

@@ -3,7 +3,7 @@ use Rattle.serf_wire.proofs.laws.exact_decoding.Goals as goal
 
 pub returns : goal.returns
 returns c = record {
-  spells = λ packet m. (decoded_spelled packet m, spelled_decoded packet m);
-  fault = λ packet f. (decoded_faulty packet f, faulty_decoded packet f);
-  one = one_message;
+  spells = λ packet m. (decoded_spelled c.laws_below.ensures packet m, spelled_decoded c.laws_below.ensures packet m);
+  fault = λ packet f. (decoded_faulty c.laws_below.ensures packet f, faulty_decoded c.laws_below.ensures packet f);
+  one = one_message c.laws_below.ensures;
 }

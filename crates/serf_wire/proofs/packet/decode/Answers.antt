@@ -3,9 +3,9 @@ use Rattle.serf_wire.proofs.packet.decode.Goals as goal
 
 pub returns : goal.returns
 returns c = record {
-  spells = result_spells c.args.packet.now c.read_packet.result c.read_packet.ensures;
-  only = result_only c.args.packet.now c.read_packet.result c.read_packet.ensures;
-  fault = result_fault c.args.packet.now c.read_packet.result c.read_packet.ensures;
-  only_fault = result_only_fault c.args.packet.now c.read_packet.result c.read_packet.ensures;
+  spells = result_spells c.args.packet.now c.laws_below.ensures c.read_packet.result c.read_packet.ensures;
+  only = result_only c.args.packet.now c.laws_below.ensures c.read_packet.result c.read_packet.ensures;
+  fault = result_fault c.args.packet.now c.laws_below.ensures c.read_packet.result c.read_packet.ensures;
+  only_fault = result_only_fault c.args.packet.now c.laws_below.ensures c.read_packet.result c.read_packet.ensures;
   exact = c.read_packet.ensures;
 }

@@ -1,4 +1,4 @@
-use Rattle.serf_pack.proofs.Names.{◌≡◌, ◌+◌, ◌-◌, ◌≤◌, ◌∙◌, ℕ, List, ◌∷◌, ◌++◌, length, take, drop, Ok, Err, Result, inl, inr, refl, ap, sym, arith, take-append-drop, length-drop, cases_lt}
+use Rattle.serf_pack.proofs.Names.{◌≡◌, ◌-◌, ◌≤◌, ◌∙◌, ℕ, List, ◌∷◌, ◌++◌, length, take, drop, Ok, Err, Result, inl, inr, refl, ap, sym, arith, take-append-drop, length-drop, cases_lt}
 use Rattle.serf_pack.specs.declared.fault.PackFault.{PackFault}
 use Rattle.serf_pack.specs.Tree.{Tree}
 use Rattle.serf_pack.specs.Table.{place}
