@@ -3,7 +3,7 @@
 use Rattle.std.specs.Prelude.{ℕ, ◌+◌, ◌-◌, ◌^◌, ◌||◌, min, nat_lt, nat_le, Bool, if◌then◌else◌, length, List, Option, Some, None, Result, Ok, Err}
 use Rattle.serf_wire.specs.declared.texts.EventBody.{EventBody}
 use Rattle.serf_wire.specs.Canonical.{canonical}
-use Rattle.serf_wire.specs.Message.{user_event}
+use Rattle.serf_wire.specs.Message.{UserEvent, user_event}
 use Rattle.serf_window.specs.Texts.{same_texts}
 use Rattle.serf_snap.specs.declared.kind.ClockKind.TheVariants as kinds
 use Rattle.serf_agent.specs.declared.outcome.EventOut.{EventOut}

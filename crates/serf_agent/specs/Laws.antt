@@ -6,7 +6,7 @@ use Rattle.serf_wire.specs.Message.{PushPull, Query, query, response_of, user_ev
 use Rattle.serf_snap.specs.declared.kind.ClockKind.{ClockKind}
 use Rattle.serf_snap.specs.declared.kind.ClockKind.TheVariants as kinds
 use Rattle.serf_snap.specs.Device.{Device}
-use Rattle.serf_snap.specs.Notes.{Writing, Kept, Failed, MayReplace, compacted, noted, opened, written}
+use Rattle.serf_snap.specs.Notes.{SnapshotView, Writing, Kept, Failed, MayReplace, compacted, noted, opened, written}
 use Rattle.serf_agent.specs.Calls.{MayNote}
 use Rattle.serf_agent.specs.Config.{is_sound}
 use Rattle.serf_agent.specs.declared.config.Config.{Config}

@@ -1,14 +1,15 @@
 -- What the ideal agent does with queries, their acks and their responses (`serf.go`, `Query`, `handleQuery` and
 -- `handleQueryResponse`; `query.go`).
-use Rattle.std.specs.Prelude.{ℕ, ℤ, pos, negsuc, ◌+◌, ◌-◌, ◌^◌, ◌==◌, min, nat_lt, nat_le, nat_eq, bit_and, not, Bool, true, if◌then◌else◌, List, [], ◌∷◌, ◌++◌, length, filter, Option, Some, None, Result, Ok, Err}
+use Rattle.std.specs.Prelude.{◌≡◌, ℕ, ℤ, pos, negsuc, ◌+◌, ◌-◌, ◌^◌, ◌==◌, ◌&&◌, min, nat_lt, nat_le, nat_eq, bit_and, not, Bool, true, false, if◌then◌else◌, List, [], ◌∷◌, ◌++◌, length, map, filter, Option, Some, None, Result, Ok, Err}
 use Rattle.std.specs.List.{list_any, list_all}
 use Rattle.std.specs.Map.{lookup, set_value}
 use Rattle.std.specs.Str.{bytes_eq}
 use Rattle.serf_wire.specs.Canonical.{canonical}
-use Rattle.serf_wire.specs.Message.{Query, QueryResponse, query, response_of}
+use Rattle.serf_wire.specs.Message.{Query, QueryResponse, query, query_response, response_of}
 use Rattle.serf_wire.specs.Passes.{passes_of}
 use Rattle.serf_window.specs.Queries.{same_id}
 use Rattle.serf_snap.specs.declared.kind.ClockKind.TheVariants as kinds
+use Rattle.serf_agent.specs.declared.lists.Response.{Response as ResponseText}
 use Rattle.serf_agent.specs.declared.open_query.OpenQuery.{OpenQuery}
 use Rattle.serf_agent.specs.declared.outcome.FiredQuery.{FiredQuery}
 use Rattle.serf_agent.specs.declared.outcome.QueryFault.{QueryFault}

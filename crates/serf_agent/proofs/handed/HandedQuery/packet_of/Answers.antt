@@ -1,5 +1,6 @@
-use Rattle.serf_agent.proofs.Names.{◌≡◌, ◌≤◌, ℕ, List, length, ap, sym, subst, ◌∙◌, Err, true≢false, EncodeFault}
+use Rattle.serf_agent.proofs.Names.{arith, ◌≡◌, ◌≤◌, ℕ, List, length, ap, sym, subst, ◌∙◌, Err, true≢false, EncodeFault}
 use Rattle.serf_agent.specs.Handed.{Handed}
+use Rattle.serf_agent.specs.Queries.{response_packet}
 use Rattle.serf_agent.proofs.WireLaws.{response-not_long, response-short}
 use Rattle.serf_agent.proofs.handed.HandedQuery.packet_of.Goals as goal
 
