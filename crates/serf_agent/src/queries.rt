@@ -238,7 +238,7 @@ impl<S: Sink> Agent<S> {
     }
 
     /// Takes out the open queries whose deadline is before a moment, and answers how many they are; the others keep their
-    /// order. Works on a stopped agent too. Takes no memory.
+    /// order. [`Agent::take_due`] hands them out. Works on a stopped agent too. Takes no memory.
     pub fn close_due(&mut self, now: u64) -> usize
         ensures step { (i : IdealAgent) → IsSound i → self.old.concrete ≡ view_of i
             → (result ≡ (close_due i now).answer) × (self.new.concrete ≡ view_of (close_due i now).agent) × IsSound (close_due i now).agent }
