@@ -32,6 +32,11 @@ SOURCES = os.path.join(TOP, "tests", "embed")
 BINDINGS = os.path.join(TOP, "bindings")
 
 
+# The random schedules that conformance/c is held against: so many seeds of each kind.
+SEEDS = 40
+KINDS = ["mixed", "tiny", "merges", "restarts", "devices", "injections", "queries", "limits", "exhaustion", "per-time", "compactions", "gossip"]
+
+
 class Count:
     def __init__(self):
         self.passed = self.failed = 0
@@ -99,6 +104,16 @@ def bad_input(count, places):
         print("not run: valgrind, which isn't on PATH")
 
 
+def memory(count, places):
+    """Each call where memory is wanting, under valgrind too: its requests go through a count."""
+    wrapped = ["-g", "-Wl,--wrap=malloc,--wrap=realloc"]
+    path = compile_c(count, places, "memory", os.path.join(SOURCES, "memory.c"), wrapped)
+    if path:
+        counted(count, "want of memory", [path])
+        if shutil.which("valgrind"):
+            counted(count, "want of memory, under valgrind", ["valgrind", "-q", "--error-exitcode=9", "--leak-check=full", path])
+
+
 def example(count, name, places, words, **more):
     """Runs an example twice in a folder: the text that every language prints, and nothing twice over both runs."""
     folder = places.fresh(name)
@@ -160,7 +175,7 @@ def in_go(count, places):
 
 
 def in_conform(count, places, program):
-    """The library behind the pipe, held against the reference on each example."""
+    """The library behind the pipe, held against the reference on each example, each row and random schedules."""
     conform.PROGRAM = program or conform.PROGRAM
     fault = None if program else programs.fault_of_build("serf_replay_program")
     agent = compile_c(count, places, "pipe_agent", os.path.join(TOP, "conformance", "c", "agent.c"))
@@ -172,6 +187,9 @@ def in_conform(count, places, program):
         name = os.path.basename(schedule)
         # (a row can be a schedule that is refused)
         count.check(f"conform on {name}", status == 0 or "bad line" in report or "too long" in report, f"{status}: {report[-600:]}")
+    for kind in KINDS:
+        status, report = conform.compare(["--random", f"1-{SEEDS}", "--kind", kind], [agent])
+        count.check(f"conform on random schedules, {kind}", status == 0 and f"{SEEDS} seeds and" in report, f"{status}: {report[-600:]}")
 
 
 def main():
@@ -192,6 +210,7 @@ def main():
             return 1
         declarations.compare(count, places, HEADER, None if asked.library else c_library.CRATE)
         bad_input(count, places)
+        memory(count, places)
         in_c(count, places)
         in_python(count, places)
         in_rust(count, places)
