@@ -3,7 +3,7 @@
 Each check is one thing that a document names:
 
 - a path in backquotes stands in the repository (from its top, from the document, from a crate or a crate's src);
-- `crate::item` and `Type::method` are public items, and `serf_name` is a crate;
+- `crate::item` and `Type::method` are public items, and `serf_name` is a crate, or a function of a header in C;
 - a clause named in PROMISES.md's tables, or in brackets behind a function, is a clause of some contract;
 - a link leads to a file that stands;
 - a command that begins with `./` or with `python3` names a script that stands, and a job that the program has
@@ -55,6 +55,8 @@ class Tree:
 
     def __init__(self):
         self.crates = {os.path.basename(path) for path in glob.glob(f"{TOP}/crates/*") if os.path.isdir(os.path.join(path, "src"))}
+        headers = [read(path) for path in glob.glob(f"{TOP}/include/*.h") + glob.glob(f"{TOP}/bindings/c/*.h")]
+        self.functions = set(re.findall(r"\b(serf_\w+)\(", "\n".join(headers)))
         code = "\n".join(sources("src"))
         self.specs = "\n".join(sources("specs"))
         items = re.findall(r"\bpub(?:\(crate\))? (?:const )?(?:unsafe )?(?:extern \"C\" )?(?:fn|struct|enum|trait|type|const) (\w+)", code)
@@ -86,7 +88,7 @@ def wrong_span(tree, document, span):
     if span in FOREIGN or re.fullmatch(r"\.\w+", span) or re.search(r"NAME|FILE|CRATE", span):
         return None
     if re.fullmatch(r"serf_\w+", span):
-        return None if span in tree.crates else "no such crate"
+        return None if span in tree.crates | tree.functions else "no such crate or function"
     if re.fullmatch(r"\w+(::\w+)+", span):
         crate, *rest = span.split("::")
         if crate.startswith("serf_") and crate not in tree.crates:

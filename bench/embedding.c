@@ -1,0 +1,156 @@
+/* What a call through the handle costs, in the calls, the sizes and the way of counting of serf_bench's `agents`; and what
+ * it costs with its line on a file.
+ *
+ *     embedding FOLDER..
+ *
+ * Each FOLDER gets a snapshot for a while: in memory (/dev/shm) or on a disk. */
+#define _GNU_SOURCE
+#include "serf_agent.h"
+#include "serf_agent_store.h"
+
+#include <stdio.h>
+#include <stdlib.h>
+#include <time.h>
+#include <unistd.h>
+
+/* The library's calls for memory, counted. */
+static unsigned long taken;
+
+static void *counted_malloc(size_t size) {
+    taken++;
+    return malloc(size);
+}
+
+static void *counted_realloc(void *old, size_t size) {
+    taken++;
+    return realloc(old, size);
+}
+
+#define malloc counted_malloc
+#define realloc counted_realloc
+#include "serf_agent_heap.c"
+#undef malloc
+#undef realloc
+
+enum { SLOTS = 512, SAMPLES = 200, FLUSHED = 500 };
+
+static const struct serf_agent_settings settings = {SLOTS, SLOTS, 512, 8, 1024, false};
+static uint8_t packets[SLOTS][64];
+static size_t lens[SLOTS];
+
+static double now(void) {
+    struct timespec at;
+    clock_gettime(CLOCK_MONOTONIC, &at);
+    return 1e9 * (double)at.tv_sec + (double)at.tv_nsec;
+}
+
+static void must(bool holds, const char *what) {
+    if (!holds) {
+        fprintf(stderr, "embedding: %s\n", what);
+        exit(1);
+    }
+}
+
+static void open_agent(struct serf_agent *agent, const char *name) {
+    must(serf_agent_open(agent, (const uint8_t *)name, 1, &settings, NULL, 0) == SERF_AGENT_OK, "open");
+}
+
+/* What the call left is said to be written, and is thrown away. */
+static void forget(struct serf_agent *agent) {
+    static uint8_t room[256];
+    struct serf_agent_bytes about;
+    serf_agent_unwritten(agent, &about, room, sizeof room);
+    serf_agent_written(agent);
+}
+
+static bool fire(struct serf_agent *agent, size_t number) {
+    bool done = serf_agent_fire(agent, (const uint8_t *)"deploy", 6, (const uint8_t *)"v0", 2, false) == SERF_AGENT_OK;
+    forget(agent);
+    return done && serf_agent_packet(agent, &lens[number], packets[number], sizeof packets[number]) == SERF_AGENT_OK;
+}
+
+static bool receive_fresh(struct serf_agent *agent, size_t number) {
+    struct serf_agent_event event;
+    uint8_t name[64], payload[64];
+    serf_agent_receive(agent, 0, packets[number], lens[number]);
+    forget(agent);
+    return serf_agent_event(agent, 0, &event, name, sizeof name, payload, sizeof payload) == SERF_AGENT_OK;
+}
+
+static bool receive_repeated(struct serf_agent *agent, size_t number) {
+    struct serf_agent_gave gave;
+    return serf_agent_receive(agent, 0, packets[number], lens[number]) == SERF_AGENT_OK
+        && serf_agent_gave(agent, &gave) == SERF_AGENT_OK && gave.reason == SERF_AGENT_SEEN;
+}
+
+static bool read_clocks(struct serf_agent *agent, size_t number) {
+    struct serf_agent_clocks clocks;
+    (void)number;
+    return serf_agent_clocks(agent, &clocks) == SERF_AGENT_OK;
+}
+
+/* The time of a sample of a call for each slot. */
+static double sample(struct serf_agent *agent, bool (*call)(struct serf_agent *, size_t)) {
+    double began = now();
+    size_t done = 0;
+    for (size_t i = 0; i < SLOTS; i++) {
+        done += call(agent, i);
+    }
+    double spent = now() - began;
+    must(done == SLOTS, "a call did something else");
+    return spent;
+}
+
+static double least(double one, double other) {
+    return one < other ? one : other;
+}
+
+static void bench_calls(void) {
+    struct serf_agent firing = {0}, one = {0};
+    double fired = 1e18, fresh = 1e18, repeated = 1e18, clocks = 1e18;
+    unsigned long for_repeats = 0;
+    open_agent(&firing, "b");
+    open_agent(&one, "a");
+    for (int i = 0; i < SAMPLES; i++) {
+        fired = least(fired, sample(&firing, fire));
+        fresh = least(fresh, sample(&one, receive_fresh));
+        unsigned long before = taken;
+        repeated = least(repeated, sample(&one, receive_repeated));
+        for_repeats += taken - before;
+        clocks = least(clocks, sample(&one, read_clocks));
+    }
+    printf("handle: receive a repeated event's packet, 1 event a time: %.1f ns\n", repeated / SLOTS);
+    printf("handle: receive a fresh event's packet, 1 event a time: %.1f ns\n", fresh / SLOTS);
+    printf("handle: fire an event: %.1f ns\n", fired / SLOTS);
+    printf("handle: read the clocks: %.1f ns\n", clocks / SLOTS);
+    printf("handle: memory taken in %d repeats: %lu times\n", SAMPLES * SLOTS, for_repeats);
+    must(for_repeats == 0, "a repeat takes memory");
+    serf_agent_close(&firing);
+    serf_agent_close(&one);
+}
+
+static void bench_file(const char *folder) {
+    struct serf_agent_store store = {0};
+    struct serf_agent one = {0};
+    char path[4096];
+    snprintf(path, sizeof path, "%s/bench.snapshot", folder);
+    must(serf_agent_store_open(&store, path) == SERF_AGENT_STORE_OK, path);
+    open_agent(&one, "c");
+    double began = now();
+    for (size_t i = 0; i < FLUSHED; i++) {
+        serf_agent_receive(&one, 1, packets[i], lens[i]);
+        must(serf_agent_store_settle(&store, &one) == SERF_AGENT_STORE_OK, path);
+    }
+    printf("handle: receive a fresh event's packet, its line flushed in %s: %.0f ns\n", folder, (now() - began) / FLUSHED);
+    serf_agent_close(&one);
+    serf_agent_store_close(&store);
+    unlink(path);
+}
+
+int main(int count, char **words) {
+    bench_calls();
+    for (int i = 1; i < count; i++) {
+        bench_file(words[i]);
+    }
+    return 0;
+}

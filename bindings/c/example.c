@@ -1,0 +1,148 @@
+/* Two agents in one process, joined by hand: an event is fired, comes twice, its agent crashes and comes back, and nothing is
+ * handed out twice.
+ *
+ *     example FOLDER
+ *
+ * FOLDER gets the two snapshots. Where they are there already, the agents go on from them. */
+#include "serf_agent.h"
+#include "serf_agent_store.h"
+
+#include <stdio.h>
+#include <stdlib.h>
+#include <string.h>
+
+enum { ROOM = 65536 };
+
+struct node {
+    const char *name;
+    char path[4096];
+    struct serf_agent agent;
+    struct serf_agent_store store;
+};
+
+static const struct serf_agent_settings settings = {
+    .event_buffer = 512,
+    .query_buffer = 512,
+    .event_limit = 512,
+    .responders = 1024,
+    .per_time = 1024,
+    .ignore_old = false,
+};
+
+static void stop_at(const struct node *node, const char *call, const char *why) {
+    fprintf(stderr, "example: %s: %s: %s\n", node->name, call, why);
+    exit(1);
+}
+
+/* A call's code; what it left for the file is on the disk when this returns. */
+static uint32_t settled(struct node *node, uint32_t code) {
+    enum serf_agent_store_fault fault = serf_agent_store_settle(&node->store, &node->agent);
+    if (fault != SERF_AGENT_STORE_OK) {
+        stop_at(node, "the file", serf_agent_store_words(fault));
+    }
+    return code;
+}
+
+static void done(struct node *node, const char *call, uint32_t code) {
+    char words[32];
+    if (settled(node, code) != SERF_AGENT_OK) {
+        snprintf(words, sizeof words, "code %u", code);
+        stop_at(node, call, words);
+    }
+}
+
+static void open_node(struct node *node) {
+    uint8_t *text;
+    size_t len;
+    enum serf_agent_store_fault fault = serf_agent_store_open(&node->store, node->path);
+    if (fault == SERF_AGENT_STORE_OK) {
+        fault = serf_agent_store_read(&node->store, &text, &len);
+    }
+    if (fault != SERF_AGENT_STORE_OK) {
+        stop_at(node, node->path, serf_agent_store_words(fault));
+    }
+    done(node, "open", serf_agent_open(&node->agent, (const uint8_t *)node->name, strlen(node->name), &settings, text, len));
+    free(text);
+}
+
+/* What is left behind by a process that ends at once: nothing but the file. */
+static void crash(struct node *node) {
+    serf_agent_close(&node->agent);
+    serf_agent_store_close(&node->store);
+}
+
+static size_t packet_of(struct node *node, uint8_t packet[ROOM]) {
+    size_t len = 0;
+    if (serf_agent_packet(&node->agent, &len, packet, ROOM) != SERF_AGENT_OK || len > ROOM) {
+        stop_at(node, "packet", "there is none");
+    }
+    return len;
+}
+
+/* The handler of events: it prints them. */
+static void handle_events(struct node *node) {
+    struct serf_agent_event event;
+    uint8_t name[512], payload[512];
+    for (size_t i = 0; serf_agent_event(&node->agent, i, &event, name, sizeof name, payload, sizeof payload) == SERF_AGENT_OK; i++) {
+        printf("%s handed out %.*s %.*s at %llu\n", node->name, (int)event.name_len, name, (int)event.payload_len, payload,
+               (unsigned long long)event.time);
+    }
+}
+
+static void join(struct node *one, struct node *other) {
+    static uint8_t state[ROOM];
+    done(other, "local_state", serf_agent_local_state(&other->agent));
+    size_t len = packet_of(other, state);
+    done(one, "merge", serf_agent_merge(&one->agent, state, len, true));
+    handle_events(one);
+    printf("%s joined %s\n", one->name, other->name);
+}
+
+static size_t fire(struct node *node, const char *name, const char *payload, uint8_t packet[ROOM]) {
+    done(node, "fire", serf_agent_fire(&node->agent, (const uint8_t *)name, strlen(name), (const uint8_t *)payload,
+                                       strlen(payload), false));
+    handle_events(node);
+    return packet_of(node, packet);
+}
+
+static void deliver(struct node *node, uint64_t now, const uint8_t *packet, size_t len) {
+    struct serf_agent_gave gave;
+    done(node, "receive", serf_agent_receive(&node->agent, now, packet, len));
+    done(node, "gave", serf_agent_gave(&node->agent, &gave));
+    handle_events(node);
+    if (gave.kind == SERF_AGENT_GAVE_IGNORED) {
+        printf("%s ignored it: %s\n", node->name, gave.reason == SERF_AGENT_SEEN ? "seen" : "below the minimum");
+    }
+}
+
+int main(int count, char **words) {
+    static struct node alpha = {.name = "alpha"}, beta = {.name = "beta"};
+    static uint8_t packet[ROOM];
+    struct serf_agent_clocks clocks;
+    if (count != 2) {
+        fprintf(stderr, "example FOLDER\n");
+        return 2;
+    }
+    snprintf(alpha.path, sizeof alpha.path, "%s/alpha.snapshot", words[1]);
+    snprintf(beta.path, sizeof beta.path, "%s/beta.snapshot", words[1]);
+    open_node(&alpha);
+    open_node(&beta);
+    join(&alpha, &beta);
+    join(&beta, &alpha);
+
+    size_t len = fire(&alpha, "deploy", "v1.2", packet);
+    deliver(&beta, 1, packet, len);
+    deliver(&beta, 2, packet, len);
+
+    crash(&beta);
+    open_node(&beta);
+    done(&beta, "clocks", serf_agent_clocks(&beta.agent, &clocks));
+    printf("beta crashed, and is back at %llu\n", (unsigned long long)clocks.event);
+    deliver(&beta, 3, packet, len);
+
+    len = fire(&beta, "rollback", "v1.1", packet);
+    deliver(&alpha, 4, packet, len);
+    crash(&alpha);
+    crash(&beta);
+    return 0;
+}

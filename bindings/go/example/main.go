@@ -1,0 +1,95 @@
+// Two agents in one process, joined by hand: an event is fired, comes twice, its agent crashes and comes back, and nothing is
+// handed out twice.
+//
+//	go run ./example FOLDER
+//
+// FOLDER gets the two snapshots. Where they are there already, the agents go on from them.
+package main
+
+import (
+	"fmt"
+	"log"
+	"os"
+	"path/filepath"
+
+	"serf_agent/bindings/go/serfagent"
+)
+
+type node struct {
+	name  string
+	agent *serfagent.Agent
+}
+
+func check(err error) {
+	if err != nil {
+		log.Fatal(err)
+	}
+}
+
+func open(name string) *node {
+	agent, err := serfagent.Open(name, filepath.Join(os.Args[1], name+".snapshot"), serfagent.DefaultSettings())
+	check(err)
+	return &node{name, agent}
+}
+
+// handle is the handler of events: it prints them.
+func (n *node) handle(events ...*serfagent.Event) {
+	for _, event := range events {
+		fmt.Printf("%s handed out %s %s at %d\n", n.name, event.Name, event.Payload, event.Time)
+	}
+}
+
+func (n *node) join(other *node) {
+	state, err := other.agent.LocalState(nil, nil)
+	check(err)
+	events, err := n.agent.Merge(state, true)
+	check(err)
+	n.handle(events...)
+	fmt.Printf("%s joined %s\n", n.name, other.name)
+}
+
+func (n *node) fire(name, payload string) []byte {
+	event, packet, err := n.agent.Fire([]byte(name), []byte(payload), false)
+	check(err)
+	n.handle(event)
+	return packet
+}
+
+func (n *node) deliver(now uint64, packet []byte) {
+	received, err := n.agent.Receive(now, packet)
+	check(err)
+	switch {
+	case received.Event != nil:
+		n.handle(received.Event)
+	case received.Reason == serfagent.Seen:
+		fmt.Printf("%s ignored it: seen\n", n.name)
+	case received.Reason == serfagent.BelowMinimum:
+		fmt.Printf("%s ignored it: below the minimum\n", n.name)
+	}
+}
+
+func main() {
+	if len(os.Args) != 2 {
+		log.Fatal("example FOLDER")
+	}
+	alpha, beta := open("alpha"), open("beta")
+	alpha.join(beta)
+	beta.join(alpha)
+
+	packet := alpha.fire("deploy", "v1.2")
+	beta.deliver(1, packet)
+	beta.deliver(2, packet)
+
+	// nothing is left of it but its file
+	beta.agent.Close()
+	beta = open("beta")
+	clocks, err := beta.agent.Clocks()
+	check(err)
+	fmt.Printf("beta crashed, and is back at %d\n", clocks.Event)
+	beta.deliver(3, packet)
+
+	packet = beta.fire("rollback", "v1.1")
+	alpha.deliver(4, packet)
+	alpha.agent.Close()
+	beta.agent.Close()
+}

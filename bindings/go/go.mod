@@ -1,0 +1,3 @@
+module serf_agent/bindings/go
+
+go 1.19

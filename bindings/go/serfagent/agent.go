@@ -1,0 +1,492 @@
+// Package serfagent binds the proved Serf agent: an Agent over a snapshot's file.
+//
+// Each call brings what it wrote to the disk before it returns, and so before a handler runs. Where the file fails, the
+// agent is closed: open it again on the file. One call at a time is let through, from whichever goroutine. Moments are
+// nanoseconds of one clock that never goes back.
+//
+// The library is proved; this package is tested. It links bindings/c/serf_agent_heap.c and the static library of
+// crates/serf_agent_c/out; CGO_LDFLAGS may name another one in front.
+package serfagent
+
+/*
+#cgo CFLAGS: -I${SRCDIR}/../../../include
+#cgo LDFLAGS: -L${SRCDIR}/../../../crates/serf_agent_c/out -lserf_agent_c
+#include "serf_agent.h"
+#include <stdlib.h>
+*/
+import "C"
+
+import (
+	"fmt"
+	"runtime"
+	"sync"
+	"unsafe"
+)
+
+// Code says why the library refused a call.
+type Code uint32
+
+// What include/serf_agent.h says of each stands there.
+const (
+	Empty          Code = C.SERF_AGENT_EMPTY
+	InUse          Code = C.SERF_AGENT_IN_USE
+	Unwritten      Code = C.SERF_AGENT_UNWRITTEN
+	Nothing        Code = C.SERF_AGENT_NOTHING
+	OutOfMemory    Code = C.SERF_AGENT_OUT_OF_MEMORY
+	BadConfig      Code = C.SERF_AGENT_BAD_CONFIG
+	SinkFault      Code = C.SERF_AGENT_SINK_FAULT
+	Stopped        Code = C.SERF_AGENT_STOPPED
+	TooLarge       Code = C.SERF_AGENT_TOO_LARGE
+	Exhausted      Code = C.SERF_AGENT_EXHAUSTED
+	NoMessage      Code = C.SERF_AGENT_NO_MESSAGE
+	RespondersFull Code = C.SERF_AGENT_RESPONDERS_FULL
+	NotPushPull    Code = C.SERF_AGENT_NOT_PUSH_PULL
+	TooLong        Code = C.SERF_AGENT_TOO_LONG
+	NoTime         Code = C.SERF_AGENT_NO_TIME
+	PastDeadline   Code = C.SERF_AGENT_PAST_DEADLINE
+	NotHanded      Code = C.SERF_AGENT_NOT_HANDED
+)
+
+var words = []string{
+	"ok", "the agent is closed", "the handle has an agent", "bytes for the file aren't written", "there is no such thing",
+	"out of memory", "the settings are out of bounds", "the sink failed", "the agent is stopped",
+	"the event, query or response is too large", "the clock is exhausted", "the packet is no message",
+	"the query has as many answers as it takes", "the packet is no push/pull", "a text or a list is too long",
+	"the query has no time", "the query takes no more answers", "no query of this number waits for an answer",
+}
+
+func (c Code) Error() string {
+	if int(c) < len(words) {
+		return words[c]
+	}
+	return fmt.Sprintf("code %d", uint32(c))
+}
+
+func refused(code C.uint32_t) error {
+	if code == C.SERF_AGENT_OK {
+		return nil
+	}
+	return Code(code)
+}
+
+// Settings of an agent; DefaultSettings has Serf's.
+type Settings struct {
+	// How many times of events, and of queries, are kept: 1 to 65,536.
+	EventBuffer, QueryBuffer uint64
+	// The greatest size of a fired event in bytes, 9,216 at most.
+	EventLimit uint64
+	// How many names are counted of a query's acks, and of its responses, and how much is taken of one time: 1 to 65,536.
+	Responders, PerTime uint64
+	// Whether events from before a join are ignored.
+	IgnoreOld bool
+}
+
+// DefaultSettings are Serf's.
+func DefaultSettings() Settings {
+	return Settings{EventBuffer: 512, QueryBuffer: 512, EventLimit: 512, Responders: 1024, PerTime: 1024}
+}
+
+// Event is handed out: run its handler.
+type Event struct {
+	Time          uint64
+	Name, Payload []byte
+	Coalesce      bool
+}
+
+// Handed is a query that is handed out: run its handler, and answer by Respond with its number.
+type Handed struct {
+	Number, Time  uint64
+	ID            uint32
+	Name, Payload []byte
+	// The node that asks, and where a response is to be sent.
+	Source, Addr []byte
+	Port         uint16
+	RelayFactor  uint8
+	// The last moment at which it can be answered.
+	Deadline uint64
+}
+
+// Kind says what came of a packet.
+type Kind uint32
+
+// What a packet can bring.
+const (
+	NewEvent Kind = C.SERF_AGENT_GAVE_EVENT
+	NewQuery Kind = C.SERF_AGENT_GAVE_QUERY
+	Ack      Kind = C.SERF_AGENT_GAVE_ACK
+	Response Kind = C.SERF_AGENT_GAVE_RESPONSE
+	Ignored  Kind = C.SERF_AGENT_GAVE_IGNORED
+	Foreign  Kind = C.SERF_AGENT_GAVE_FOREIGN
+	PushPull Kind = C.SERF_AGENT_GAVE_PUSH_PULL
+)
+
+// Reason says why a packet was ignored.
+type Reason uint32
+
+// The reasons that an example asks for; include/serf_agent.h has them all.
+const (
+	BelowMinimum Reason = C.SERF_AGENT_BELOW_MINIMUM
+	TooOld       Reason = C.SERF_AGENT_TOO_OLD
+	Seen         Reason = C.SERF_AGENT_SEEN
+)
+
+// Received is what came of a packet. Where Rebroadcast says so, it is to be sent on unchanged.
+type Received struct {
+	Kind        Kind
+	Reason      Reason
+	Event       *Event
+	Query       *Handed
+	Ack         []byte
+	Rebroadcast bool
+	Foreign     uint8
+}
+
+// QueryParams say how a query is fired. Timeout is in nanoseconds; Addr and Port are where answers are to be sent.
+type QueryParams struct {
+	Timeout              int64
+	Addr                 []byte
+	Port                 uint16
+	RelayFactor          uint8
+	WantAck, NoBroadcast bool
+	Filters              [][]byte
+}
+
+// Asked is a query's packet to send, and what this node is handed out and sends as its own ack.
+type Asked struct {
+	Packet []byte
+	Query  *Handed
+	Ack    []byte
+}
+
+// Clocks of an agent, and the least times that it takes.
+type Clocks struct {
+	Member, Event, Query, EventMinimum, QueryMinimum uint64
+}
+
+// Agent is a proved agent whose snapshot is a file.
+type Agent struct {
+	mu     sync.Mutex
+	handle *C.struct_serf_agent // in C's memory, which Go neither moves nor copies
+	store  *Store
+}
+
+var nothing [1]byte
+
+func ptr(data []byte) *C.uint8_t {
+	if len(data) == 0 {
+		data = nothing[:]
+	}
+	return (*C.uint8_t)(unsafe.Pointer(&data[0]))
+}
+
+func size(data []byte) C.size_t { return C.size_t(len(data)) }
+
+// Open opens the file, or makes it, and an agent of this name on its text.
+func Open(name, path string, settings Settings) (*Agent, error) {
+	store, err := OpenStore(path)
+	if err != nil {
+		return nil, err
+	}
+	text, err := store.Read()
+	if err != nil {
+		store.Close()
+		return nil, err
+	}
+	agent := &Agent{store: store, handle: (*C.struct_serf_agent)(C.calloc(1, C.sizeof_struct_serf_agent))}
+	runtime.SetFinalizer(agent, (*Agent).free)
+	set := C.struct_serf_agent_settings{
+		event_buffer: C.uint64_t(settings.EventBuffer),
+		query_buffer: C.uint64_t(settings.QueryBuffer),
+		event_limit:  C.uint64_t(settings.EventLimit),
+		responders:   C.uint64_t(settings.Responders),
+		per_time:     C.uint64_t(settings.PerTime),
+		ignore_old:   C.bool(settings.IgnoreOld),
+	}
+	named := []byte(name)
+	if err := agent.settled(C.serf_agent_open(agent.handle, ptr(named), size(named), &set, ptr(text), size(text))); err != nil {
+		agent.Close()
+		return nil, err
+	}
+	return agent, nil
+}
+
+// Close closes the agent and its file. Its calls are refused as Empty from then on.
+func (a *Agent) Close() error {
+	a.mu.Lock()
+	defer a.mu.Unlock()
+	C.serf_agent_close(a.handle)
+	return a.store.Close()
+}
+
+// free gives the handle back, when nobody has the agent any more.
+func (a *Agent) free() {
+	C.serf_agent_close(a.handle)
+	C.free(unsafe.Pointer(a.handle))
+}
+
+// settled brings what a call wrote to the file, also where the call was refused.
+func (a *Agent) settled(code C.uint32_t) error {
+	var about C.struct_serf_agent_bytes
+	if C.serf_agent_unwritten(a.handle, &about, ptr(nil), 0) != C.SERF_AGENT_OK || (about.len == 0 && !bool(about.replaces)) {
+		return refused(code)
+	}
+	data := make([]byte, about.len)
+	err := refused(C.serf_agent_unwritten(a.handle, &about, ptr(data), size(data)))
+	if err == nil && bool(about.replaces) {
+		err = a.store.Replace(data)
+	} else if err == nil {
+		err = a.store.Append(data)
+	}
+	if err != nil {
+		C.serf_agent_close(a.handle)
+		a.store.Close()
+		return err
+	}
+	if err := refused(C.serf_agent_written(a.handle)); err != nil {
+		return err
+	}
+	return refused(code)
+}
+
+func (a *Agent) gave() (C.struct_serf_agent_gave, error) {
+	var gave C.struct_serf_agent_gave
+	err := refused(C.serf_agent_gave(a.handle, &gave))
+	return gave, err
+}
+
+func (a *Agent) event(index int) (*Event, error) {
+	var about C.struct_serf_agent_event
+	var name, payload []byte
+	// first the lengths, and then the texts
+	for i := 0; i < 2; i++ {
+		name, payload = make([]byte, about.name_len), make([]byte, about.payload_len)
+		if err := refused(C.serf_agent_event(a.handle, C.size_t(index), &about, ptr(name), size(name), ptr(payload), size(payload))); err != nil {
+			return nil, err
+		}
+	}
+	return &Event{uint64(about.time), name, payload, bool(about.coalesce)}, nil
+}
+
+// packet gives the message of the last call, or this node's own ack; nil where there is none.
+func (a *Agent) packet(isAck bool) ([]byte, error) {
+	var length C.size_t
+	var packet []byte
+	for i := 0; i < 2; i++ {
+		packet = make([]byte, length)
+		var err error
+		if isAck {
+			err = refused(C.serf_agent_ack(a.handle, &length, ptr(packet), size(packet)))
+		} else {
+			err = refused(C.serf_agent_packet(a.handle, &length, ptr(packet), size(packet)))
+		}
+		if err == Nothing {
+			return nil, nil
+		}
+		if err != nil {
+			return nil, err
+		}
+	}
+	return packet, nil
+}
+
+func (a *Agent) handed(number C.uint64_t) (*Handed, error) {
+	if number == 0 {
+		return nil, nil
+	}
+	var about C.struct_serf_agent_handed
+	var name, payload, source, addr []byte
+	for i := 0; i < 2; i++ {
+		name, payload = make([]byte, about.name_len), make([]byte, about.payload_len)
+		source, addr = make([]byte, about.source_len), make([]byte, about.addr_len)
+		if err := refused(C.serf_agent_handed(a.handle, number, &about, ptr(name), size(name), ptr(payload), size(payload),
+			ptr(source), size(source), ptr(addr), size(addr))); err != nil {
+			return nil, err
+		}
+	}
+	return &Handed{
+		Number: uint64(number), Time: uint64(about.time), ID: uint32(about.id), Name: name, Payload: payload, Source: source,
+		Addr: addr, Port: uint16(about.port), RelayFactor: uint8(about.relay_factor), Deadline: uint64(about.deadline),
+	}, nil
+}
+
+// Receive takes a packet of the network.
+func (a *Agent) Receive(now uint64, packet []byte) (*Received, error) {
+	a.mu.Lock()
+	defer a.mu.Unlock()
+	if err := a.settled(C.serf_agent_receive(a.handle, C.uint64_t(now), ptr(packet), size(packet))); err != nil {
+		return nil, err
+	}
+	gave, err := a.gave()
+	if err != nil {
+		return nil, err
+	}
+	found := &Received{Kind: Kind(gave.kind), Reason: Reason(gave.reason), Rebroadcast: bool(gave.rebroadcast), Foreign: uint8(gave.foreign)}
+	if gave.events > 0 {
+		if found.Event, err = a.event(0); err != nil {
+			return nil, err
+		}
+	}
+	if found.Query, err = a.handed(gave.handed); err != nil {
+		return nil, err
+	}
+	found.Ack, err = a.packet(true)
+	return found, err
+}
+
+// Fire fires an event: the event as it is handed out here, and the packet to send.
+func (a *Agent) Fire(name, payload []byte, coalesce bool) (*Event, []byte, error) {
+	a.mu.Lock()
+	defer a.mu.Unlock()
+	if err := a.settled(C.serf_agent_fire(a.handle, ptr(name), size(name), ptr(payload), size(payload), C.bool(coalesce))); err != nil {
+		return nil, nil, err
+	}
+	event, err := a.event(0)
+	if err != nil {
+		return nil, nil, err
+	}
+	packet, err := a.packet(false)
+	return event, packet, err
+}
+
+// Merge merges another agent's whole state: the events that are handed out, in order.
+func (a *Agent) Merge(packet []byte, isJoin bool) ([]*Event, error) {
+	a.mu.Lock()
+	defer a.mu.Unlock()
+	if err := a.settled(C.serf_agent_merge(a.handle, ptr(packet), size(packet), C.bool(isJoin))); err != nil {
+		return nil, err
+	}
+	gave, err := a.gave()
+	if err != nil {
+		return nil, err
+	}
+	events := make([]*Event, gave.events)
+	for i := range events {
+		if events[i], err = a.event(i); err != nil {
+			return nil, err
+		}
+	}
+	return events, nil
+}
+
+// Status is a member's name and the time of its status.
+type Status struct {
+	Name string
+	Time uint64
+}
+
+// LocalState is this agent's whole state, to send: with members' status times, and the names of those that left.
+func (a *Agent) LocalState(statuses []Status, left []string) ([]byte, error) {
+	a.mu.Lock()
+	defer a.mu.Unlock()
+	for _, status := range statuses {
+		name := []byte(status.Name)
+		if err := refused(C.serf_agent_add_status(a.handle, ptr(name), size(name), C.uint64_t(status.Time))); err != nil {
+			return nil, err
+		}
+	}
+	for _, one := range left {
+		name := []byte(one)
+		if err := refused(C.serf_agent_add_left(a.handle, ptr(name), size(name))); err != nil {
+			return nil, err
+		}
+	}
+	if err := a.settled(C.serf_agent_local_state(a.handle)); err != nil {
+		return nil, err
+	}
+	return a.packet(false)
+}
+
+// Query fires a query; id is a random number.
+func (a *Agent) Query(now uint64, id uint32, name, payload []byte, params QueryParams) (*Asked, error) {
+	a.mu.Lock()
+	defer a.mu.Unlock()
+	for _, filter := range params.Filters {
+		if err := refused(C.serf_agent_add_filter(a.handle, ptr(filter), size(filter))); err != nil {
+			return nil, err
+		}
+	}
+	how := C.struct_serf_agent_params{
+		timeout: C.int64_t(params.Timeout), port: C.uint16_t(params.Port), relay_factor: C.uint8_t(params.RelayFactor),
+		want_ack: C.bool(params.WantAck), no_broadcast: C.bool(params.NoBroadcast),
+	}
+	if err := a.settled(C.serf_agent_query(a.handle, C.uint64_t(now), C.uint32_t(id), ptr(name), size(name), ptr(payload), size(payload),
+		ptr(params.Addr), size(params.Addr), &how)); err != nil {
+		return nil, err
+	}
+	gave, err := a.gave()
+	if err != nil {
+		return nil, err
+	}
+	asked := &Asked{}
+	if asked.Packet, err = a.packet(false); err != nil {
+		return nil, err
+	}
+	if asked.Query, err = a.handed(gave.handed); err != nil {
+		return nil, err
+	}
+	asked.Ack, err = a.packet(true)
+	return asked, err
+}
+
+// Respond answers a query that was handed out: the packet to send to its address and port.
+func (a *Agent) Respond(now, number uint64, payload []byte) ([]byte, error) {
+	a.mu.Lock()
+	defer a.mu.Unlock()
+	if err := a.settled(C.serf_agent_respond(a.handle, C.uint64_t(now), C.uint64_t(number), ptr(payload), size(payload))); err != nil {
+		return nil, err
+	}
+	return a.packet(false)
+}
+
+// CloseDue closes this agent's queries whose deadline is before now: how many they were.
+func (a *Agent) CloseDue(now uint64) (int, error) {
+	a.mu.Lock()
+	defer a.mu.Unlock()
+	var closed C.size_t
+	err := a.settled(C.serf_agent_close_due(a.handle, C.uint64_t(now), &closed))
+	return int(closed), err
+}
+
+// SaveMemberClock notes the member clock, so that the next life goes on from there.
+func (a *Agent) SaveMemberClock() error {
+	a.mu.Lock()
+	defer a.mu.Unlock()
+	return a.settled(C.serf_agent_save_member_clock(a.handle))
+}
+
+// Compact replaces the file by one line of each clock.
+func (a *Agent) Compact() error {
+	a.mu.Lock()
+	defer a.mu.Unlock()
+	return a.settled(C.serf_agent_compact(a.handle))
+}
+
+// Clocks are the agent's.
+func (a *Agent) Clocks() (Clocks, error) {
+	a.mu.Lock()
+	defer a.mu.Unlock()
+	var found C.struct_serf_agent_clocks
+	err := refused(C.serf_agent_clocks(a.handle, &found))
+	return Clocks{uint64(found.member), uint64(found.event), uint64(found.query), uint64(found.event_minimum), uint64(found.query_minimum)}, err
+}
+
+// NextDeadline is the least deadline of this agent's open queries, and false where there is none.
+func (a *Agent) NextDeadline() (uint64, bool, error) {
+	a.mu.Lock()
+	defer a.mu.Unlock()
+	var deadline C.uint64_t
+	err := refused(C.serf_agent_next_deadline(a.handle, &deadline))
+	if err == Nothing {
+		return 0, false, nil
+	}
+	return uint64(deadline), err == nil, err
+}
+
+// OpenQueries is how many of this agent's own queries still take answers.
+func (a *Agent) OpenQueries() (int, error) {
+	a.mu.Lock()
+	defer a.mu.Unlock()
+	var open C.size_t
+	err := refused(C.serf_agent_open_queries(a.handle, &open))
+	return int(open), err
+}

@@ -1,0 +1,164 @@
+"""The shared library: its functions, structs and codes as include/serf_agent.h has them."""
+
+import ctypes
+import enum
+import os
+from ctypes import POINTER, Structure, c_bool, c_int64, c_size_t, c_uint8, c_uint16, c_uint32, c_uint64, c_void_p
+
+HERE = os.path.dirname(os.path.abspath(__file__))
+DEFAULT = os.path.join(HERE, "..", "..", "c", "out", "libserf_agent.so")
+
+
+class Code(enum.IntEnum):
+    """What a call answers."""
+
+    OK = 0
+    EMPTY = 1
+    IN_USE = 2
+    UNWRITTEN = 3
+    NOTHING = 4
+    OUT_OF_MEMORY = 5
+    BAD_CONFIG = 6
+    SINK_FAULT = 7
+    STOPPED = 8
+    TOO_LARGE = 9
+    EXHAUSTED = 10
+    NO_MESSAGE = 11
+    RESPONDERS_FULL = 12
+    NOT_PUSH_PULL = 13
+    TOO_LONG = 14
+    NO_TIME = 15
+    PAST_DEADLINE = 16
+    NOT_HANDED = 17
+
+
+class Kind(enum.IntEnum):
+    """What a call gave."""
+
+    NOTHING = 0
+    EVENT = 1
+    QUERY = 2
+    ACK = 3
+    RESPONSE = 4
+    IGNORED = 5
+    FOREIGN = 6
+    PUSH_PULL = 7
+    FIRED = 8
+    ASKED = 9
+    MERGED = 10
+    STATE = 11
+    REPLY = 12
+
+
+class Reason(enum.IntEnum):
+    """Why a packet was ignored."""
+
+    NO_REASON = 0
+    OVERSIZE = 1
+    BELOW_MINIMUM = 2
+    TOO_OLD = 3
+    SEEN = 4
+    TIME_FULL = 5
+    NOT_OPEN = 6
+    OTHER_ID = 7
+    CLOSED = 8
+    ACK_NOT_ASKED = 9
+    ACK_TWICE = 10
+    RESPONSE_TWICE = 11
+
+
+class Place(Structure):
+    _fields_ = [("at", c_void_p)]
+
+
+class Handle(Structure):
+    _fields_ = [("open", c_bool), ("place", Place)]
+
+
+class CSettings(Structure):
+    _fields_ = [(name, c_uint64) for name in ("event_buffer", "query_buffer", "event_limit", "responders", "per_time")] + [("ignore_old", c_bool)]
+
+
+class CGave(Structure):
+    _fields_ = [("kind", c_uint32), ("reason", c_uint32), ("handed", c_uint64), ("events", c_size_t), ("foreign", c_uint8), ("rebroadcast", c_bool)]
+
+
+class CBytes(Structure):
+    _fields_ = [("len", c_size_t), ("replaces", c_bool)]
+
+
+class CEvent(Structure):
+    _fields_ = [("time", c_uint64), ("name_len", c_size_t), ("payload_len", c_size_t), ("coalesce", c_bool)]
+
+
+class CParams(Structure):
+    _fields_ = [("timeout", c_int64), ("port", c_uint16), ("relay_factor", c_uint8), ("want_ack", c_bool), ("no_broadcast", c_bool)]
+
+
+class CHanded(Structure):
+    _fields_ = (
+        [("time", c_uint64), ("deadline", c_uint64)]
+        + [(name, c_size_t) for name in ("name_len", "payload_len", "source_len", "addr_len")]
+        + [("id", c_uint32), ("port", c_uint16), ("relay_factor", c_uint8)]
+    )
+
+
+class CClocks(Structure):
+    _fields_ = [(name, c_uint64) for name in ("member", "event", "query", "event_minimum", "query_minimum")]
+
+
+# The structs, by their names in the header.
+STRUCTS = {
+    "serf_agent": Handle,
+    "serf_agent_settings": CSettings,
+    "serf_agent_gave": CGave,
+    "serf_agent_bytes": CBytes,
+    "serf_agent_event": CEvent,
+    "serf_agent_params": CParams,
+    "serf_agent_handed": CHanded,
+    "serf_agent_clocks": CClocks,
+}
+
+HANDLE = POINTER(Handle)
+# what is lent to a call: any bytes, or room for bytes
+DATA = c_void_p
+TEXT = [DATA, c_size_t]
+
+# The functions' arguments, by the rest of their names; each answers a code.
+FUNCTIONS = {
+    "open": [HANDLE, *TEXT, POINTER(CSettings), *TEXT],
+    "close": [HANDLE],
+    "unwritten": [HANDLE, POINTER(CBytes), *TEXT],
+    "written": [HANDLE],
+    "fire": [HANDLE, *TEXT, *TEXT, c_bool],
+    "receive": [HANDLE, c_uint64, *TEXT],
+    "merge": [HANDLE, *TEXT, c_bool],
+    "local_state": [HANDLE],
+    "add_status": [HANDLE, *TEXT, c_uint64],
+    "add_left": [HANDLE, *TEXT],
+    "query": [HANDLE, c_uint64, c_uint32, *TEXT, *TEXT, *TEXT, POINTER(CParams)],
+    "add_filter": [HANDLE, *TEXT],
+    "respond": [HANDLE, c_uint64, c_uint64, *TEXT],
+    "close_due": [HANDLE, c_uint64, POINTER(c_size_t)],
+    "save_member_clock": [HANDLE],
+    "compact": [HANDLE],
+    "gave": [HANDLE, POINTER(CGave)],
+    "event": [HANDLE, c_size_t, POINTER(CEvent), *TEXT, *TEXT],
+    "packet": [HANDLE, POINTER(c_size_t), *TEXT],
+    "ack": [HANDLE, POINTER(c_size_t), *TEXT],
+    "handed": [HANDLE, c_uint64, POINTER(CHanded), *TEXT, *TEXT, *TEXT, *TEXT],
+    "clocks": [HANDLE, POINTER(CClocks)],
+    "next_deadline": [HANDLE, POINTER(c_uint64)],
+    "open_queries": [HANDLE, POINTER(c_size_t)],
+}
+
+
+class Library:
+    """The shared library's functions, typed. They let other threads run meanwhile."""
+
+    def __init__(self, path=None):
+        found = ctypes.CDLL(path or os.environ.get("SERF_AGENT_LIBRARY") or DEFAULT)
+        for name, types in FUNCTIONS.items():
+            function = getattr(found, "serf_agent_" + name)
+            function.argtypes, function.restype = types, c_uint32
+            setattr(self, name, function)

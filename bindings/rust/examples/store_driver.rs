@@ -1,0 +1,45 @@
+//! The store, driven by lines, as tests/embed/store_driver.c says.
+
+use serf_agent::{Store, StoreError};
+use std::io::{BufRead, Write};
+
+fn bytes_of(hex: &str) -> Vec<u8> {
+    let digits: Vec<u8> = hex.bytes().map(|digit| (digit as char).to_digit(16).unwrap_or(0) as u8).collect();
+    digits.chunks_exact(2).map(|pair| pair[0] * 16 + pair[1]).collect()
+}
+
+fn done(store: &mut Option<Store>, call: &str, word: &str) -> Result<String, StoreError> {
+    if call == "open" {
+        *store = None;
+        *store = Some(Store::open(word)?);
+        return Ok(String::new());
+    }
+    let open = store.as_mut().ok_or(StoreError::Broken)?;
+    match call {
+        "read" => Ok(open.read()?.iter().map(|byte| format!("{byte:02x}")).collect::<String>() + " "),
+        "append" => open.append(&bytes_of(word)).map(|()| String::new()),
+        "replace" => open.replace(&bytes_of(word)).map(|()| String::new()),
+        _ => {
+            *store = None;
+            Ok(String::new())
+        }
+    }
+}
+
+fn name_of(fault: &StoreError) -> String {
+    let shown = format!("{fault:?}");
+    shown.split('(').next().unwrap_or("Failed").to_string()
+}
+
+fn main() {
+    let mut stores = [None, None];
+    for line in std::io::stdin().lock().lines().map_while(Result::ok) {
+        let (number, text) = line.strip_prefix("1 ").map_or((0, line.as_str()), |text| (1, text));
+        let (call, word) = text.split_once(' ').unwrap_or((text, ""));
+        match done(&mut stores[number], call, word) {
+            Ok(text) => println!("{text}ok"),
+            Err(fault) => println!("{}", name_of(&fault)),
+        }
+        let _ = std::io::stdout().flush();
+    }
+}

@@ -1,0 +1,75 @@
+//! Two agents in one process, joined by hand: an event is fired, comes twice, its agent crashes and comes back, and nothing is
+//! handed out twice.
+//!
+//!     cargo run --example two_agents FOLDER
+//!
+//! FOLDER gets the two snapshots. Where they are there already, the agents go on from them.
+
+use serf_agent::{Agent, Error, Event, Outcome, Reason, Settings};
+use std::path::Path;
+
+struct Node {
+    name: &'static str,
+    agent: Agent,
+}
+
+impl Node {
+    fn open(name: &'static str, folder: &Path) -> Result<Node, Error> {
+        let path = folder.join(format!("{name}.snapshot"));
+        Ok(Node { name, agent: Agent::open(name.as_bytes(), path, Settings::default())? })
+    }
+
+    /// The handler of events: it prints them.
+    fn handle(&self, event: &Event) {
+        let (name, payload) = (String::from_utf8_lossy(&event.name), String::from_utf8_lossy(&event.payload));
+        println!("{} handed out {name} {payload} at {}", self.name, event.time);
+    }
+
+    fn join(&mut self, other: &mut Node) -> Result<(), Error> {
+        let state = other.agent.local_state(&[], &[])?;
+        for event in self.agent.merge(&state, true)? {
+            self.handle(&event);
+        }
+        println!("{} joined {}", self.name, other.name);
+        Ok(())
+    }
+
+    fn fire(&mut self, name: &str, payload: &str) -> Result<Vec<u8>, Error> {
+        let fired = self.agent.fire(name.as_bytes(), payload.as_bytes(), false)?;
+        self.handle(&fired.event);
+        Ok(fired.packet)
+    }
+
+    fn deliver(&mut self, now: u64, packet: &[u8]) -> Result<(), Error> {
+        match self.agent.receive(now, packet)?.outcome {
+            Outcome::Event(event) => self.handle(&event),
+            Outcome::Ignored(Reason::Seen) => println!("{} ignored it: seen", self.name),
+            Outcome::Ignored(Reason::BelowMinimum) => println!("{} ignored it: below the minimum", self.name),
+            other => println!("{} got {other:?}", self.name),
+        }
+        Ok(())
+    }
+}
+
+fn main() -> Result<(), Box<dyn std::error::Error>> {
+    let folder = std::env::args().nth(1).ok_or("two_agents FOLDER")?;
+    let folder = Path::new(&folder);
+    let mut alpha = Node::open("alpha", folder)?;
+    let mut beta = Node::open("beta", folder)?;
+    alpha.join(&mut beta)?;
+    beta.join(&mut alpha)?;
+
+    let packet = alpha.fire("deploy", "v1.2")?;
+    beta.deliver(1, &packet)?;
+    beta.deliver(2, &packet)?;
+
+    // nothing is left of it but its file
+    drop(beta);
+    let mut beta = Node::open("beta", folder)?;
+    println!("beta crashed, and is back at {}", beta.agent.clocks()?.event);
+    beta.deliver(3, &packet)?;
+
+    let packet = beta.fire("rollback", "v1.1")?;
+    alpha.deliver(4, &packet)?;
+    Ok(())
+}

@@ -1,0 +1,530 @@
+//! An agent over the library and a snapshot's file.
+
+use crate::raw;
+use crate::store::{Store, StoreError};
+use std::path::Path;
+
+/// Why the library refused a call.
+#[derive(Clone, Copy, Debug, PartialEq, Eq)]
+#[non_exhaustive]
+pub enum Code {
+    /// The agent was closed, since its file failed.
+    Empty,
+    InUse,
+    Unwritten,
+    Nothing,
+    OutOfMemory,
+    BadConfig,
+    SinkFault,
+    Stopped,
+    TooLarge,
+    Exhausted,
+    NoMessage,
+    RespondersFull,
+    NotPushPull,
+    TooLong,
+    NoTime,
+    PastDeadline,
+    NotHanded,
+    /// A code that this crate doesn't know.
+    Other(u32),
+}
+
+const CODES: [Code; 17] = [
+    Code::Empty,
+    Code::InUse,
+    Code::Unwritten,
+    Code::Nothing,
+    Code::OutOfMemory,
+    Code::BadConfig,
+    Code::SinkFault,
+    Code::Stopped,
+    Code::TooLarge,
+    Code::Exhausted,
+    Code::NoMessage,
+    Code::RespondersFull,
+    Code::NotPushPull,
+    Code::TooLong,
+    Code::NoTime,
+    Code::PastDeadline,
+    Code::NotHanded,
+];
+
+/// Why a call isn't done.
+#[derive(Debug)]
+pub enum Error {
+    /// The library refused it.
+    Refused(Code),
+    /// The file failed, and the agent is closed.
+    Store(StoreError),
+}
+
+impl std::fmt::Display for Error {
+    fn fmt(&self, to: &mut std::fmt::Formatter<'_>) -> std::fmt::Result {
+        match self {
+            Error::Refused(code) => write!(to, "the agent refused the call: {code:?}"),
+            Error::Store(_) => write!(to, "the agent's file failed"),
+        }
+    }
+}
+
+impl std::error::Error for Error {
+    fn source(&self) -> Option<&(dyn std::error::Error + 'static)> {
+        match self {
+            Error::Refused(_) => None,
+            Error::Store(error) => Some(error),
+        }
+    }
+}
+
+impl From<StoreError> for Error {
+    fn from(error: StoreError) -> Self {
+        Error::Store(error)
+    }
+}
+
+/// An agent's settings; `default()` has Serf's.
+#[derive(Clone, Copy, Debug, PartialEq, Eq)]
+pub struct Settings {
+    /// How many times of events, and of queries, are kept: 1 to 65,536.
+    pub event_buffer: u64,
+    pub query_buffer: u64,
+    /// The greatest size of a fired event in bytes, 9,216 at most.
+    pub event_limit: u64,
+    /// How many names are counted of a query's acks, and of its responses: 1 to 65,536.
+    pub responders: u64,
+    /// How many events, or queries, are taken of one time: 1 to 65,536.
+    pub per_time: u64,
+    /// Whether events from before a join are ignored.
+    pub ignore_old: bool,
+}
+
+impl Default for Settings {
+    fn default() -> Self {
+        Settings { event_buffer: 512, query_buffer: 512, event_limit: 512, responders: 1024, per_time: 1024, ignore_old: false }
+    }
+}
+
+/// An event that is handed out: run its handler.
+#[derive(Clone, Debug, PartialEq, Eq)]
+pub struct Event {
+    pub time: u64,
+    pub name: Vec<u8>,
+    pub payload: Vec<u8>,
+    pub coalesce: bool,
+}
+
+/// A query that is handed out: run its handler, and answer by [`Agent::respond`] with its number.
+#[derive(Clone, Debug, PartialEq, Eq)]
+pub struct Handed {
+    pub number: u64,
+    pub time: u64,
+    pub id: u32,
+    pub name: Vec<u8>,
+    pub payload: Vec<u8>,
+    /// The node that asks, and where a response is to be sent.
+    pub source: Vec<u8>,
+    pub addr: Vec<u8>,
+    pub port: u16,
+    pub relay_factor: u8,
+    /// The last moment at which it can be answered.
+    pub deadline: u64,
+}
+
+/// Why a packet was ignored.
+#[derive(Clone, Copy, Debug, PartialEq, Eq)]
+#[non_exhaustive]
+pub enum Reason {
+    Oversize,
+    BelowMinimum,
+    TooOld,
+    Seen,
+    TimeFull,
+    NotOpen,
+    OtherId,
+    Closed,
+    AckNotAsked,
+    AckTwice,
+    ResponseTwice,
+}
+
+const REASONS: [Reason; 11] = [
+    Reason::Oversize,
+    Reason::BelowMinimum,
+    Reason::TooOld,
+    Reason::Seen,
+    Reason::TimeFull,
+    Reason::NotOpen,
+    Reason::OtherId,
+    Reason::Closed,
+    Reason::AckNotAsked,
+    Reason::AckTwice,
+    Reason::ResponseTwice,
+];
+
+/// What came of a packet.
+#[derive(Clone, Debug, PartialEq, Eq)]
+#[non_exhaustive]
+pub enum Outcome {
+    /// A new event.
+    Event(Event),
+    /// A new query: handed out where its filters let this node pass, with the ack to send where one is asked for.
+    Query {
+        handed: Option<Handed>,
+        ack: Option<Vec<u8>>,
+    },
+    Ack,
+    Response,
+    Ignored(Reason),
+    /// A message of this type, which isn't read.
+    Foreign(u8),
+    /// A push/pull, which is for [`Agent::merge`].
+    PushPull,
+}
+
+/// What came of a packet, and whether it is to be sent on unchanged.
+#[derive(Clone, Debug, PartialEq, Eq)]
+pub struct Received {
+    pub outcome: Outcome,
+    pub rebroadcast: bool,
+}
+
+/// The event as it is handed out here, and the packet to send.
+#[derive(Clone, Debug, PartialEq, Eq)]
+pub struct Fired {
+    pub event: Event,
+    pub packet: Vec<u8>,
+}
+
+/// How a query is fired.
+#[derive(Clone, Debug, Default, PartialEq, Eq)]
+pub struct QueryParams {
+    /// How long answers are taken, in nanoseconds.
+    pub timeout: i64,
+    /// Where answers are to be sent.
+    pub addr: Vec<u8>,
+    pub port: u16,
+    pub relay_factor: u8,
+    pub want_ack: bool,
+    pub no_broadcast: bool,
+    pub filters: Vec<Vec<u8>>,
+}
+
+/// The packet of a query to send, and what this node is handed out and sends as its own ack.
+#[derive(Clone, Debug, PartialEq, Eq)]
+pub struct Asked {
+    pub packet: Vec<u8>,
+    pub handed: Option<Handed>,
+    pub ack: Option<Vec<u8>>,
+}
+
+/// The agent's clocks, and the least times that it takes.
+#[derive(Clone, Copy, Debug, PartialEq, Eq)]
+pub struct Clocks {
+    pub member: u64,
+    pub event: u64,
+    pub query: u64,
+    pub event_minimum: u64,
+    pub query_minimum: u64,
+}
+
+/// A getter of a packet: the message itself, or this node's own ack.
+type Getter = unsafe extern "C" fn(*mut raw::Handle, *mut usize, *mut u8, usize) -> u32;
+const PACKET: Getter = raw::serf_agent_packet;
+const OWN_ACK: Getter = raw::serf_agent_ack;
+
+/// A proved agent whose snapshot is a file. Dropping it closes both.
+pub struct Agent {
+    // in a box, since the library is promised that nobody copies it
+    handle: Box<raw::Handle>,
+    store: Store,
+}
+
+// SAFETY: the library keeps nothing of a thread's own, and `&mut` lets one thread at a time through.
+unsafe impl Send for Agent {}
+
+fn answered(code: u32) -> Result<(), Error> {
+    match code {
+        0 => Ok(()),
+        other => Err(Error::Refused(CODES.get(other as usize - 1).copied().unwrap_or(Code::Other(other)))),
+    }
+}
+
+impl Agent {
+    /// Opens the file, or makes it, and an agent of this name on its text.
+    pub fn open(name: &[u8], path: impl AsRef<Path>, settings: Settings) -> Result<Agent, Error> {
+        let store = Store::open(path)?;
+        let text = store.read()?;
+        let place = raw::Place { at: std::ptr::null_mut() };
+        let mut agent = Agent { handle: Box::new(raw::Handle { open: false, place }), store };
+        let settings = raw::Settings {
+            event_buffer: settings.event_buffer,
+            query_buffer: settings.query_buffer,
+            event_limit: settings.event_limit,
+            responders: settings.responders,
+            per_time: settings.per_time,
+            ignore_old: settings.ignore_old,
+        };
+        agent.settled(|handle| {
+            // SAFETY: the handle is the agent's own, and each pointer comes with its length.
+            unsafe { raw::serf_agent_open(handle, name.as_ptr(), name.len(), &settings, text.as_ptr(), text.len()) }
+        })?;
+        Ok(agent)
+    }
+
+    /// Does a call, and brings what it wrote to the file, also where it was refused.
+    fn settled(&mut self, call: impl FnOnce(&mut raw::Handle) -> u32) -> Result<(), Error> {
+        let code = call(&mut self.handle);
+        self.settle()?;
+        answered(code)
+    }
+
+    fn settle(&mut self) -> Result<(), Error> {
+        let mut about = raw::Bytes::default();
+        // SAFETY: no room is given.
+        if unsafe { raw::serf_agent_unwritten(&mut *self.handle, &mut about, std::ptr::NonNull::dangling().as_ptr(), 0) } != 0 {
+            return Ok(());
+        }
+        if about.len == 0 && !about.replaces {
+            return Ok(());
+        }
+        let mut bytes = vec![0; about.len];
+        // SAFETY: `bytes` has this length.
+        answered(unsafe { raw::serf_agent_unwritten(&mut *self.handle, &mut about, bytes.as_mut_ptr(), bytes.len()) })?;
+        let done = if about.replaces { self.store.replace(&bytes) } else { self.store.append(&bytes) };
+        match done {
+            Ok(()) => {
+                // SAFETY: the handle is the agent's own.
+                answered(unsafe { raw::serf_agent_written(&mut *self.handle) })
+            }
+            Err(error) => {
+                // SAFETY: the handle is the agent's own.
+                unsafe { raw::serf_agent_close(&mut *self.handle) };
+                Err(error.into())
+            }
+        }
+    }
+
+    fn gave(&mut self) -> Result<raw::Gave, Error> {
+        let mut gave = raw::Gave::default();
+        // SAFETY: `gave` is of the type that the library writes.
+        answered(unsafe { raw::serf_agent_gave(&mut *self.handle, &mut gave) })?;
+        Ok(gave)
+    }
+
+    fn event(&mut self, index: usize) -> Result<Event, Error> {
+        let (mut about, mut name, mut payload) = (raw::Event::default(), Vec::new(), Vec::new());
+        // first the lengths, and then the texts
+        for _ in 0..2 {
+            name = vec![0; about.name_len];
+            payload = vec![0; about.payload_len];
+            // SAFETY: each pointer comes with its length.
+            answered(unsafe {
+                raw::serf_agent_event(
+                    &mut *self.handle,
+                    index,
+                    &mut about,
+                    name.as_mut_ptr(),
+                    name.len(),
+                    payload.as_mut_ptr(),
+                    payload.len(),
+                )
+            })?;
+        }
+        Ok(Event { time: about.time, name, payload, coalesce: about.coalesce })
+    }
+
+    fn packet(&mut self, getter: Getter) -> Result<Option<Vec<u8>>, Error> {
+        let (mut len, mut packet) = (0, Vec::new());
+        for _ in 0..2 {
+            packet = vec![0; len];
+            // SAFETY: the pointer comes with its length.
+            let code = unsafe { getter(&mut *self.handle, &mut len, packet.as_mut_ptr(), packet.len()) };
+            match answered(code) {
+                Err(Error::Refused(Code::Nothing)) => return Ok(None),
+                other => other?,
+            }
+        }
+        Ok(Some(packet))
+    }
+
+    /// The packet of a call that gives one.
+    fn own_packet(&mut self) -> Result<Vec<u8>, Error> {
+        self.packet(PACKET)?.ok_or(Error::Refused(Code::Nothing))
+    }
+
+    fn handed(&mut self, number: u64) -> Result<Option<Handed>, Error> {
+        if number == 0 {
+            return Ok(None);
+        }
+        let mut about = raw::Handed::default();
+        let mut texts = [const { Vec::new() }; 4];
+        for _ in 0..2 {
+            let lens = [about.name_len, about.payload_len, about.source_len, about.addr_len];
+            texts = lens.map(|len| vec![0; len]);
+            let [name, payload, source, addr] = &mut texts;
+            // SAFETY: each pointer comes with its length.
+            answered(unsafe {
+                raw::serf_agent_handed(
+                    &mut *self.handle,
+                    number,
+                    &mut about,
+                    name.as_mut_ptr(),
+                    name.len(),
+                    payload.as_mut_ptr(),
+                    payload.len(),
+                    source.as_mut_ptr(),
+                    source.len(),
+                    addr.as_mut_ptr(),
+                    addr.len(),
+                )
+            })?;
+        }
+        let [name, payload, source, addr] = texts;
+        let raw::Handed { time, deadline, id, port, relay_factor, .. } = about;
+        Ok(Some(Handed { number, time, id, name, payload, source, addr, port, relay_factor, deadline }))
+    }
+
+    /// Takes a packet of the network.
+    pub fn receive(&mut self, now: u64, packet: &[u8]) -> Result<Received, Error> {
+        // SAFETY: the pointer comes with its length.
+        self.settled(|handle| unsafe { raw::serf_agent_receive(handle, now, packet.as_ptr(), packet.len()) })?;
+        let gave = self.gave()?;
+        let outcome = match gave.kind {
+            1 => Outcome::Event(self.event(0)?),
+            2 => Outcome::Query { handed: self.handed(gave.handed)?, ack: self.packet(OWN_ACK)? },
+            3 => Outcome::Ack,
+            4 => Outcome::Response,
+            5 => Outcome::Ignored(*REASONS.get((gave.reason as usize).wrapping_sub(1)).ok_or(Error::Refused(Code::Other(gave.reason)))?),
+            6 => Outcome::Foreign(gave.foreign),
+            7 => Outcome::PushPull,
+            other => return Err(Error::Refused(Code::Other(other))),
+        };
+        Ok(Received { outcome, rebroadcast: gave.rebroadcast })
+    }
+
+    /// Fires an event.
+    pub fn fire(&mut self, name: &[u8], payload: &[u8], coalesce: bool) -> Result<Fired, Error> {
+        self.settled(|handle| {
+            // SAFETY: each pointer comes with its length.
+            unsafe { raw::serf_agent_fire(handle, name.as_ptr(), name.len(), payload.as_ptr(), payload.len(), coalesce) }
+        })?;
+        Ok(Fired { event: self.event(0)?, packet: self.own_packet()? })
+    }
+
+    /// Merges another agent's whole state: the events that are handed out, in order.
+    pub fn merge(&mut self, packet: &[u8], is_join: bool) -> Result<Vec<Event>, Error> {
+        // SAFETY: the pointer comes with its length.
+        self.settled(|handle| unsafe { raw::serf_agent_merge(handle, packet.as_ptr(), packet.len(), is_join) })?;
+        let count = self.gave()?.events;
+        (0..count).map(|index| self.event(index)).collect()
+    }
+
+    /// This agent's whole state, to send: with the status times of members, and the names of those that left.
+    pub fn local_state(&mut self, statuses: &[(&[u8], u64)], left: &[&[u8]]) -> Result<Vec<u8>, Error> {
+        for (name, time) in statuses {
+            // SAFETY: the pointer comes with its length.
+            answered(unsafe { raw::serf_agent_add_status(&mut *self.handle, name.as_ptr(), name.len(), *time) })?;
+        }
+        for name in left {
+            // SAFETY: the pointer comes with its length.
+            answered(unsafe { raw::serf_agent_add_left(&mut *self.handle, name.as_ptr(), name.len()) })?;
+        }
+        // SAFETY: the handle is the agent's own.
+        self.settled(|handle| unsafe { raw::serf_agent_local_state(handle) })?;
+        self.own_packet()
+    }
+
+    /// Fires a query; `id` is a random number.
+    pub fn query(&mut self, now: u64, id: u32, name: &[u8], payload: &[u8], params: &QueryParams) -> Result<Asked, Error> {
+        for filter in &params.filters {
+            // SAFETY: the pointer comes with its length.
+            answered(unsafe { raw::serf_agent_add_filter(&mut *self.handle, filter.as_ptr(), filter.len()) })?;
+        }
+        let addr = &params.addr;
+        let params = raw::Params {
+            timeout: params.timeout,
+            port: params.port,
+            relay_factor: params.relay_factor,
+            want_ack: params.want_ack,
+            no_broadcast: params.no_broadcast,
+        };
+        self.settled(|handle| unsafe {
+            // SAFETY: each pointer comes with its length.
+            raw::serf_agent_query(
+                handle,
+                now,
+                id,
+                name.as_ptr(),
+                name.len(),
+                payload.as_ptr(),
+                payload.len(),
+                addr.as_ptr(),
+                addr.len(),
+                &params,
+            )
+        })?;
+        let number = self.gave()?.handed;
+        Ok(Asked { packet: self.own_packet()?, handed: self.handed(number)?, ack: self.packet(OWN_ACK)? })
+    }
+
+    /// Answers a query that was handed out: the packet to send to its address and port.
+    pub fn respond(&mut self, now: u64, number: u64, payload: &[u8]) -> Result<Vec<u8>, Error> {
+        // SAFETY: the pointer comes with its length.
+        self.settled(|handle| unsafe { raw::serf_agent_respond(handle, now, number, payload.as_ptr(), payload.len()) })?;
+        self.own_packet()
+    }
+
+    /// Closes this agent's queries whose deadline is before `now`: how many they were.
+    pub fn close_due(&mut self, now: u64) -> Result<usize, Error> {
+        let mut closed = 0;
+        // SAFETY: `closed` is of the type that the library writes.
+        self.settled(|handle| unsafe { raw::serf_agent_close_due(handle, now, &mut closed) })?;
+        Ok(closed)
+    }
+
+    /// Notes the member clock, so that the next life goes on from there.
+    pub fn save_member_clock(&mut self) -> Result<(), Error> {
+        // SAFETY: the handle is the agent's own.
+        self.settled(|handle| unsafe { raw::serf_agent_save_member_clock(handle) })
+    }
+
+    /// Replaces the file by one line of each clock.
+    pub fn compact(&mut self) -> Result<(), Error> {
+        // SAFETY: the handle is the agent's own.
+        self.settled(|handle| unsafe { raw::serf_agent_compact(handle) })
+    }
+
+    pub fn clocks(&mut self) -> Result<Clocks, Error> {
+        let mut found = raw::Clocks::default();
+        // SAFETY: `found` is of the type that the library writes.
+        answered(unsafe { raw::serf_agent_clocks(&mut *self.handle, &mut found) })?;
+        let raw::Clocks { member, event, query, event_minimum, query_minimum } = found;
+        Ok(Clocks { member, event, query, event_minimum, query_minimum })
+    }
+
+    /// The least deadline of this agent's open queries.
+    pub fn next_deadline(&mut self) -> Result<Option<u64>, Error> {
+        let mut deadline = 0;
+        // SAFETY: `deadline` is of the type that the library writes.
+        match answered(unsafe { raw::serf_agent_next_deadline(&mut *self.handle, &mut deadline) }) {
+            Err(Error::Refused(Code::Nothing)) => Ok(None),
+            other => other.map(|()| Some(deadline)),
+        }
+    }
+
+    /// How many of this agent's own queries still take answers.
+    pub fn open_queries(&mut self) -> Result<usize, Error> {
+        let mut open = 0;
+        // SAFETY: `open` is of the type that the library writes.
+        answered(unsafe { raw::serf_agent_open_queries(&mut *self.handle, &mut open) })?;
+        Ok(open)
+    }
+}
+
+impl Drop for Agent {
+    fn drop(&mut self) {
+        // SAFETY: the handle is the agent's own; one that is empty stays so.
+        unsafe { raw::serf_agent_close(&mut *self.handle) };
+    }
+}

@@ -1,0 +1,14 @@
+//! The proved Serf agent for Rust programs that are built without Rattle: an [`Agent`] over a snapshot's file.
+//!
+//! Each call brings what it wrote to the disk before it returns, and so before a handler runs. Where the file fails, the
+//! agent is closed: open it again on the file. The calls of an [`Agent`] need it alone (`&mut`), so that one thread at a time
+//! uses it. Moments (`now`) are nanoseconds of one clock that never goes back.
+//!
+//! The library is proved; this crate is tested.
+
+mod agent;
+mod raw;
+mod store;
+
+pub use agent::{Agent, Asked, Clocks, Code, Error, Event, Fired, Handed, Outcome, QueryParams, Reason, Received, Settings};
+pub use store::{Store, StoreError};

@@ -1,0 +1,211 @@
+//! What `include/serf_agent.h` declares, and the calls for memory that the library takes.
+
+use std::alloc::{alloc, dealloc, realloc, Layout};
+
+#[repr(C)]
+pub struct Place {
+    pub at: *mut u8,
+}
+
+#[repr(C)]
+pub struct Handle {
+    pub open: bool,
+    pub place: Place,
+}
+
+#[repr(C)]
+pub struct Settings {
+    pub event_buffer: u64,
+    pub query_buffer: u64,
+    pub event_limit: u64,
+    pub responders: u64,
+    pub per_time: u64,
+    pub ignore_old: bool,
+}
+
+#[repr(C)]
+#[derive(Default)]
+pub struct Gave {
+    pub kind: u32,
+    pub reason: u32,
+    pub handed: u64,
+    pub events: usize,
+    pub foreign: u8,
+    pub rebroadcast: bool,
+}
+
+#[repr(C)]
+#[derive(Default)]
+pub struct Bytes {
+    pub len: usize,
+    pub replaces: bool,
+}
+
+#[repr(C)]
+#[derive(Default)]
+pub struct Event {
+    pub time: u64,
+    pub name_len: usize,
+    pub payload_len: usize,
+    pub coalesce: bool,
+}
+
+#[repr(C)]
+pub struct Params {
+    pub timeout: i64,
+    pub port: u16,
+    pub relay_factor: u8,
+    pub want_ack: bool,
+    pub no_broadcast: bool,
+}
+
+#[repr(C)]
+#[derive(Default)]
+pub struct Handed {
+    pub time: u64,
+    pub deadline: u64,
+    pub name_len: usize,
+    pub payload_len: usize,
+    pub source_len: usize,
+    pub addr_len: usize,
+    pub id: u32,
+    pub port: u16,
+    pub relay_factor: u8,
+}
+
+#[repr(C)]
+#[derive(Default)]
+pub struct Clocks {
+    pub member: u64,
+    pub event: u64,
+    pub query: u64,
+    pub event_minimum: u64,
+    pub query_minimum: u64,
+}
+
+extern "C" {
+    pub fn serf_agent_open(
+        handle: *mut Handle,
+        name: *const u8,
+        name_len: usize,
+        settings: *const Settings,
+        text: *const u8,
+        text_len: usize,
+    ) -> u32;
+    pub fn serf_agent_close(handle: *mut Handle) -> u32;
+    pub fn serf_agent_unwritten(handle: *mut Handle, bytes: *mut Bytes, to: *mut u8, room: usize) -> u32;
+    pub fn serf_agent_written(handle: *mut Handle) -> u32;
+    pub fn serf_agent_fire(
+        handle: *mut Handle,
+        name: *const u8,
+        name_len: usize,
+        payload: *const u8,
+        payload_len: usize,
+        coalesce: bool,
+    ) -> u32;
+    pub fn serf_agent_receive(handle: *mut Handle, now: u64, packet: *const u8, packet_len: usize) -> u32;
+    pub fn serf_agent_merge(handle: *mut Handle, packet: *const u8, packet_len: usize, is_join: bool) -> u32;
+    pub fn serf_agent_local_state(handle: *mut Handle) -> u32;
+    pub fn serf_agent_add_status(handle: *mut Handle, name: *const u8, name_len: usize, status_time: u64) -> u32;
+    pub fn serf_agent_add_left(handle: *mut Handle, name: *const u8, name_len: usize) -> u32;
+    pub fn serf_agent_query(
+        handle: *mut Handle,
+        now: u64,
+        id: u32,
+        name: *const u8,
+        name_len: usize,
+        payload: *const u8,
+        payload_len: usize,
+        addr: *const u8,
+        addr_len: usize,
+        params: *const Params,
+    ) -> u32;
+    pub fn serf_agent_add_filter(handle: *mut Handle, filter: *const u8, filter_len: usize) -> u32;
+    pub fn serf_agent_respond(handle: *mut Handle, now: u64, number: u64, payload: *const u8, payload_len: usize) -> u32;
+    pub fn serf_agent_close_due(handle: *mut Handle, now: u64, closed: *mut usize) -> u32;
+    pub fn serf_agent_save_member_clock(handle: *mut Handle) -> u32;
+    pub fn serf_agent_compact(handle: *mut Handle) -> u32;
+    pub fn serf_agent_gave(handle: *mut Handle, gave: *mut Gave) -> u32;
+    pub fn serf_agent_event(
+        handle: *mut Handle,
+        index: usize,
+        event: *mut Event,
+        name: *mut u8,
+        name_room: usize,
+        payload: *mut u8,
+        payload_room: usize,
+    ) -> u32;
+    pub fn serf_agent_packet(handle: *mut Handle, len: *mut usize, to: *mut u8, room: usize) -> u32;
+    pub fn serf_agent_ack(handle: *mut Handle, len: *mut usize, to: *mut u8, room: usize) -> u32;
+    pub fn serf_agent_handed(
+        handle: *mut Handle,
+        number: u64,
+        handed: *mut Handed,
+        name: *mut u8,
+        name_room: usize,
+        payload: *mut u8,
+        payload_room: usize,
+        source: *mut u8,
+        source_room: usize,
+        addr: *mut u8,
+        addr_room: usize,
+    ) -> u32;
+    pub fn serf_agent_clocks(handle: *mut Handle, clocks: *mut Clocks) -> u32;
+    pub fn serf_agent_next_deadline(handle: *mut Handle, deadline: *mut u64) -> u32;
+    pub fn serf_agent_open_queries(handle: *mut Handle, open: *mut usize) -> u32;
+}
+
+/// What a call for memory answers: whether there was any, and where it is.
+#[repr(C)]
+pub struct Tried {
+    ok: bool,
+    place: *mut u8,
+}
+
+/// Room before each piece of memory, in which its size is kept.
+const HEAD: usize = 16;
+
+fn tried(place: *mut u8, size: usize) -> Tried {
+    if place.is_null() {
+        return Tried { ok: false, place: std::ptr::NonNull::dangling().as_ptr() };
+    }
+    // SAFETY: `place` has HEAD bytes and more, and is aligned to HEAD.
+    unsafe {
+        place.cast::<usize>().write(size);
+        Tried { ok: true, place: place.add(HEAD) }
+    }
+}
+
+fn layout_of(size: usize) -> Option<Layout> {
+    Layout::from_size_align(size.checked_add(HEAD)?, HEAD).ok()
+}
+
+/// Memory for the library, aligned to 16 bytes as malloc's is.
+#[no_mangle]
+extern "C" fn rattle_alloc(size: usize, _align: usize) -> Tried {
+    // SAFETY: the layout has HEAD bytes at least.
+    tried(layout_of(size).map_or(std::ptr::null_mut(), |layout| unsafe { alloc(layout) }), size)
+}
+
+/// # Safety
+/// `old` is of one of these calls, and was not given back.
+#[no_mangle]
+unsafe extern "C" fn rattle_realloc(old: *mut u8, _kept: usize, size: usize, _align: usize) -> Tried {
+    let whole = old.sub(HEAD);
+    let had = whole.cast::<usize>().read();
+    match (layout_of(had), layout_of(size)) {
+        (Some(layout), Some(wanted)) => tried(realloc(whole, layout, wanted.size()), size),
+        _ => tried(std::ptr::null_mut(), size),
+    }
+}
+
+/// # Safety
+/// `old` is of one of these calls, and was not given back.
+#[no_mangle]
+unsafe extern "C" fn rattle_dealloc(old: *mut u8) {
+    let whole = old.sub(HEAD);
+    let had = whole.cast::<usize>().read();
+    if let Some(layout) = layout_of(had) {
+        dealloc(whole, layout);
+    }
+}

@@ -1,0 +1,195 @@
+/* The agent of the C library behind the pipe of docs/PIPE.md: calls on standard input, replies on standard output.
+ *
+ * Its snapshot is in memory. `break` is unsupported, since the library has no disk, and so is a packet that is no message,
+ * since the library's code doesn't say why it is none. */
+#define _GNU_SOURCE
+#include "answers.h"
+#include "pipe.h"
+
+enum { WORDS = 4096, ROOM = 1 << 20 };
+
+static struct serf_agent agent;
+static struct serf_agent_settings settings;
+static struct bytes name, text;
+static char *words[WORDS];
+static size_t count;
+
+static uint64_t number_of(size_t word) {
+    return strtoull(words[word], NULL, 10);
+}
+
+/* What the call left for the file is in the snapshot's text from now on. */
+static void settle(void) {
+    struct serf_agent_bytes about;
+    if (serf_agent_unwritten(&agent, &about, NULL, 0) == SERF_AGENT_OK) {
+        size_t old = about.replaces ? 0 : text.len;
+        text.at = realloc(text.at, old + about.len + 1);
+        serf_agent_unwritten(&agent, &about, text.at + old, about.len);
+        text.len = old + about.len;
+        serf_agent_written(&agent);
+    }
+}
+
+/* The packets, the events and the query that the call gave. */
+static void put_given(const struct serf_agent_gave *gave) {
+    static uint8_t one[ROOM], two[ROOM];
+    struct serf_agent_event event;
+    struct serf_agent_handed query;
+    size_t len;
+    if (serf_agent_packet(&agent, &len, one, ROOM) == SERF_AGENT_OK) {
+        put_line("sent", (struct bytes){one, len});
+    }
+    if (serf_agent_ack(&agent, &len, one, ROOM) == SERF_AGENT_OK) {
+        put_line("sent", (struct bytes){one, len});
+    }
+    for (size_t i = 0; serf_agent_event(&agent, i, &event, one, ROOM, two, ROOM) == SERF_AGENT_OK; i++) {
+        printf("event %llu", (number)event.time);
+        put(one, event.name_len, "");
+        put(two, event.payload_len, event.coalesce ? " 1\n" : " 0\n");
+    }
+    if (gave->handed != 0 && serf_agent_handed(&agent, gave->handed, &query, one, ROOM, two, ROOM, NULL, 0, NULL, 0) == SERF_AGENT_OK) {
+        printf("handed %llu %llu %u", (number)gave->handed - 1, (number)query.time, query.id);
+        put(one, query.name_len, "");
+        put(two, query.payload_len, "\n");
+    }
+}
+
+static void put_received(const struct serf_agent_gave *gave, struct bytes packet) {
+    printf("%s%s", kinds[gave->kind], gave->kind == SERF_AGENT_GAVE_IGNORED ? reasons[gave->reason] : "");
+    printf(gave->kind == SERF_AGENT_GAVE_FOREIGN ? "%u\n" : "\n", gave->foreign);
+    if (gave->kind == SERF_AGENT_GAVE_ACK || gave->kind == SERF_AGENT_GAVE_RESPONSE) {
+        put_counted(packet.at, gave->kind == SERF_AGENT_GAVE_ACK);
+    }
+    if (gave->rebroadcast) {
+        put_line("sent", packet);
+    }
+}
+
+static void put_clocks(const char *answer) {
+    struct serf_agent_clocks clocks = {0};
+    serf_agent_clocks(&agent, &clocks);
+    printf("%s %llu %llu %llu", answer, (number)clocks.member, (number)clocks.event, (number)clocks.query);
+    if (answer[0] == 'l') {
+        printf(" %llu %llu\n", (number)clocks.event_minimum, (number)clocks.query_minimum);
+        put_line("kept", text);
+    } else {
+        putchar('\n');
+    }
+}
+
+/* Opens the agent, or opens it again, on its snapshot's text and what was behind it. */
+static void open_on(struct bytes more, const char *answer) {
+    serf_agent_close(&agent);
+    append(&text, more);
+    serf_agent_open(&agent, name.at, name.len, &settings, text.at, text.len);
+    settle();
+    put_clocks(answer);
+}
+
+static void make(void) {
+    name.len = text.len = 0;
+    append(&name, bytes_of(words[1]));
+    settings = (struct serf_agent_settings){number_of(2), number_of(3), number_of(4), number_of(5), number_of(7), words[6][0] == 'i'};
+    open_on(bytes_of(words[8]), "opened");
+}
+
+static uint32_t query(void) {
+    struct bytes called = bytes_of(words[3]), payload = bytes_of(words[4]);
+    uint64_t flags = number_of(6);
+    struct serf_agent_params params = {.timeout = (int64_t)number_of(5), .want_ack = flags & 1, .no_broadcast = (flags & 2) != 0};
+    for (size_t i = 7; i < count; i++) {
+        struct bytes filter = bytes_of(words[i]);
+        serf_agent_add_filter(&agent, filter.at, filter.len);
+    }
+    return serf_agent_query(&agent, number_of(1), (uint32_t)number_of(2), called.at, called.len, payload.at, payload.len, NULL, 0, &params);
+}
+
+/* A call that can be refused: its code, how its answer begins, and the packet or name that came with it. */
+static uint32_t called(const char *call, const char **answer, struct bytes *one) {
+    struct bytes payload;
+    *one = strchr("fdm", call[0]) != NULL ? bytes_of(words[1]) : (struct bytes){0};
+    switch (call[0]) {
+    case 'f':
+        *answer = "fired";
+        payload = bytes_of(words[2]);
+        return serf_agent_fire(&agent, one->at, one->len, payload.at, payload.len, number_of(3) != 0);
+    case 'd':
+        return serf_agent_receive(&agent, number_of(2), one->at, one->len);
+    case 'm':
+        *answer = "merged";
+        return serf_agent_merge(&agent, one->at, one->len, words[2][0] == 'j');
+    case 'r':
+        *answer = "replied";
+        payload = bytes_of(words[3]);
+        return serf_agent_respond(&agent, number_of(2), number_of(1) + 1, payload.at, payload.len);
+    case 'q':
+        *answer = "queried";
+        return query();
+    case 'c':
+        *answer = "compacted";
+        return serf_agent_compact(&agent);
+    default:
+        *answer = call[1] == 't' ? "state" : "saved";
+        return call[1] == 't' ? serf_agent_local_state(&agent) : serf_agent_save_member_clock(&agent);
+    }
+}
+
+static void reply_to_call(const char *call) {
+    const char *answer = NULL;
+    struct bytes one;
+    struct serf_agent_gave gave = {0};
+    struct serf_agent_clocks before = {0};
+    serf_agent_clocks(&agent, &before);
+    uint32_t code = called(call, &answer, &one);
+    settle();
+    if (code != SERF_AGENT_OK) {
+        const char *fault = code <= SERF_AGENT_NOT_HANDED ? faults[code] : NULL;
+        printf("%s%s\n", fault != NULL ? "refused " : "unsupported", fault != NULL ? fault : "");
+        return;
+    }
+    serf_agent_gave(&agent, &gave);
+    if (answer == NULL) {
+        put_received(&gave, one);
+    } else if (call[0] == 'f' || call[0] == 'q') {
+        printf("%s %llu\n", answer, (number)(call[0] == 'f' ? before.event : before.query));
+    } else {
+        puts(answer);
+    }
+    put_given(&gave);
+}
+
+static void reply(const char *call) {
+    size_t closed = 0;
+    if (strcmp(call, "open") == 0) {
+        make();
+    } else if (!agent.open || call[0] == 'b') {
+        puts("unsupported");
+    } else if (strcmp(call, "restart") == 0) {
+        open_on(bytes_of(words[1]), "restarted");
+    } else if (strcmp(call, "close") == 0) {
+        serf_agent_close_due(&agent, number_of(1), &closed);
+        printf("closed %zu\n", closed);
+    } else if (strcmp(call, "look") == 0) {
+        put_clocks("looked");
+    } else {
+        reply_to_call(call);
+    }
+}
+
+int main(void) {
+    char *line = NULL;
+    size_t room = 0;
+    while (getline(&line, &room, stdin) > 0) {
+        count = 0;
+        for (char *word = strtok(line, " \n"); word != NULL && count < WORDS; word = strtok(NULL, " \n")) {
+            words[count++] = word;
+        }
+        if (count > 0) {
+            reply(words[0]);
+        }
+        putchar('\n');
+        fflush(stdout);
+    }
+    serf_agent_close(&agent);
+    return 0;
+}

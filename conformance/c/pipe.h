@@ -1,0 +1,61 @@
+/* The words of the pipe: bytes as hex digits, and the names of codes, reasons and kinds. */
+#pragma once
+#include "serf_agent.h"
+
+#include <stdint.h>
+#include <stdio.h>
+#include <stdlib.h>
+#include <string.h>
+
+/* A number, as it is printed. */
+typedef unsigned long long number;
+
+struct bytes {
+    uint8_t *at;
+    size_t len;
+};
+
+static const char *const faults[SERF_AGENT_NOT_HANDED + 1] = {
+    [SERF_AGENT_STOPPED] = "Stopped",           [SERF_AGENT_TOO_LARGE] = "TooLarge",
+    [SERF_AGENT_EXHAUSTED] = "Exhausted",       [SERF_AGENT_RESPONDERS_FULL] = "RespondersFull",
+    [SERF_AGENT_NOT_PUSH_PULL] = "NotPushPull", [SERF_AGENT_TOO_LONG] = "TooLong",
+    [SERF_AGENT_NO_TIME] = "ZeroTimeout",       [SERF_AGENT_PAST_DEADLINE] = "PastDeadline",
+    [SERF_AGENT_NOT_HANDED] = "NoQuery",
+};
+static const char *const reasons[] = {"",          "Oversize", "BelowMinimum", "TooOld",      "Seen",     "TimeFull",
+                                      "NotOpen",   "OtherId",  "Closed",       "AckNotAsked", "AckTwice", "ResponseTwice"};
+static const char *const kinds[] = {"", "new", "query", "ack", "response", "ignored ", "foreign ", "push-pull"};
+
+static int digit(int of) {
+    return of <= '9' ? of - '0' : (of | 32) - 'a' + 10;
+}
+
+/* A word's bytes, in the place of its digits. */
+static struct bytes bytes_of(char *word) {
+    size_t len = strcmp(word, "-") == 0 ? 0 : strlen(word) / 2;
+    for (size_t i = 0; i < len; i++) {
+        word[i] = (char)(digit(word[2 * i]) * 16 + digit(word[2 * i + 1]));
+    }
+    return (struct bytes){(uint8_t *)word, len};
+}
+
+static void append(struct bytes *to, struct bytes more) {
+    to->at = realloc(to->at, to->len + more.len + 1);
+    memcpy(to->at + to->len, more.at, more.len);
+    to->len += more.len;
+}
+
+/* Bytes behind what was printed. */
+static void put(const uint8_t *bytes, size_t len, const char *end) {
+    putchar(' ');
+    for (size_t i = 0; i < len; i++) {
+        printf("%02x", bytes[i]);
+    }
+    printf("%s%s", len == 0 ? "-" : "", end);
+}
+
+/* A line of one word and bytes. */
+static void put_line(const char *word, struct bytes bytes) {
+    fputs(word, stdout);
+    put(bytes.at, bytes.len, "\n");
+}

@@ -1,0 +1,6 @@
+use Rattle.std.proofs.Common.{◌≡◌, ℕ, List, map, take}
+use Rattle.std.specs.Borrow.{Bor}
+use Rattle.serf_agent_c.proofs.members.lend_names.Given as goal
+
+abbrev pub invariant-loop-name : goal.invariant-loop-name
+invariant-loop-name l = map (λ (t : Bor (List ℕ)). t.now) l.lent.items ≡ take l.name-index l.names

@@ -1,0 +1,9 @@
+use Rattle.std.proofs.Common.{◌≡◌, ◌≢◌, Err}
+use Rattle.serf_snap.specs.declared.snapshot.NoteFault.TheVariants.{OutOfMemory}
+use Rattle.serf_agent_c.proofs.session.Session.compact.Goals as goal
+
+pub returns-clause-takes : goal.returns-clause-takes
+returns-clause-takes c = λ ready calm r e i sound same.
+    let is : c.compact-answer.result ≡ r = cc (e, c.give.ensures.gave) in
+    let wanted : c.compact-answer.result ≢ Err OutOfMemory = λ none. calm (c.noted_code-code.ensures.memory none) in
+    rw (← is, c.give.ensures.rest.0, c.note_replaced.ensures.rest.0, ← c.begin.ensures.agent) (c.compact-answer.ensures.step i sound (rw (c.begin.ensures.agent) same) wanted)

@@ -1,0 +1,9 @@
+use Rattle.std.proofs.Common.{◌≡◌, ◌≢◌, Err}
+use Rattle.serf_snap.specs.declared.snapshot.NoteFault.TheVariants.{OutOfMemory}
+use Rattle.serf_agent_c.proofs.session.Session.save_member_clock.Goals as goal
+
+pub returns-clause-takes : goal.returns-clause-takes
+returns-clause-takes c = λ ready calm r e i sound same.
+    let is : c.save_member_clock-answer.result ≡ r = cc (e, c.give.ensures.gave) in
+    let wanted : c.save_member_clock-answer.result ≢ Err OutOfMemory = λ none. calm (c.noted_code-code.ensures.memory none) in
+    rw (← is, c.give.ensures.rest.0, ← c.begin.ensures.agent) (c.save_member_clock-answer.ensures.step i sound (rw (c.begin.ensures.agent) same) wanted)

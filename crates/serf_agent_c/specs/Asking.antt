@@ -1,0 +1,68 @@
+-- What a session does with queries.
+use Rattle.std.specs.Prelude.{[], ◌∷◌, ◌++◌, ◌≡◌, ◌≢◌, ◌==◌, ◌-◌, ℕ, true, if◌then◌else◌, List, Option, Some, None, Result, Ok, Err, slice_get, slice_set}
+use Rattle.serf_agent.specs.Handed.{Handed}
+use Rattle.serf_agent.specs.declared.outcome.QueryParams.{QueryParams}
+use Rattle.serf_agent.specs.declared.outcome.Reply.{Reply}
+use Rattle.serf_agent.specs.declared.outcome.RespondFault.{RespondFault}
+use Rattle.serf_agent.specs.Ideal.{IdealAgent}
+use Rattle.serf_agent.specs.Queries.{close_due, respond_fault, response_packet}
+use Rattle.serf_agent.specs.Sound.{IsSound}
+use Rattle.serf_agent.specs.View.{view_of}
+use Rattle.serf_agent_c.specs.declared.code.Code.{Code}
+use Rattle.serf_agent_c.specs.declared.code.Code.TheVariants.{Done, OutOfMemory, NotHanded}
+use Rattle.serf_agent_c.specs.declared.gave.Gave.TheVariants.{Replied}
+use Rattle.serf_agent_c.specs.declared.heads.Params.{Params}
+use Rattle.serf_agent_c.specs.declared.session.Session.{Session}
+use Rattle.serf_agent_c.specs.Calls.{answer_code}
+use Rattle.serf_agent_c.specs.Codes.{respond_code}
+use Rattle.serf_agent_c.specs.Sessions.{is_ready, settled}
+
+-- how a query is fired
+abbrev pub params_of : List (List ℕ) → List ℕ → Params → QueryParams
+params_of filters addr p =
+    record { filters = filters; want_ack = p.want_ack; no_broadcast = p.no_broadcast; timeout = p.timeout; addr = addr; port = p.port; relay_factor = p.relay_factor }
+
+-- the query of a number, among those that wait for an answer
+abbrev pub flat : {A : Type 0} → Option (Option A) → Option A
+flat None = None
+flat (Some x) = x
+
+abbrev pub waiting_at : ℕ → List (Option Handed) → Option Handed
+waiting_at number waiting = if number == 0 then None else flat (slice_get waiting (number - 1))
+
+-- what a query is answered with at a moment, or why it isn't; and what is left of it
+abbrev pub replied_as : Handed → List ℕ → Option RespondFault → Result Reply RespondFault
+replied_as q payload (Some fault) = Err fault
+replied_as q payload None = Ok record { addr = q.addr; port = q.port; packet = response_packet q payload }
+
+abbrev pub reply_of : Handed → ℕ → List ℕ → Result Reply RespondFault
+reply_of q now payload = replied_as q payload (respond_fault q now payload)
+
+abbrev pub left_of : Handed → Result Reply RespondFault → Option Handed
+left_of q (Ok reply) = None
+left_of q (Err fault) = Some q
+
+-- A filter is added behind the others where there is memory for it, and nothing else changes.
+abbrev pub AddsFilter : List ℕ → Session → Session → Code → Type 0
+AddsFilter filter s t code =
+    (code ≡ Done → t.filters ≡ s.filters ++ filter ∷ [])
+    × (code ≢ Done → t.filters ≡ s.filters)
+    × (is_ready s ≡ true → code ≢ Done → code ≡ OutOfMemory)
+    × (t.agent ≡ s.agent) × (t.gave ≡ s.gave) × (t.written ≡ s.written) × (t.replaces ≡ s.replaces) × (t.waiting ≡ s.waiting)
+
+-- A query that waits is answered, and a success spends it; a number that no waiting query has is answered by its code.
+abbrev pub Responds : ℕ → ℕ → List ℕ → Session → Session → Code → Type 0
+Responds number now payload s t code =
+    is_ready s ≡ true → code ≢ OutOfMemory
+    → (waiting_at number (settled s) ≡ None → code ≡ NotHanded)
+    × ((q : Handed) → waiting_at number (settled s) ≡ Some q
+    → (t.gave ≡ Replied (reply_of q now payload)) × (code ≡ answer_code respond_code (reply_of q now payload))
+    × (t.waiting.items ≡ slice_set (settled s) (number - 1) (left_of q (reply_of q now payload))))
+
+-- The open queries whose deadline is past are taken out, as the ideal agent does, and the sink isn't called.
+abbrev pub Closes : ℕ → ℕ → Session → Session → Code → Type 0
+Closes now closed s t code =
+    is_ready s ≡ true → code ≢ OutOfMemory
+    → (code ≡ Done) × (t.agent.device ≡ s.agent.device)
+    × ((i : IdealAgent) → IsSound i → s.agent.concrete ≡ view_of i
+    → (closed ≡ (close_due i now).answer) × (t.agent.concrete ≡ view_of (close_due i now).agent) × IsSound (close_due i now).agent)

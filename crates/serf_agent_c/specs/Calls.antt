@@ -1,0 +1,39 @@
+-- What each call of a session does: what the ideal agent does, and what is left for C to read.
+use Rattle.std.specs.Prelude.{◌≡◌, ◌≢◌, true, false, Result, Ok, Err}
+use Rattle.serf_agent.specs.Ideal.{IdealAgent}
+use Rattle.serf_agent.specs.Calls.{Call}
+use Rattle.serf_agent.specs.Sound.{IsSound}
+use Rattle.serf_agent.specs.Steps.{Steps}
+use Rattle.serf_agent.specs.View.{view_of}
+use Rattle.serf_agent_c.specs.declared.code.Code.{Code}
+use Rattle.serf_agent_c.specs.declared.code.Code.TheVariants.{Done, Unwritten, OutOfMemory}
+use Rattle.serf_agent_c.specs.declared.gave.Gave.{Gave}
+use Rattle.serf_agent_c.specs.declared.session.Session.{Session}
+use Rattle.serf_agent_c.specs.Sessions.{Begins, is_ready}
+
+-- the code of an answer, from that of its refusal
+abbrev pub answer_code : {R E : Type 0} → (E → Code) → Result R E → Code
+answer_code fault_code (Ok x) = Done
+answer_code fault_code (Err e) = fault_code e
+
+-- While bytes are unwritten no call is made, and nothing changes.
+abbrev pub Waits : Session → Session → Code → Type 0
+Waits s t code = is_ready s ≡ false → (code ≡ Unwritten) × (t ≡ s)
+
+-- Where a call is made and memory was there, the bytes that it appended are those that the file lacks;
+abbrev pub Tells : Session → Session → Code → Type 0
+Tells s t code = is_ready s ≡ true → code ≢ OutOfMemory → Begins s t
+
+-- its answer is what was given, and its code;
+abbrev pub Gives : {R E : Type 0} → (Result R E → Gave) → (E → Code) → Session → Session → Code → Type 0
+Gives {R} {E} gave fault_code s t code = is_ready s ≡ true → code ≢ OutOfMemory → (r : Result R E) × (t.gave ≡ gave r) × (code ≡ answer_code fault_code r)
+
+-- and a sound agent took the step that the ideal agent takes.
+abbrev pub Takes : {R E : Type 0} → (Result R E → Gave) → (IdealAgent → Call (Result R E)) → Session → Session → Code → Type 0
+Takes {R} {E} gave call s t code =
+    is_ready s ≡ true → code ≢ OutOfMemory → (r : Result R E) → t.gave ≡ gave r
+    → (i : IdealAgent) → IsSound i → s.agent.concrete ≡ view_of i → Steps i (call i) r s.agent.device t.agent
+
+-- For want of memory the agent is as before.
+abbrev pub Forgoes : Session → Session → Code → Type 0
+Forgoes s t code = code ≡ OutOfMemory → t.agent ≡ s.agent

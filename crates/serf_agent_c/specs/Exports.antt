@@ -1,0 +1,16 @@
+-- What an export does through a handle.
+use Rattle.std.specs.Prelude.{◌≡◌, ℕ, Option, Some, None, IsSomeAnd}
+use Rattle.serf_agent_c.specs.declared.code.Code.{Code}
+use Rattle.serf_agent_c.specs.declared.code.Code.TheVariants.{Empty}
+use Rattle.serf_agent_c.specs.declared.session.Session.{Session}
+use Rattle.serf_agent_c.specs.Codes.{number_of}
+
+-- A call through a handle: an empty one stays empty and says so; else its session becomes another, with a code that C reads.
+abbrev pub Through : (Session → Session → Code → Type 0) → Option Session → Option Session → ℕ → Type 0
+Through P None new n = (new ≡ None) × (n ≡ number_of Empty)
+Through P (Some s) new n = IsSomeAnd new (λ t. (code : Code) × (n ≡ number_of code) × P s t code)
+
+-- A reading call: it leaves the handle as it was.
+abbrev pub Reads : (Session → Code → Type 0) → Option Session → Option Session → ℕ → Type 0
+Reads P None new n = (new ≡ None) × (n ≡ number_of Empty)
+Reads P (Some s) new n = (new ≡ Some s) × ((code : Code) × (n ≡ number_of code) × P s code)

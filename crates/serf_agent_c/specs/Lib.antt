@@ -1,0 +1,12 @@
+pub mod Codes
+pub mod Texts
+pub mod Gaves
+pub mod Sessions
+pub mod Calls
+pub mod Asking
+pub mod Members
+pub mod Merging
+pub mod Opening
+pub mod Reads
+pub mod Exports
+pub mod Held

@@ -1,0 +1,24 @@
+-- Bytes that C reads.
+use Rattle.std.specs.Prelude.{ℕ, Bool, ◌==◌, List, [], ◌++◌, take, drop, length, Option, Some, None}
+use Rattle.serf_snap.specs.Device.{Device, durable_of}
+
+-- memory of the host's after a copy: as many of the bytes as fit, and what stood behind them
+abbrev pub copied : List ℕ → List ℕ → List ℕ
+copied bytes old = take (length old) bytes ++ drop (length bytes) old
+
+-- what is durable on a sink in memory
+abbrev pub bytes_in : Option (List ℕ) → List ℕ
+bytes_in (Some bytes) = bytes
+bytes_in None = []
+
+-- the text that an agent's sink has
+abbrev pub text_of : Device → List ℕ
+text_of d = bytes_in (durable_of d)
+
+-- the bytes of it that the host's file lacks, where the file has the first n
+abbrev pub lacking : Device → ℕ → List ℕ
+lacking d n = drop n (text_of d)
+
+-- whether the host's file has all of it
+abbrev pub is_written : Device → ℕ → Bool
+is_written d n = length (lacking d n) == 0

@@ -1,0 +1,185 @@
+//! A session's queries: firing them, answering those that were handed out, and closing those whose time is over.
+
+ghost use Rattle.std.specs.Prelude.{◌≡◌, ◌≢◌, ◌-◌, ◌++◌, ◌∷◌, [], true, IfOk, None, Some, Err, slice_set};
+ghost use Rattle.serf_agent.specs.Queries.{fire_query};
+ghost use Rattle.serf_agent.specs.Handed.{Handed};
+ghost use Rattle.serf_agent_c.specs.Asking.{AddsFilter, Closes, Responds, left_of, params_of, reply_of, waiting_at};
+ghost use Rattle.serf_agent_c.specs.Calls.{Forgoes, Gives, Takes, Tells, Waits, answer_code};
+ghost use Rattle.serf_agent_c.specs.Codes.{query_code, respond_code};
+ghost use Rattle.serf_agent_c.specs.Sessions.{is_ready};
+
+use crate::code::Code;
+use crate::gave::Gave;
+use crate::heads::Params;
+use crate::session::Session;
+use serf_agent::{
+    BytesList, FiredQuery, HandedQuery, QueryFault, QueryParams, Reply, RespondFault,
+};
+use serf_wire::Bytes;
+use std::alloc::{AllocError, Global};
+
+/// The code of a query that was fired or refused.
+fn asked_code(answer: &Result<FiredQuery, QueryFault>) -> Code
+    ensures code { result ≡ answer_code query_code answer.now }
+    ensures memory { answer.now ≡ Err QueryFault.OutOfMemory → result ≡ Code.OutOfMemory }
+{
+    match answer {
+        Ok(_) => Code::Done,
+        Err(fault) => Code::of_query(*fault),
+    }
+}
+
+/// The code of a query that was answered or not.
+fn replied_code(answer: &Result<Reply, RespondFault>) -> Code
+    ensures code { result ≡ answer_code respond_code answer.now }
+    ensures memory { answer.now ≡ Err RespondFault.OutOfMemory → result ≡ Code.OutOfMemory }
+{
+    match answer {
+        Ok(_) => Code::Done,
+        Err(fault) => Code::of_respond(*fault),
+    }
+}
+
+/// How a query is fired.
+fn params_with(
+    alloc: Global,
+    filters: BytesList,
+    addr: &[u8],
+    params: &Params,
+) -> Result<QueryParams, AllocError>
+    ensures { IfOk result (λ p. p ≡ params_of filters addr.now params.now) }
+{
+    Ok(QueryParams {
+        filters,
+        want_ack: params.want_ack,
+        no_broadcast: params.no_broadcast,
+        timeout: params.timeout,
+        addr: Bytes::copy_of(alloc, addr)?,
+        port: params.port,
+        relay_factor: params.relay_factor,
+    })
+}
+
+/// Answers the query in a slot, if there is one; a success leaves the slot empty.
+fn respond_in(
+    alloc: Global,
+    slot: &mut Option<HandedQuery>,
+    now: u64,
+    payload: &[u8],
+) -> Option<Result<Reply, RespondFault>>
+    ensures none { slot.old ≡ None → result ≡ None }
+    ensures some { (q : Handed) → slot.old ≡ Some q → result ≢ Some (Err RespondFault.OutOfMemory) → (result ≡ Some (reply_of q now payload.now)) × (slot.new ≡ left_of q (reply_of q now payload.now)) }
+    ensures memory { result ≡ Some (Err RespondFault.OutOfMemory) → slot.new ≡ slot.old }
+{
+    let query = slot.take()?;
+    match query.respond(alloc, now, payload) {
+        Ok(reply) => Some(Ok(reply)),
+        Err((query, fault)) => {
+            *slot = Some(query);
+            Some(Err(fault))
+        }
+    }
+}
+
+/// Answers the query of a number, if it waits for an answer.
+fn respond_at(
+    alloc: Global,
+    waiting: &mut Vec<Option<HandedQuery>>,
+    number: u64,
+    now: u64,
+    payload: &[u8],
+) -> Option<Result<Reply, RespondFault>>
+    ensures none { waiting_at number waiting.old.items ≡ None → result ≡ None }
+    ensures some { (q : Handed) → waiting_at number waiting.old.items ≡ Some q → result ≢ Some (Err RespondFault.OutOfMemory)
+        → (result ≡ Some (reply_of q now payload.now)) × (waiting.new.items ≡ slice_set waiting.old.items (number - 1) (left_of q (reply_of q now payload.now))) }
+{
+    if number == 0 || number > waiting.len() as u64 {
+        return None;
+    }
+    let index = (number - 1) as usize;
+    respond_in(alloc, &mut waiting[index], now, payload)
+}
+
+impl Session {
+    /// Adds a filter of the next query.
+    pub(crate) fn add_filter(&mut self, alloc: Global, filter: &[u8]) -> Code
+        ensures waits { Waits self.old self.new result }
+        ensures adds { AddsFilter filter.now self.old self.new result }
+    {
+        if !self.is_ready() {
+            return Code::Unwritten;
+        }
+        let Ok(filter) = Bytes::copy_of(alloc, filter) else {
+            return Code::OutOfMemory;
+        };
+        match self.filters.push(filter) {
+            Ok(()) => Code::Done,
+            Err(_) => Code::OutOfMemory,
+        }
+    }
+
+    /// Fires a query.
+    pub(crate) fn query(
+        &mut self,
+        alloc: Global,
+        now: u64,
+        id: u32,
+        name: &[u8],
+        payload: &[u8],
+        addr: &[u8],
+        params: &Params,
+    ) -> Code
+        ensures waits { Waits self.old self.new result }
+        ensures memory { Forgoes self.old self.new result }
+        ensures tells { Tells self.old self.new result }
+        ensures gives { Gives (λ r. Gave.Asked r) query_code self.old self.new result }
+        ensures forgets { is_ready self.old ≡ true → result ≢ Code.OutOfMemory → self.new.filters ≡ [] }
+        ensures takes { Takes (λ r. Gave.Asked r) (λ i. fire_query i now id name.now payload.now (params_of self.old.filters addr.now params.now)) self.old self.new result }
+    {
+        match self.begin() {
+            Ok(()) => {}
+            Err(code) => return code,
+        }
+        let filters = std::mem::replace(&mut self.filters, BytesList::new(alloc));
+        let Ok(params) = params_with(alloc, filters, addr, params) else {
+            return Code::OutOfMemory;
+        };
+        let answer = self.agent.query(alloc, now, id, name, payload, &params);
+        let code = asked_code(&answer);
+        self.give(Gave::Asked(answer));
+        code
+    }
+
+    /// Answers a query that was handed out.
+    pub(crate) fn respond(&mut self, alloc: Global, now: u64, number: u64, payload: &[u8]) -> Code
+        ensures waits { Waits self.old self.new result }
+        ensures agent { self.new.agent ≡ self.old.agent }
+        ensures responds { Responds number now payload.now self.old self.new result }
+    {
+        match self.begin() {
+            Ok(()) => {}
+            Err(code) => return code,
+        }
+        let Some(answer) = respond_at(alloc, &mut self.waiting, number, now, payload) else {
+            return Code::NotHanded;
+        };
+        let code = replied_code(&answer);
+        self.give(Gave::Replied(answer));
+        code
+    }
+
+    /// Takes out the open queries whose deadline is before a moment.
+    pub(crate) fn close_due(&mut self, now: u64, closed: &mut usize) -> Code
+        ensures waits { Waits self.old self.new result }
+        ensures memory { Forgoes self.old self.new result }
+        ensures tells { Tells self.old self.new result }
+        ensures closes { Closes now closed.new self.old self.new result }
+    {
+        match self.begin() {
+            Ok(()) => {}
+            Err(code) => return code,
+        }
+        *closed = self.agent.close_due(now);
+        Code::Done
+    }
+}

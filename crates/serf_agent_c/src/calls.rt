@@ -1,0 +1,88 @@
+//! Calls of a session's agent.
+
+ghost use Rattle.std.specs.Prelude.{◌≡◌, Err};
+ghost use Rattle.serf_window.specs.Texts.{event_of};
+ghost use Rattle.serf_agent.specs.Events.{fire};
+ghost use Rattle.serf_agent.specs.Receive.{receive};
+ghost use Rattle.serf_agent_c.specs.Calls.{Forgoes, Gives, Takes, Tells, Waits, answer_code};
+ghost use Rattle.serf_agent_c.specs.Codes.{fire_code, receive_code};
+
+use crate::code::Code;
+use crate::gave::Gave;
+use crate::session::Session;
+use serf_agent::{FireFault, Fired, Outcome, ReceiveFault};
+use std::alloc::Global;
+
+/// The code of an event that was fired or refused.
+fn fired_code(answer: &Result<Fired, FireFault>) -> Code
+    ensures code { result ≡ answer_code fire_code answer.now }
+    ensures memory { answer.now ≡ Err FireFault.OutOfMemory → result ≡ Code.OutOfMemory }
+{
+    match answer {
+        Ok(_) => Code::Done,
+        Err(fault) => Code::of_fire(*fault),
+    }
+}
+
+/// The code of a packet that was taken or refused.
+fn received_code(answer: &Result<Outcome, ReceiveFault>) -> Code
+    ensures code { result ≡ answer_code receive_code answer.now }
+    ensures memory { answer.now ≡ Err ReceiveFault.OutOfMemory → result ≡ Code.OutOfMemory }
+{
+    match answer {
+        Ok(_) => Code::Done,
+        Err(fault) => Code::of_receive(*fault),
+    }
+}
+
+impl Session {
+    /// Keeps what a call gave.
+    pub(crate) fn give(&mut self, gave: Gave)
+        ensures gave { self.new.gave ≡ gave }
+        ensures rest { (self.new.agent ≡ self.old.agent) × (self.new.written ≡ self.old.written) × (self.new.replaces ≡ self.old.replaces) × (self.new.waiting ≡ self.old.waiting) × (self.new.filters ≡ self.old.filters) }
+    {
+        self.gave = gave;
+    }
+
+    /// Fires an event.
+    pub(crate) fn fire(
+        &mut self,
+        alloc: Global,
+        name: &[u8],
+        payload: &[u8],
+        coalesce: bool,
+    ) -> Code
+        ensures waits { Waits self.old self.new result }
+        ensures memory { Forgoes self.old self.new result }
+        ensures tells { Tells self.old self.new result }
+        ensures gives { Gives (λ r. Gave.Fired r) fire_code self.old self.new result }
+        ensures takes { Takes (λ r. Gave.Fired r) (λ i. fire i (event_of name.now payload.now) coalesce) self.old self.new result }
+    {
+        match self.begin() {
+            Ok(()) => {}
+            Err(code) => return code,
+        }
+        let answer = self.agent.fire(alloc, name, payload, coalesce);
+        let code = fired_code(&answer);
+        self.give(Gave::Fired(answer));
+        code
+    }
+
+    /// Takes a packet that comes.
+    pub(crate) fn receive(&mut self, alloc: Global, now: u64, packet: &[u8]) -> Code
+        ensures waits { Waits self.old self.new result }
+        ensures memory { Forgoes self.old self.new result }
+        ensures tells { Tells self.old self.new result }
+        ensures gives { Gives (λ r. Gave.Received r) receive_code self.old self.new result }
+        ensures takes { Takes (λ r. Gave.Received r) (λ i. receive i now packet.now) self.old self.new result }
+    {
+        match self.begin() {
+            Ok(()) => {}
+            Err(code) => return code,
+        }
+        let answer = self.agent.receive(alloc, now, packet);
+        let code = received_code(&answer);
+        self.give(Gave::Received(answer));
+        code
+    }
+}

@@ -1,0 +1,493 @@
+//! One agent of a Serf cluster for C: `include/serf_agent.h` declares these functions.
+//!
+//! A [`Handle`] lies in the host's memory and has a session: an agent, what its last call gave, and which bytes the host's
+//! file lacks. The library holds no file: the agent's sink is in memory, and the host appends to its file what
+//! [`serf_agent_unwritten`] tells, flushes it, and says so by [`serf_agent_written`]. Until then no call is made and nothing
+//! that was handed out is read, so an event is handed out only once its line is durable.
+//!
+//! Each export that calls the agent says that the agent takes the step that the ideal agent takes (see `serf_agent`), and
+//! each getter that C reads what was given. No export requires anything: an empty handle, one in use and a wrong number are
+//! answered by a [`Code`].
+#![tactic(auto)]
+
+ghost use Rattle.std.specs.Prelude.{◌-◌, ◌^◌, min, true, ◌≡◌, ◌≢◌, ◌++◌, ◌∷◌, ◌+◌, if◌then◌else◌, ◌==◌, [], None, Some, IfSome, false, length, slice_get};
+ghost use Rattle.std.specs.Option.{is_some};
+ghost use Rattle.serf_window.specs.Texts.{event_of};
+ghost use Rattle.serf_agent.specs.Config.{is_sound};
+ghost use Rattle.serf_agent.specs.Events.{fire};
+ghost use Rattle.serf_agent.specs.Queries.{fire_query};
+ghost use Rattle.serf_agent.specs.Receive.{receive};
+ghost use Rattle.serf_agent.specs.States.{compact, save};
+ghost use Rattle.serf_agent_c.specs.Asking.{AddsFilter, Closes, Responds, params_of, waiting_at};
+ghost use Rattle.serf_agent_c.specs.Calls.{Forgoes, Gives, Takes, Tells, Waits};
+ghost use Rattle.serf_agent_c.specs.Codes.{fire_code, note_code, query_code, receive_code, state_code};
+ghost use Rattle.serf_agent_c.specs.Exports.{Reads, Through};
+ghost use Rattle.serf_agent_c.specs.Gaves.{ack_in, events_in, handed_in, packet_in};
+ghost use Rattle.serf_agent_c.specs.Members.{AddsLeft, AddsStatus};
+ghost use Rattle.serf_agent_c.specs.Merging.{Compacts, IsUnmerged, MergesFrom, SendsState};
+ghost use Rattle.serf_agent_c.specs.Opening.{GoesOn, IsFirst, IsFresh, config_of};
+ghost use Rattle.serf_agent_c.specs.Reads.{ReadsAs, ReadsQuery, TellsDeadline, clocks_head, event_head, foreign_of, handed_head, kind_of, reason_of, rebroadcast_of};
+ghost use Rattle.serf_agent_c.specs.Sessions.{is_ready, settled};
+ghost use Rattle.serf_agent_c.specs.Texts.{copied, lacking, text_of};
+
+mod asking;
+mod calls;
+mod code;
+mod copies;
+mod gave;
+mod handle;
+mod heads;
+mod lookups;
+mod members;
+mod merging;
+mod opening;
+mod reading;
+mod session;
+
+pub use code::Code;
+use gave::Gave;
+pub use handle::Handle;
+pub use heads::{BytesHead, ClocksHead, EventHead, GaveHead, HandedHead, Params, Settings};
+use session::Session;
+use std::alloc::Global;
+
+/// Opens an agent over the text of the host's file, into an empty handle.
+#[unsafe(no_mangle)]
+pub extern "C" fn serf_agent_open(
+    alloc: Global,
+    handle: &mut Handle,
+    name: &[u8],
+    settings: &Settings,
+    text: &[u8],
+) -> u32
+    ensures in_use { IfSome handle.old.place.value (λ s. (handle.new.place.value ≡ Some s) × (result ≡ 2)) }
+    ensures code { handle.old.place.value ≡ None → is_some handle.new.place.value ≡ (result == 0) }
+    ensures config { handle.old.place.value ≡ None → result ≡ 6 → is_sound (config_of name.now settings.now) ≡ false }
+    ensures goes_on { handle.old.place.value ≡ None → IfSome handle.new.place.value (λ t. GoesOn name.now settings.now text.now t) }
+    ensures first { handle.old.place.value ≡ None → IfSome handle.new.place.value (λ t. IsFirst name.now settings.now text.now t) }
+    ensures fresh { handle.old.place.value ≡ None → IfSome handle.new.place.value (λ t. IsFresh text.now t) }
+{
+    if let Some(session) = handle.take(alloc) {
+        *handle = Handle::of(session);
+        return Code::InUse.number();
+    }
+    match Session::open(alloc, name, settings, text) {
+        Ok(session) => match Box::new(alloc, session) {
+            Ok(session) => {
+                *handle = Handle::of(session);
+                Code::Done.number()
+            }
+            Err(_) => Code::OutOfMemory.number(),
+        },
+        Err(fault) => Code::of_open(fault).number(),
+    }
+}
+
+/// Closes the agent: the handle is empty then.
+#[unsafe(no_mangle)]
+pub extern "C" fn serf_agent_close(alloc: Global, handle: &mut Handle) -> u32
+    ensures empty { handle.new.place.value ≡ None }
+    ensures code { result ≡ (if is_some handle.old.place.value then 0 else 1) }
+{
+    match handle.take(alloc) {
+        Some(session) => {
+            drop(session);
+            Code::Done.number()
+        }
+        None => Code::Empty.number(),
+    }
+}
+
+/// The bytes that the host's file lacks: their length, and as many of them as fit.
+#[unsafe(no_mangle)]
+pub extern "C" fn serf_agent_unwritten(
+    alloc: Global,
+    handle: &mut Handle,
+    bytes: &mut BytesHead,
+    to: &mut [u8],
+) -> u32
+    ensures { Reads (λ s code. (code ≡ Code.Done) × (bytes.new ≡ record { len = length (lacking s.agent.device s.written); replaces = s.replaces }) × (to.new ≡ copied (lacking s.agent.device s.written) to.old)) handle.old.place.value handle.new.place.value result }
+{
+    let Some(session) = handle.take(alloc) else {
+        return Code::Empty.number();
+    };
+    session.read_lacking(bytes, to);
+    *handle = Handle::of(session);
+    Code::Done.number()
+}
+
+/// Says that the host's file has the bytes that it lacked, and was flushed.
+#[unsafe(no_mangle)]
+pub extern "C" fn serf_agent_written(alloc: Global, handle: &mut Handle) -> u32
+    ensures { Through (λ s t code. (code ≡ Code.Done) × (t.written ≡ length (text_of s.agent.device)) × (t.replaces ≡ false) × (t.agent ≡ s.agent) × (t.gave ≡ s.gave) × (t.waiting ≡ s.waiting) × (t.filters ≡ s.filters)) handle.old.place.value handle.new.place.value result }
+{
+    let Some(mut session) = handle.take(alloc) else {
+        return Code::Empty.number();
+    };
+    session.note_written();
+    *handle = Handle::of(session);
+    Code::Done.number()
+}
+
+/// Fires an event.
+#[unsafe(no_mangle)]
+pub extern "C" fn serf_agent_fire(
+    alloc: Global,
+    handle: &mut Handle,
+    name: &[u8],
+    payload: &[u8],
+    coalesce: bool,
+) -> u32
+    ensures waits { Through (λ s t code. Waits s t code) handle.old.place.value handle.new.place.value result }
+    ensures memory { Through (λ s t code. Forgoes s t code) handle.old.place.value handle.new.place.value result }
+    ensures tells { Through (λ s t code. Tells s t code) handle.old.place.value handle.new.place.value result }
+    ensures gives { Through (λ s t code. Gives (λ r. Gave.Fired r) fire_code s t code) handle.old.place.value handle.new.place.value result }
+    ensures takes { Through (λ s t code. Takes (λ r. Gave.Fired r) (λ i. fire i (event_of name.now payload.now) coalesce) s t code) handle.old.place.value handle.new.place.value result }
+{
+    let Some(mut session) = handle.take(alloc) else {
+        return Code::Empty.number();
+    };
+    let code = session.fire(alloc, name, payload, coalesce);
+    *handle = Handle::of(session);
+    code.number()
+}
+
+/// Takes a packet that comes at a moment, in nanoseconds.
+#[unsafe(no_mangle)]
+pub extern "C" fn serf_agent_receive(
+    alloc: Global,
+    handle: &mut Handle,
+    now: u64,
+    packet: &[u8],
+) -> u32
+    ensures waits { Through (λ s t code. Waits s t code) handle.old.place.value handle.new.place.value result }
+    ensures memory { Through (λ s t code. Forgoes s t code) handle.old.place.value handle.new.place.value result }
+    ensures tells { Through (λ s t code. Tells s t code) handle.old.place.value handle.new.place.value result }
+    ensures gives { Through (λ s t code. Gives (λ r. Gave.Received r) receive_code s t code) handle.old.place.value handle.new.place.value result }
+    ensures takes { Through (λ s t code. Takes (λ r. Gave.Received r) (λ i. receive i now packet.now) s t code) handle.old.place.value handle.new.place.value result }
+{
+    let Some(mut session) = handle.take(alloc) else {
+        return Code::Empty.number();
+    };
+    let code = session.receive(alloc, now, packet);
+    *handle = Handle::of(session);
+    code.number()
+}
+
+/// Merges another agent's whole state.
+#[unsafe(no_mangle)]
+pub extern "C" fn serf_agent_merge(
+    alloc: Global,
+    handle: &mut Handle,
+    packet: &[u8],
+    is_join: bool,
+) -> u32
+    ensures waits { Through (λ s t code. Waits s t code) handle.old.place.value handle.new.place.value result }
+    ensures tells { Through (λ s t code. Tells s t code) handle.old.place.value handle.new.place.value result }
+    ensures refused { Through (λ s t code. IsUnmerged packet.now s t code) handle.old.place.value handle.new.place.value result }
+    ensures merges { Through (λ s t code. MergesFrom packet.now is_join s t code) handle.old.place.value handle.new.place.value result }
+{
+    let Some(mut session) = handle.take(alloc) else {
+        return Code::Empty.number();
+    };
+    let code = session.merge(alloc, packet, is_join);
+    *handle = Handle::of(session);
+    code.number()
+}
+
+/// Makes the packet of the agent's whole state, with the members that were named since the last that was tried; it forgets
+/// them.
+#[unsafe(no_mangle)]
+pub extern "C" fn serf_agent_local_state(alloc: Global, handle: &mut Handle) -> u32
+    ensures { Through (λ s t code. Waits s t code × Forgoes s t code × Tells s t code × Gives (λ r. Gave.State r) state_code s t code × SendsState s t code) handle.old.place.value handle.new.place.value result }
+{
+    let Some(mut session) = handle.take(alloc) else {
+        return Code::Empty.number();
+    };
+    let code = session.local_state(alloc);
+    *handle = Handle::of(session);
+    code.number()
+}
+
+/// Adds a member's status time to what the next state names.
+#[unsafe(no_mangle)]
+pub extern "C" fn serf_agent_add_status(
+    alloc: Global,
+    handle: &mut Handle,
+    name: &[u8],
+    status_time: u64,
+) -> u32
+    ensures { Through (λ s t code. Waits s t code × AddsStatus name.now status_time s t code) handle.old.place.value handle.new.place.value result }
+{
+    let Some(mut session) = handle.take(alloc) else {
+        return Code::Empty.number();
+    };
+    let code = session.add_status(alloc, name, status_time);
+    *handle = Handle::of(session);
+    code.number()
+}
+
+/// Adds a member that left to what the next state names.
+#[unsafe(no_mangle)]
+pub extern "C" fn serf_agent_add_left(alloc: Global, handle: &mut Handle, name: &[u8]) -> u32
+    ensures { Through (λ s t code. Waits s t code × AddsLeft name.now s t code) handle.old.place.value handle.new.place.value result }
+{
+    let Some(mut session) = handle.take(alloc) else {
+        return Code::Empty.number();
+    };
+    let code = session.add_left(alloc, name);
+    *handle = Handle::of(session);
+    code.number()
+}
+
+/// Adds a filter of the next query.
+#[unsafe(no_mangle)]
+pub extern "C" fn serf_agent_add_filter(alloc: Global, handle: &mut Handle, filter: &[u8]) -> u32
+    ensures { Through (λ s t code. Waits s t code × AddsFilter filter.now s t code) handle.old.place.value handle.new.place.value result }
+{
+    let Some(mut session) = handle.take(alloc) else {
+        return Code::Empty.number();
+    };
+    let code = session.add_filter(alloc, filter);
+    *handle = Handle::of(session);
+    code.number()
+}
+
+/// Fires a query with the filters that were added since the last that was tried; it forgets them.
+#[unsafe(no_mangle)]
+pub extern "C" fn serf_agent_query(
+    alloc: Global,
+    handle: &mut Handle,
+    now: u64,
+    id: u32,
+    name: &[u8],
+    payload: &[u8],
+    addr: &[u8],
+    params: &Params,
+) -> u32
+    ensures waits { Through (λ s t code. Waits s t code) handle.old.place.value handle.new.place.value result }
+    ensures memory { Through (λ s t code. Forgoes s t code) handle.old.place.value handle.new.place.value result }
+    ensures tells { Through (λ s t code. Tells s t code) handle.old.place.value handle.new.place.value result }
+    ensures gives { Through (λ s t code. Gives (λ r. Gave.Asked r) query_code s t code) handle.old.place.value handle.new.place.value result }
+    ensures forgets { Through (λ s t code. is_ready s ≡ true → code ≢ Code.OutOfMemory → t.filters ≡ []) handle.old.place.value handle.new.place.value result }
+    ensures takes { Through (λ s t code. Takes (λ r. Gave.Asked r) (λ i. fire_query i now id name.now payload.now (params_of s.filters addr.now params.now)) s t code) handle.old.place.value handle.new.place.value result }
+{
+    let Some(mut session) = handle.take(alloc) else {
+        return Code::Empty.number();
+    };
+    let code = session.query(alloc, now, id, name, payload, addr, params);
+    *handle = Handle::of(session);
+    code.number()
+}
+
+/// Answers the query of this number; a success spends it.
+#[unsafe(no_mangle)]
+pub extern "C" fn serf_agent_respond(
+    alloc: Global,
+    handle: &mut Handle,
+    now: u64,
+    number: u64,
+    payload: &[u8],
+) -> u32
+    ensures { Through (λ s t code. Waits s t code × (t.agent ≡ s.agent) × Responds number now payload.now s t code) handle.old.place.value handle.new.place.value result }
+{
+    let Some(mut session) = handle.take(alloc) else {
+        return Code::Empty.number();
+    };
+    let code = session.respond(alloc, now, number, payload);
+    *handle = Handle::of(session);
+    code.number()
+}
+
+/// Takes out the open queries whose deadline is before a moment, and says how many they were.
+#[unsafe(no_mangle)]
+pub extern "C" fn serf_agent_close_due(
+    alloc: Global,
+    handle: &mut Handle,
+    now: u64,
+    closed: &mut usize,
+) -> u32
+    ensures { Through (λ s t code. Waits s t code × Forgoes s t code × Tells s t code × Closes now closed.new s t code) handle.old.place.value handle.new.place.value result }
+{
+    let Some(mut session) = handle.take(alloc) else {
+        return Code::Empty.number();
+    };
+    let code = session.close_due(now, closed);
+    *handle = Handle::of(session);
+    code.number()
+}
+
+/// Notes the member clock, so that a restart goes on from there.
+#[unsafe(no_mangle)]
+pub extern "C" fn serf_agent_save_member_clock(alloc: Global, handle: &mut Handle) -> u32
+    ensures waits { Through (λ s t code. Waits s t code) handle.old.place.value handle.new.place.value result }
+    ensures memory { Through (λ s t code. Forgoes s t code) handle.old.place.value handle.new.place.value result }
+    ensures tells { Through (λ s t code. Tells s t code) handle.old.place.value handle.new.place.value result }
+    ensures gives { Through (λ s t code. Gives (λ r. Gave.Noted r) note_code s t code) handle.old.place.value handle.new.place.value result }
+    ensures takes { Through (λ s t code. Takes (λ r. Gave.Noted r) (λ i. save i) s t code) handle.old.place.value handle.new.place.value result }
+{
+    let Some(mut session) = handle.take(alloc) else {
+        return Code::Empty.number();
+    };
+    let code = session.save_member_clock(alloc);
+    *handle = Handle::of(session);
+    code.number()
+}
+
+/// Makes the text that replaces the file's: one line of each clock.
+#[unsafe(no_mangle)]
+pub extern "C" fn serf_agent_compact(alloc: Global, handle: &mut Handle) -> u32
+    ensures waits { Through (λ s t code. Waits s t code) handle.old.place.value handle.new.place.value result }
+    ensures gives { Through (λ s t code. Gives (λ r. Gave.Noted r) note_code s t code) handle.old.place.value handle.new.place.value result }
+    ensures takes { Through (λ s t code. Takes (λ r. Gave.Noted r) (λ i. compact i) s t code) handle.old.place.value handle.new.place.value result }
+    ensures replaces { Through (λ s t code. Compacts s t code) handle.old.place.value handle.new.place.value result }
+{
+    let Some(mut session) = handle.take(alloc) else {
+        return Code::Empty.number();
+    };
+    let code = session.compact(alloc);
+    *handle = Handle::of(session);
+    code.number()
+}
+
+/// What the last call gave.
+#[unsafe(no_mangle)]
+pub extern "C" fn serf_agent_gave(alloc: Global, handle: &mut Handle, gave: &mut GaveHead) -> u32
+    ensures { Reads (λ s code. (code ≡ Code.Done) × (gave.new ≡ record { kind = kind_of s.gave; reason = reason_of s.gave; handed = if is_some (handed_in s.gave) then length s.waiting.items + 1 else 0; events = length (events_in s.gave); foreign = foreign_of s.gave; rebroadcast = rebroadcast_of s.gave })) handle.old.place.value handle.new.place.value result }
+{
+    let Some(session) = handle.take(alloc) else {
+        return Code::Empty.number();
+    };
+    session.read_gave(gave);
+    *handle = Handle::of(session);
+    Code::Done.number()
+}
+
+/// An event that the last call handed out, from 0 on, and as much of its texts as fits.
+#[unsafe(no_mangle)]
+pub extern "C" fn serf_agent_event(
+    alloc: Global,
+    handle: &mut Handle,
+    index: usize,
+    event: &mut EventHead,
+    name: &mut [u8],
+    payload: &mut [u8],
+) -> u32
+    ensures { Reads (λ s code. ReadsAs (is_ready s) (slice_get (events_in s.gave) index) (λ o. (event.new ≡ event_head o) × (name.new ≡ copied o.name name.old) × (payload.new ≡ copied o.payload payload.old)) code) handle.old.place.value handle.new.place.value result }
+{
+    let Some(session) = handle.take(alloc) else {
+        return Code::Empty.number();
+    };
+    let code = session.read_event(index, event, name, payload);
+    *handle = Handle::of(session);
+    code.number()
+}
+
+/// The packet that the last call gave to send: its length, and as much of it as fits.
+#[unsafe(no_mangle)]
+pub extern "C" fn serf_agent_packet(
+    alloc: Global,
+    handle: &mut Handle,
+    len: &mut usize,
+    to: &mut [u8],
+) -> u32
+    ensures { Reads (λ s code. ReadsAs (is_ready s) (packet_in s.gave) (λ p. (len.new ≡ length p) × (to.new ≡ copied p to.old)) code) handle.old.place.value handle.new.place.value result }
+{
+    let Some(session) = handle.take(alloc) else {
+        return Code::Empty.number();
+    };
+    let code = session.read_packet(len, to);
+    *handle = Handle::of(session);
+    code.number()
+}
+
+/// The ack to send, of a query that is handed out here: its length, and as much of it as fits.
+#[unsafe(no_mangle)]
+pub extern "C" fn serf_agent_ack(
+    alloc: Global,
+    handle: &mut Handle,
+    len: &mut usize,
+    to: &mut [u8],
+) -> u32
+    ensures { Reads (λ s code. ReadsAs (is_ready s) (ack_in s.gave) (λ p. (len.new ≡ length p) × (to.new ≡ copied p to.old)) code) handle.old.place.value handle.new.place.value result }
+{
+    let Some(session) = handle.take(alloc) else {
+        return Code::Empty.number();
+    };
+    let code = session.read_ack(len, to);
+    *handle = Handle::of(session);
+    code.number()
+}
+
+/// A query that was handed out and not yet answered, by its number, and as much of its texts as fits.
+#[unsafe(no_mangle)]
+pub extern "C" fn serf_agent_handed(
+    alloc: Global,
+    handle: &mut Handle,
+    number: u64,
+    handed: &mut HandedHead,
+    name: &mut [u8],
+    payload: &mut [u8],
+    source: &mut [u8],
+    addr: &mut [u8],
+) -> u32
+    ensures { Reads (λ s code. ReadsQuery (is_ready s) (waiting_at number (settled s)) (λ q. (handed.new ≡ handed_head q) × (name.new ≡ copied q.name name.old) × (payload.new ≡ copied q.payload payload.old) × (source.new ≡ copied q.source source.old) × (addr.new ≡ copied q.addr addr.old)) code) handle.old.place.value handle.new.place.value result }
+{
+    let Some(session) = handle.take(alloc) else {
+        return Code::Empty.number();
+    };
+    let code = session.read_handed(number, handed, name, payload, source, addr);
+    *handle = Handle::of(session);
+    code.number()
+}
+
+/// The agent's clocks.
+#[unsafe(no_mangle)]
+pub extern "C" fn serf_agent_clocks(
+    alloc: Global,
+    handle: &mut Handle,
+    clocks: &mut ClocksHead,
+) -> u32
+    ensures { Reads (λ s code. ReadsAs (is_ready s) (Some (clocks_head s.agent.concrete)) (λ head. clocks.new ≡ head) code) handle.old.place.value handle.new.place.value result }
+{
+    let Some(session) = handle.take(alloc) else {
+        return Code::Empty.number();
+    };
+    let code = session.read_clocks(clocks);
+    *handle = Handle::of(session);
+    code.number()
+}
+
+/// The least deadline of the open queries, if one is open.
+#[unsafe(no_mangle)]
+pub extern "C" fn serf_agent_next_deadline(
+    alloc: Global,
+    handle: &mut Handle,
+    deadline: &mut u64,
+) -> u32
+    ensures { Reads (λ s code. (is_ready s ≡ false → code ≡ Code.Unwritten) × (is_ready s ≡ true → TellsDeadline s.agent.concrete deadline.new code)) handle.old.place.value handle.new.place.value result }
+{
+    let Some(session) = handle.take(alloc) else {
+        return Code::Empty.number();
+    };
+    let code = session.read_next_deadline(deadline);
+    *handle = Handle::of(session);
+    code.number()
+}
+
+/// How many queries of this agent's own still take answers.
+#[unsafe(no_mangle)]
+pub extern "C" fn serf_agent_open_queries(
+    alloc: Global,
+    handle: &mut Handle,
+    total: &mut usize,
+) -> u32
+    ensures { Reads (λ s code. ReadsAs (is_ready s) (Some (min (length s.agent.concrete.asked) (2 ^ 64 - 1))) (λ n. total.new ≡ n) code) handle.old.place.value handle.new.place.value result }
+{
+    let Some(session) = handle.take(alloc) else {
+        return Code::Empty.number();
+    };
+    let code = session.read_open_queries(total);
+    *handle = Handle::of(session);
+    code.number()
+}

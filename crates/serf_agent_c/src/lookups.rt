@@ -1,0 +1,119 @@
+//! What C looks up: the queries that were handed out, and the agent's own that still take answers.
+
+ghost use Rattle.std.specs.Prelude.{◌≡◌, ◌-◌, ◌^◌, min, true, false, Some, length, option_copied};
+ghost use Rattle.serf_agent.specs.LentQueries.{queries_left};
+ghost use Rattle.serf_agent_c.specs.Asking.{waiting_at};
+ghost use Rattle.serf_agent_c.specs.Reads.{ReadsAs, ReadsQuery, TellsDeadline, handed_head};
+ghost use Rattle.serf_agent_c.specs.Sessions.{is_ready, settled};
+ghost use Rattle.serf_agent_c.specs.Texts.{copied};
+
+use crate::code::Code;
+use crate::copies::copy_into;
+use crate::heads::HandedHead;
+use crate::session::Session;
+use serf_agent::{HandedQuery, LentQueries};
+
+/// The query of a number, among those that wait for an answer.
+fn waiting_at(waiting: &[Option<HandedQuery>], number: u64) -> Option<&HandedQuery>
+    ensures { option_copied result ≡ waiting_at number waiting.now }
+{
+    if number == 0 {
+        return None;
+    }
+    waiting.get((number - 1) as usize)?.as_ref()
+}
+
+/// What C reads of a query that was handed out, beside its texts.
+fn head_of_query(query: &HandedQuery) -> HandedHead
+    ensures { result ≡ handed_head query.now }
+{
+    HandedHead {
+        time: query.time().get(),
+        deadline: query.deadline(),
+        name_len: query.name().len(),
+        payload_len: query.payload().len(),
+        source_len: query.source().len(),
+        addr_len: query.addr().len(),
+        id: query.id(),
+        port: query.port(),
+        relay_factor: query.relay_factor(),
+    }
+}
+
+/// How many queries are lent, or the greatest number where they are more.
+fn count(queries: LentQueries<'_>) -> usize
+    ensures { result ≡ min (length (queries_left queries.entry)) (2 ^ 64 - 1) }
+{
+    let mut n: usize = 0;
+    for _query in queries {
+        n = n.saturating_add(1);
+    }
+    n
+}
+
+impl Session {
+    /// The query of a number that was handed out and not yet answered.
+    fn handed_at(&self, number: u64) -> Option<&HandedQuery>
+        ensures { option_copied result ≡ waiting_at number (settled self.now) }
+    {
+        if number == self.waiting.len() as u64 + 1 {
+            self.gave.handed()
+        } else {
+            waiting_at(self.waiting.as_slice(), number)
+        }
+    }
+
+    /// A query that was handed out.
+    pub(crate) fn read_handed(
+        &self,
+        number: u64,
+        head: &mut HandedHead,
+        name: &mut [u8],
+        payload: &mut [u8],
+        source: &mut [u8],
+        addr: &mut [u8],
+    ) -> Code
+        ensures { ReadsQuery (is_ready self.now) (waiting_at number (settled self.now)) (λ q. (head.new ≡ handed_head q) × (name.new ≡ copied q.name name.old) × (payload.new ≡ copied q.payload payload.old) × (source.new ≡ copied q.source source.old) × (addr.new ≡ copied q.addr addr.old)) result }
+    {
+        if !self.is_ready() {
+            return Code::Unwritten;
+        }
+        let Some(query) = self.handed_at(number) else {
+            return Code::NotHanded;
+        };
+        *head = head_of_query(query);
+        copy_into(name, query.name());
+        copy_into(payload, query.payload());
+        copy_into(source, query.source());
+        copy_into(addr, query.addr());
+        Code::Done
+    }
+
+    /// The least deadline of the open queries.
+    pub(crate) fn read_next_deadline(&self, deadline: &mut u64) -> Code
+        ensures waits { is_ready self.now ≡ false → result ≡ Code.Unwritten }
+        ensures tells { is_ready self.now ≡ true → TellsDeadline self.now.agent.concrete deadline.new result }
+    {
+        if !self.is_ready() {
+            return Code::Unwritten;
+        }
+        match self.agent.next_deadline() {
+            Some(first) => {
+                *deadline = first;
+                Code::Done
+            }
+            None => Code::Nothing,
+        }
+    }
+
+    /// How many queries of the agent's own still take answers.
+    pub(crate) fn read_open_queries(&self, total: &mut usize) -> Code
+        ensures { ReadsAs (is_ready self.now) (Some (min (length self.now.agent.concrete.asked) (2 ^ 64 - 1))) (λ n. total.new ≡ n) result }
+    {
+        if !self.is_ready() {
+            return Code::Unwritten;
+        }
+        *total = count(self.agent.open_queries());
+        Code::Done
+    }
+}

@@ -1,0 +1,114 @@
+//! The members that the next state names.
+
+ghost use Rattle.std.specs.Prelude.{◌≡◌, ◌≢◌, ◌++◌, ◌∷◌, [], map, Err, IfOk, OnOk, OnErr};
+ghost use Rattle.serf_wire.specs.Lists.{status_of};
+ghost use Rattle.serf_agent.specs.States.{send_state};
+ghost use Rattle.serf_agent_c.specs.Calls.{Waits};
+ghost use Rattle.serf_agent_c.specs.Members.{AddsLeft, AddsStatus, named};
+
+use crate::code::Code;
+use crate::session::Session;
+use serf_agent::{BytesList, PushPullFault};
+use serf_wire::{Bytes, StatusTime};
+use std::alloc::{AllocError, Global};
+
+/// A member, and the time of its status.
+#[derive(Drop)]
+pub struct Member {
+    pub(crate) name: Bytes,
+    pub(crate) time: u64,
+}
+
+/// Adds a member, or changes nothing where there is no memory for it.
+fn add(members: &mut Vec<Member>, member: Member) -> Result<(), AllocError>
+    ensures ok { OnOk result (members.new.items ≡ members.old.items ++ member ∷ []) }
+    ensures err { OnErr result (members.new.items ≡ members.old.items) }
+{
+    members.push(member)?;
+    Ok(())
+}
+
+/// The members' names with their times, lent.
+fn lend_status<'a>(alloc: Global, members: &'a [Member]) -> Result<Vec<StatusTime<'a>>, AllocError>
+    ensures { IfOk result (λ lent. map status_of lent.items ≡ map named members.now) }
+{
+    let mut lent = Vec::new(alloc);
+    for member in members {
+        let status = StatusTime {
+            name: member.name.as_slice(),
+            time: member.time,
+        };
+        lent.push(status)?;
+    }
+    Ok(lent)
+}
+
+/// Names, lent.
+fn lend_names<'a>(alloc: Global, names: &'a [Bytes]) -> Result<Vec<&'a [u8]>, AllocError>
+    ensures { IfOk result (λ lent. map (λ t. t.now) lent.items ≡ names.now) }
+{
+    let mut lent = Vec::new(alloc);
+    for name in names {
+        lent.push(name.as_slice())?;
+    }
+    Ok(lent)
+}
+
+impl Session {
+    /// Adds a member's status time to what the next state names.
+    pub(crate) fn add_status(&mut self, alloc: Global, name: &[u8], time: u64) -> Code
+        ensures waits { Waits self.old self.new result }
+        ensures adds { AddsStatus name.now time self.old self.new result }
+    {
+        if !self.is_ready() {
+            return Code::Unwritten;
+        }
+        let Ok(name) = Bytes::copy_of(alloc, name) else {
+            return Code::OutOfMemory;
+        };
+        match add(&mut self.status, Member { name, time }) {
+            Ok(()) => Code::Done,
+            Err(_) => Code::OutOfMemory,
+        }
+    }
+
+    /// Adds a member that left to what the next state names.
+    pub(crate) fn add_left(&mut self, alloc: Global, name: &[u8]) -> Code
+        ensures waits { Waits self.old self.new result }
+        ensures adds { AddsLeft name.now self.old self.new result }
+    {
+        if !self.is_ready() {
+            return Code::Unwritten;
+        }
+        let Ok(name) = Bytes::copy_of(alloc, name) else {
+            return Code::OutOfMemory;
+        };
+        match self.left.push(name) {
+            Ok(()) => Code::Done,
+            Err(_) => Code::OutOfMemory,
+        }
+    }
+
+    /// The packet of the agent's whole state, with the members that were named.
+    pub(crate) fn state(&self, alloc: Global) -> Result<Bytes, PushPullFault>
+        ensures { result ≢ Err PushPullFault.OutOfMemory → result ≡ send_state self.now.agent.concrete (map named self.now.status.items) self.now.left }
+    {
+        let Ok(status) = lend_status(alloc, self.status.as_slice()) else {
+            return Err(PushPullFault::OutOfMemory);
+        };
+        let Ok(left) = lend_names(alloc, self.left.as_slice()) else {
+            return Err(PushPullFault::OutOfMemory);
+        };
+        self.agent
+            .local_state(alloc, status.as_slice(), left.as_slice())
+    }
+
+    /// Forgets the members that were named.
+    pub(crate) fn forget_members(&mut self, alloc: Global)
+        ensures members { (self.new.status.items ≡ []) × (self.new.left ≡ []) }
+        ensures rest { (self.new.agent ≡ self.old.agent) × (self.new.gave ≡ self.old.gave) × (self.new.written ≡ self.old.written) × (self.new.replaces ≡ self.old.replaces) × (self.new.waiting ≡ self.old.waiting) × (self.new.filters ≡ self.old.filters) }
+    {
+        self.status = Vec::new(alloc);
+        self.left = BytesList::new(alloc);
+    }
+}

@@ -1,0 +1,156 @@
+//! A session's whole state, to send and to merge, and its own lines.
+
+ghost use Rattle.std.specs.Prelude.{◌≡◌, if◌then◌else◌, true, false, Some, Ok, Err};
+ghost use Rattle.serf_wire.specs.Decoded.{decoded};
+ghost use Rattle.serf_wire.specs.Message.{PushPull, push_pull};
+ghost use Rattle.serf_agent.specs.Ideal.{IdealAgent};
+ghost use Rattle.serf_agent.specs.Sound.{IsSound};
+ghost use Rattle.serf_agent.specs.States.{Merges, compact, merge_refusal, save};
+ghost use Rattle.serf_agent.specs.View.{view_of};
+ghost use Rattle.serf_agent_c.specs.Calls.{Forgoes, Gives, Takes, Tells, Waits, answer_code};
+ghost use Rattle.serf_agent_c.specs.Codes.{note_code, state_code};
+ghost use Rattle.serf_agent_c.specs.Merging.{Compacts, IsUnmerged, MergesFrom, SendsState, merged_code};
+
+use crate::code::Code;
+use crate::gave::Gave;
+use crate::session::Session;
+use serf_agent::{Agent, EventOut, MergeFault, PushPullFault};
+use serf_snap::{MemSink, NoteFault};
+use serf_wire::Bytes;
+use std::alloc::Global;
+
+/// The code of a push/pull that was merged, or not all of it.
+fn merged_code(fault: Option<MergeFault>) -> Code
+    ensures { result ≡ merged_code fault }
+{
+    match fault {
+        None => Code::Done,
+        Some(fault) => Code::of_merge(fault),
+    }
+}
+
+/// The code of a state that was made or refused.
+fn state_code(answer: &Result<Bytes, PushPullFault>) -> Code
+    ensures code { result ≡ answer_code state_code answer.now }
+    ensures memory { answer.now ≡ Err PushPullFault.OutOfMemory → result ≡ Code.OutOfMemory }
+{
+    match answer {
+        Ok(_) => Code::Done,
+        Err(fault) => Code::of_state(*fault),
+    }
+}
+
+/// The code of a line that was noted or refused.
+fn noted_code(answer: &Result<(), NoteFault>) -> Code
+    ensures code { result ≡ answer_code note_code answer.now }
+    ensures memory { answer.now ≡ Err NoteFault.OutOfMemory → result ≡ Code.OutOfMemory }
+{
+    match answer {
+        Ok(()) => Code::Done,
+        Err(fault) => Code::of_note(*fault),
+    }
+}
+
+/// Merges another agent's whole state, and answers why not all of it, if so.
+fn merge_into(
+    agent: &mut Agent<MemSink>,
+    alloc: Global,
+    packet: &[u8],
+    is_join: bool,
+    events: &mut Vec<EventOut>,
+) -> Option<MergeFault>
+    ensures refused { (f : MergeFault) → merge_refusal agent.old.concrete (decoded packet.now) ≡ Some f → (result ≡ Some f) × (events.new.items ≡ events.old.items) × (agent.new ≡ agent.old) }
+    ensures merged { (i : IdealAgent) (m : PushPull) → IsSound i → agent.old.concrete ≡ view_of i → i.snapshot.stopped ≡ false → decoded packet.now ≡ Ok (push_pull m)
+        → Merges i m is_join events.old.items events.new.items agent.old.device agent.new result }
+{
+    match agent.merge_remote_state(alloc, packet, is_join, events) {
+        Ok(_) => None,
+        Err(fault) => Some(fault),
+    }
+}
+
+impl Session {
+    /// Merges another agent's whole state.
+    pub(crate) fn merge(&mut self, alloc: Global, packet: &[u8], is_join: bool) -> Code
+        ensures waits { Waits self.old self.new result }
+        ensures tells { Tells self.old self.new result }
+        ensures refused { IsUnmerged packet.now self.old self.new result }
+        ensures merges { MergesFrom packet.now is_join self.old self.new result }
+    {
+        match self.begin() {
+            Ok(()) => {}
+            Err(code) => return code,
+        }
+        let mut events = Vec::new(alloc);
+        let fault = merge_into(&mut self.agent, alloc, packet, is_join, &mut events);
+        self.give(Gave::Merged(events, fault));
+        merged_code(fault)
+    }
+
+    /// Makes the packet of the agent's whole state, with the members that were named, and forgets them.
+    pub(crate) fn local_state(&mut self, alloc: Global) -> Code
+        ensures waits { Waits self.old self.new result }
+        ensures memory { Forgoes self.old self.new result }
+        ensures tells { Tells self.old self.new result }
+        ensures gives { Gives (λ r. Gave.State r) state_code self.old self.new result }
+        ensures sends { SendsState self.old self.new result }
+    {
+        match self.begin() {
+            Ok(()) => {}
+            Err(code) => return code,
+        }
+        let answer = self.state(alloc);
+        let code = state_code(&answer);
+        self.give(Gave::State(answer));
+        self.forget_members(alloc);
+        code
+    }
+
+    /// Notes the member clock.
+    pub(crate) fn save_member_clock(&mut self, alloc: Global) -> Code
+        ensures waits { Waits self.old self.new result }
+        ensures memory { Forgoes self.old self.new result }
+        ensures tells { Tells self.old self.new result }
+        ensures gives { Gives (λ r. Gave.Noted r) note_code self.old self.new result }
+        ensures takes { Takes (λ r. Gave.Noted r) (λ i. save i) self.old self.new result }
+    {
+        match self.begin() {
+            Ok(()) => {}
+            Err(code) => return code,
+        }
+        let answer = self.agent.save_member_clock(alloc);
+        let code = noted_code(&answer);
+        self.give(Gave::Noted(answer));
+        code
+    }
+
+    /// Notes that the agent's text was replaced, where it was: the whole text replaces the file's then.
+    fn note_replaced(&mut self, is_replaced: bool)
+        ensures written { self.new.written ≡ (if is_replaced then 0 else self.old.written) }
+        ensures replaces { self.new.replaces ≡ (if is_replaced then true else self.old.replaces) }
+        ensures rest { (self.new.agent ≡ self.old.agent) × (self.new.gave ≡ self.old.gave) × (self.new.waiting ≡ self.old.waiting) × (self.new.filters ≡ self.old.filters) }
+    {
+        if is_replaced {
+            self.written = 0;
+            self.replaces = true;
+        }
+    }
+
+    /// Makes the text that replaces the file's.
+    pub(crate) fn compact(&mut self, alloc: Global) -> Code
+        ensures waits { Waits self.old self.new result }
+        ensures gives { Gives (λ r. Gave.Noted r) note_code self.old self.new result }
+        ensures takes { Takes (λ r. Gave.Noted r) (λ i. compact i) self.old self.new result }
+        ensures replaces { Compacts self.old self.new result }
+    {
+        match self.begin() {
+            Ok(()) => {}
+            Err(code) => return code,
+        }
+        let answer = self.agent.compact(alloc);
+        let code = noted_code(&answer);
+        self.note_replaced(answer.is_ok());
+        self.give(Gave::Noted(answer));
+        code
+    }
+}

@@ -1,0 +1,71 @@
+//! Opening a session.
+
+ghost use Rattle.std.specs.Prelude.{◌≡◌, ◌≢◌, [], length, false, true, IfOk, IfErr, OnOk};
+ghost use Rattle.serf_snap.specs.Device.{fresh_device};
+ghost use Rattle.serf_snap.specs.Notes.{opened, opened_device};
+ghost use Rattle.serf_agent.specs.Config.{is_sound};
+ghost use Rattle.serf_agent.specs.Ideal.{IdealAgent};
+ghost use Rattle.serf_agent.specs.Restart.{IsInText, restarted, unopened};
+ghost use Rattle.serf_agent.specs.Sound.{IsSound};
+ghost use Rattle.serf_agent.specs.View.{view_of};
+ghost use Rattle.serf_agent_c.specs.Opening.{GoesOn, IsFirst, IsFresh, config_of};
+
+use crate::gave::Gave;
+use crate::heads::Settings;
+use crate::session::Session;
+use serf_agent::{Agent, BytesList, Config, OpenFault};
+use serf_snap::MemSink;
+use serf_wire::Bytes;
+use std::alloc::{AllocError, Global};
+
+/// An agent's settings.
+fn config_of(alloc: Global, name: &[u8], settings: &Settings) -> Result<Config, AllocError>
+    ensures { IfOk result (λ config. config ≡ config_of name.now settings.now) }
+{
+    Ok(Config {
+        name: Bytes::copy_of(alloc, name)?,
+        event_buffer: settings.event_buffer,
+        query_buffer: settings.query_buffer,
+        event_limit: settings.event_limit,
+        responders: settings.responders,
+        per_time: settings.per_time,
+        ignore_old: settings.ignore_old,
+    })
+}
+
+impl Session {
+    /// Opens an agent over the text of the host's file.
+    pub(crate) fn open(
+        alloc: Global,
+        name: &[u8],
+        settings: &Settings,
+        text: &[u8],
+    ) -> Result<Session, OpenFault>
+        ensures goes_on { IfOk result (λ s. GoesOn name.now settings.now text.now s) }
+        ensures first { IfOk result (λ s. IsFirst name.now settings.now text.now s) }
+        ensures fresh { IfOk result (λ s. IsFresh text.now s) }
+        ensures ok { OnOk result (is_sound (config_of name.now settings.now) ≡ true) }
+        ensures bad { IfErr result (λ fault. fault ≡ OpenFault.BadConfig → is_sound (config_of name.now settings.now) ≡ false) }
+        ensures sound { IfErr result (λ fault. is_sound (config_of name.now settings.now) ≡ false → fault ≢ OpenFault.SinkFault) }
+    {
+        let Ok(config) = config_of(alloc, name, settings) else {
+            return Err(OpenFault::OutOfMemory);
+        };
+        let Ok(sink) = MemSink::with(alloc, text) else {
+            return Err(OpenFault::OutOfMemory);
+        };
+        match Agent::open(alloc, config, text, sink) {
+            Ok(agent) => Ok(Session {
+                agent,
+                gave: Gave::Nothing,
+                written: text.len(),
+                replaces: false,
+                waiting: Vec::new(alloc),
+                filters: BytesList::new(alloc),
+                status: Vec::new(alloc),
+                left: BytesList::new(alloc),
+            }),
+            Err(refused) => Err(refused.fault),
+        }
+    }
+}

@@ -1,0 +1,232 @@
+//! What C reads of a session.
+
+ghost use Rattle.std.specs.Prelude.{Some, ◌≡◌, ◌+◌, if◌then◌else◌, length, slice_get, option_copied};
+ghost use Rattle.std.specs.Option.{is_some};
+ghost use Rattle.serf_agent_c.specs.Gaves.{ack_in, events_in, handed_in, packet_in};
+ghost use Rattle.serf_agent_c.specs.Reads.{ReadsAs, clocks_head, event_head, foreign_of, handed_head, kind_of, outcome_kind, reason_number, reason_of, rebroadcast_of};
+ghost use Rattle.serf_agent_c.specs.Sessions.{is_ready, settled};
+ghost use Rattle.serf_agent_c.specs.Texts.{copied, lacking};
+
+use crate::code::Code;
+use crate::copies::copy_into;
+use crate::gave::Gave;
+use crate::heads::{BytesHead, ClocksHead, EventHead, GaveHead};
+use crate::session::Session;
+use serf_agent::{EventOut, Outcome, Reason};
+use serf_wire::Bytes;
+
+/// The number of a reason in C.
+fn reason_number(reason: Reason) -> u32
+    ensures { result ≡ reason_number reason }
+{
+    match reason {
+        Reason::Oversize => 1,
+        Reason::BelowMinimum => 2,
+        Reason::TooOld => 3,
+        Reason::Seen => 4,
+        Reason::TimeFull => 5,
+        Reason::NotOpen => 6,
+        Reason::OtherId => 7,
+        Reason::Closed => 8,
+        Reason::AckNotAsked => 9,
+        Reason::AckTwice => 10,
+        Reason::ResponseTwice => 11,
+    }
+}
+
+/// The kind of an outcome in C.
+fn outcome_kind(outcome: &Outcome) -> u32
+    ensures { result ≡ outcome_kind outcome.now }
+{
+    match outcome {
+        Outcome::Event(_) => 1,
+        Outcome::Query { .. } => 2,
+        Outcome::Ack => 3,
+        Outcome::Response => 4,
+        Outcome::Ignored(_) => 5,
+        Outcome::Foreign(_) => 6,
+        Outcome::PushPull => 7,
+    }
+}
+
+impl Gave {
+    /// Its kind in C.
+    fn kind(&self) -> u32
+        ensures { result ≡ kind_of self.now }
+    {
+        match self {
+            Gave::Received(Ok(outcome)) => outcome_kind(outcome),
+            Gave::Fired(Ok(_)) => 8,
+            Gave::Asked(Ok(_)) => 9,
+            Gave::Merged(..) => 10,
+            Gave::State(Ok(_)) => 11,
+            Gave::Replied(Ok(_)) => 12,
+            _ => 0,
+        }
+    }
+
+    /// Why a packet was ignored, in C.
+    fn reason(&self) -> u32
+        ensures { result ≡ reason_of self.now }
+    {
+        match self {
+            Gave::Received(Ok(Outcome::Ignored(reason))) => reason_number(*reason),
+            _ => 0,
+        }
+    }
+
+    /// The type of a foreign message.
+    fn foreign(&self) -> u8
+        ensures { result ≡ foreign_of self.now }
+    {
+        match self {
+            Gave::Received(Ok(Outcome::Foreign(kind))) => *kind,
+            _ => 0,
+        }
+    }
+
+    /// Whether the packet that came is to be sent on unchanged.
+    fn rebroadcast(&self) -> bool
+        ensures { result ≡ rebroadcast_of self.now }
+    {
+        match self {
+            Gave::Received(Ok(Outcome::Event(_))) => true,
+            Gave::Received(Ok(Outcome::Query { rebroadcast, .. })) => *rebroadcast,
+            _ => false,
+        }
+    }
+
+    /// How many events are handed out.
+    fn events(&self) -> usize
+        ensures { result ≡ length (events_in self.now) }
+    {
+        match self {
+            Gave::Received(Ok(Outcome::Event(_))) => 1,
+            Gave::Fired(Ok(_)) => 1,
+            Gave::Merged(events, _) => events.len(),
+            _ => 0,
+        }
+    }
+}
+
+impl Session {
+    /// What the last call gave.
+    pub(crate) fn read_gave(&self, gave: &mut GaveHead)
+        ensures { gave.new ≡ record { kind = kind_of self.now.gave; reason = reason_of self.now.gave; handed = if is_some (handed_in self.now.gave) then length self.now.waiting.items + 1 else 0; events = length (events_in self.now.gave); foreign = foreign_of self.now.gave; rebroadcast = rebroadcast_of self.now.gave } }
+    {
+        let handed = if self.gave.handed().is_some() {
+            self.waiting.len() as u64 + 1
+        } else {
+            0
+        };
+        *gave = GaveHead {
+            kind: self.gave.kind(),
+            reason: self.gave.reason(),
+            handed,
+            events: self.gave.events(),
+            foreign: self.gave.foreign(),
+            rebroadcast: self.gave.rebroadcast(),
+        };
+    }
+
+    /// The bytes that the host's file lacks.
+    pub(crate) fn read_lacking(&self, bytes: &mut BytesHead, to: &mut [u8])
+        ensures head { bytes.new ≡ record { len = length (lacking self.now.agent.device self.now.written); replaces = self.now.replaces } }
+        ensures copied { to.new ≡ copied (lacking self.now.agent.device self.now.written) to.old }
+    {
+        let lacking = self.lacking();
+        *bytes = BytesHead {
+            len: lacking.len(),
+            replaces: self.replaces,
+        };
+        copy_into(to, lacking);
+    }
+
+    /// An event that the last call handed out.
+    pub(crate) fn read_event(
+        &self,
+        index: usize,
+        event: &mut EventHead,
+        name: &mut [u8],
+        payload: &mut [u8],
+    ) -> Code
+        ensures { ReadsAs (is_ready self.now) (slice_get (events_in self.now.gave) index) (λ o. (event.new ≡ event_head o) × (name.new ≡ copied o.name name.old) × (payload.new ≡ copied o.payload payload.old)) result }
+    {
+        if !self.is_ready() {
+            return Code::Unwritten;
+        }
+        let Some(out) = self.gave.event(index) else {
+            return Code::Nothing;
+        };
+        *event = head_of_event(out);
+        copy_into(name, out.name.as_slice());
+        copy_into(payload, out.payload.as_slice());
+        Code::Done
+    }
+
+    /// The packet that the last call gave to send.
+    pub(crate) fn read_packet(&self, len: &mut usize, to: &mut [u8]) -> Code
+        ensures { ReadsAs (is_ready self.now) (packet_in self.now.gave) (λ p. (len.new ≡ length p) × (to.new ≡ copied p to.old)) result }
+    {
+        if !self.is_ready() {
+            return Code::Unwritten;
+        }
+        let Some(packet) = self.gave.packet() else {
+            return Code::Nothing;
+        };
+        read_bytes(packet, len, to);
+        Code::Done
+    }
+
+    /// The ack that the last call gave to send.
+    pub(crate) fn read_ack(&self, len: &mut usize, to: &mut [u8]) -> Code
+        ensures { ReadsAs (is_ready self.now) (ack_in self.now.gave) (λ p. (len.new ≡ length p) × (to.new ≡ copied p to.old)) result }
+    {
+        if !self.is_ready() {
+            return Code::Unwritten;
+        }
+        let Some(ack) = self.gave.ack() else {
+            return Code::Nothing;
+        };
+        read_bytes(ack, len, to);
+        Code::Done
+    }
+
+    /// The agent's clocks.
+    pub(crate) fn read_clocks(&self, clocks: &mut ClocksHead) -> Code
+        ensures { ReadsAs (is_ready self.now) (Some (clocks_head self.now.agent.concrete)) (λ head. clocks.new ≡ head) result }
+    {
+        if !self.is_ready() {
+            return Code::Unwritten;
+        }
+        *clocks = ClocksHead {
+            member: self.agent.member_time(),
+            event: self.agent.event_time(),
+            query: self.agent.query_time(),
+            event_minimum: self.agent.event_minimum(),
+            query_minimum: self.agent.query_minimum(),
+        };
+        Code::Done
+    }
+}
+
+/// What C reads of an event beside its texts.
+fn head_of_event(out: &EventOut) -> EventHead
+    ensures { result ≡ event_head out.now }
+{
+    EventHead {
+        time: out.time.get(),
+        name_len: out.name.as_slice().len(),
+        payload_len: out.payload.as_slice().len(),
+        coalesce: out.coalesce,
+    }
+}
+
+/// The length of a packet, and as much of it as fits.
+fn read_bytes(packet: &Bytes, len: &mut usize, to: &mut [u8])
+    ensures len { len.new ≡ length packet.now }
+    ensures copied { to.new ≡ copied packet.now to.old }
+{
+    *len = packet.as_slice().len();
+    copy_into(to, packet.as_slice());
+}

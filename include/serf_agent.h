@@ -1,0 +1,224 @@
+/* One Serf agent in C: libserf_agent_c.a, of the Rattle crate serf_agent_c.
+
+   The library holds no file and no socket. A call answers a code, and what it gave is then read by the getters:
+   bytes for the host's file, events and a query for the host's handlers, and packets to send.
+
+   1. A call that writes (open, fire, query, receive, merge, save_member_clock, compact) may leave bytes for the file:
+      serf_agent_unwritten tells them. The host appends them to its file and flushes it (fdatasync); where they replace the
+      file it writes them beside it, flushes, and renames. Then it calls serf_agent_written.
+   2. Until then all other calls but serf_agent_unwritten, serf_agent_gave and serf_agent_close answer
+      SERF_AGENT_UNWRITTEN, so nothing is handed out whose line isn't durable.
+   3. A host whose file failed closes the handle, and opens anew from what the file holds.
+
+   What the host owes, and nothing checks:
+   - a handle is all 0 at first, is never copied or written, and is used by one thread at a time;
+   - a pointer with a length points to that many bytes, which nothing else writes meanwhile; with the length 0 it may be
+     any address;
+   - the text that open is given is what the file holds, and no other agent has the file;
+   - moments ("now") are nanoseconds of one clock that doesn't go back.
+
+   Bytes are read by copying: a getter copies as much as fits into the host's memory and tells the whole length, so a call
+   with a room of 0 asks for the length. */
+#ifndef SERF_AGENT_H
+#define SERF_AGENT_H
+#include <stdbool.h>
+#include <stddef.h>
+#include <stdint.h>
+#ifdef __cplusplus
+extern "C" {
+#endif
+
+/* What a call answers. */
+enum serf_agent_code {
+    SERF_AGENT_OK = 0,
+    SERF_AGENT_EMPTY = 1,            /* the handle has no agent */
+    SERF_AGENT_IN_USE = 2,           /* open: the handle has an agent already */
+    SERF_AGENT_UNWRITTEN = 3,        /* bytes for the host's file aren't written yet */
+    SERF_AGENT_NOTHING = 4,          /* a getter: the last call gave no such thing */
+    SERF_AGENT_OUT_OF_MEMORY = 5,    /* the agent is as before the call, but for what a merge took */
+    SERF_AGENT_BAD_CONFIG = 6,       /* open: settings out of bounds */
+    SERF_AGENT_SINK_FAULT = 7,       /* the agent's sink failed; not with this library's own sink */
+    SERF_AGENT_STOPPED = 8,          /* the agent's sink failed before; not with this library's own sink */
+    SERF_AGENT_TOO_LARGE = 9,        /* fire, query, respond: the event, query or response is too large */
+    SERF_AGENT_EXHAUSTED = 10,       /* fire, query: the clock stands at 2^64 - 1 */
+    SERF_AGENT_NO_MESSAGE = 11,      /* receive, merge: the packet is no message */
+    SERF_AGENT_RESPONDERS_FULL = 12, /* receive: the query has as many answers as it takes */
+    SERF_AGENT_NOT_PUSH_PULL = 13,   /* merge: a message of another kind */
+    SERF_AGENT_TOO_LONG = 14,        /* local_state: a text or a list is longer than 4,294,967,295 */
+    SERF_AGENT_NO_TIME = 15,         /* query: the timeout is 0 or below */
+    SERF_AGENT_PAST_DEADLINE = 16,   /* respond: the moment is after the query's deadline */
+    SERF_AGENT_NOT_HANDED = 17       /* respond, handed: no query of this number is handed out and not yet answered */
+};
+
+/* What the last call gave: serf_agent_gave's kind. */
+enum serf_agent_kind {
+    SERF_AGENT_GAVE_NOTHING = 0,   /* nothing, or the last call was refused */
+    SERF_AGENT_GAVE_EVENT = 1,     /* receive: a new event; the packet is to be sent on unchanged */
+    SERF_AGENT_GAVE_QUERY = 2,     /* receive: a new query */
+    SERF_AGENT_GAVE_ACK = 3,       /* receive: an ack was counted */
+    SERF_AGENT_GAVE_RESPONSE = 4,  /* receive: a response was counted */
+    SERF_AGENT_GAVE_IGNORED = 5,   /* receive: nothing came of it, for the reason */
+    SERF_AGENT_GAVE_FOREIGN = 6,   /* receive: a message of a type that isn't read */
+    SERF_AGENT_GAVE_PUSH_PULL = 7, /* receive: a push/pull, which is for serf_agent_merge */
+    SERF_AGENT_GAVE_FIRED = 8,     /* fire: the packet to send, and the event as it is handed out here */
+    SERF_AGENT_GAVE_ASKED = 9,     /* query: the packet to send, perhaps the query and an ack */
+    SERF_AGENT_GAVE_MERGED = 10,   /* merge: the events that are new, in order */
+    SERF_AGENT_GAVE_STATE = 11,    /* local_state: the packet to send */
+    SERF_AGENT_GAVE_REPLY = 12     /* respond: the packet to send to the address and port of the handed query */
+};
+
+/* Why a packet was ignored: serf_agent_gave's reason. */
+enum serf_agent_reason {
+    SERF_AGENT_NO_REASON = 0,
+    SERF_AGENT_OVERSIZE = 1,      /* the event's name and payload have together more than 9,216 bytes */
+    SERF_AGENT_BELOW_MINIMUM = 2, /* its time is below the least that the agent takes */
+    SERF_AGENT_TOO_OLD = 3,       /* its time is too far below the clock */
+    SERF_AGENT_SEEN = 4,          /* the same was taken at its time */
+    SERF_AGENT_TIME_FULL = 5,     /* as many as are taken of one time were taken at its time */
+    SERF_AGENT_NOT_OPEN = 6,      /* a response to no query that is open here */
+    SERF_AGENT_OTHER_ID = 7,      /* a response to another query of the same time */
+    SERF_AGENT_CLOSED = 8,        /* a response after the deadline */
+    SERF_AGENT_ACK_NOT_ASKED = 9, /* an ack, though none was asked for */
+    SERF_AGENT_ACK_TWICE = 10,    /* a second ack of one node */
+    SERF_AGENT_RESPONSE_TWICE = 11 /* a second response of one node */
+};
+
+/* A handle: all 0 at first. */
+struct serf_agent {
+    bool open;
+    struct {
+        void *at;
+    } place;
+};
+
+/* An agent's settings; its name stands beside them. */
+struct serf_agent_settings {
+    uint64_t event_buffer; /* slots for events: 1 to 65,536; Serf has 512 */
+    uint64_t query_buffer; /* slots for queries: 1 to 65,536; Serf has 512 */
+    uint64_t event_limit;  /* the greatest length of a fired event: at most 9,216; Serf has 512 */
+    uint64_t responders;   /* names counted of a query's acks, and of its responses: 1 to 65,536 */
+    uint64_t per_time;     /* events, or queries, that are taken of one time: 1 to 65,536 */
+    bool ignore_old;       /* whether joining lifts the least time of events to the other agent's clock */
+};
+
+/* What the last call gave. */
+struct serf_agent_gave {
+    uint32_t kind;    /* enum serf_agent_kind */
+    uint32_t reason;  /* enum serf_agent_reason; 0 where nothing was ignored */
+    uint64_t handed;  /* the number of the query that is handed out, for handed and respond; 0 where there is none */
+    size_t events;    /* how many events are handed out */
+    uint8_t foreign;  /* the type of a foreign message, else 0 */
+    bool rebroadcast; /* whether the packet that came is to be sent on unchanged */
+};
+
+/* The bytes that the host's file still lacks. */
+struct serf_agent_bytes {
+    size_t len;
+    bool replaces; /* they replace the file's text; else they are appended to it */
+};
+
+/* An event that is handed out. */
+struct serf_agent_event {
+    uint64_t time;
+    size_t name_len;
+    size_t payload_len;
+    bool coalesce;
+};
+
+/* How a query is fired. */
+struct serf_agent_params {
+    int64_t timeout; /* how long answers are taken, in nanoseconds */
+    uint16_t port;   /* where answers are to be sent */
+    uint8_t relay_factor;
+    bool want_ack;
+    bool no_broadcast; /* whether nodes shall not send the query on */
+};
+
+/* A query that was handed out and not yet answered. */
+struct serf_agent_handed {
+    uint64_t time;
+    uint64_t deadline; /* the last moment at which it can be answered */
+    size_t name_len;
+    size_t payload_len;
+    size_t source_len; /* the asking node's name */
+    size_t addr_len;   /* where a response is to be sent */
+    uint32_t id;
+    uint16_t port;
+    uint8_t relay_factor;
+};
+
+/* The agent's clocks. */
+struct serf_agent_clocks {
+    uint64_t member;
+    uint64_t event;
+    uint64_t query;
+    uint64_t event_minimum; /* the least time of an event that is taken */
+    uint64_t query_minimum;
+};
+
+/* Life */
+
+/* Opens an agent over the text of the host's file, into an empty handle. Its first bytes end a torn last line. */
+uint32_t serf_agent_open(struct serf_agent *handle, const uint8_t *name, size_t name_len,
+                         const struct serf_agent_settings *settings, const uint8_t *text, size_t text_len);
+/* Closes it; the handle is empty then. */
+uint32_t serf_agent_close(struct serf_agent *handle);
+
+/* The host's file */
+
+/* The bytes that the file lacks: their length, and as many of them as fit. */
+uint32_t serf_agent_unwritten(struct serf_agent *handle, struct serf_agent_bytes *bytes, uint8_t *to, size_t room);
+/* The host's file has them, and was flushed. */
+uint32_t serf_agent_written(struct serf_agent *handle);
+
+/* Calls */
+
+uint32_t serf_agent_fire(struct serf_agent *handle, const uint8_t *name, size_t name_len, const uint8_t *payload,
+                         size_t payload_len, bool coalesce);
+uint32_t serf_agent_receive(struct serf_agent *handle, uint64_t now, const uint8_t *packet, size_t packet_len);
+/* Merges another agent's whole state. */
+uint32_t serf_agent_merge(struct serf_agent *handle, const uint8_t *packet, size_t packet_len, bool is_join);
+/* The agent's whole state, to send, with the members that serf_agent_add_status and serf_agent_add_left named since the
+   last that was tried; it forgets them. */
+uint32_t serf_agent_local_state(struct serf_agent *handle);
+uint32_t serf_agent_add_status(struct serf_agent *handle, const uint8_t *name, size_t name_len, uint64_t status_time);
+uint32_t serf_agent_add_left(struct serf_agent *handle, const uint8_t *name, size_t name_len);
+/* Fires a query, with the filters that serf_agent_add_filter gave since the last that was tried; it forgets them. */
+uint32_t serf_agent_query(struct serf_agent *handle, uint64_t now, uint32_t id, const uint8_t *name, size_t name_len,
+                          const uint8_t *payload, size_t payload_len, const uint8_t *addr, size_t addr_len,
+                          const struct serf_agent_params *params);
+uint32_t serf_agent_add_filter(struct serf_agent *handle, const uint8_t *filter, size_t filter_len);
+/* Answers the query of this number; a success spends it. */
+uint32_t serf_agent_respond(struct serf_agent *handle, uint64_t now, uint64_t number, const uint8_t *payload,
+                            size_t payload_len);
+/* Takes out the open queries whose deadline is before a moment, and says how many they were. */
+uint32_t serf_agent_close_due(struct serf_agent *handle, uint64_t now, size_t *closed);
+/* Notes the member clock, so that a restart goes on from there. */
+uint32_t serf_agent_save_member_clock(struct serf_agent *handle);
+/* Makes the text that replaces the file's: one line of each clock. */
+uint32_t serf_agent_compact(struct serf_agent *handle);
+
+/* Getters */
+
+uint32_t serf_agent_gave(struct serf_agent *handle, struct serf_agent_gave *gave);
+/* An event that the last call handed out, from 0 on, and as much of its texts as fits. */
+uint32_t serf_agent_event(struct serf_agent *handle, size_t index, struct serf_agent_event *event, uint8_t *name,
+                          size_t name_room, uint8_t *payload, size_t payload_room);
+/* The packet that the last call gave to send (fire, query, local_state, respond): its length, and as much of it as fits. */
+uint32_t serf_agent_packet(struct serf_agent *handle, size_t *len, uint8_t *to, size_t room);
+/* The ack to send to the query's address and port, of a query that is handed out here (receive, query). */
+uint32_t serf_agent_ack(struct serf_agent *handle, size_t *len, uint8_t *to, size_t room);
+/* A query that was handed out and not yet answered. */
+uint32_t serf_agent_handed(struct serf_agent *handle, uint64_t number, struct serf_agent_handed *handed, uint8_t *name,
+                           size_t name_room, uint8_t *payload, size_t payload_room, uint8_t *source, size_t source_room,
+                           uint8_t *addr, size_t addr_room);
+uint32_t serf_agent_clocks(struct serf_agent *handle, struct serf_agent_clocks *clocks);
+/* The least deadline of the open queries; SERF_AGENT_NOTHING where none is open. */
+uint32_t serf_agent_next_deadline(struct serf_agent *handle, uint64_t *deadline);
+/* How many queries of this agent's own still take answers. */
+uint32_t serf_agent_open_queries(struct serf_agent *handle, size_t *open);
+
+#ifdef __cplusplus
+}
+#endif
+#endif

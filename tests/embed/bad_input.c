@@ -1,0 +1,253 @@
+/* Calls on handles that are empty, in use or full of unwritten bytes, with wrong numbers, no bytes and any bytes.
+ *
+ * Prints a line `FAILED ..` for each answer that isn't as include/serf_agent.h says, and at the end `N passed, M failed`. */
+#include "serf_agent.h"
+
+#include <stdio.h>
+#include <stdlib.h>
+#include <string.h>
+
+static int passed, failed;
+
+static void is(const char *what, uint32_t code, uint32_t wanted) {
+    if (code == wanted) {
+        passed++;
+    } else {
+        failed++;
+        printf("FAILED %s: %u, and %u was wanted\n", what, code, wanted);
+    }
+}
+
+static const struct serf_agent_settings settings = {8, 8, 512, 8, 8, false};
+static uint8_t room[65536];
+
+/* What the library has for the file is written: here to nowhere. */
+static void written(struct serf_agent *agent) {
+    struct serf_agent_bytes about;
+    if (serf_agent_unwritten(agent, &about, room, sizeof room) == SERF_AGENT_OK) {
+        serf_agent_written(agent);
+    }
+}
+
+static uint32_t opened(struct serf_agent *agent, const char *name, const char *text) {
+    return serf_agent_open(agent, (const uint8_t *)name, strlen(name), &settings, (const uint8_t *)text, strlen(text));
+}
+
+static uint32_t fired(struct serf_agent *agent, const char *name) {
+    return serf_agent_fire(agent, (const uint8_t *)name, strlen(name), NULL, 0, false);
+}
+
+static uint32_t asked(struct serf_agent *agent, int64_t timeout) {
+    struct serf_agent_params params = {.timeout = timeout, .want_ack = true};
+    return serf_agent_query(agent, 5, 7, (const uint8_t *)"q", 1, NULL, 0, NULL, 0, &params);
+}
+
+/* Each call but open, unwritten, gave and close answers this. */
+static void each(struct serf_agent *agent, const char *when, uint32_t wanted) {
+    struct serf_agent_event event;
+    struct serf_agent_handed handed;
+    struct serf_agent_clocks clocks;
+    uint64_t deadline;
+    size_t len;
+    uint8_t byte = 0;
+    printf("each call, %s\n", when);
+    is("fire", fired(agent, "x"), wanted);
+    is("receive", serf_agent_receive(agent, 1, &byte, 1), wanted);
+    is("merge", serf_agent_merge(agent, &byte, 1, true), wanted);
+    is("local_state", serf_agent_local_state(agent), wanted);
+    is("add_status", serf_agent_add_status(agent, &byte, 1, 1), wanted);
+    is("add_left", serf_agent_add_left(agent, &byte, 1), wanted);
+    is("add_filter", serf_agent_add_filter(agent, &byte, 1), wanted);
+    is("query", asked(agent, 1), wanted);
+    is("respond", serf_agent_respond(agent, 1, 1, &byte, 1), wanted);
+    is("close_due", serf_agent_close_due(agent, 1, &len), wanted);
+    is("save_member_clock", serf_agent_save_member_clock(agent), wanted);
+    is("compact", serf_agent_compact(agent), wanted);
+    is("event", serf_agent_event(agent, 0, &event, &byte, 1, &byte, 1), wanted);
+    is("packet", serf_agent_packet(agent, &len, &byte, 1), wanted);
+    is("ack", serf_agent_ack(agent, &len, &byte, 1), wanted);
+    is("handed", serf_agent_handed(agent, 1, &handed, &byte, 1, &byte, 1, &byte, 1, &byte, 1), wanted);
+    is("clocks", serf_agent_clocks(agent, &clocks), wanted);
+    is("next_deadline", serf_agent_next_deadline(agent, &deadline), wanted);
+    is("open_queries", serf_agent_open_queries(agent, &len), wanted);
+}
+
+static void empty_handles(void) {
+    struct serf_agent agent = {0};
+    struct serf_agent_gave gave;
+    struct serf_agent_bytes about;
+    each(&agent, "on a handle that was never opened", SERF_AGENT_EMPTY);
+    is("unwritten", serf_agent_unwritten(&agent, &about, room, sizeof room), SERF_AGENT_EMPTY);
+    is("written", serf_agent_written(&agent), SERF_AGENT_EMPTY);
+    is("gave", serf_agent_gave(&agent, &gave), SERF_AGENT_EMPTY);
+    is("close", serf_agent_close(&agent), SERF_AGENT_EMPTY);
+    is("open", opened(&agent, "a", ""), SERF_AGENT_OK);
+    is("close", serf_agent_close(&agent), SERF_AGENT_OK);
+    is("close again", serf_agent_close(&agent), SERF_AGENT_EMPTY);
+    each(&agent, "on a handle that was closed", SERF_AGENT_EMPTY);
+    is("open again", opened(&agent, "a", ""), SERF_AGENT_OK);
+    is("close", serf_agent_close(&agent), SERF_AGENT_OK);
+}
+
+static void openings(void) {
+    struct serf_agent agent = {0};
+    struct serf_agent_settings bad = settings;
+    struct serf_agent_clocks clocks;
+    is("no name", opened(&agent, "", ""), SERF_AGENT_BAD_CONFIG);
+    bad.event_buffer = 0;
+    is("no slots", serf_agent_open(&agent, (const uint8_t *)"a", 1, &bad, NULL, 0), SERF_AGENT_BAD_CONFIG);
+    bad.event_buffer = 65537;
+    is("too many slots", serf_agent_open(&agent, (const uint8_t *)"a", 1, &bad, NULL, 0), SERF_AGENT_BAD_CONFIG);
+    is("a handle that wasn't opened is empty", serf_agent_close(&agent), SERF_AGENT_EMPTY);
+    is("open", opened(&agent, "a", "event-clock: 5\n"), SERF_AGENT_OK);
+    is("open twice", opened(&agent, "b", "event-clock: 50\n"), SERF_AGENT_IN_USE);
+    is("clocks", serf_agent_clocks(&agent, &clocks), SERF_AGENT_OK);
+    is("the first agent is still there", (uint32_t)clocks.event, 6);
+    is("close", serf_agent_close(&agent), SERF_AGENT_OK);
+}
+
+static void unwritten_bytes(void) {
+    struct serf_agent agent = {0};
+    struct serf_agent_bytes about;
+    struct serf_agent_event event;
+    is("open on a torn text", opened(&agent, "a", "event-clock: 5\nevent-cl"), SERF_AGENT_OK);
+    each(&agent, "while a torn line isn't ended", SERF_AGENT_UNWRITTEN);
+    is("the bytes", serf_agent_unwritten(&agent, &about, room, sizeof room), SERF_AGENT_OK);
+    is("a torn line's end", (uint32_t)(about.len == 2 && memcmp(room, "#\n", 2) == 0 && !about.replaces), 1);
+    is("open twice", opened(&agent, "b", ""), SERF_AGENT_IN_USE);
+    is("written", serf_agent_written(&agent), SERF_AGENT_OK);
+    is("unwritten again", serf_agent_unwritten(&agent, &about, room, sizeof room), SERF_AGENT_OK);
+    is("nothing is unwritten", (uint32_t)(about.len == 0 && !about.replaces), 1);
+    is("fire", fired(&agent, "x"), SERF_AGENT_OK);
+    each(&agent, "while an event's line isn't written", SERF_AGENT_UNWRITTEN);
+    is("no room", serf_agent_unwritten(&agent, &about, NULL, 0), SERF_AGENT_OK);
+    is("the whole length all the same", (uint32_t)about.len, 15);
+    is("written", serf_agent_written(&agent), SERF_AGENT_OK);
+    is("the event", serf_agent_event(&agent, 0, &event, NULL, 0, NULL, 0), SERF_AGENT_OK);
+    is("its time", (uint32_t)event.time, 6);
+    is("no event behind it", serf_agent_event(&agent, 1, &event, NULL, 0, NULL, 0), SERF_AGENT_NOTHING);
+    is("none at the greatest number", serf_agent_event(&agent, SIZE_MAX, &event, NULL, 0, NULL, 0), SERF_AGENT_NOTHING);
+    is("compact", serf_agent_compact(&agent), SERF_AGENT_OK);
+    is("the text", serf_agent_unwritten(&agent, &about, room, sizeof room), SERF_AGENT_OK);
+    is("it replaces", (uint32_t)(about.replaces && about.len == 15 && memcmp(room, "event-clock: 6\n", 15) == 0), 1);
+    is("close with unwritten bytes", serf_agent_close(&agent), SERF_AGENT_OK);
+}
+
+static void numbers_of_queries(void) {
+    struct serf_agent agent = {0};
+    struct serf_agent_gave gave = {0};
+    struct serf_agent_handed handed;
+    static const uint64_t wrong[] = {0, 2, 3, UINT32_MAX, UINT64_MAX};
+    is("open", opened(&agent, "a", ""), SERF_AGENT_OK);
+    is("no time", asked(&agent, 0), SERF_AGENT_NO_TIME);
+    is("less than no time", asked(&agent, INT64_MIN), SERF_AGENT_NO_TIME);
+    is("query", asked(&agent, 1000), SERF_AGENT_OK);
+    written(&agent);
+    is("gave", serf_agent_gave(&agent, &gave), SERF_AGENT_OK);
+    for (size_t i = 0; i < sizeof wrong / sizeof *wrong; i++) {
+        if (wrong[i] != gave.handed) {
+            is("a wrong number", serf_agent_respond(&agent, 6, wrong[i], NULL, 0), SERF_AGENT_NOT_HANDED);
+            is("a wrong number", serf_agent_handed(&agent, wrong[i], &handed, NULL, 0, NULL, 0, NULL, 0, NULL, 0), SERF_AGENT_NOT_HANDED);
+        }
+    }
+    is("too late", serf_agent_respond(&agent, 1006, gave.handed, NULL, 0), SERF_AGENT_PAST_DEADLINE);
+    is("too large", serf_agent_respond(&agent, 6, gave.handed, room, 2000), SERF_AGENT_TOO_LARGE);
+    is("respond", serf_agent_respond(&agent, 6, gave.handed, NULL, 0), SERF_AGENT_OK);
+    is("respond twice", serf_agent_respond(&agent, 6, gave.handed, NULL, 0), SERF_AGENT_NOT_HANDED);
+    is("close", serf_agent_close(&agent), SERF_AGENT_OK);
+}
+
+static void packets(void) {
+    struct serf_agent agent = {0};
+    size_t len = 0, other = 0;
+    is("open", opened(&agent, "a", ""), SERF_AGENT_OK);
+    is("no packet", serf_agent_packet(&agent, &len, NULL, 0), SERF_AGENT_NOTHING);
+    is("receive nothing", serf_agent_receive(&agent, 1, NULL, 0), SERF_AGENT_NO_MESSAGE);
+    is("merge nothing", serf_agent_merge(&agent, NULL, 0, false), SERF_AGENT_NO_MESSAGE);
+    is("fire too large", serf_agent_fire(&agent, room, 513, NULL, 0, false), SERF_AGENT_TOO_LARGE);
+    is("fire nothing", serf_agent_fire(&agent, NULL, 0, NULL, 0, false), SERF_AGENT_OK);
+    written(&agent);
+    is("its packet", serf_agent_packet(&agent, &len, room, sizeof room), SERF_AGENT_OK);
+    is("its length alone", serf_agent_packet(&agent, &other, NULL, 0), SERF_AGENT_OK);
+    is("the same", (uint32_t)(len == other), 1);
+    is("no ack", serf_agent_ack(&agent, &other, NULL, 0), SERF_AGENT_NOTHING);
+    is("merge an event", serf_agent_merge(&agent, room, len, false), SERF_AGENT_NOT_PUSH_PULL);
+    is("close", serf_agent_close(&agent), SERF_AGENT_OK);
+}
+
+static uint64_t drawn(void) {
+    static uint64_t state = 1;
+    uint64_t z = (state += 0x9e3779b97f4a7c15u);
+    z = (z ^ (z >> 30)) * 0xbf58476d1ce4e5b9u;
+    z = (z ^ (z >> 27)) * 0x94d049bb133111ebu;
+    return z ^ (z >> 31);
+}
+
+/* One packet: any bytes, or a sound one with some of its bytes changed, or cut. */
+static size_t any_packet(uint8_t *to, const uint8_t *sound, size_t len) {
+    size_t count = drawn() % 64;
+    if (len == 0 || drawn() % 2) {
+        for (size_t i = 0; i < count; i++) {
+            to[i] = (uint8_t)drawn();
+        }
+        return count;
+    }
+    memcpy(to, sound, len);
+    for (size_t i = drawn() % 4; i > 0; i--) {
+        to[drawn() % len] = (uint8_t)drawn();
+    }
+    return drawn() % 2 ? len : drawn() % len;
+}
+
+static size_t sound_packet(uint8_t *to, size_t size) {
+    struct serf_agent other = {0};
+    size_t len = 0;
+    opened(&other, "b", "");
+    if (drawn() % 3 == 0) {
+        serf_agent_local_state(&other);
+    } else if (drawn() % 2) {
+        fired(&other, "deploy");
+    } else {
+        asked(&other, 1000);
+    }
+    written(&other);
+    serf_agent_packet(&other, &len, to, size);
+    serf_agent_close(&other);
+    return len;
+}
+
+/* Any bytes in any order, each in memory of its own length: whatever is answered, nothing else is touched. */
+static void any_bytes(int count) {
+    struct serf_agent agent = {0};
+    struct serf_agent_gave gave;
+    struct serf_agent_handed handed;
+    static uint8_t sound[4096], any[4096];
+    int unknown = 0;
+    is("open", opened(&agent, "a", ""), SERF_AGENT_OK);
+    for (int i = 0; i < count; i++) {
+        size_t len = any_packet(any, sound, sound_packet(sound, sizeof sound));
+        uint8_t *own = malloc(len);
+        memcpy(own, any, len);
+        uint32_t code = drawn() % 4 ? serf_agent_receive(&agent, drawn() % 4, own, len) : serf_agent_merge(&agent, own, len, drawn() % 2);
+        free(own);
+        written(&agent);
+        unknown += code > SERF_AGENT_NOT_HANDED || serf_agent_gave(&agent, &gave) != SERF_AGENT_OK;
+        if (gave.handed != 0) {
+            serf_agent_handed(&agent, gave.handed, &handed, room, 8, room, 8, room, 8, room, 8);
+            serf_agent_respond(&agent, drawn() % 4, gave.handed, room, drawn() % 1100);
+        }
+    }
+    is("no unknown code", (uint32_t)unknown, 0);
+    is("close", serf_agent_close(&agent), SERF_AGENT_OK);
+}
+
+int main(int count, char **words) {
+    empty_handles();
+    openings();
+    unwritten_bytes();
+    numbers_of_queries();
+    packets();
+    any_bytes(count > 1 ? atoi(words[1]) : 20000);
+    printf("%d passed, %d failed\n", passed, failed);
+    return failed != 0;
+}

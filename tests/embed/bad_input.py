@@ -1,0 +1,108 @@
+"""Bad input through the binding in Python: prints a line `FAILED ..` for what isn't as said, and 'N passed, M failed'.
+
+    bad_input.py FOLDER
+"""
+
+import os
+import sys
+
+sys.path.insert(0, os.path.join(os.path.dirname(os.path.abspath(__file__)), "..", "..", "bindings", "python"))
+from serf_agent import Agent, AgentError, Code, Kind, Locked, MissingFolder, NotAFile, Reason, Settings
+
+FOLDER = sys.argv[1]
+passed = failed = 0
+
+
+def check(name, holds, said=""):
+    global passed, failed
+    if holds:
+        passed += 1
+    else:
+        failed += 1
+        print(f"FAILED {name}: {said}")
+
+
+def refused(name, wanted, call, *words, **more):
+    """A call that has to be refused: with this code, or with this error."""
+    try:
+        said = call(*words, **more)
+    except AgentError as error:
+        said = error.code
+    except Exception as error:
+        said = type(error)
+    check(name, said == wanted, f"{said}, and {wanted} was wanted")
+
+
+def path(name):
+    return os.path.join(FOLDER, name)
+
+
+def openings():
+    refused("no name", Code.BAD_CONFIG, Agent, b"", path("a"))
+    refused("no slots", Code.BAD_CONFIG, Agent, b"a", path("a"), Settings(event_buffer=0))
+    refused("a folder", NotAFile, Agent, b"a", FOLDER)
+    refused("no folder", MissingFolder, Agent, b"a", path("none/a"))
+    with Agent(b"a", path("a")) as agent:
+        refused("twice", Locked, Agent, b"a", path("a"))
+        check("the first goes on", agent.fire(b"x").event.time == 1)
+    refused("closed", Code.EMPTY, agent.fire, b"x")
+    agent.close()
+
+
+def events():
+    with Agent(b"a", path("b")) as one, Agent(b"b", path("c")) as other:
+        refused("too large", Code.TOO_LARGE, one.fire, b"x" * 513)
+        fired = one.fire(b"x", b"\0y", coalesce=True)
+        refused("nothing", Code.NO_MESSAGE, other.receive, 1, b"")
+        refused("any bytes", Code.NO_MESSAGE, other.receive, 1, b"\xff\xff")
+        refused("an event as a state", Code.NOT_PUSH_PULL, other.merge, fired.packet)
+        received = other.receive(1, fired.packet)
+        check("the event", received.event == fired.event and received.rebroadcast, received)
+        received = other.receive(2, fired.packet)
+        check("again", (received.kind, received.reason, received.event) == (Kind.IGNORED, Reason.SEEN, None), received)
+        check("foreign", other.receive(2, b"\x00\x80").kind == Kind.FOREIGN)
+        check("a state as a packet", other.receive(2, one.local_state([(b"a", 3)], [b"c"])).kind == Kind.PUSH_PULL)
+        check("merged already", other.merge(one.local_state(), join=True) == [])
+
+
+def queries():
+    with Agent(b"a", path("d")) as one, Agent(b"b", path("e")) as other:
+        refused("no time", Code.NO_TIME, one.query, 1, 7, b"q")
+        check("no deadline", one.next_deadline() is None)
+        asked = one.query(1, 7, b"q", b"p", timeout=1000, want_ack=True, addr=b"\x7f\0\0\1", port=7946)
+        check("asked", asked.query.name == b"q" and asked.ack is not None and one.open_queries() == 1 and one.next_deadline() == 1001, asked)
+        received = other.receive(5, asked.packet)
+        query = received.query
+        said = (query.id, query.name, query.payload, query.source, query.addr, query.port)
+        check("the query", received.kind == Kind.QUERY and said == (7, b"q", b"p", b"a", b"\x7f\0\0\1", 7946), received)
+        check("its ack", one.receive(6, received.ack).kind == Kind.ACK)
+        refused("a wrong number", Code.NOT_HANDED, other.respond, 6, query.number + 1)
+        refused("too late", Code.PAST_DEADLINE, other.respond, query.deadline + 1, query.number)
+        refused("too large", Code.TOO_LARGE, other.respond, 6, query.number, b"x" * 1100)
+        response = other.respond(6, query.number, b"r")
+        refused("twice", Code.NOT_HANDED, other.respond, 6, query.number)
+        check("the response", one.receive(7, response).kind == Kind.RESPONSE)
+        check("again", one.receive(7, response).reason == Reason.RESPONSE_TWICE)
+        check("closed", one.close_due(1002) == 1 and one.open_queries() == 0)
+
+
+def compactions():
+    with Agent(b"a", path("f")) as agent:
+        for _ in range(3):
+            agent.fire(b"x")
+        # a state that says nothing but a member clock of 7
+        agent.merge(b"\x02\x81\xa5LTime\x07")
+        agent.save_member_clock()
+        agent.compact()
+        with open(path("f"), "rb") as file:
+            text = file.read()
+        check("compacted", sorted(text.split(b"\n")) == [b"", b"clock: 6", b"event-clock: 3"], text)
+    with Agent(b"a", path("f")) as agent:
+        clocks = agent.clocks()
+        check("the next life", (clocks.member, clocks.event, clocks.query, clocks.event_minimum) == (7, 4, 1, 4), clocks)
+
+
+for part in (openings, events, queries, compactions):
+    part()
+print(f"{passed} passed, {failed} failed")
+sys.exit(1 if failed else 0)
