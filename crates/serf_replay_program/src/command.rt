@@ -2,6 +2,7 @@
 
 use crate::conform_job::Comparison;
 use crate::draw_job::{Drawing, draw_command, drawing_of};
+use crate::encode_job::encode_command;
 use crate::explain_job::{Explanation, explain_command, explanation_of};
 use crate::hunt_job::{Search, search_of};
 use crate::random_job::{actions, agents, ask_of, kind, random_command};
@@ -21,6 +22,8 @@ pub enum Job<'a> {
     Stream(Option<&'a str>),
     /// Prints the message that bytes in hex spell; without them, of each line of standard input.
     Decode(Option<&'a str>),
+    /// Writes the canonical packet of each message on standard input.
+    Encode,
     /// Prints the clocks that the snapshot in a file keeps.
     Clocks(&'a str),
     /// Writes a random schedule; `None` where the words name no kind.
@@ -148,6 +151,7 @@ fn whole_command<'a>(alloc: Global) -> Result<Command<'a>, AllocError> {
     let program = bare_command(alloc)?;
     let program = with_job(program, replay_command(alloc))?;
     let program = with_job(program, decode_command(alloc))?;
+    let program = with_job(program, encode_command(alloc))?;
     let program = with_job(program, clocks_command(alloc))?;
     let program = with_job(program, random_command(alloc))?;
     let program = with_job(program, judge_command(alloc))?;
@@ -197,6 +201,7 @@ fn job_of<'a>(alloc: Global, matches: &ArgMatches<'a>) -> Result<Option<Job<'a>>
         "replay" if inner.get_flag("stream") => Some(Job::Stream(inner.get_str("FILE"))),
         "replay" => Some(Job::Replay(inner.get_str("FILE"))),
         "decode" => Some(Job::Decode(inner.get_str("HEX"))),
+        "encode" => Some(Job::Encode),
         "clocks" => inner.get_str("FILE").map(|file| Job::Clocks(file)),
         "random" => Some(Job::Random(ask_of(inner))),
         "conform" => conform_of(inner),

@@ -4,6 +4,7 @@ use crate::command::{Job, job_in};
 use crate::conform_job::{Comparison, conform};
 use crate::decode_lines_job::run_decode_lines;
 use crate::draw_job::run_draw;
+use crate::encode_job::run_encode;
 use crate::explain_job::run_explain;
 use crate::hunt_job::run_hunt;
 use crate::judge_job::run_judge;
@@ -200,6 +201,7 @@ pub fn run<F: Files, R: Clock + Input + Print + Eprint + AllocGlobal>(
         Ok(Some(Job::Stream(file))) => run_stream(files, rt, file),
         Ok(Some(Job::Decode(Some(text)))) => run_decode(rt, text),
         Ok(Some(Job::Decode(None))) => run_decode_lines(rt),
+        Ok(Some(Job::Encode)) => run_encode(rt),
         Ok(Some(Job::Clocks(file))) => run_clocks(files, rt, file),
         Ok(Some(Job::Random(ask))) => run_random(rt, ask),
         Ok(Some(Job::Write(file))) => run_write(files, rt, file),

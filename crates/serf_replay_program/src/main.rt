@@ -5,6 +5,7 @@ mod command;
 mod conform_job;
 mod decode_lines_job;
 mod draw_job;
+mod encode_job;
 mod explain_job;
 mod hunt_job;
 mod jobs;
