@@ -10,9 +10,13 @@ use std::io;
 const EXAMPLE: &str = "Example: serf-replay decode < packets | serf-replay encode";
 
 pub(crate) fn encode_command<'a>(alloc: Global) -> Result<Command<'a>, AllocError> {
-    Ok(Command::new(alloc, "encode")
-        .about("Writes the canonical packet of each message on standard input, as decode writes them")
-        .after_help(EXAMPLE))
+    Ok(
+        Command::new(alloc, "encode")
+            .about(
+                "Writes the canonical packet of each message on standard input, as decode writes them",
+            )
+            .after_help(EXAMPLE),
+    )
 }
 
 fn bad_line(rt: &impl Eprint, line: u64, cause: &str) -> u8 {

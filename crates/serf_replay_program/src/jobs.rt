@@ -10,6 +10,7 @@ use crate::hunt_job::run_hunt;
 use crate::judge_job::run_judge;
 use crate::progress::Progress;
 use crate::stream_job::run_stream;
+use crate::summary_job::run_summary;
 use crate::write_job::run_write;
 use clap::Error;
 use clap::error::ErrorKind;
@@ -199,6 +200,7 @@ pub fn run<F: Files, R: Clock + Input + Print + Eprint + AllocGlobal>(
     match job_in(rt.alloc(), words) {
         Ok(Some(Job::Replay(file))) => run_replay(files, rt, is_terminal, file),
         Ok(Some(Job::Stream(file))) => run_stream(files, rt, file),
+        Ok(Some(Job::Summary(file))) => run_summary(files, rt, is_terminal, file),
         Ok(Some(Job::Decode(Some(text)))) => run_decode(rt, text),
         Ok(Some(Job::Decode(None))) => run_decode_lines(rt),
         Ok(Some(Job::Encode)) => run_encode(rt),

@@ -14,6 +14,7 @@ mod judge_text;
 mod progress;
 mod random_job;
 mod stream_job;
+mod summary_job;
 mod write_job;
 
 use jobs::{COMMAND_LINE, DEVICE, run};
