@@ -2,10 +2,12 @@
 
 use crate::conform_job::Comparison;
 use crate::draw_job::{Drawing, draw_command, drawing_of};
+use crate::encode_job::encode_command;
 use crate::explain_job::{Explanation, explain_command, explanation_of};
 use crate::hunt_job::{Search, search_of};
 use crate::random_job::{actions, agents, ask_of, kind, random_command};
 use crate::stream_job::stream_flag;
+use crate::summary_job::summary_flag;
 use crate::write_job::write_command;
 use clap::{Arg, ArgAction, ArgMatches, Command, Error};
 use serf_conform::Rules;
@@ -19,8 +21,12 @@ pub enum Job<'a> {
     Replay(Option<&'a str>),
     /// Does the lines of a file, or of standard input, one after another, and writes each one's turn.
     Stream(Option<&'a str>),
+    /// Runs the schedule of a file, or of standard input, and writes its summary.
+    Summary(Option<&'a str>),
     /// Prints the message that bytes in hex spell; without them, of each line of standard input.
     Decode(Option<&'a str>),
+    /// Writes the canonical packet of each message on standard input.
+    Encode,
     /// Prints the clocks that the snapshot in a file keeps.
     Clocks(&'a str),
     /// Writes a random schedule; `None` where the words name no kind.
@@ -66,7 +72,9 @@ fn replay_command<'a>(alloc: Global) -> Result<Command<'a>, AllocError> {
     let help = "The schedule; standard input where it is left out or `-`";
     let about = "Runs a schedule and writes its trace";
     let file = place(alloc, "FILE", help);
-    job_command(alloc, "replay", about, EXAMPLE, file)?.arg(stream_flag(alloc))
+    job_command(alloc, "replay", about, EXAMPLE, file)?
+        .arg(stream_flag(alloc).conflicts_with("summary")?)?
+        .arg(summary_flag(alloc))
 }
 
 fn decode_command<'a>(alloc: Global) -> Result<Command<'a>, AllocError> {
@@ -148,6 +156,7 @@ fn whole_command<'a>(alloc: Global) -> Result<Command<'a>, AllocError> {
     let program = bare_command(alloc)?;
     let program = with_job(program, replay_command(alloc))?;
     let program = with_job(program, decode_command(alloc))?;
+    let program = with_job(program, encode_command(alloc))?;
     let program = with_job(program, clocks_command(alloc))?;
     let program = with_job(program, random_command(alloc))?;
     let program = with_job(program, judge_command(alloc))?;
@@ -195,8 +204,10 @@ fn job_of<'a>(alloc: Global, matches: &ArgMatches<'a>) -> Result<Option<Job<'a>>
     };
     Ok(match name {
         "replay" if inner.get_flag("stream") => Some(Job::Stream(inner.get_str("FILE"))),
+        "replay" if inner.get_flag("summary") => Some(Job::Summary(inner.get_str("FILE"))),
         "replay" => Some(Job::Replay(inner.get_str("FILE"))),
         "decode" => Some(Job::Decode(inner.get_str("HEX"))),
+        "encode" => Some(Job::Encode),
         "clocks" => inner.get_str("FILE").map(|file| Job::Clocks(file)),
         "random" => Some(Job::Random(ask_of(inner))),
         "conform" => conform_of(inner),

@@ -4,11 +4,13 @@ use crate::command::{Job, job_in};
 use crate::conform_job::{Comparison, conform};
 use crate::decode_lines_job::run_decode_lines;
 use crate::draw_job::run_draw;
+use crate::encode_job::run_encode;
 use crate::explain_job::run_explain;
 use crate::hunt_job::run_hunt;
 use crate::judge_job::run_judge;
 use crate::progress::Progress;
 use crate::stream_job::run_stream;
+use crate::summary_job::run_summary;
 use crate::write_job::run_write;
 use clap::Error;
 use clap::error::ErrorKind;
@@ -198,8 +200,10 @@ pub fn run<F: Files, R: Clock + Input + Print + Eprint + AllocGlobal>(
     match job_in(rt.alloc(), words) {
         Ok(Some(Job::Replay(file))) => run_replay(files, rt, is_terminal, file),
         Ok(Some(Job::Stream(file))) => run_stream(files, rt, file),
+        Ok(Some(Job::Summary(file))) => run_summary(files, rt, is_terminal, file),
         Ok(Some(Job::Decode(Some(text)))) => run_decode(rt, text),
         Ok(Some(Job::Decode(None))) => run_decode_lines(rt),
+        Ok(Some(Job::Encode)) => run_encode(rt),
         Ok(Some(Job::Clocks(file))) => run_clocks(files, rt, file),
         Ok(Some(Job::Random(ask))) => run_random(rt, ask),
         Ok(Some(Job::Write(file))) => run_write(files, rt, file),

@@ -2,6 +2,7 @@
 
 use serf_fired::first_unfired;
 use serf_judge::{EventEntry, Log, QueryEntry, first_above, first_event_twice, first_query_twice};
+use serf_later::{LaterFault, first_not_later};
 use std::alloc::{AllocError, Global};
 
 /// The verdicts so far, a line each, and whether a promise is broken.
@@ -152,11 +153,56 @@ impl Verdicts {
         self.put_holds("Fired")
     }
 
+    /// Appends which line fires no later than which, and the node.
+    fn put_not_later(
+        &mut self,
+        alloc: Global,
+        firing: &EventEntry,
+        event: &EventEntry,
+    ) -> Result<(), AllocError> {
+        self.is_broken = true;
+        let (line, time) = (firing.line, firing.time);
+        let (earlier, handed) = (event.line, event.time);
+        let text = format!(in alloc;
+            "Later: line {line} fires at {time}, and line {earlier} was handed out at {handed}: "
+        )?;
+        self.text.extend_from_slice(text.as_bytes())?;
+        self.text.extend_from_slice(firing.node.as_slice())?;
+        self.put_event(alloc, firing)
+    }
+
+    /// Whether each node fired only later than what it was handed on lines above, where the log tells of firings.
+    fn judge_later(
+        &mut self,
+        alloc: Global,
+        fired: &[EventEntry],
+        events: &[EventEntry],
+    ) -> Result<(), AllocError> {
+        if fired.is_empty() {
+            return self
+                .text
+                .extend_from_slice(b"Later: not asked: no fired lines\n");
+        }
+        let found = match first_not_later(alloc, fired, events) {
+            Ok(found) => found,
+            // A log's entries stand in the order of their lines.
+            Err(LaterFault::OutOfOrder | LaterFault::OutOfMemory) => return Err(AllocError),
+        };
+        if let Some((place, earlier)) = found
+            && let Some(firing) = fired.get(place)
+            && let Some(event) = events.get(earlier)
+        {
+            return self.put_not_later(alloc, firing, event);
+        }
+        self.put_holds("Later")
+    }
+
     /// Judges a log.
     pub fn judge(&mut self, alloc: Global, log: &Log) -> Result<(), AllocError> {
         self.judge_events(alloc, log.events.as_slice())?;
         self.judge_queries(alloc, log.queries.as_slice())?;
-        self.judge_fired(alloc, log.fired.as_slice(), log.events.as_slice())
+        self.judge_fired(alloc, log.fired.as_slice(), log.events.as_slice())?;
+        self.judge_later(alloc, log.fired.as_slice(), log.events.as_slice())
     }
 
     /// Judges what a node's snapshot leaves open, by the event clock that it keeps.

@@ -5,6 +5,7 @@ mod command;
 mod conform_job;
 mod decode_lines_job;
 mod draw_job;
+mod encode_job;
 mod explain_job;
 mod hunt_job;
 mod jobs;
@@ -13,6 +14,7 @@ mod judge_text;
 mod progress;
 mod random_job;
 mod stream_job;
+mod summary_job;
 mod write_job;
 
 use jobs::{COMMAND_LINE, DEVICE, run};

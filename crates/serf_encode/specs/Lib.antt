@@ -1,0 +1,5 @@
+pub mod Rows
+pub mod Meant
+pub mod States
+pub mod Encoded
+pub mod Blocks

@@ -1,0 +1,12 @@
+//! Packets from texts: what `decode_text` writes of a message in, its canonical packet out.
+#![tactic(auto)]
+
+mod blocks;
+mod encoding;
+mod meant;
+mod packets;
+mod row;
+mod slots;
+
+pub use blocks::{Blocks, NeverBad, encode_blocks};
+pub use encoding::{EncodeTextFault, encode_text};
