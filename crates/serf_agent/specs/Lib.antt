@@ -21,3 +21,4 @@ pub mod Merging
 pub mod Defaults
 pub mod LentQueries
 pub mod Laws
+pub mod Snapshots

@@ -23,6 +23,7 @@ use crate::agent::Agent;
 use crate::answer::Answer;
 use crate::flags::{ACK, NO_BROADCAST, has_flag};
 use crate::handed::{HandedQuery, ack_of};
+use crate::laws::sound_snapshots;
 use crate::outcome::{LineFault, Outcome, Reason, ReceiveFault};
 use serf_lamport::Time;
 use serf_snap::{ClockKind, NoteFault, Sink};
@@ -108,6 +109,7 @@ impl<S: Sink> Agent<S> {
         ensures refused { OnErr result (result ≢ Err ReceiveFault.SinkFault → self.new ≡ self.old) }
         ensures cause { IsErrOf result ReceiveFault.SinkFault → HasFailed self.old.device.failures self.new.device.failures }
     {
+        sound_snapshots();
         match self.query_admission(query.time, query.id) {
             Some(reason) => {
                 self.queries.observe(query.time);
