@@ -1,9 +1,8 @@
 """Imports of another crate's lemmas: a proof stands on what the crates below promise, and on nothing of their proofs.
 
 Each `use` of a lemma module of another crate of the repository, in a crate's proofs, specs or sources, and each
-`using(..)` of one, is printed. Lemmas of the toolchain's own libraries are left out: these come with it, and change with
-it alone. Those of OPEN stand on another crate's lemmas still; any other import fails its crate, and so does one of OPEN
-that is gone.
+`using(..)` of one, is printed, and fails its crate. Lemmas of the toolchain's own libraries are left out: these come
+with it, and change with it alone.
 """
 
 import os
@@ -15,13 +14,6 @@ CRATES = os.path.join(TOP, "crates")
 
 USE = re.compile(r"\buse Rattle\.(\w+)\.proofs\.?([\w.+-]*)\.\{([^}]*)\}|\buse Rattle\.(\w+)\.proofs\.?([\w.+-]*)")
 USING = re.compile(r"\busing\((\w+)::proofs::([\w:]+)\)")
-
-# What isn't closed yet: by crate, the file, and the crate and the module of the lemmas.
-OPEN = {
-    "serf_agent": (
-        ("proofs/SoundLaws.antt", "serf_snap", "NoteLaws"),
-    ),
-}
 
 
 def imports_of(crate):
@@ -46,15 +38,10 @@ def named_in(text):
 def main():
     passed = failed = 0
     for crate in sorted(os.listdir(CRATES)):
-        found, known = imports_of(crate), set(OPEN.get(crate, ()))
+        found = imports_of(crate)
         for file, other, module in sorted(found):
-            print(f"{'open' if (file, other, module) in known else 'NEW'}: {crate}/{file} imports {other}'s {module}")
-        for file, other, module in sorted(known - found):
-            print(f"GONE: {crate}/{file} imports {other}'s {module} no longer: take it off the list")
-        if found == known:
-            passed += 1
-        else:
-            failed += 1
+            print(f"FAILED {crate}/{file} imports {other}'s {module}")
+        passed, failed = passed + (not found), failed + bool(found)
     print(f"{passed} passed, {failed} failed")
     return 1 if failed else 0
 

@@ -2,6 +2,7 @@
 use Rattle.serf_agent.proofs.Names.{◌≡◌, ◌≢◌, ℕ, ◌-◌, ◌^◌, ◌<◌, ◌≤◌, ◌++◌, ◌∷◌, [], nat_le, cond, Bool, true, false, List, Option, Some, None, Result, Ok, Err, map, refl, sym, ap, subst, ◌∙◌, append-nil, arith, All, AllPairs, leb-false, All-nil, All-pop, All-push, All-weaker, all_pairs_push, WireFault, EventBody, decoded, Message, Query, QueryResponse, user_event, query, query_response, push_pull, foreign, InRange, event_of, TimedEntry, ClockKind, last_clock, Device, Writing, Kept, Failed, opened}
 use Rattle.serf_wire.specs.Laws.{DecodesInRange}
 use Rattle.serf_snap.specs.declared.kind.ClockKind.TheVariants as kinds
+use Rattle.serf_agent.specs.Snapshots.{SnapshotLaws}
 use Rattle.serf_agent.specs.declared.config.Config.{Config}
 use Rattle.serf_agent.specs.declared.open_query.OpenQuery.{OpenQuery}
 use Rattle.serf_agent.specs.declared.outcome.Fired.{Fired}
@@ -32,12 +33,13 @@ use Rattle.serf_agent.proofs.TrackLaws.{later-fresh}
 
 -- ---- what the crates below promise
 
--- each clock of a text is a time, no bytes behind a text lower its clocks, and each number of a message that was decoded
--- has its type's size
+-- each clock of a text is a time, no bytes behind a text lower its clocks, each number of a message that was decoded has
+-- its type's size, and snapshots stay sound
 pub record Below : Type 0 where
   pub times : (k : ClockKind) (text : List ℕ) → last_clock k text < 2 ^ 64 - 1
   pub grows : (k : ClockKind) (front tail : List ℕ) → last_clock k front ≤ last_clock k (front ++ tail)
   pub ranged : DecodesInRange
+  pub snapshots : SnapshotLaws
 
 -- ---- a history, and what of it was handed out
 
@@ -82,13 +84,13 @@ pub record Moves (i j : IdealAgent) (events : List (TimedEntry EventBody)) (quer
 still : (i j : IdealAgent) → IsSound j → j.events.history ≡ i.events.history → j.queries.history ≡ i.queries.history → Moves i j [] []
 still i j sound e q = record { sound = sound; events_grow = stays e refl; queries_grow = stays q refl }
 
-moves-received : (i : IdealAgent) (t : ℕ) (what : EventBody) (flag : Bool) (w : Writing) (r : Option Reason) → IsSound i → i.snapshot.stopped ≡ false → t < 2 ^ 64 - 1 → admission i t what ≡ r → MayEnd i (received_as r i t what flag) w
+moves-received : SnapshotLaws → (i : IdealAgent) (t : ℕ) (what : EventBody) (flag : Bool) (w : Writing) (r : Option Reason) → IsSound i → i.snapshot.stopped ≡ false → t < 2 ^ 64 - 1 → admission i t what ≡ r → MayEnd i (received_as r i t what flag) w
     → Moves i (ended i (received_as r i t what flag) w).agent (map event_entry (handed_by (ended i (received_as r i t what flag) w).answer)) []
-moves-received i t what flag w (Some reason) s runs small is may = still i (event_observed t i) (sound-event_observed t i s) refl refl
-moves-received i t what flag Kept None s runs small is may =
+moves-received snapshots i t what flag w (Some reason) s runs small is may = still i (event_observed t i) (sound-event_observed t i s) refl refl
+moves-received snapshots i t what flag Kept None s runs small is may =
     let new = admission-new i t what is in
-    record { sound = sound-event_entered t what i s runs small new.0 new.1; events_grow = enters (record { life = i.life; entry = record { time = t; key = what } }) refl refl new.1; queries_grow = stays refl refl }
-moves-received i t what flag (Failed durable) None s runs small is may = still i _ (sound-note_failed kinds.Event t durable i s may) refl refl
+    record { sound = sound-event_entered snapshots t what i s runs small new.0 new.1; events_grow = enters (record { life = i.life; entry = record { time = t; key = what } }) refl refl new.1; queries_grow = stays refl refl }
+moves-received snapshots i t what flag (Failed durable) None s runs small is may = still i _ (sound-note_failed snapshots kinds.Event t durable i s may) refl refl
 
 no-queries : (i : IdealAgent) (t : ℕ) (what : EventBody) (flag : Bool) (w : Writing) (r : Option Reason) → got_entries (ended i (received_as r i t what flag) w).answer ≡ []
 no-queries i t what flag w (Some reason) = refl
@@ -100,17 +102,17 @@ passes-grow : (old : List (Past ℕ)) (p : Past ℕ) (h : Handed) (b : Bool) →
 passes-grow old p h true is fresh = enters p refl (ap (λ (e : TimedEntry ℕ). e ∷ []) is) fresh
 passes-grow old p h false is fresh = hides p refl refl
 
-moves-query_received : (i : IdealAgent) (now : ℕ) (q : Query) (w : Writing) (r : Option Reason) → IsSound i → i.snapshot.stopped ≡ false → q.time < 2 ^ 64 - 1 → query_admission i q.time q.id ≡ r → MayEnd i (query_received_as r i now q) w
+moves-query_received : SnapshotLaws → (i : IdealAgent) (now : ℕ) (q : Query) (w : Writing) (r : Option Reason) → IsSound i → i.snapshot.stopped ≡ false → q.time < 2 ^ 64 - 1 → query_admission i q.time q.id ≡ r → MayEnd i (query_received_as r i now q) w
     → Moves i (ended i (query_received_as r i now q) w).agent (map event_entry (handed_by (ended i (query_received_as r i now q) w).answer)) (got_entries (ended i (query_received_as r i now q) w).answer)
-moves-query_received i now q w (Some reason) s runs small is may = still i (query_observed q.time i) (sound-query_observed q.time i s) refl refl
-moves-query_received i now q Kept None s runs small is may =
+moves-query_received snapshots i now q w (Some reason) s runs small is may = still i (query_observed q.time i) (sound-query_observed q.time i s) refl refl
+moves-query_received snapshots i now q Kept None s runs small is may =
     let new = query_admission-new i q.time q.id is in
     record {
-      sound = sound-query_entered q.time q.id i s runs small new;
+      sound = sound-query_entered snapshots q.time q.id i s runs small new;
       events_grow = stays refl refl;
       queries_grow = passes-grow i.queries.history (record { life = i.life; entry = record { time = q.time; key = q.id } }) (handed_query i.config.name now q) (all_pass q.filters i.config.name) refl new;
     }
-moves-query_received i now q (Failed durable) None s runs small is may = still i _ (sound-note_failed kinds.Query q.time durable i s may) refl refl
+moves-query_received snapshots i now q (Failed durable) None s runs small is may = still i _ (sound-note_failed snapshots kinds.Query q.time durable i s may) refl refl
 
 -- an answer that is counted hands nothing out
 ack-no-events : (b : Bool) → map event_entry (handed_by (Ok (cond b outcomes.Ack outcomes.Response))) ≡ []
@@ -136,20 +138,20 @@ moves-response i now r w (Some q) s at = by (answer_ignore_reason now r q) refl
     by (Some reason) is = still i i s refl refl
     by None is = full (is_full i.config.responders r q) is
 
-moves-message : (i : IdealAgent) (now : ℕ) (m : Message) (w : Writing) → IsSound i → i.snapshot.stopped ≡ false → InRange m → MayEnd i (receive_message i now m) w
+moves-message : SnapshotLaws → (i : IdealAgent) (now : ℕ) (m : Message) (w : Writing) → IsSound i → i.snapshot.stopped ≡ false → InRange m → MayEnd i (receive_message i now m) w
     → Moves i (ended i (receive_message i now m) w).agent (map event_entry (handed_by (ended i (receive_message i now m) w).answer)) (got_entries (ended i (receive_message i now m) w).answer)
-moves-message i now (user_event e) w s runs ranged may =
+moves-message snapshots i now (user_event e) w s runs ranged may =
     let what = event_of e.name e.payload in
     subst (λ (l : List (TimedEntry ℕ)). Moves i (ended i (receive_message i now (user_event e)) w).agent (map event_entry (handed_by (ended i (receive_message i now (user_event e)) w).answer)) l) (sym (no-queries i e.time what e.coalesce w (admission i e.time what)))
-    (moves-received i e.time what e.coalesce w (admission i e.time what) s runs ranged refl may)
-moves-message i now (query q) w s runs ranged may = moves-query_received i now q w (query_admission i q.time q.id) s runs ranged.time refl may
-moves-message i now (query_response r) w s runs ranged may = moves-response i now r w (asked_at r.time i.asked) s refl
-moves-message i now (push_pull m) w s runs ranged may = still i i s refl refl
-moves-message i now (foreign kind) w s runs ranged may = still i i s refl refl
+    (moves-received snapshots i e.time what e.coalesce w (admission i e.time what) s runs ranged refl may)
+moves-message snapshots i now (query q) w s runs ranged may = moves-query_received snapshots i now q w (query_admission i q.time q.id) s runs ranged.time refl may
+moves-message snapshots i now (query_response r) w s runs ranged may = moves-response i now r w (asked_at r.time i.asked) s refl
+moves-message snapshots i now (push_pull m) w s runs ranged may = still i i s refl refl
+moves-message snapshots i now (foreign kind) w s runs ranged may = still i i s refl refl
 
 moves-read : Below → (i : IdealAgent) (now : ℕ) (packet : List ℕ) (r : Result Message WireFault) (w : Writing) → IsSound i → i.snapshot.stopped ≡ false → decoded packet ≡ r → MayEnd i (receive_read i now r) w
     → Moves i (ended i (receive_read i now r) w).agent (map event_entry (handed_by (ended i (receive_read i now r) w).answer)) (got_entries (ended i (receive_read i now r) w).answer)
-moves-read laws i now packet (Ok m) w s runs is may = moves-message i now m w s runs (laws.ranged packet m is) may
+moves-read laws i now packet (Ok m) w s runs is may = moves-message laws.snapshots i now m w s runs (laws.ranged packet m is) may
 moves-read laws i now packet (Err fault) w s runs is may = still i i s refl refl
 
 moves-got : Below → (i : IdealAgent) (now : ℕ) (packet : List ℕ) (w : Writing) → IsSound i → MayAct i (Gets now packet w) → Moves i (after i (Gets now packet w)) (events_out i (Gets now packet w)) (queries_out i (Gets now packet w))
@@ -166,10 +168,10 @@ none-if : {X : Type 0} (b : Bool) (x : X) (r : Option X) → cond b (Some x) r �
 none-if true x r e = absurd (cc e)
 none-if false x r e = (refl, e)
 
-moves-fired : (i : IdealAgent) (what : EventBody) (flag : Bool) (w : Writing) (r : Option FireFault) → IsSound i → fire_fault i what flag ≡ r → MayEnd i (fired_as r i what flag) w
+moves-fired : SnapshotLaws → (i : IdealAgent) (what : EventBody) (flag : Bool) (w : Writing) (r : Option FireFault) → IsSound i → fire_fault i what flag ≡ r → MayEnd i (fired_as r i what flag) w
     → Moves i (ended i (fired_as r i what flag) w).agent (fired_entries (ended i (fired_as r i what flag) w).answer) []
-moves-fired i what flag w (Some fault) s is may = still i i s refl refl
-moves-fired i what flag Kept None s is may =
+moves-fired snapshots i what flag w (Some fault) s is may = still i i s refl refl
+moves-fired snapshots i what flag Kept None s is may =
     let large = is_too_large i.config.event_limit (drawn i.events.clock) what flag in
     let spent = nat_le (2 ^ 64 - 1) i.events.clock in
     let a = none-if i.snapshot.stopped fires.Stopped (cond large (Some fires.TooLarge) (cond spent (Some fires.Exhausted) None)) is in
@@ -177,11 +179,11 @@ moves-fired i what flag Kept None s is may =
     let c = none-if spent fires.Exhausted None b.1 in
     let fresh = later-fresh i.events.history i.events.clock what s.events.below_clock in
     record {
-      sound = sound-event_entered i.events.clock what i s a.0 (leb-false (2 ^ 64 - 1) i.events.clock c.0) (small-short i (drawn i.events.clock) what flag s b.0) fresh;
+      sound = sound-event_entered snapshots i.events.clock what i s a.0 (leb-false (2 ^ 64 - 1) i.events.clock c.0) (small-short i (drawn i.events.clock) what flag s b.0) fresh;
       events_grow = enters (record { life = i.life; entry = record { time = i.events.clock; key = what } }) refl refl fresh;
       queries_grow = stays refl refl;
     }
-moves-fired i what flag (Failed durable) None s is may = still i _ (sound-note_failed kinds.Event i.events.clock durable i s may) refl refl
+moves-fired snapshots i what flag (Failed durable) None s is may = still i _ (sound-note_failed snapshots kinds.Event i.events.clock durable i s may) refl refl
 
 -- the time of what was fired, or another
 abbrev fired_time : ℕ → Result Fired FireFault → ℕ
@@ -193,10 +195,10 @@ fired-at i what flag w (Some fault) f is = sym (ap (fired_time i.events.clock) i
 fired-at i what flag Kept None f is = sym (ap (fired_time i.events.clock) is)
 fired-at i what flag (Failed durable) None f is = sym (ap (fired_time i.events.clock) is)
 
-moves-query_fired : (i : IdealAgent) (now id : ℕ) (name payload : List ℕ) (params : QueryParams) (w : Writing) (r : Option QueryFault) → IsSound i → query_fault i id name payload params ≡ r → (let q = query_at i.queries.clock i.config.name id name payload params in MayEnd i (query_fired_as r i now q) w
+moves-query_fired : SnapshotLaws → (i : IdealAgent) (now id : ℕ) (name payload : List ℕ) (params : QueryParams) (w : Writing) (r : Option QueryFault) → IsSound i → query_fault i id name payload params ≡ r → (let q = query_at i.queries.clock i.config.name id name payload params in MayEnd i (query_fired_as r i now q) w
     → Moves i (ended i (query_fired_as r i now q) w).agent [] (asked_entries (ended i (query_fired_as r i now q) w).answer))
-moves-query_fired i now id name payload params w (Some fault) s is may = still i i s refl refl
-moves-query_fired i now id name payload params Kept None s is may =
+moves-query_fired snapshots i now id name payload params w (Some fault) s is may = still i i s refl refl
+moves-query_fired snapshots i now id name payload params Kept None s is may =
     let q = query_at i.queries.clock i.config.name id name payload params in
     let large = is_too_large_query i.config.name i.queries.clock id name payload params in
     let none = is_no_timeout params.timeout in
@@ -206,11 +208,11 @@ moves-query_fired i now id name payload params Kept None s is may =
     let c = none-if none asks_faults.ZeroTimeout (cond spent (Some asks_faults.Exhausted) None) b.1 in
     let d = none-if spent asks_faults.Exhausted None c.1 in
     record {
-      sound = sound-query_asked now q i s a.0 refl (leb-false (2 ^ 64 - 1) i.queries.clock d.0);
+      sound = sound-query_asked snapshots now q i s a.0 refl (leb-false (2 ^ 64 - 1) i.queries.clock d.0);
       events_grow = stays refl refl;
       queries_grow = passes-grow i.queries.history (record { life = i.life; entry = record { time = i.queries.clock; key = id } }) (handed_query i.config.name now q) (all_pass q.filters i.config.name) refl (later-fresh i.queries.history i.queries.clock id s.queries.below_clock);
     }
-moves-query_fired i now id name payload params (Failed durable) None s is may = still i _ (sound-note_failed kinds.Query i.queries.clock durable i s may) refl refl
+moves-query_fired snapshots i now id name payload params (Failed durable) None s is may = still i _ (sound-note_failed snapshots kinds.Query i.queries.clock durable i s may) refl refl
 
 abbrev asked_time : ℕ → Result FiredQuery QueryFault → ℕ
 asked_time t (Ok f) = f.time
@@ -223,23 +225,23 @@ asked-at-clock i now id name payload params (Failed durable) None f is = sym (ap
 
 -- ---- lines, closings and openings
 
-moves-saved : (i : IdealAgent) (w : Writing) → IsSound i → MayAct i (Saves w) → Moves i (after i (Saves w)) [] []
-moves-saved i w s may = by i.snapshot.stopped refl w may
+moves-saved : SnapshotLaws → (i : IdealAgent) (w : Writing) → IsSound i → MayAct i (Saves w) → Moves i (after i (Saves w)) [] []
+moves-saved snapshots i w s may = by i.snapshot.stopped refl w may
   where
     by : (b : Bool) → i.snapshot.stopped ≡ b → (w : Writing) → MayEnd i (saves_so i b) w
         → Moves i (ended i (saves_so i b) w).agent [] []
     by true is w m = still i i s refl refl
-    by false is Kept m = still i _ (sound-saved (i.member_clock - 1) i s is (omega (arith, s.member_clock))) refl refl
-    by false is (Failed durable) m = still i _ (sound-note_failed kinds.Member (i.member_clock - 1) durable i s m) refl refl
+    by false is Kept m = still i _ (sound-saved snapshots (i.member_clock - 1) i s is (omega (arith, s.member_clock))) refl refl
+    by false is (Failed durable) m = still i _ (sound-note_failed snapshots kinds.Member (i.member_clock - 1) durable i s m) refl refl
 
-moves-compacted : (i : IdealAgent) (w : Writing) → IsSound i → MayAct i (Compacts w) → Moves i (after i (Compacts w)) [] []
-moves-compacted i w s may = by i.snapshot.stopped refl w may
+moves-compacted : SnapshotLaws → (i : IdealAgent) (w : Writing) → IsSound i → MayAct i (Compacts w) → Moves i (after i (Compacts w)) [] []
+moves-compacted snapshots i w s may = by i.snapshot.stopped refl w may
   where
     by : (b : Bool) → i.snapshot.stopped ≡ b → (w : Writing) → MayEnd i (compacts_so i b) w
         → Moves i (ended i (compacts_so i b) w).agent [] []
     by true is w m = still i i s refl refl
-    by false is Kept m = still i _ (sound-compact Kept i s m) refl refl
-    by false is (Failed durable) m = still i _ (sound-compact (Failed durable) i s m) refl refl
+    by false is Kept m = still i _ (sound-compact snapshots Kept i s m) refl refl
+    by false is (Failed durable) m = still i _ (sound-compact snapshots (Failed durable) i s m) refl refl
 
 -- a text that has what was flushed has each time that was entered
 text-of-flushed : (i : IdealAgent) (text : List ℕ) → IsSound i → HasFlushed i text → IsInText i text
@@ -249,15 +251,15 @@ text-of-flushed i text s h = record {
 }
 
 moves : Below → (i : IdealAgent) (a : Act) → IsSound i → MayAct i a → Moves i (after i a) (events_out i a) (queries_out i a)
-moves laws i (Fires what flag w) s may = moves-fired i what flag w (fire_fault i what flag) s refl may
-moves laws i (Asks now id name payload params w) s may = moves-query_fired i now id name payload params w (query_fault i id name payload params) s refl may
+moves laws i (Fires what flag w) s may = moves-fired laws.snapshots i what flag w (fire_fault i what flag) s refl may
+moves laws i (Asks now id name payload params w) s may = moves-query_fired laws.snapshots i now id name payload params w (query_fault i id name payload params) s refl may
 moves laws i (Gets now packet w) s may = moves-got laws i now packet w s may
 moves laws i (Hears m is_join) s may = still i _ (sound-joined m is_join i s may) refl refl
-moves laws i (Takes e w) s may = moves-received i e.time e.key false w (admission i e.time e.key) s may.0 may.1 refl may.2
-moves laws i (Saves w) s may = moves-saved i w s may
-moves laws i (Compacts w) s may = moves-compacted i w s may
+moves laws i (Takes e w) s may = moves-received laws.snapshots i e.time e.key false w (admission i e.time e.key) s may.0 may.1 refl may.2
+moves laws i (Saves w) s may = moves-saved laws.snapshots i w s may
+moves laws i (Compacts w) s may = moves-compacted laws.snapshots i w s may
 moves laws i (Closes now) s may = still i _ (sound-closed now i s) refl refl
-moves laws i (Opens text d) s may = still i _ (sound-restarted i text d s (text-of-flushed i text s may) (laws.times kinds.Member text)) refl refl
+moves laws i (Opens text d) s may = still i _ (sound-restarted laws.snapshots i text d s (text-of-flushed i text s may) (laws.times kinds.Member text)) refl refl
 
 -- ---- lives
 
@@ -283,7 +285,7 @@ keeps-first : Below → (config : Config) (text : List ℕ) (d : Device) → is_
 keeps-first laws config text d ok =
     let i = unopened config (opened text d) in
     record {
-      sound = sound-restarted i text d (sound-unopened config text d ok (laws.times kinds.Member text)) (text-unopened config (opened text d) text) (laws.times kinds.Member text);
+      sound = sound-restarted laws.snapshots i text d (sound-unopened laws.snapshots config text d ok (laws.times kinds.Member text)) (text-unopened config (opened text d) text) (laws.times kinds.Member text);
       events_once = nothing-once;
       queries_once = nothing-once;
     }

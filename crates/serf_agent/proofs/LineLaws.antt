@@ -2,6 +2,7 @@
 use Rattle.serf_agent.proofs.Names.{◌≡◌, ◌≢◌, ◌↔◌, ℕ, ◌-◌, ◌^◌, ◌<◌, ◌≤◌, nat_le, inl, inr, Bool, true, false, cond, IsTrue, Result, Ok, Err, OnOk, IsErrOf, refl, sym, ap, subst, ◌∙◌, arith, cases_Bool, leb-false, leb-true, ClockKind, NoteFault, clock_line, Device, appended, flushed, replaced, SnapshotView, SnapshotState, Kept, Failed, last_line, noted, written, compacted, compaction_of, MayWrite, MayReplace}
 use Rattle.serf_snap.specs.declared.kind.ClockKind.TheVariants as kinds
 use Rattle.serf_snap.specs.declared.snapshot.NoteFault.TheVariants as notes
+use Rattle.serf_agent.specs.Snapshots.{SnapshotLaws}
 use Rattle.serf_agent.specs.Calls.{Call, Notes, Replaces, answers}
 use Rattle.serf_agent.specs.Devices.{FailsLine, FailsText, device_noted}
 use Rattle.serf_agent.specs.Ideal.{IdealAgent}
@@ -47,29 +48,29 @@ pub record IsNoted (t : ℕ) (old : SnapshotView) (device : Device) (new : Snaps
 abbrev pub saves_so : IdealAgent → Bool → Call (Result (Unit {0}) NoteFault)
 saves_so i b = cond b (answers i (Err notes.Stopped)) (Notes kinds.Member (i.member_clock - 1) (record { agent = i; answer = Ok tt }) (Err notes.SinkFault))
 
-pub steps-save : (i : IdealAgent) (t : ℕ) (old : Device) (new : SnapshotState) (r : Result (Unit {0}) NoteFault) → IsSound i → t ≡ i.member_clock - 1 → IsNoted t i.snapshot old new r → r ≢ Err notes.OutOfMemory → Steps i (save i) r old (agent_with new (view_of i))
-steps-save i t old new (Ok done) sound is n other =
+pub steps-save : SnapshotLaws → (i : IdealAgent) (t : ℕ) (old : Device) (new : SnapshotState) (r : Result (Unit {0}) NoteFault) → IsSound i → t ≡ i.member_clock - 1 → IsNoted t i.snapshot old new r → r ≢ Err notes.OutOfMemory → Steps i (save i) r old (agent_with new (view_of i))
+steps-save snapshots i t old new (Ok done) sound is n other =
     let runs = runs-by i.snapshot.stopped (Ok done) n.stopped (λ q. cc) in
     let small : i.member_clock - 1 < 2 ^ 64 - 1 = omega (arith, sound.member_clock) in
     let may = subst (λ (u : ℕ). i.snapshot.member_clock < u → MayWrite i.snapshot (clock_line kinds.Member u) Kept) is n.ok_allowed in
     let same = n.ok ∙ ap (λ (u : ℕ). noted kinds.Member u i.snapshot Kept) is in
     let device : new.device ≡ device_noted kinds.Member (i.member_clock - 1) i.snapshot old = device-noted kinds.Member t i.snapshot old new.device (n.none runs) n.ok_device ∙ ap (λ (u : ℕ). device_noted kinds.Member u i.snapshot old) is in
     let kept : Steps i (saves_so i false) (Ok done) old (agent_with new (view_of i)) =
-    steps-kept i kinds.Member (i.member_clock - 1) _ _ (Ok done) old _ (may-kept kinds.Member (i.member_clock - 1) i.snapshot may) refl (ap (λ (s : SnapshotView). concrete_with s (view_of i)) same) (sound-saved (i.member_clock - 1) i sound runs small) device in
+    steps-kept i kinds.Member (i.member_clock - 1) _ _ (Ok done) old _ (may-kept kinds.Member (i.member_clock - 1) i.snapshot may) refl (ap (λ (s : SnapshotView). concrete_with s (view_of i)) same) (sound-saved snapshots (i.member_clock - 1) i sound runs small) device in
     subst (λ (b : Bool). Steps i (saves_so i b) (Ok done) old (agent_with new (view_of i))) (sym runs) kept
-steps-save i t old new (Err notes.Stopped) sound is n other =
+steps-save snapshots i t old new (Err notes.Stopped) sound is n other =
     let stopped : i.snapshot.stopped ≡ true = n.stopped.0 refl in
     subst (λ (b : Bool). Steps i (saves_so i b) (Err notes.Stopped) old (agent_with new (view_of i))) (sym stopped)
     (steps-answers i (Err notes.Stopped) (Err notes.Stopped) old _ sound refl (ap (λ (s : SnapshotView). concrete_with s (view_of i)) (n.stays refl)) (n.stays_device refl))
-steps-save i t old new (Err notes.OutOfMemory) sound is n other = absurd (other refl)
-steps-save i t old new (Err notes.SinkFault) sound is n other =
+steps-save snapshots i t old new (Err notes.OutOfMemory) sound is n other = absurd (other refl)
+steps-save snapshots i t old new (Err notes.SinkFault) sound is n other =
     let runs = runs-by i.snapshot.stopped (Err notes.SinkFault) n.stopped (λ q. cc) in
     let above : i.snapshot.member_clock < i.member_clock - 1 = subst (λ (u : ℕ). i.snapshot.member_clock < u) is (n.fault_above refl) in
     let may = subst (λ (u : ℕ). MayWrite i.snapshot (clock_line kinds.Member u) (Failed new.snapshot.durable)) is (n.fault_allowed refl) in
     let same = n.fault refl ∙ ap (λ (u : ℕ). written kinds.Member u i.snapshot (Failed new.snapshot.durable)) is in
     let device = subst (λ (u : ℕ). FailsLine old new.device (clock_line kinds.Member u)) is (n.fault_device refl) in
     let failed : Steps i (saves_so i false) (Err notes.SinkFault) old (agent_with new (view_of i)) =
-    steps-failed i kinds.Member (i.member_clock - 1) _ _ (Err notes.SinkFault) old _ new.snapshot.durable sound (may-failed kinds.Member (i.member_clock - 1) i.snapshot new.snapshot.durable above may) refl (ap (λ (s : SnapshotView). concrete_with s (view_of i)) same) device in
+    steps-failed snapshots i kinds.Member (i.member_clock - 1) _ _ (Err notes.SinkFault) old _ new.snapshot.durable sound (may-failed kinds.Member (i.member_clock - 1) i.snapshot new.snapshot.durable above may) refl (ap (λ (s : SnapshotView). concrete_with s (view_of i)) same) device in
     subst (λ (b : Bool). Steps i (saves_so i b) (Err notes.SinkFault) old (agent_with new (view_of i))) (sym runs) failed
 
 -- what a compaction gives, over a device
@@ -87,20 +88,20 @@ pub record IsCompacted (old : SnapshotView) (device : Device) (new : SnapshotSta
 abbrev pub compacts_so : IdealAgent → Bool → Call (Result (Unit {0}) NoteFault)
 compacts_so i b = cond b (answers i (Err notes.Stopped)) (Replaces (record { agent = i; answer = Ok tt }) (Err notes.SinkFault))
 
-pub steps-compact : (i : IdealAgent) (old : Device) (new : SnapshotState) (r : Result (Unit {0}) NoteFault) → IsSound i → IsCompacted i.snapshot old new r → r ≢ Err notes.OutOfMemory → Steps i (compact i) r old (agent_with new (view_of i))
-steps-compact i old new (Ok done) sound n other =
+pub steps-compact : SnapshotLaws → (i : IdealAgent) (old : Device) (new : SnapshotState) (r : Result (Unit {0}) NoteFault) → IsSound i → IsCompacted i.snapshot old new r → r ≢ Err notes.OutOfMemory → Steps i (compact i) r old (agent_with new (view_of i))
+steps-compact snapshots i old new (Ok done) sound n other =
     let runs = runs-by i.snapshot.stopped (Ok done) n.stopped (λ q. cc) in
     let kept : Steps i (compacts_so i false) (Ok done) old (agent_with new (view_of i)) =
-    record { writing = Kept; allowed = n.ok_allowed; answers = refl; state = ap (λ (s : SnapshotView). concrete_with s (view_of i)) n.ok; sound = sound-compact Kept i sound n.ok_allowed; device = n.ok_device } in
+    record { writing = Kept; allowed = n.ok_allowed; answers = refl; state = ap (λ (s : SnapshotView). concrete_with s (view_of i)) n.ok; sound = sound-compact snapshots Kept i sound n.ok_allowed; device = n.ok_device } in
     subst (λ (b : Bool). Steps i (compacts_so i b) (Ok done) old (agent_with new (view_of i))) (sym runs) kept
-steps-compact i old new (Err notes.Stopped) sound n other =
+steps-compact snapshots i old new (Err notes.Stopped) sound n other =
     let stopped : i.snapshot.stopped ≡ true = n.stopped.0 refl in
     subst (λ (b : Bool). Steps i (compacts_so i b) (Err notes.Stopped) old (agent_with new (view_of i))) (sym stopped)
     (steps-answers i (Err notes.Stopped) (Err notes.Stopped) old _ sound refl (ap (λ (s : SnapshotView). concrete_with s (view_of i)) (n.stays refl)) (n.stays_device refl))
-steps-compact i old new (Err notes.OutOfMemory) sound n other = absurd (other refl)
-steps-compact i old new (Err notes.SinkFault) sound n other =
+steps-compact snapshots i old new (Err notes.OutOfMemory) sound n other = absurd (other refl)
+steps-compact snapshots i old new (Err notes.SinkFault) sound n other =
     let runs = runs-by i.snapshot.stopped (Err notes.SinkFault) n.stopped (λ q. cc) in
     let may = n.fault_allowed refl in
     let failed : Steps i (compacts_so i false) (Err notes.SinkFault) old (agent_with new (view_of i)) =
-    record { writing = Failed new.snapshot.durable; allowed = may; answers = refl; state = ap (λ (s : SnapshotView). concrete_with s (view_of i)) (n.fault refl); sound = sound-compact (Failed new.snapshot.durable) i sound may; device = n.fault_device refl } in
+    record { writing = Failed new.snapshot.durable; allowed = may; answers = refl; state = ap (λ (s : SnapshotView). concrete_with s (view_of i)) (n.fault refl); sound = sound-compact snapshots (Failed new.snapshot.durable) i sound may; device = n.fault_device refl } in
     subst (λ (b : Bool). Steps i (compacts_so i b) (Err notes.SinkFault) old (agent_with new (view_of i))) (sym runs) failed

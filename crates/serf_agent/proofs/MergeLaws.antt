@@ -1,6 +1,7 @@
 -- Events of a push/pull, one after another.
 use Rattle.serf_agent.proofs.Names.{◌≡◌, inl, inr, ℕ, ◌-◌, ◌^◌, ◌<◌, Bool, false, List, [], ◌∷◌, ◌++◌, Option, Some, None, Ok, Err, refl, sym, ap, subst, ◌∙◌, append_assoc, append-nil, EventBody, PushPull, push_pull, TimedEntry, Device, Kept, noted}
 use Rattle.serf_snap.specs.declared.kind.ClockKind.TheVariants as kinds
+use Rattle.serf_agent.specs.Snapshots.{SnapshotLaws}
 use Rattle.serf_agent.specs.declared.outcome.EventOut.{EventOut}
 use Rattle.serf_agent.specs.declared.outcome.MergeFault.{MergeFault}
 use Rattle.serf_agent.specs.declared.outcome.MergeFault.TheVariants as merges
@@ -75,13 +76,13 @@ goes-ignored i t what reason old new sound runs says state device =
     let e : TimedEntry EventBody = record { time = t; key = what } in
     goes-one i e old [] (event_observed t i) new (subst (λ (r : Option Reason). MayEnd i (received_as r i t what false) Kept) (sym says) refl) (delivered-is i e (Some reason) says) (after_event-is i e (Some reason) says) state (device ∙ sym (device-is i e old (Some reason) says)) (sound-event_observed t i sound) runs
 
-pub goes-entered : (i : IdealAgent) (t : ℕ) (what : EventBody) (old : Device) (new : AgentState) → IsSound i → i.snapshot.stopped ≡ false → t < 2 ^ 64 - 1 → admission i t what ≡ None → MayNote kinds.Event t i.snapshot Kept
+pub goes-entered : SnapshotLaws → (i : IdealAgent) (t : ℕ) (what : EventBody) (old : Device) (new : AgentState) → IsSound i → i.snapshot.stopped ≡ false → t < 2 ^ 64 - 1 → admission i t what ≡ None → MayNote kinds.Event t i.snapshot Kept
     → new.concrete ≡ view_of (with_snapshot (noted kinds.Event t i.snapshot Kept) (event_entered t what i)) → new.device ≡ device_noted kinds.Event t i.snapshot old → GoesOn i (record { time = t; key = what } ∷ []) old (event_out t what false ∷ []) new
-goes-entered i t what old new sound runs small says may state device =
+goes-entered snapshots i t what old new sound runs small says may state device =
     let e : TimedEntry EventBody = record { time = t; key = what } in
     let parts = admission-new i t what says in
     goes-one i e old (event_out t what false ∷ []) (with_snapshot (noted kinds.Event t i.snapshot Kept) (event_entered t what i)) new (subst (λ (r : Option Reason). MayEnd i (received_as r i t what false) Kept) (sym says) may) (delivered-is i e None says) (after_event-is i e None says) state
-    (device ∙ sym (device-is i e old None says)) (sound-event_entered t what i sound runs small parts.0 parts.1) (stopped-noted kinds.Event t i.snapshot ∙ runs)
+    (device ∙ sym (device-is i e old None says)) (sound-event_entered snapshots t what i sound runs small parts.0 parts.1) (stopped-noted kinds.Event t i.snapshot ∙ runs)
 
 pub wrong-memory : (i : IdealAgent) (t : ℕ) (what : EventBody) (old : Device) (new : AgentState) → IsSound i → admission i t what ≡ None → new.concrete ≡ view_of i → new.device ≡ old → GoesWrong i (record { time = t; key = what } ∷ []) old [] new merges.OutOfMemory
 wrong-memory i t what old new sound says state device = λ rest. inr (refl, (merges.OutOfMemory, refl, (subst (λ (r : Option Reason). AsksSink (received_as r i t what false)) (sym says) tt, state, device, sound)))

@@ -1,7 +1,7 @@
 -- Each change of a sound agent leaves a sound agent.
 use Rattle.serf_agent.proofs.Names.{◌≡◌, ◌≢◌, ℕ, ◌+◌, ◌-◌, ◌^◌, ◌<◌, ◌≤◌, ◌==◌, ◌&&◌, nat_lt, nat_le, nat_eq, max, not, cond, Bool, true, false, List, [], ◌∷◌, ◌++◌, length, filter, get_or, Option, Some, None, MatchBool, refl, sym, ◌∙◌, ap, subst, arith, ◌⊎◌, inl, inr, All, AllPairs, list_any, bytes_eq, cases_Bool, leb-true, leb-false, and_from, eq-eqb, true≢false, All-nil, All-push, All-weaker, All-filter, AllPairs-filter, all_pairs_push, bytes_eq-Decides, EventBody, PushPull, Query, QueryResponse, same_texts, same_id, ClockKind, clock_line, last_clock, Device, SnapshotView, Writing, Kept, Failed, last_line, noted, written, compacted, KeepsPart, KeepsEither, compaction_of, MayWrite, MayReplace, opened, ltb-false}
 use Rattle.serf_snap.specs.declared.kind.ClockKind.TheVariants as kinds
-use Rattle.serf_snap.proofs.NoteLaws.{sound-noted, sound-failed, sound-opened, sound-compacted, sound-compaction_failed}
+use Rattle.serf_agent.specs.Snapshots.{SnapshotLaws}
 use Rattle.serf_agent.specs.Calls.{MayNote}
 use Rattle.serf_agent.specs.Config.{is_sound}
 use Rattle.serf_agent.specs.declared.config.Config.{Config}
@@ -58,14 +58,14 @@ may-part kind s t durable may = by (nat_le t (last_line kind s)) may
     by false m = m.0
 
 -- the agent stopped by a failed note
-pub sound-note_failed : (kind : ClockKind) (t : ℕ) (durable : Option (List ℕ)) (i : IdealAgent) → IsSound i → MayNote kind t i.snapshot (Failed durable) → IsSound (with_snapshot (written kind t i.snapshot (Failed durable)) i)
-sound-note_failed kind t durable i s may = record {
+pub sound-note_failed : SnapshotLaws → (kind : ClockKind) (t : ℕ) (durable : Option (List ℕ)) (i : IdealAgent) → IsSound i → MayNote kind t i.snapshot (Failed durable) → IsSound (with_snapshot (written kind t i.snapshot (Failed durable)) i)
+sound-note_failed snapshots kind t durable i s may = record {
   config = s.config;
   member_clock = s.member_clock;
   events = s.events;
   queries = s.queries;
   short = s.short;
-  snapshot = sound-failed kind i.snapshot t (clock_line kind t) durable s.snapshot (may-part kind i.snapshot t durable may);
+  snapshot = snapshots.note_failed kind i.snapshot t (clock_line kind t) durable s.snapshot (may-part kind i.snapshot t durable may);
   asked_below = s.asked_below;
   asked_distinct = s.asked_distinct;
   asked_sound = s.asked_sound;
@@ -95,15 +95,15 @@ admission-new i t what new =
     let parts = none-from (nat_lt 9216 (texts_len what)) Oversize (track_reason same_texts i.config.event_buffer i.config.per_time i.life i.events t what) new in
     (ltb-false _ _ parts.0, unknown-fresh same_texts same_texts-refl i.events.history t what (no-reason same_texts i.config.event_buffer i.config.per_time i.life i.events t what parts.1))
 
-pub sound-event_entered : (t : ℕ) (what : EventBody) (i : IdealAgent) → IsSound i → i.snapshot.stopped ≡ false → t < 2 ^ 64 - 1 → texts_len what ≤ 9216 → All (λ p. p.entry ≢ record { time = t; key = what }) i.events.history
+pub sound-event_entered : SnapshotLaws → (t : ℕ) (what : EventBody) (i : IdealAgent) → IsSound i → i.snapshot.stopped ≡ false → t < 2 ^ 64 - 1 → texts_len what ≤ 9216 → All (λ p. p.entry ≢ record { time = t; key = what }) i.events.history
     → IsSound (with_snapshot (noted kinds.Event t i.snapshot Kept) (event_entered t what i))
-sound-event_entered t what i s runs small short fresh = record {
+sound-event_entered snapshots t what i s runs small short fresh = record {
   config = s.config;
   member_clock = s.member_clock;
   events = track-entered i.events i.life i.snapshot.event_clock (noted kinds.Event t i.snapshot Kept).event_clock t what s.events (omega (arith, event-noted t i.snapshot)) (omega (arith, event-noted t i.snapshot)) fresh;
   queries = subst (λ (n : ℕ). IsTrackSound i.queries i.life n) (sym (query-noted_event t i.snapshot)) s.queries;
   short = All-push (λ p. texts_len p.entry.key ≤ 9216) i.events.history (record { life = i.life; entry = record { time = t; key = what } }) s.short short;
-  snapshot = sound-noted kinds.Event i.snapshot t s.snapshot runs small;
+  snapshot = snapshots.noted kinds.Event i.snapshot t s.snapshot runs small;
   asked_below = s.asked_below;
   asked_distinct = s.asked_distinct;
   asked_sound = s.asked_sound;
@@ -127,15 +127,15 @@ sound-query_observed t i s = record {
 pub query_admission-new : (i : IdealAgent) (t id : ℕ) → query_admission i t id ≡ None → All (λ p. p.entry ≢ record { time = t; key = id }) i.queries.history
 query_admission-new i t id new = unknown-fresh same_id (λ x. eq-eqb x x refl) i.queries.history t id (no-reason same_id i.config.query_buffer i.config.per_time i.life i.queries t id new)
 
-pub sound-query_entered : (t id : ℕ) (i : IdealAgent) → IsSound i → i.snapshot.stopped ≡ false → t < 2 ^ 64 - 1 → All (λ p. p.entry ≢ record { time = t; key = id }) i.queries.history
+pub sound-query_entered : SnapshotLaws → (t id : ℕ) (i : IdealAgent) → IsSound i → i.snapshot.stopped ≡ false → t < 2 ^ 64 - 1 → All (λ p. p.entry ≢ record { time = t; key = id }) i.queries.history
     → IsSound (with_snapshot (noted kinds.Query t i.snapshot Kept) (query_entered t id i))
-sound-query_entered t id i s runs small fresh = record {
+sound-query_entered snapshots t id i s runs small fresh = record {
   config = s.config;
   member_clock = s.member_clock;
   events = subst (λ (n : ℕ). IsTrackSound i.events i.life n) (sym (event-noted_query t i.snapshot)) s.events;
   queries = track-entered i.queries i.life i.snapshot.query_clock (noted kinds.Query t i.snapshot Kept).query_clock t id s.queries (omega (arith, query-noted t i.snapshot)) (omega (arith, query-noted t i.snapshot)) fresh;
   short = s.short;
-  snapshot = sound-noted kinds.Query i.snapshot t s.snapshot runs small;
+  snapshot = snapshots.noted kinds.Query i.snapshot t s.snapshot runs small;
   asked_below = All-weaker (λ q. q.0 < i.queries.clock) (λ q. q.0 < max i.queries.clock (t + 1)) (λ q h. omega arith) i.asked s.asked_below;
   asked_distinct = s.asked_distinct;
   asked_sound = s.asked_sound;
@@ -145,11 +145,11 @@ no-pairs : {X : Type 0} (R : X → X → Type 0) → AllPairs R []
 no-pairs R i j d lt within = absurd (omega arith)
 
 -- a query of this agent's own enters at its clock's time, and is open
-pub sound-query_asked : (now : ℕ) (q : Query) (i : IdealAgent) → IsSound i → i.snapshot.stopped ≡ false → q.time ≡ i.queries.clock → q.time < 2 ^ 64 - 1
+pub sound-query_asked : SnapshotLaws → (now : ℕ) (q : Query) (i : IdealAgent) → IsSound i → i.snapshot.stopped ≡ false → q.time ≡ i.queries.clock → q.time < 2 ^ 64 - 1
     → IsSound (with_snapshot (noted kinds.Query q.time i.snapshot Kept) (query_asked now q i))
-sound-query_asked now q i s runs at small =
+sound-query_asked snapshots now q i s runs at small =
     let lower : All (λ p. p.entry.time < q.time) i.queries.history = subst (λ (t : ℕ). All (λ p. p.entry.time < t) i.queries.history) (sym at) s.queries.below_clock in
-    let e = sound-query_entered q.time q.id i s runs small (later-fresh i.queries.history q.time q.id lower) in
+    let e = sound-query_entered snapshots q.time q.id i s runs small (later-fresh i.queries.history q.time q.id lower) in
     let new : ℕ × OpenQuery = (q.time, opened_query now q) in
     record {
       config = e.config;
@@ -184,14 +184,14 @@ sound-joined m is_join i s small = record {
 
 -- ---- the member clock's line, and a compaction
 
-pub sound-saved : (t : ℕ) (i : IdealAgent) → IsSound i → i.snapshot.stopped ≡ false → t < 2 ^ 64 - 1 → IsSound (with_snapshot (noted kinds.Member t i.snapshot Kept) i)
-sound-saved t i s runs small = record {
+pub sound-saved : SnapshotLaws → (t : ℕ) (i : IdealAgent) → IsSound i → i.snapshot.stopped ≡ false → t < 2 ^ 64 - 1 → IsSound (with_snapshot (noted kinds.Member t i.snapshot Kept) i)
+sound-saved snapshots t i s runs small = record {
   config = s.config;
   member_clock = s.member_clock;
   events = subst (λ (n : ℕ). IsTrackSound i.events i.life n) (sym (event-noted_member t i.snapshot)) s.events;
   queries = subst (λ (n : ℕ). IsTrackSound i.queries i.life n) (sym (query-noted_member t i.snapshot)) s.queries;
   short = s.short;
-  snapshot = sound-noted kinds.Member i.snapshot t s.snapshot runs small;
+  snapshot = snapshots.noted kinds.Member i.snapshot t s.snapshot runs small;
   asked_below = s.asked_below;
   asked_distinct = s.asked_distinct;
   asked_sound = s.asked_sound;
@@ -200,37 +200,37 @@ sound-saved t i s runs small = record {
 may-either : (s : SnapshotView) (durable : Option (List ℕ)) → MayReplace s (Failed durable) → KeepsEither s.durable (compaction_of s) durable
 may-either s durable may = may.0
 
-pub sound-compact : (w : Writing) (i : IdealAgent) → IsSound i → MayReplace i.snapshot w → IsSound (with_snapshot (compacted i.snapshot w) i)
-sound-compact w i s may = by w may
+pub sound-compact : SnapshotLaws → (w : Writing) (i : IdealAgent) → IsSound i → MayReplace i.snapshot w → IsSound (with_snapshot (compacted i.snapshot w) i)
+sound-compact snapshots w i s may = by w may
   where
     by : (w : Writing) → MayReplace i.snapshot w → IsSound (with_snapshot (compacted i.snapshot w) i)
-    by Kept may = record { config = s.config; member_clock = s.member_clock; events = s.events; queries = s.queries; short = s.short; snapshot = sound-compacted i.snapshot s.snapshot; asked_below = s.asked_below; asked_distinct = s.asked_distinct; asked_sound = s.asked_sound }
-    by (Failed durable) may = record { config = s.config; member_clock = s.member_clock; events = s.events; queries = s.queries; short = s.short; snapshot = sound-compaction_failed i.snapshot durable s.snapshot may.0; asked_below = s.asked_below; asked_distinct = s.asked_distinct; asked_sound = s.asked_sound }
+    by Kept may = record { config = s.config; member_clock = s.member_clock; events = s.events; queries = s.queries; short = s.short; snapshot = snapshots.compacted i.snapshot s.snapshot; asked_below = s.asked_below; asked_distinct = s.asked_distinct; asked_sound = s.asked_sound }
+    by (Failed durable) may = record { config = s.config; member_clock = s.member_clock; events = s.events; queries = s.queries; short = s.short; snapshot = snapshots.compaction_failed i.snapshot durable s.snapshot may.0; asked_below = s.asked_below; asked_distinct = s.asked_distinct; asked_sound = s.asked_sound }
 
 -- ---- a new life
 
-pub sound-restarted : (i : IdealAgent) (text : List ℕ) (d : Device) → IsSound i → IsInText i text → (opened text d).member_clock < 2 ^ 64 - 1 → IsSound (restarted (opened text d) i)
-sound-restarted i text d s within small = record {
+pub sound-restarted : SnapshotLaws → (i : IdealAgent) (text : List ℕ) (d : Device) → IsSound i → IsInText i text → (opened text d).member_clock < 2 ^ 64 - 1 → IsSound (restarted (opened text d) i)
+sound-restarted snapshots i text d s within small = record {
   config = s.config;
   member_clock = omega arith;
   events = track-reopened i.events i.life i.snapshot.event_clock (opened text d).event_clock s.events within.events;
   queries = track-reopened i.queries i.life i.snapshot.query_clock (opened text d).query_clock s.queries within.queries;
   short = s.short;
-  snapshot = sound-opened text d;
+  snapshot = snapshots.opened text d;
   asked_below = All-nil (λ q. q.0 < (opened text d).query_clock + 1);
   asked_distinct = no-pairs (λ a b. a.0 ≢ b.0);
   asked_sound = All-nil (λ q. IsOpenQuerySound q.1);
 }
 
 -- an agent that has entered nothing
-pub sound-unopened : (config : Config) (text : List ℕ) (d : Device) → is_sound config ≡ true → (opened text d).member_clock < 2 ^ 64 - 1 → IsSound (unopened config (opened text d))
-sound-unopened config text d ok small = record {
+pub sound-unopened : SnapshotLaws → (config : Config) (text : List ℕ) (d : Device) → is_sound config ≡ true → (opened text d).member_clock < 2 ^ 64 - 1 → IsSound (unopened config (opened text d))
+sound-unopened snapshots config text d ok small = record {
   config = ok;
   member_clock = omega arith;
   events = none-sound ((opened text d).event_clock);
   queries = none-sound ((opened text d).query_clock);
   short = All-nil (λ p. texts_len p.entry.key ≤ 9216);
-  snapshot = sound-opened text d;
+  snapshot = snapshots.opened text d;
   asked_below = All-nil (λ q. q.0 < (opened text d).query_clock + 1);
   asked_distinct = no-pairs (λ a b. a.0 ≢ b.0);
   asked_sound = All-nil (λ q. IsOpenQuerySound q.1);

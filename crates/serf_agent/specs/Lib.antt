@@ -22,3 +22,4 @@ pub mod Merging
 pub mod Defaults
 pub mod LentQueries
 pub mod Laws
+pub mod Snapshots

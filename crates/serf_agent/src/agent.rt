@@ -15,6 +15,7 @@ ghost use Rattle.serf_agent.specs.View.{view_of};
 
 use crate::asked::Asked;
 use crate::config::Config;
+use crate::laws::sound_snapshots;
 use crate::outcome::{NotOpened, OpenFault};
 use crate::track::{EventTrack, QueryTrack};
 use serf_lamport::Clock;
@@ -110,6 +111,7 @@ impl<S: Sink> Agent<S> {
         ensures called { IfErr result (λ e. e.fault ≡ OpenFault.SinkFault → HasTriedNote (S.device sink).calls (S.device e.sink).calls) }
         ensures decremented { IfErr result (λ e. e.fault ≡ OpenFault.SinkFault → (S.device e.sink).plan ≡ option_map note_decremented (S.device sink).plan) }
     {
+        sound_snapshots();
         if !config.is_sound() {
             let fault = OpenFault::BadConfig;
             return Err(NotOpened {

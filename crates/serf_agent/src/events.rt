@@ -18,6 +18,7 @@ ghost use Rattle.serf_agent.specs.Steps.{Steps};
 ghost use Rattle.serf_agent.specs.View.{concrete_with, view_of};
 
 use crate::agent::Agent;
+use crate::laws::sound_snapshots;
 use crate::outcome::{EventOut, FireFault, Fired, LineFault, Outcome, Reason, ReceiveFault};
 use serf_lamport::Time;
 use serf_snap::{ClockKind, NoteFault, Sink};
@@ -101,6 +102,7 @@ impl<S: Sink> Agent<S> {
         ensures memory { IsErrOf result FireFault.OutOfMemory → self.new ≡ self.old }
         ensures cause { IsErrOf result FireFault.SinkFault → HasFailed self.old.device.failures self.new.device.failures }
     {
+        sound_snapshots();
         if self.snapshot.is_stopped() {
             return Err(FireFault::Stopped);
         }
@@ -152,6 +154,7 @@ impl<S: Sink> Agent<S> {
         ensures cause { IsErrOf result ReceiveFault.SinkFault → HasFailed self.old.device.failures self.new.device.failures }
         ensures no_answer { (result ≢ Ok Outcome.Ack) × (result ≢ Ok Outcome.Response) }
     {
+        sound_snapshots();
         match self.admission(time, name, payload) {
             Some(reason) => {
                 self.events.observe(time);

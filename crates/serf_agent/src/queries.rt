@@ -24,6 +24,7 @@ use crate::agent::Agent;
 use crate::answer::Answer;
 use crate::flags::{ACK, NO_BROADCAST, has_flag};
 use crate::handed::{HandedQuery, ack_of};
+use crate::laws::sound_snapshots;
 use crate::open_query::OpenQuery;
 use crate::outcome::{LineFault, Outcome, Reason, ReceiveFault};
 use serf_lamport::Time;
@@ -111,6 +112,7 @@ impl<S: Sink> Agent<S> {
         ensures cause { IsErrOf result ReceiveFault.SinkFault → HasFailed self.old.device.failures self.new.device.failures }
         ensures no_answer { (result ≢ Ok Outcome.Ack) × (result ≢ Ok Outcome.Response) }
     {
+        sound_snapshots();
         match self.query_admission(query.time, query.id) {
             Some(reason) => {
                 self.queries.observe(query.time);

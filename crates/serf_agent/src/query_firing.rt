@@ -21,6 +21,7 @@ use crate::agent::Agent;
 use crate::asked::Asked;
 use crate::flags::{ACK, flags_of, has_flag};
 use crate::handed::deadline_of;
+use crate::laws::sound_snapshots;
 use crate::lists::{BytesList, Responses};
 use crate::open_query::OpenQuery;
 use crate::outcome::{FiredQuery, LineFault, QueryFault, QueryParams};
@@ -200,6 +201,7 @@ impl<S: Sink> Agent<S> {
         ensures memory { IsErrOf result QueryFault.OutOfMemory → self.new ≡ self.old }
         ensures cause { IsErrOf result QueryFault.SinkFault → HasFailed self.old.device.failures self.new.device.failures }
     {
+        sound_snapshots();
         if self.snapshot.is_stopped() {
             return Err(QueryFault::Stopped);
         }

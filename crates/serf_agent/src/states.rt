@@ -23,6 +23,7 @@ ghost use Rattle.serf_agent.specs.Steps.{Steps};
 ghost use Rattle.serf_agent.specs.View.{view_of};
 
 use crate::agent::Agent;
+use crate::laws::sound_snapshots;
 use crate::outcome::{EventOut, LineFault, MergeFault, PushPullFault};
 use crate::push_pull::PushPull;
 use serf_lamport::Time;
@@ -123,6 +124,7 @@ impl<S: Sink> Agent<S> {
         ensures quiet { self.old.concrete.snapshot.stopped ≡ false → self.old.concrete.member_clock - 1 ≤ self.old.concrete.snapshot.member_clock → (result ≡ Ok tt) × (self.new ≡ self.old) }
         ensures cause { IsErrOf result NoteFault.SinkFault → HasFailed self.old.device.failures self.new.device.failures }
     {
+        sound_snapshots();
         let Some(time) = Time::new(self.member_clock.time().saturating_sub(1)) else {
             unreachable!()
         };
@@ -308,6 +310,7 @@ impl<S: Sink> Agent<S> {
         ensures calm { OnOk result (self.new.device.failures ≡ self.old.device.failures) }
         ensures cause { IsErrOf result MergeFault.SinkFault → HasFailed self.old.device.failures self.new.device.failures }
     {
+        sound_snapshots();
         if out.reserve(1).is_err() {
             return Err(MergeFault::OutOfMemory);
         }
@@ -340,6 +343,7 @@ impl<S: ReplaceSink> Agent<S> {
         ensures called { OnOk result (self.new.device.calls ≡ replace_called self.old.device.calls) }
         ensures fault_called { IsErrOf result NoteFault.SinkFault → self.new.device.calls ≡ replace_called self.old.device.calls }
     {
+        sound_snapshots();
         self.snapshot.compact(alloc)
     }
 }

@@ -3,17 +3,17 @@ use Rattle.serf_agent.proofs.laws.sound_steps.Goals as goal
 
 pub returns-clause-sound : goal.returns-clause-sound
 returns-clause-sound c = record {
-  fails_note = sound-note_failed;
+  fails_note = sound-note_failed c.sound_snapshots.ensures;
   observes_event = sound-event_observed;
-  enters_event = sound-event_entered;
+  enters_event = sound-event_entered c.sound_snapshots.ensures;
   observes_query = sound-query_observed;
-  enters_query = sound-query_entered;
-  asks_query = sound-query_asked;
+  enters_query = sound-query_entered c.sound_snapshots.ensures;
+  asks_query = sound-query_asked c.sound_snapshots.ensures;
   joins = sound-joined;
-  saves = sound-saved;
-  compacts = sound-compact;
-  restarts = sound-restarted;
-  begins = sound-unopened;
+  saves = sound-saved c.sound_snapshots.ensures;
+  compacts = sound-compact c.sound_snapshots.ensures;
+  restarts = sound-restarted c.sound_snapshots.ensures;
+  begins = sound-unopened c.sound_snapshots.ensures;
 }
 
 pub returns-clause-admits : goal.returns-clause-admits

@@ -24,7 +24,7 @@ returns-clause-step g c = λ i sound is other.
       stays = λ at. ap (λ (s : SnapshotState). s.snapshot) (e.stays at);
       stays_device = λ at. ap (λ (s : SnapshotState). s.device) (e.stays at);
     } in
-    let steps = steps-compact i c.self.inside.snapshot.device new r sound (subst (λ (s : SnapshotView). IsCompacted s c.self.inside.snapshot.device new r) snapshot n) other in
+    let steps = steps-compact c.sound_snapshots.ensures i c.self.inside.snapshot.device new r sound (subst (λ (s : SnapshotView). IsCompacted s c.self.inside.snapshot.device new r) snapshot n) other in
     subst (λ (d : Device). Steps i (compact i) r d (agent_with new (record { config = c.self.inside.config; member_clock = c.self.inside.member_clock; events = concrete_of c.self.inside.events; queries = concrete_of c.self.inside.queries; snapshot = c.self.inside.snapshot.snapshot; asked = c.self.inside.asked })))
     (ap (λ (a : AgentState). a.device) c.self.view_is)
     (subst (λ (s : ConcreteState). Steps i (compact i) r c.self.inside.snapshot.device (agent_with new s)) (sym was) steps)

@@ -24,7 +24,7 @@ returns-in-Ok-take_in-clause-step g c = λ i sound is _.
     let packet = c.in-Ok.ensures ∙ ap (λ (t : ℕ). event_packet t what c.args.coalesce) at in
     let handed = e.out ∙ ap (λ (t : ℕ). event_out t what c.args.coalesce) at in
     let device = e.device ∙ ap (λ (s : ConcreteState). device_noted kinds.Event c.in-Some.time s.snapshot c.args.self.now.device) is ∙ ap (λ (t : ℕ). device_noted kinds.Event t i.snapshot c.args.self.now.device) at in
-    steps-fire_entered i what c.args.coalesce _ c.args.self.now.device c.take_in.new.self sound runs time (small-short i (drawn i.events.clock) what c.args.coalesce sound small) (fire-allowed i what c.args.coalesce runs small time) may
+    steps-fire_entered c.sound_snapshots.ensures i what c.args.coalesce _ c.args.self.now.device c.take_in.new.self sound runs time (small-short i (drawn i.events.clock) what c.args.coalesce sound small) (fire-allowed i what c.args.coalesce runs small time) may
     (λ k. Ok record { packet = packet k; handed = handed k })
     (e.entered i is ∙ ap (λ (t : ℕ). view_of (with_snapshot (noted kinds.Event t i.snapshot Kept) (event_entered t what i))) at) device
 
@@ -43,7 +43,7 @@ returns-clause-step g c = λ i sound is _.
     let may = subst (λ (t : ℕ). MayNote kinds.Event t i.snapshot (Failed durable)) at (subst (λ (s : ConcreteState). MayNote kinds.Event c.in-Some.time s.snapshot (Failed durable)) is (e.fault_allowed err)) in
     let state = failed-view i c.args.self.now.concrete c.take_in.new.self.concrete kinds.Event c.in-Some.time durable is (e.failed err) in
     let device = subst (λ (t : ℕ). FailsLine c.args.self.now.device c.take_in.new.self.device (clock_line kinds.Event t)) at (e.fault_device err) in
-    steps-fire_failed i what c.args.coalesce durable _ c.args.self.now.device c.take_in.new.self sound (fire-allowed i what c.args.coalesce runs small time) may refl
+    steps-fire_failed c.sound_snapshots.ensures i what c.args.coalesce durable _ c.args.self.now.device c.take_in.new.self sound (fire-allowed i what c.args.coalesce runs small time) may refl
     (state ∙ ap (λ (t : ℕ). view_of (with_snapshot (written kinds.Event t i.snapshot (Failed durable)) i)) at) device
 
 pub returns-clause-fault_device : goal.returns-clause-fault_device

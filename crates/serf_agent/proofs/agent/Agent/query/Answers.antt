@@ -26,7 +26,7 @@ returns-in-Ok-clause-step g c = λ i sound is _.
     let may = subst (λ (t : ℕ). MayNote kinds.Query t i.snapshot Kept) at (subst (λ (s : ConcreteState). MayNote kinds.Query c.in-Some.time s.snapshot Kept) is e.allowed) in
     let fired = e.fired ∙ (λ k. fired_query (node k) c.args.now (query_at (at k) (node k) c.args.id name payload params)) in
     let device = e.device ∙ ap (λ (s : ConcreteState). device_noted kinds.Query c.in-Some.time s.snapshot c.args.self.now.device) is ∙ ap (λ (t : ℕ). device_noted kinds.Query t i.snapshot c.args.self.now.device) at in
-    steps-query_asked i c.args.now c.args.id name payload params _ c.args.self.now.device c.ask.new.self sound runs time (query-allowed i c.args.id name payload params runs small some time) may
+    steps-query_asked c.sound_snapshots.ensures i c.args.now c.args.id name payload params _ c.args.self.now.device c.ask.new.self sound runs time (query-allowed i c.args.id name payload params runs small some time) may
     (λ k. Ok (fired k))
     (e.entered i is ∙ (λ k. view_of (with_snapshot (noted kinds.Query (at k) i.snapshot Kept) (query_asked c.args.now (query_at (at k) (node k) c.args.id name payload params) i)))) device
 
@@ -47,5 +47,5 @@ returns-in-Err-SinkFault-clause-step g c = λ i sound is _.
     let may = subst (λ (t : ℕ). MayNote kinds.Query t i.snapshot (Failed durable)) at (subst (λ (s : ConcreteState). MayNote kinds.Query c.in-Some.time s.snapshot (Failed durable)) is (e.fault_allowed err)) in
     let state = failed-view i c.args.self.now.concrete c.ask.new.self.concrete kinds.Query c.in-Some.time durable is (e.failed err) in
     let device = subst (λ (t : ℕ). FailsLine c.args.self.now.device c.ask.new.self.device (clock_line kinds.Query t)) at (e.fault_device err) in
-    steps-query_fire_failed i c.args.now c.args.id name payload params durable _ c.args.self.now.device c.ask.new.self sound (query-allowed i c.args.id name payload params runs small some time) may refl
+    steps-query_fire_failed c.sound_snapshots.ensures i c.args.now c.args.id name payload params durable _ c.args.self.now.device c.ask.new.self sound (query-allowed i c.args.id name payload params runs small some time) may refl
     (state ∙ ap (λ (t : ℕ). view_of (with_snapshot (written kinds.Query t i.snapshot (Failed durable)) i)) at) device

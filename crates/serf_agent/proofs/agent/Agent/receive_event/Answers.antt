@@ -25,7 +25,7 @@ returns-in-Ok-clause-step g c = λ i sound is _.
     let runs = sym (ap (λ (s : ConcreteState). s.snapshot.stopped) is) ∙ c.requires in
     let may = subst (λ (s : ConcreteState). MayNote kinds.Event c.args.time s.snapshot Kept) is e.allowed in
     let device = e.device ∙ ap (λ (s : ConcreteState). device_noted kinds.Event c.args.time s.snapshot c.args.self.now.device) is in
-    steps-event_entered i c.args.time what c.args.coalesce _ c.args.self.now.device c.take_in.new.self sound runs (new.small refl) (sym (new.reason i sound is)) may (ap (λ (o : EventOut). Ok (Event o)) e.out) (e.entered i is) device
+    steps-event_entered c.sound_snapshots.ensures i c.args.time what c.args.coalesce _ c.args.self.now.device c.take_in.new.self sound runs (new.small refl) (sym (new.reason i sound is)) may (ap (λ (o : EventOut). Ok (Event o)) e.out) (e.entered i is) device
 
 pub returns-in-Err-SinkFault-clause-step : goal.returns-in-Err-SinkFault-clause-step
 returns-in-Err-SinkFault-clause-step g c = λ i sound is _.
@@ -34,5 +34,5 @@ returns-in-Err-SinkFault-clause-step g c = λ i sound is _.
     let at = ap (λ (x : LineFault). Err x) c.in-Err-SinkFault.field-0-is in
     let durable = c.take_in.new.self.concrete.snapshot.durable in
     let may = subst (λ (s : ConcreteState). MayNote kinds.Event c.args.time s.snapshot (Failed durable)) is (e.fault_allowed at) in
-    steps-event_failed i c.args.time what c.args.coalesce durable _ c.args.self.now.device c.take_in.new.self sound (sym (c.in-None.ensures.reason i sound is)) may refl
+    steps-event_failed c.sound_snapshots.ensures i c.args.time what c.args.coalesce durable _ c.args.self.now.device c.take_in.new.self sound (sym (c.in-None.ensures.reason i sound is)) may refl
     (failed-view i c.args.self.now.concrete c.take_in.new.self.concrete kinds.Event c.args.time durable is (e.failed at)) (e.fault_device at)

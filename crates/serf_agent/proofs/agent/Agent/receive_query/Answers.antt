@@ -33,7 +33,7 @@ returns-in-Ok-clause-step g c = λ i sound is _.
     let runs = sym (ap (λ (s : ConcreteState). s.snapshot.stopped) is) ∙ c.requires in
     let may = subst (λ (s : ConcreteState). MayNote kinds.Query q.time s.snapshot Kept) is e.allowed in
     let device = e.device ∙ ap (λ (s : ConcreteState). device_noted kinds.Query q.time s.snapshot c.args.self.now.device) is in
-    steps-query_entered i c.args.now q _ c.args.self.now.device c.take_in_query.new.self sound runs new.small (sym (new.reason i sound is)) may
+    steps-query_entered c.sound_snapshots.ensures i c.args.now q _ c.args.self.now.device c.take_in_query.new.self sound runs new.small (sym (new.reason i sound is)) may
     (λ k. Ok (outcomes.Query (handed k) (ack k) (not (broadcast k)))) (e.entered i is) device
 
 pub returns-in-Err-SinkFault-clause-step : goal.returns-in-Err-SinkFault-clause-step
@@ -43,5 +43,5 @@ returns-in-Err-SinkFault-clause-step g c = λ i sound is _.
     let at = ap (λ (x : LineFault). Err x) c.in-Err-SinkFault.field-0-is in
     let durable = c.take_in_query.new.self.concrete.snapshot.durable in
     let may = subst (λ (s : ConcreteState). MayNote kinds.Query q.time s.snapshot (Failed durable)) is (e.fault_allowed at) in
-    steps-query_failed i c.args.now q durable _ c.args.self.now.device c.take_in_query.new.self sound (sym (c.in-None.ensures.reason i sound is)) may refl
+    steps-query_failed c.sound_snapshots.ensures i c.args.now q durable _ c.args.self.now.device c.take_in_query.new.self sound (sym (c.in-None.ensures.reason i sound is)) may refl
     (failed-view i c.args.self.now.concrete c.take_in_query.new.self.concrete kinds.Query q.time durable is (e.failed at)) (e.fault_device at)

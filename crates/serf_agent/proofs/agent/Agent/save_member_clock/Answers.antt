@@ -28,7 +28,7 @@ returns-clause-step g c = λ i sound is other.
       stays = λ at. ap (λ (s : SnapshotState). s.snapshot) (e.stays at);
       stays_device = λ at. ap (λ (s : SnapshotState). s.device) (e.stays at);
     } in
-    let steps = steps-save i t c.self.inside.snapshot.device new r sound at (subst (λ (s : SnapshotView). IsNoted t s c.self.inside.snapshot.device new r) snapshot n) other in
+    let steps = steps-save c.sound_snapshots.ensures i t c.self.inside.snapshot.device new r sound at (subst (λ (s : SnapshotView). IsNoted t s c.self.inside.snapshot.device new r) snapshot n) other in
     subst (λ (d : Device). Steps i (save i) r d (agent_with new (record { config = c.self.inside.config; member_clock = c.self.inside.member_clock; events = concrete_of c.self.inside.events; queries = concrete_of c.self.inside.queries; snapshot = c.self.inside.snapshot.snapshot; asked = c.self.inside.asked })))
     (ap (λ (a : AgentState). a.device) c.self.view_is)
     (subst (λ (s : ConcreteState). Steps i (save i) r c.self.inside.snapshot.device (agent_with new s)) (sym was) steps)

@@ -24,7 +24,7 @@ returns-in-Ok-clause-received g c = λ i sound is says.
     let runs = sym (ap (λ (s : ConcreteState). s.snapshot.stopped) is) ∙ c.requires.runs in
     let may = subst (λ (s : ConcreteState). MayNote kinds.Event c.args.time s.snapshot Kept) is e.allowed in
     let device = e.device ∙ ap (λ (s : ConcreteState). device_noted kinds.Event c.args.time s.snapshot c.args.self.now.device) is in
-    let goes = goes-entered i c.args.time what c.args.self.now.device c.take_in.new.self sound runs c.requires.small says may (e.entered i is) device in
+    let goes = goes-entered c.sound_snapshots.ensures i c.args.time what c.args.self.now.device c.take_in.new.self sound runs c.requires.small says may (e.entered i is) device in
     let added = c.add.ensures ∙ ap (λ (l : List EventOut). l ++ c.in-Ok.handed ∷ []) c.reserve.ensures.items in
     received-entered i _ c.args.out.now.items _ c.in-Ok.handed (event_out c.args.time what false) c.args.self.now.device c.take_in.new.self added e.out goes
 
@@ -44,4 +44,4 @@ returns-in-Err-SinkFault-clause-received g c = λ i sound is says.
     let may = subst (λ (s : ConcreteState). MayNote kinds.Event c.args.time s.snapshot (Failed durable)) is (e.fault_allowed at) in
     let state = failed-view i c.args.self.now.concrete c.take_in.new.self.concrete kinds.Event c.args.time durable is (e.failed at) in
     received-wrong i _ c.args.out.now.items _ c.args.self.now.device c.take_in.new.self merges.SinkFault c.reserve.ensures.items
-    (wrong-line i c.args.time what c.args.self.now.device c.take_in.new.self (steps-event_failed i c.args.time what false durable _ c.args.self.now.device c.take_in.new.self sound says may refl state (e.fault_device at)))
+    (wrong-line i c.args.time what c.args.self.now.device c.take_in.new.self (steps-event_failed c.sound_snapshots.ensures i c.args.time what false durable _ c.args.self.now.device c.take_in.new.self sound says may refl state (e.fault_device at)))
