@@ -111,13 +111,15 @@ fn ask<R: Files<File = File> + Print + AllocGlobal>(
 ) -> Result<()> {
     let params = of_every_node(rt)?;
     let asked = alpha.query(rt.alloc(), 0, 7, b"load", b"", &params)?;
-    let Outcome::Query {
-        handed: Some(handed),
-        ack: Some(ack),
-        ..
-    } = beta.receive(rt.alloc(), 0, asked.packet.as_slice())?
+    let Outcome::Query { handed, ack, .. } = beta.receive(rt.alloc(), 0, asked.packet.as_slice())?
     else {
         bail!("beta isn't asked");
+    };
+    let Some(ack) = ack else {
+        bail!("beta sends no ack");
+    };
+    let Some(handed) = handed else {
+        bail!("beta is handed no query");
     };
     let reply = handed
         .respond(rt.alloc(), 0, b"idle")
