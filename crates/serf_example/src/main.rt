@@ -103,27 +103,32 @@ fn of_every_node<R: AllocGlobal>(rt: &R) -> Result<QueryParams> {
     })
 }
 
-/// The agent `alpha` asks and `beta` answers; once the time is over, `alpha` has the query back with all answers.
-fn ask<R: Files<File = File> + Print + AllocGlobal>(
+/// The ack and the response of the agent `beta` to a query that comes.
+fn answer<R: Files<File = File> + AllocGlobal>(
     rt: &R,
-    alpha: &mut OnFile<'_, R>,
     beta: &mut OnFile<'_, R>,
-) -> Result<()> {
-    let params = of_every_node(rt)?;
-    let asked = alpha.query(rt.alloc(), 0, 7, b"load", b"", &params)?;
-    let Outcome::Query {
-        handed: Some(handed),
-        ack: Some(ack),
-        ..
-    } = beta.receive(rt.alloc(), 0, asked.packet.as_slice())?
-    else {
+    packet: &Bytes,
+) -> Result<(Bytes, Bytes)> {
+    let Outcome::Query { handed, ack, .. } = beta.receive(rt.alloc(), 0, packet.as_slice())? else {
         bail!("beta isn't asked");
     };
-    let reply = handed
-        .respond(rt.alloc(), 0, b"idle")
-        .map_err(|refused| refused.1)?;
-    deliver(rt, alpha, "alpha", &ack)?;
-    deliver(rt, alpha, "alpha", &reply.packet)?;
+    let Some(ack) = ack else {
+        bail!("beta sends no ack");
+    };
+    let Some(handed) = handed else {
+        bail!("beta is handed no query");
+    };
+    match handed.respond(rt.alloc(), 0, b"idle") {
+        Ok(reply) => Ok((ack, reply.packet)),
+        Err((_, fault)) => Err(fault.into()),
+    }
+}
+
+/// The agent `alpha` has each query back whose time is over, with all its answers.
+fn close<R: Files<File = File> + Print + AllocGlobal>(
+    rt: &R,
+    alpha: &mut OnFile<'_, R>,
+) -> Result<()> {
     for (time, query) in alpha.take_due(rt.alloc(), 1_001)? {
         println!(rt;
             "alpha closes its query of time {time}: {} acks, {} responses",
@@ -132,6 +137,20 @@ fn ask<R: Files<File = File> + Print + AllocGlobal>(
         )?;
     }
     Ok(())
+}
+
+/// The agent `alpha` asks and `beta` answers.
+fn ask<R: Files<File = File> + Print + AllocGlobal>(
+    rt: &R,
+    alpha: &mut OnFile<'_, R>,
+    beta: &mut OnFile<'_, R>,
+) -> Result<()> {
+    let params = of_every_node(rt)?;
+    let asked = alpha.query(rt.alloc(), 0, 7, b"load", b"", &params)?;
+    let (ack, response) = answer(rt, beta, &asked.packet)?;
+    deliver(rt, alpha, "alpha", &ack)?;
+    deliver(rt, alpha, "alpha", &response)?;
+    close(rt, alpha)
 }
 
 /// Replaces an agent's snapshot by its last lines, where that is worth its while.
