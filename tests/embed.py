@@ -32,6 +32,9 @@ SOURCES = os.path.join(TOP, "tests", "embed")
 BINDINGS = os.path.join(TOP, "bindings")
 
 
+# How many bytes the library may have.
+LARGEST = 400_000
+
 # The random schedules that conformance/c is held against: so many seeds of each kind.
 SEEDS = 40
 KINDS = ["mixed", "tiny", "merges", "restarts", "devices", "injections", "queries", "limits", "exhaustion", "per-time", "compactions", "gossip"]
@@ -208,6 +211,8 @@ def main():
             print(fault)
             print("0 passed, 1 failed")
             return 1
+        size = os.path.getsize(places.library)
+        count.check("the library's size", size <= LARGEST, f"{size} bytes")
         declarations.compare(count, places, HEADER, None if asked.library else c_library.CRATE)
         bad_input(count, places)
         memory(count, places)

@@ -130,7 +130,13 @@ func (o *ours) join() {
 	check(err)
 }
 
+// fired logs a firing, whose time the node's clock gives; before it is made, since the node hands it out at once.
+func fired(node string, time int, name, payload string) {
+	all.note("fired %s %d %s %s", node, time, name, payload)
+}
+
 func fire(of *serf.Serf, time int, name, payload string) {
+	fired(of.LocalMember().Name, time, name, payload)
 	check(of.UserEvent(name, []byte(payload), false))
 	for _, node := range []string{"real-1", "real-2", "proved"} {
 		all.wait(fmt.Sprintf("event %s %d %s %s", node, time, name, payload))
@@ -178,6 +184,7 @@ func main() {
 
 	fire(one, 1, "deploy", "v1")
 	fire(other, 2, "deploy", "v2")
+	fired("proved", 3, "rollback", "v1")
 	_, err = proved.Fire("rollback", []byte("v1"), false)
 	check(err)
 	for _, node := range []string{"real-1", "real-2", "proved"} {
@@ -188,6 +195,7 @@ func main() {
 	time.Sleep(2500 * time.Millisecond)
 
 	// a firing that isn't gossiped comes by push/pull
+	fired("proved", 4, "quiet", "v1")
 	_, _, err = proved.agent.Fire([]byte("quiet"), []byte("v1"), false)
 	check(err)
 	proved.join()
@@ -197,6 +205,7 @@ func main() {
 	check(proved.Shutdown())
 	check(proved.agent.Close())
 	all.note("restarted proved")
+	fired("real-1", 5, "deploy", "v3")
 	check(one.UserEvent("deploy", []byte("v3"), false))
 	all.wait("event real-1 5 deploy v3")
 	proved = open(path)

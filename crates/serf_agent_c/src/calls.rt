@@ -37,6 +37,7 @@ fn received_code(answer: &Result<Outcome, ReceiveFault>) -> Code
 
 impl Session {
     /// Keeps what a call gave.
+    #[inline(always)]
     pub(crate) fn give(&mut self, gave: Gave)
         ensures gave { self.new.gave ≡ gave }
         ensures rest { (self.new.agent ≡ self.old.agent) × (self.new.written ≡ self.old.written) × (self.new.replaces ≡ self.old.replaces) × (self.new.waiting ≡ self.old.waiting) × (self.new.filters ≡ self.old.filters) }

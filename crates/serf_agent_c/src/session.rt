@@ -82,9 +82,11 @@ impl Session {
         ensures members { (self.new.status ≡ self.old.status) × (self.new.left ≡ self.old.left) }
         ensures err { OnErr result ((self.new.waiting.items ≡ self.old.waiting.items) × (self.new.gave ≡ self.old.gave)) }
     {
-        if self.gave.handed().is_some() {
-            self.waiting.reserve(1)?;
+        if self.gave.handed().is_none() {
+            self.gave = Gave::Nothing;
+            return Ok(());
         }
+        self.waiting.reserve(1)?;
         let gave = std::mem::replace(&mut self.gave, Gave::Nothing);
         match gave.into_handed() {
             Some(query) => add(&mut self.waiting, query),
