@@ -1,6 +1,5 @@
 -- What two texts have in common.
-use Rattle.std.proofs.Common.{◌≡◌, ◌==◌, ℕ, ◌<◌, ◌≤◌, ◌+◌, List, [], ◌∷◌, true, false, refl, length, drop, arith, slice_index}
-use Rattle.std.proofs.lemmas.Grind.{common_steps}
+use Rattle.std.proofs.Common.{◌≡◌, ℕ, List, [], ◌∷◌, refl}
 use Rattle.serf_encode.specs.Encoded.{common}
 
 pub common_nothing : (xs : List ℕ) → common xs [] ≡ 0

@@ -1,5 +1,5 @@
 -- Blocks: the texts between empty lines.
-use Rattle.std.specs.Prelude.{ℕ, ◌==◌, ◌||◌, ◌++◌, Bool, true, false, if◌then◌else◌, List, [], ◌∷◌, length, codes, Result, Ok, Err}
+use Rattle.std.specs.Prelude.{ℕ, ◌==◌, ◌||◌, ◌++◌, Bool, true, false, if◌then◌else◌, List, [], length, codes, Result, Ok, Err}
 use Rattle.std.specs.List.{fold}
 use Rattle.serf_encode.specs.declared.blocks.NeverBad.{NeverBad}
 use Rattle.serf_encode.specs.Encoded.{answer_text, encoded}

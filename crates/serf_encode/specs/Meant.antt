@@ -1,13 +1,13 @@
 -- The message that lines mean. A field is what the first line of its name says, and 0 or nothing where it says no such
 -- value: whether the message has this very text is asked afterwards.
-use Rattle.std.specs.Prelude.{ℕ, ℤ, pos, negsuc, ◌==◌, ◌-◌, ◌++◌, ◌&&◌, nat_lt, nat_le, Bool, if◌then◌else◌, List, [], ◌∷◌, codes, map, unwrap_or, Option, Some, None}
+use Rattle.std.specs.Prelude.{ℕ, ℤ, pos, negsuc, ◌==◌, ◌-◌, ◌++◌, ◌&&◌, nat_lt, nat_le, if◌then◌else◌, List, [], ◌∷◌, codes, map, unwrap_or, Option, Some, None}
 use Rattle.std.specs.List.{fold}
 use Rattle.std.specs.Str.{bytes_eq}
 use Rattle.serf_wire.specs.declared.texts.EventBody.{EventBody}
 use Rattle.serf_wire.specs.Message.{Message, Query, PushPull, user_event_of, response_of, query, push_pull, foreign}
 use Rattle.serf_wire.specs.Slots.{SlotContent, empty, held}
 use Rattle.serf_replay.specs.Words.{between, bytes_of, number_of}
-use Rattle.serf_encode.specs.Rows.{RowText, part, rows_of, value_of}
+use Rattle.serf_encode.specs.Rows.{RowText, rows_of, value_of}
 
 -- a number up to this one
 abbrev pub number_up_to : ℕ → List ℕ → ℕ

@@ -1,5 +1,5 @@
 -- The lines of a message's text, cut at their spaces.
-use Rattle.std.specs.Prelude.{ℕ, ◌==◌, List, [], ◌∷◌, drop, map, filter, unwrap_or, slice_get, Option, Some, None}
+use Rattle.std.specs.Prelude.{ℕ, ◌==◌, List, [], map, filter, unwrap_or, slice_get, Option, Some, None}
 use Rattle.std.specs.List.{find, slice_split}
 use Rattle.std.specs.Str.{bytes_eq}
 use Rattle.serf_stream.specs.Lines.{lines_of}

@@ -64,13 +64,9 @@ fn text_said(alloc: Global, packet: &[u8]) -> Result<Vec<u8>, AllocError>
     }
 }
 
-/// The canonical packet of the message that has this text, as [`serf_replay::decode_text`] writes it.
-///
-/// A text that is no message's is a `BadLine`, and so is that of a message whose canonical packet has another text: a
-/// push/pull's slot of a time without events, which the canonical packet has as nil.
+/// The packet of a text, by the definition.
 #[tactic(auto, unfolding(crate::specs::Encoded::encoded))]
-pub fn encode_text(alloc: Global, text: &[u8]) -> Result<Vec<u8>, EncodeTextFault>
-    // The packet, or the first line for which there is none, is that of the definition.
+fn encode_exactly(alloc: Global, text: &[u8]) -> Result<Vec<u8>, EncodeTextFault>
     ensures packet { IfOk result (λ packet. encoded text.now ≡ Ok packet.items) }
     ensures refused { (line : ℕ) → result ≡ Err (BadLine line) → encoded text.now ≡ Err line }
 {
@@ -88,4 +84,21 @@ pub fn encode_text(alloc: Global, text: &[u8]) -> Result<Vec<u8>, EncodeTextFaul
     } else {
         Err(EncodeTextFault::BadLine(first_other_line(text, said.as_slice())))
     }
+}
+
+/// The canonical packet of the message that has this text, as [`serf_replay::decode_text`] writes it.
+///
+/// A text that is no message's is a `BadLine`, and so is that of a message whose canonical packet has another text: a
+/// push/pull's slot of a time without events, which the canonical packet has as nil.
+#[tactic(auto, using(crate::proofs::EncodedLaws::decodes_to_text, crate::proofs::EncodedLaws::is_canonical))]
+pub fn encode_text(alloc: Global, text: &[u8]) -> Result<Vec<u8>, EncodeTextFault>
+    // The packet, or the first line for which there is none, is that of the definition.
+    ensures packet { IfOk result (λ packet. encoded text.now ≡ Ok packet.items) }
+    ensures refused { (line : ℕ) → result ≡ Err (BadLine line) → encoded text.now ≡ Err line }
+    // The packet is decoded to just this text,
+    ensures text { IfOk result (λ packet. text_or_fault (decoded packet.items) ≡ Ok text.now) }
+    // and it is canonical.
+    ensures canonical { IfOk result (λ packet. (m : Message) × (packet.items ≡ canonical m)) }
+{
+    encode_exactly(alloc, text)
 }

@@ -9,6 +9,7 @@ use crate::explain_job::run_explain;
 use crate::hunt_job::run_hunt;
 use crate::judge_job::run_judge;
 use crate::progress::Progress;
+use crate::random_job::KINDS;
 use crate::stream_job::run_stream;
 use crate::summary_job::run_summary;
 use crate::write_job::run_write;
@@ -145,11 +146,28 @@ fn run_clocks<F: Files, R: Input + Print + Eprint + AllocGlobal>(
     clocks_of(rt, input)
 }
 
+/// What may stand behind an option.
+fn words_for(option: &str) -> &'static str {
+    match option {
+        "agent" => "the number of an agent, counted from 0",
+        "kind" => KINDS,
+        "random" => "seeds as A-B, where no schedule is given, or a schedule without it",
+        "rules" => "serf or own",
+        _ => "a number",
+    }
+}
+
+/// Says that the word of an option is none that it may have, and which it may.
+fn bad_option(rt: &impl Eprint, name: &str) -> u8 {
+    let words = words_for(name);
+    let _ = eprintln!(rt; "error: a bad word for --{name}: here may stand {words}");
+    COMMAND_LINE
+}
+
 /// Writes a random schedule.
 fn run_random<R: Print + Eprint + AllocGlobal>(rt: &R, ask: Option<Ask>) -> u8 {
     let Some(ask) = ask else {
-        let _ = eprintln!(rt; "error: there is no such kind");
-        return COMMAND_LINE;
+        return bad_option(rt, "kind");
     };
     match random_schedule(rt.alloc(), &ask) {
         Ok(made) => finish(rt, &made.text),
@@ -212,10 +230,7 @@ pub fn run<F: Files, R: Clock + Input + Print + Eprint + AllocGlobal>(
         Ok(Some(Job::Explain(asked))) => run_explain(files, rt, is_terminal, &asked),
         Ok(Some(Job::Draw(drawing))) => run_draw(files, rt, &drawing),
         Ok(Some(Job::Search(asked))) => run_hunt(rt, &asked),
-        Ok(Some(Job::BadOption(name))) => {
-            let _ = eprintln!(rt; "error: a bad word for --{name}");
-            COMMAND_LINE
-        }
+        Ok(Some(Job::BadOption(name))) => { bad_option(rt, name) }
         Ok(None) => COMMAND_LINE,
         Err(error) => refuse_command_line(rt, &error),
     }

@@ -24,13 +24,15 @@ fn seed<'a>(alloc: Global) -> Arg<'a> {
         .value_parser(value_parser!(u64))
 }
 
+/// The words that name a kind.
+pub(crate) const KINDS: &str =
+    "mixed (where left out), tiny, merges, restarts, devices, injections, queries, limits, exhaustion, per-time, compactions or gossip";
+
 /// The option that names a kind.
 pub(crate) fn kind<'a>(alloc: Global) -> Arg<'a> {
     Arg::new(alloc, "kind")
         .long("kind")
-        .help(
-            "mixed (where left out), tiny, merges, restarts, devices, injections, queries, limits, exhaustion, per-time, compactions or gossip",
-        )
+        .help(KINDS)
         .action(ArgAction::Set)
 }
 
