@@ -1,0 +1,3 @@
+pub mod CallLemmas
+pub mod SublistLemmas
+pub mod TrialLemmas
