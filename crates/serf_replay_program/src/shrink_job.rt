@@ -25,7 +25,9 @@ pub struct Shrinking<'a> {
 pub fn shrink_flag<'a>(alloc: Global) -> Arg<'a> {
     Arg::new(alloc, "shrink")
         .long("shrink")
-        .help("Tries fewer of the calls at which an agent fails, until no single one can be left out")
+        .help(
+            "Tries fewer of the calls at which an agent fails, until no single one can be left out",
+        )
         .action(ArgAction::SetTrue)
 }
 
@@ -34,7 +36,9 @@ pub fn save_option<'a>(alloc: Global) -> Arg<'a> {
     Arg::new(alloc, "save")
         .long("save")
         .value_name("FILE")
-        .help("Where --shrink writes the schedule of what is left; standard error where it is left out")
+        .help(
+            "Where --shrink writes the schedule of what is left; standard error where it is left out",
+        )
         .action(ArgAction::Set)
 }
 
@@ -146,7 +150,11 @@ pub fn shrink_found<F: Files, R: Eprint + AllocGlobal, I: Read, O: Write>(
         }
         Err(fault) => {
             let _ = eprintln!(rt; "no shorter schedule: {fault}");
-            if status_of(fault) == DEVICE { DEVICE } else { REFUSED }
+            if status_of(fault) == DEVICE {
+                DEVICE
+            } else {
+                REFUSED
+            }
         }
     }
 }

@@ -1,5 +1,5 @@
 -- Sublists.
-use Rattle.std.proofs.Common.{◌≡◌, ◌≤◌, ◌<◌, ◌+◌, ◌-◌, ◌++◌, ◌∙◌, ℕ, zero, suc, inl, inr, List, [], ◌∷◌, refl, arith, length, take, drop}
+use Rattle.std.proofs.Common.{◌≡◌, ◌≤◌, ◌-◌, ◌++◌, ◌∙◌, ℕ, zero, suc, inl, inr, List, [], ◌∷◌, refl, arith, length, take, drop}
 use Rattle.std.proofs.lemmas.List.{length-drop}
 use Rattle.serf_shrink.specs.Sublist.{IsSublist}
 

@@ -1,5 +1,5 @@
 -- Lists of calls, tried one after another.
-use Rattle.std.proofs.Common.{◌≡◌, ◌≤◌, arith, map, take, drop, length, ◌+◌, ◌++◌, ◌∙◌, ℕ, Bool, List, [], ◌∷◌, Option, Some, None, refl, sym, ap, subst, append_assoc}
+use Rattle.std.proofs.Common.{◌≡◌, ◌≤◌, arith, map, take, drop, length, ◌+◌, ◌++◌, ◌∙◌, ℕ, Bool, List, [], ◌∷◌, Option, Some, None, sym, ap, subst, append_assoc}
 use Rattle.std.specs.Prelude.{IfSome}
 use Rattle.std.specs.Io.KnownBytes.{Appends}
 use Rattle.std.proofs.KnownBytes.{Appends-trans}
@@ -15,7 +15,7 @@ use Rattle.serf_shrink.specs.declared.trying.Outcome.TheVariants as outcomes
 use Rattle.serf_shrink.specs.declared.narrowing.Narrowed.{Narrowed}
 use Rattle.serf_shrink.specs.declared.shrinking.Shrunk.{Shrunk}
 use Rattle.serf_shrink.specs.Sublist.{IsSublist, deletions}
-use Rattle.serf_shrink.specs.Trials.{IsAlong, IsLeftBy, IsReached, IsShrunk, ShrinksTo, IsTried, NarrowsTo, Trials, after_trial, failed_by, outcome_of, trial, trials}
+use Rattle.serf_shrink.specs.Trials.{IsAlong, IsLeftBy, IsReached, IsShrunk, ShrinksTo, IsTried, NarrowsTo, Trials, after_trial, failed_by, trial, trials}
 use Rattle.serf_shrink.proofs.SublistLemmas.{cut-sublist, sublist-refl, sublist-trans}
 
 -- one list more
@@ -39,8 +39,7 @@ reach_on serf config calls kept kept' cand last input mid new from at to outcome
     let came : IsTried t outcome new at to = subst (λ (m : Option (List ℕ)). IfSome m (λ rest. IsTried (trial serf config cand rest) outcome new at to)) along.left tried in
     let more = sym (trials-push serf config along.reached.before last cand input) in
     let failed : (after_trial cand s t).failed ≡ Some kept' =
-    ap (λ (o : Outcome). failed_by o cand s.failed) (sym came.outcome_is) ∙ (ap (λ (f : Option (List Call)). failed_by outcome cand f) along.reached.failed ∙ is) in
-    (
+    ap (λ (o : Outcome). failed_by o cand s.failed) (sym came.outcome_is) ∙ (ap (λ (f : Option (List Call)). failed_by outcome cand f) along.reached.failed ∙ is) in (
       record {
         before = along.reached.before;
         sublist = sub;

@@ -1,5 +1,5 @@
 -- Some items of a list, in their order.
-use Rattle.std.specs.Prelude.{◌≡◌, ◌+◌, ◌⊎◌, ◌++◌, ℕ, List, [], ◌∷◌, length, map, take, drop}
+use Rattle.std.specs.Prelude.{◌≡◌, ◌+◌, ◌⊎◌, ◌++◌, List, [], ◌∷◌, length, map, take, drop}
 use Rattle.std.specs.List.{range_with_len}
 
 abbrev pub IsSublist : {A : Type 0} → List A → List A → Type 0

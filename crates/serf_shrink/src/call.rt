@@ -31,15 +31,18 @@ fn copy_params(alloc: Global, params: &QueryParams) -> Result<BoxedParams, Alloc
 {
     let filters = copy_lists(alloc, params.filters.as_slice())?;
     let addr = Bytes::copy_of(alloc, params.addr.as_slice())?;
-    BoxedParams::new(alloc, QueryParams {
-        filters,
-        want_ack: params.want_ack,
-        no_broadcast: params.no_broadcast,
-        timeout: params.timeout,
-        addr,
-        port: params.port,
-        relay_factor: params.relay_factor,
-    })
+    BoxedParams::new(
+        alloc,
+        QueryParams {
+            filters,
+            want_ack: params.want_ack,
+            no_broadcast: params.no_broadcast,
+            timeout: params.timeout,
+            addr,
+            port: params.port,
+            relay_factor: params.relay_factor,
+        },
+    )
 }
 
 fn copy_boxed(alloc: Global, bytes: &[u8]) -> Result<BoxedBytes, AllocError>
@@ -162,11 +165,7 @@ fn copy_call(alloc: Global, call: &Call) -> Result<Call, AllocError>
 }
 
 /// Appends calls.
-pub(crate) fn add_calls(
-    alloc: Global,
-    to: &mut Vec<Call>,
-    calls: &[Call],
-) -> Result<(), AllocError>
+pub(crate) fn add_calls(alloc: Global, to: &mut Vec<Call>, calls: &[Call]) -> Result<(), AllocError>
     ensures { OnOk result (to.new.items ≡ to.old.items ++ calls.now) }
 {
     for call in calls {

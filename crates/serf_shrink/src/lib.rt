@@ -3,8 +3,8 @@
 
 mod alone;
 mod call;
-mod shrinking;
 mod narrowing;
+mod shrinking;
 mod trying;
 
 pub use alone::{alone_schedule, calls_of};

@@ -73,7 +73,16 @@ fn narrow_by_one<R: Read, W: Write>(
         → IfOk result (λ n. NarrowsTo (is_serf rules) config.now whole calls.now true n input (R.remaining reader.new) from (W.contents writer.new)) }
 {
     for at in 0..calls.len() {
-        let (fewer, outcome) = try_without(alloc, reader, writer, rules, config, calls, at, at + 1)?;
+        let (fewer, outcome) = try_without(
+            alloc,
+            reader,
+            writer,
+            rules,
+            config,
+            calls,
+            at,
+            at + 1,
+        )?;
         match outcome {
             Outcome::Fails => return Ok(Narrowed::Shorter(fewer)),
             Outcome::Ended => return Ok(Narrowed::Ended),

@@ -16,9 +16,9 @@ returns-in-Ended-clause-narrows g c = λ whole input from h.
 
 pub chunks-preserved : goal.chunks-preserved
 chunks-preserved g c = (
-      λ whole input from h.
-          along_less (is_serf c.args.rules) c.args.config.now whole c.args.calls.now _ input _ from _
-          (along_agrees (is_serf c.args.rules) c.args.config.now whole c.args.calls.now c.in_ok-shorter.shorter.items _ input _ _ from _ _ c.in_ok-shorter.outcome
-          (c.chunks.invariant.0 whole input from h) c.in_ok-shorter.ensures.tried c.in-Agrees.is),
-      grind (arith, common_steps, c.min.ensures),
-    )
+  λ whole input from h.
+      along_less (is_serf c.args.rules) c.args.config.now whole c.args.calls.now _ input _ from _
+      (along_agrees (is_serf c.args.rules) c.args.config.now whole c.args.calls.now c.in_ok-shorter.shorter.items _ input _ _ from _ _ c.in_ok-shorter.outcome
+      (c.chunks.invariant.0 whole input from h) c.in_ok-shorter.ensures.tried c.in-Agrees.is),
+  grind (arith, common_steps, c.min.ensures),
+)

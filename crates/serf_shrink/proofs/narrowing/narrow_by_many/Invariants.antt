@@ -1,4 +1,4 @@
-use Rattle.std.proofs.Common.{◌≡◌, ◌≤◌, ◌-◌, ℕ, List, [], Option, length}
+use Rattle.std.proofs.Common.{◌≤◌, ◌-◌, ℕ, List, [], Option, length}
 use Rattle.serf_conform.specs.Rules.{is_serf}
 use Rattle.serf_shrink.specs.declared.call.Call.{Call}
 use Rattle.serf_shrink.specs.Trials.{IsAlong}

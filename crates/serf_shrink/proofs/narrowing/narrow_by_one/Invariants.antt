@@ -1,4 +1,4 @@
-use Rattle.std.proofs.Common.{◌≡◌, ◌+◌, ◌++◌, ℕ, List, [], Option, map, take, drop}
+use Rattle.std.proofs.Common.{◌+◌, ◌++◌, ℕ, List, [], Option, map, take, drop}
 use Rattle.std.specs.List.{range_with_len}
 use Rattle.serf_conform.specs.Rules.{is_serf}
 use Rattle.serf_shrink.specs.declared.call.Call.{Call}
