@@ -311,6 +311,44 @@ def seeds(cases):
     cases.count.check("neither", (ran.returncode, ran.stdout) == (2, b""), ran)
 
 
+def shrinks(cases):
+    """Fewer calls: where they go, that they fail once more, that no single one can be left out, and agents that end."""
+    saved = os.path.join(cases.folder, "saved.schedule")
+    for name, kind in (("never_seen", "mixed"), ("merge_takes_first_of_slot", "merges"), ("ack_counts_twice", "queries")):
+        agent = [sys.executable, AGENT, "--wrong", name]
+        cases.run(f"fewer calls, {name}", agent, "--random", 1, ["shrunk to "], ["1-60", "--kind", kind, "--shrink", "--save", saved])
+        cases.run(f"once more, {name}", agent, saved, 1, ["agent 0: action "])
+        cases.run(f"the right agent, {name}", [sys.executable, AGENT], saved, 0, ["calls agree"])
+        cases.count.check(f"none too many, {name}", not fails_without_one(cases, agent, saved), "a call can be left out")
+    agent = [sys.executable, AGENT, "--wrong", "never_seen"]
+    cases.run("to standard error", agent, "--random", 1, ["shrunk to ", "\nagent ", "\ninject ", "\ndeliver 0 0 "], ["1-60", "--shrink"])
+    example = os.path.join(TOP, "examples", "deploy_gossiped_twice.schedule")
+    cases.run("of a schedule", agent, example, 1, ["shrunk to "], ["--shrink"])
+    cases.run("of an agent that agrees", [sys.executable, AGENT], example, 0, ["calls agree"], ["--shrink"])
+    cases.run("a folder", agent, example, 3, ["write fault"], ["--shrink", "--save", cases.folder])
+    cases.run("a file alone", agent, example, 2, ["--save"], ["--save", saved])
+    with open(example, "rb") as schedule, open(example[:-9] + ".trace", "rb") as trace:
+        turns = turns_of(schedule.read(), trace.read())[1]
+    bad = [turns[0].text(), b"seen\n\n"]
+    cases.replies("ends at the first trial", bad, example, 1, ["don't fail by themselves"], ["--agent", "1", "--shrink"])
+    cases.replies("ends behind it", bad * 2, example, 1, ["shrunk to 1 of 1 calls; then the agent ended"], ["--agent", "1", "--shrink"])
+
+
+def fails_without_one(cases, agent, path):
+    """Whether a schedule still shows a wrong agent where some call is left out."""
+    with open(path) as file:
+        lines = file.read().splitlines(keepends=True)
+    less = os.path.join(cases.folder, "less.schedule")
+    for number, line in enumerate(lines):
+        if line.split()[0] in ("agent", "inject"):
+            continue
+        with open(less, "w") as file:
+            file.writelines(lines[:number] + lines[number + 1:])
+        if compare([less], agent)[0] != 0:
+            return True
+    return False
+
+
 def main():
     global PROGRAM
     if len(sys.argv) > 1:
@@ -323,7 +361,7 @@ def main():
             return 1
     with tempfile.TemporaryDirectory() as folder:
         cases = Cases(folder)
-        for part in (examples, by_meaning, states, refused, rules, seeds):
+        for part in (examples, by_meaning, states, refused, rules, seeds, shrinks):
             part(cases)
     print(f"{cases.count.passed} passed, {cases.count.failed} failed")
     return 1 if cases.count.failed else 0

@@ -1,14 +1,18 @@
-"""By hand: how many wrong bodies of the Python agent the random schedules find.
+"""By hand: how many wrong bodies of the Python agent the random schedules find, and how few calls show them.
 
     tests/by_hand/switches.py [SEEDS]
 
-Each switch of conformance/python is held by `conform --random SEEDS` (1-200 where left out). It prints the seed that finds
-each, the names of those that none finds, and how many are found; it fails where that is below 95 of 100.
+Each switch of conformance/python is held by `conform --random SEEDS --shrink` (1-200 where left out). It prints the seed that
+finds each and how many calls are left of it, the names of those that none finds, how many are found, and the median of
+the calls. It fails where fewer than 95 of 100 are found, where the median is above 6, or where a schedule that is left
+doesn't show the switch once more.
 """
 
 import os
 import re
+import statistics
 import sys
+import tempfile
 from concurrent.futures import ThreadPoolExecutor
 
 TOP = os.path.dirname(os.path.dirname(os.path.dirname(os.path.abspath(__file__))))
@@ -20,25 +24,43 @@ from serf_agent import switches
 # At least so many of 100 switches are to be found.
 FOUND = 95
 
+# The median of the calls that are left is at most this.
+CALLS = 6
 
-def found(name, seeds):
-    """The seed that finds a switch, or None; and the report."""
-    status, report = conform.compare(["--random", seeds], [sys.executable, conform.AGENT, "--wrong", name])
-    seed = re.match(r"seed (\d+): ", report)
-    return (int(seed.group(1)) if status in (1, 3) and seed else None), report
+
+class Found:
+    """What came of a switch: the seed that finds it, or None; the report; how many calls are left, or None."""
+
+    def __init__(self, name, seeds, path):
+        agent = [sys.executable, conform.AGENT, "--wrong", name]
+        status, self.report = conform.compare(["--random", seeds, "--shrink", "--save", path], agent)
+        seed = re.match(r"seed (\d+): ", self.report)
+        self.seed = int(seed.group(1)) if status in (1, 3) and seed else None
+        left = re.search(r"^shrunk to (\d+) of ", self.report, re.M)
+        self.calls = int(left.group(1)) if left else None
+        self.again = left is None or conform.compare([path], agent)[0] == 1
+
+    def said(self):
+        if self.seed is None:
+            return "not found: " + self.report.strip()
+        left = "not shrunk" if self.calls is None else f"{self.calls} calls"
+        return f"seed {self.seed}, {left}" + ("" if self.again else ", WHICH DON'T SHOW IT ONCE MORE")
 
 
 def main(words):
     seeds = words[0] if words else "1-200"
     names = list(switches.SWITCHES)
-    with ThreadPoolExecutor(os.cpu_count() or 1) as pool:
-        said = list(zip(names, pool.map(lambda name: found(name, seeds), names)))
-    for name, (seed, report) in said:
-        print(f"{name}: {'not found: ' + report.strip() if seed is None else f'seed {seed}'}")
-    count = sum(seed is not None for _, (seed, _) in said)
-    print(f"{count} of {len(names)} switches are found by seeds {seeds}; not {', '.join(name for name, (seed, _) in said if seed is None) or 'one is missed'}")
-    holds = 100 * count >= FOUND * len(names)
-    print(f"{int(holds)} passed, {int(not holds)} failed")
+    with tempfile.TemporaryDirectory() as folder, ThreadPoolExecutor(os.cpu_count() or 1) as pool:
+        founds = list(pool.map(lambda name: Found(name, seeds, os.path.join(folder, name)), names))
+    for name, one in zip(names, founds):
+        print(f"{name}: {one.said()}")
+    count = sum(one.seed is not None for one in founds)
+    print(f"{count} of {len(names)} switches are found by seeds {seeds}; not {', '.join(name for name, one in zip(names, founds) if one.seed is None) or 'one is missed'}")
+    calls = sorted(one.calls for one in founds if one.calls is not None)
+    median = statistics.median(calls) if calls else 0
+    print(f"of {len(calls)} shrunk schedules the median has {median} calls, the longest {max(calls, default=0)}")
+    holds = 100 * count >= FOUND * len(names) and calls and median <= CALLS and all(one.again for one in founds)
+    print(f"{int(bool(holds))} passed, {int(not holds)} failed")
     return 0 if holds else 1
 
 

@@ -6,7 +6,8 @@ use serf_agent::Config;
 use serf_wire::Bytes;
 use std::alloc::{AllocError, Global};
 
-pub(crate) fn copy_config(alloc: Global, config: &Config) -> Result<Config, AllocError>
+/// A copy of settings. `AllocError` where there is no memory for it.
+pub fn copy_config(alloc: Global, config: &Config) -> Result<Config, AllocError>
     ensures { IfOk result (λ copy. copy ≡ config.now) }
 {
     let name = Bytes::copy_of(alloc, config.name.as_slice())?;
@@ -21,7 +22,8 @@ pub(crate) fn copy_config(alloc: Global, config: &Config) -> Result<Config, Allo
     })
 }
 
-pub(crate) fn copy_configs(alloc: Global, configs: &[Config]) -> Result<Vec<Config>, AllocError>
+/// A copy of settings. `AllocError` where there is no memory for it.
+pub fn copy_configs(alloc: Global, configs: &[Config]) -> Result<Vec<Config>, AllocError>
     ensures { IfOk result (λ copies. copies.items ≡ configs.now) }
 {
     let mut copies = Vec::new(alloc);

@@ -6,6 +6,7 @@ use crate::encode_job::encode_command;
 use crate::explain_job::{Explanation, explain_command, explanation_of};
 use crate::hunt_job::{Search, search_of};
 use crate::random_job::{actions, agents, ask_of, kind, random_command};
+use crate::shrink_job::{save_option, shrink_flag, shrinking_of};
 use crate::stream_job::stream_flag;
 use crate::summary_job::summary_flag;
 use crate::write_job::write_command;
@@ -42,7 +43,7 @@ pub enum Job<'a> {
     /// Holds an agent on standard input and output against the reference.
     Conform(Comparison<'a>),
     /// Holds an agent on standard input and output against random schedules.
-    Search(Search),
+    Search(Search<'a>),
     /// The word of an option is none that it may have.
     BadOption(&'a str),
 }
@@ -129,7 +130,9 @@ fn conform_command<'a>(alloc: Global) -> Result<Command<'a>, AllocError> {
         .arg(option(alloc, "random", random))?
         .arg(kind(alloc))?
         .arg(agents(alloc))?
-        .arg(actions(alloc))
+        .arg(actions(alloc))?
+        .arg(shrink_flag(alloc))?
+        .arg(save_option(alloc))
 }
 
 /// The program, without its jobs.
@@ -180,9 +183,17 @@ fn conform_of<'a>(matches: &ArgMatches<'a>) -> Option<Job<'a>> {
         Some("serf") => Rules::Serf,
         Some(_) => return Some(Job::BadOption("rules")),
     };
+    let Some(shrinking) = shrinking_of(matches) else {
+        return Some(Job::BadOption("save"));
+    };
     match (matches.get_str("FILE"), matches.get_str("random")) {
-        (Some(file), None) => Some(Job::Conform(Comparison { file, agent, rules })),
-        (None, Some(word)) => Some(match search_of(word, matches, rules) {
+        (Some(file), None) => Some(Job::Conform(Comparison {
+            file,
+            agent,
+            rules,
+            shrinking,
+        })),
+        (None, Some(word)) => Some(match search_of(word, matches, rules, shrinking) {
             Ok(search) => Job::Search(search),
             Err(name) => Job::BadOption(name),
         }),

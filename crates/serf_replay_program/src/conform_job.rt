@@ -1,6 +1,7 @@
 //! Any agent, held against the reference: calls go to standard output, replies come on standard input, and the report goes
 //! to standard error.
 
+use crate::shrink_job::{Shrinking, is_shrunk, shrink_found};
 use serf_conform::{ConformFault, End, Rules, Verdict, given_packet, hold, opening, wanted};
 use serf_hunt::{Case, case_of};
 use serf_pipe::{Reply, put_call, put_open, put_reply_line};
@@ -8,6 +9,7 @@ use serf_replay::{ScheduleFault, parse_schedule};
 use serf_world::Line;
 use std::alloc::{AllocError, Global};
 use std::io::{self, BufReader, Read, Write};
+use std::rt::Files;
 
 /// All agents agree.
 pub(crate) const AGREES: u8 = 0;
@@ -29,6 +31,7 @@ pub struct Comparison<'a> {
     /// The agent's number; `None` for all of them, one after another.
     pub agent: Option<u64>,
     pub rules: Rules,
+    pub shrinking: Shrinking<'a>,
 }
 
 /// Prints a line on standard error: bytes that are no printable ASCII as `?`, and at most so many.
@@ -211,8 +214,10 @@ fn fault_told(rt: &impl Eprint, agent: u64, fault: ConformFault) -> u8 {
     status_of(fault)
 }
 
-/// Holds these agents, one after another, and gives the status: the greatest of theirs. An agent that ended ends all.
-fn hold_agents<R: Eprint + AllocGlobal, I: Read, O: Write>(
+/// Holds these agents, one after another, and gives the status: the greatest of theirs. An agent that ended ends all, and
+/// so does one whose calls are made fewer.
+fn hold_agents<F: Files, R: Eprint + AllocGlobal, I: Read, O: Write>(
+    files: &F,
     rt: &R,
     text: &[u8],
     case: &Case,
@@ -238,10 +243,24 @@ fn hold_agents<R: Eprint + AllocGlobal, I: Read, O: Write>(
             case.actions.as_slice(),
             &case.trace,
         );
-        let came = match outcome {
-            Ok(verdict) => report(rt, text, case, number, &verdict),
+        let verdict = match outcome {
+            Ok(verdict) => verdict,
             Err(fault) => return fault_told(rt, number, fault),
         };
+        let came = report(rt, text, case, number, &verdict);
+        if is_shrunk(&asked.shrinking, &verdict) {
+            return shrink_found(
+                files,
+                rt,
+                &asked.shrinking,
+                asked.rules,
+                case,
+                number,
+                &verdict,
+                reader,
+                writer,
+            );
+        }
         if came == DEVICE {
             return came;
         }
@@ -261,7 +280,8 @@ fn case_in(alloc: Global, text: &[u8]) -> Result<Case, ScheduleFault> {
 
 /// Holds the agents of a schedule's text against the reference. A schedule with a bad line is refused before a call is
 /// written.
-pub fn conform<R: Input + Print + Eprint + AllocGlobal>(
+pub fn conform<F: Files, R: Input + Print + Eprint + AllocGlobal>(
+    files: &F,
     rt: &R,
     asked: &Comparison,
     text: &[u8],
@@ -283,5 +303,13 @@ pub fn conform<R: Input + Print + Eprint + AllocGlobal>(
     let Ok(mut reader) = BufReader::new(rt.alloc(), rt.reader()) else {
         return no_memory(rt);
     };
-    hold_agents(rt, text, &case, asked, &mut reader, &mut io::writer(rt))
+    hold_agents(
+        files,
+        rt,
+        text,
+        &case,
+        asked,
+        &mut reader,
+        &mut io::writer(rt),
+    )
 }

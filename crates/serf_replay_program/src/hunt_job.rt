@@ -2,16 +2,18 @@
 
 use crate::conform_job::{AGREES, no_memory, report, status_of};
 use crate::random_job::ask_with;
+use crate::shrink_job::{Shrinking, is_shrunk, shrink_found};
 use clap::ArgMatches;
 use serf_conform::Rules;
 use serf_hunt::{Case, Found, HuntFault, Hunted, RandomSchedules, case_of, hunt};
 use serf_random::{Ask, random_schedule};
 use std::alloc::{AllocError, Global};
-use std::io::{self, BufReader};
+use std::io::{self, BufReader, Read, Write};
+use std::rt::Files;
 
 /// Which random schedules an agent is held against.
 #[derive(Clone, Copy)]
-pub struct Search {
+pub struct Search<'a> {
     /// The first seed.
     pub first: u64,
     /// One more than the last seed.
@@ -19,6 +21,7 @@ pub struct Search {
     /// What is asked for of each seed, in the place of its own seed.
     pub ask: Ask,
     pub rules: Rules,
+    pub shrinking: Shrinking<'a>,
 }
 
 /// The seeds of a word `A-B` or `A`: the first one, and one more than the last.
@@ -33,7 +36,12 @@ fn seeds_of(word: &str) -> Option<(u64, u64)> {
 }
 
 /// The search that the words ask for; the name of the option whose word is bad otherwise.
-pub fn search_of(word: &str, matches: &ArgMatches, rules: Rules) -> Result<Search, &'static str> {
+pub fn search_of<'a>(
+    word: &str,
+    matches: &ArgMatches,
+    rules: Rules,
+    shrinking: Shrinking<'a>,
+) -> Result<Search<'a>, &'static str> {
     let (first, end) = seeds_of(word).ok_or("random")?;
     let ask = ask_with(matches, first).ok_or("kind")?;
     Ok(Search {
@@ -41,6 +49,7 @@ pub fn search_of(word: &str, matches: &ArgMatches, rules: Rules) -> Result<Searc
         end,
         ask,
         rules,
+        shrinking,
     })
 }
 
@@ -52,19 +61,45 @@ fn made_again(alloc: Global, ask: Ask, seed: u64) -> Result<(Vec<u8>, Case), All
 }
 
 /// Tells which agent of which seed does otherwise, and gives the status.
-fn tell_found<R: Eprint + AllocGlobal>(rt: &R, asked: &Search, calls: u64, found: &Found) -> u8 {
+fn tell_found<F: Files, R: Eprint + AllocGlobal, I: Read, O: Write>(
+    files: &F,
+    rt: &R,
+    asked: &Search,
+    calls: u64,
+    found: &Found,
+    reader: &mut I,
+    writer: &mut O,
+) -> u8 {
     let Found { seed, other } = found;
     let seeds = seed.saturating_sub(asked.first);
     let _ = eprintln!(rt; "seed {seed}: {seeds} seeds and {calls} calls agree before");
-    match made_again(rt.alloc(), asked.ask, *seed) {
-        Ok((text, case)) => report(rt, &text, &case, other.agent, &other.verdict),
-        Err(_) => no_memory(rt),
+    let Ok((text, case)) = made_again(rt.alloc(), asked.ask, *seed) else {
+        return no_memory(rt);
+    };
+    let status = report(rt, &text, &case, other.agent, &other.verdict);
+    if !is_shrunk(&asked.shrinking, &other.verdict) {
+        return status;
     }
+    shrink_found(
+        files,
+        rt,
+        &asked.shrinking,
+        asked.rules,
+        &case,
+        other.agent,
+        &other.verdict,
+        reader,
+        writer,
+    )
 }
 
 /// Holds an agent on standard input and output against the random schedules of all seeds, up to the first that it does
 /// otherwise on.
-pub fn run_hunt<R: Input + Print + Eprint + AllocGlobal>(rt: &R, asked: &Search) -> u8 {
+pub fn run_hunt<F: Files, R: Input + Print + Eprint + AllocGlobal>(
+    files: &F,
+    rt: &R,
+    asked: &Search,
+) -> u8 {
     let Ok(mut reader) = BufReader::new(rt.alloc(), rt.reader()) else {
         return no_memory(rt);
     };
@@ -95,7 +130,7 @@ pub fn run_hunt<R: Input + Print + Eprint + AllocGlobal>(rt: &R, asked: &Search)
                 calls,
                 found: Some(found),
             },
-        ) => tell_found(rt, asked, calls, &found),
+        ) => tell_found(files, rt, asked, calls, &found, &mut reader, &mut writer),
         Err(HuntFault { seed, fault }) => {
             let _ = eprintln!(rt; "seed {seed}: {fault}");
             status_of(fault)

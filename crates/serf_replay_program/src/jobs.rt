@@ -185,7 +185,7 @@ fn run_conform<F: Files, R: Input + Print + Eprint + AllocGlobal>(
         Err(_) => Err(InputFault::ReadFault),
     };
     match input {
-        Ok(text) => conform(rt, asked, &text),
+        Ok(text) => conform(files, rt, asked, &text),
         Err(InputFault::ReadFault) => read_failed(rt),
         Err(InputFault::ReadTooLong) => too_long(rt),
         Err(InputFault::OutOfMemory) => no_memory(rt),
@@ -229,8 +229,8 @@ pub fn run<F: Files, R: Clock + Input + Print + Eprint + AllocGlobal>(
         Ok(Some(Job::Conform(asked))) => run_conform(files, rt, &asked),
         Ok(Some(Job::Explain(asked))) => run_explain(files, rt, is_terminal, &asked),
         Ok(Some(Job::Draw(drawing))) => run_draw(files, rt, &drawing),
-        Ok(Some(Job::Search(asked))) => run_hunt(rt, &asked),
-        Ok(Some(Job::BadOption(name))) => { bad_option(rt, name) }
+        Ok(Some(Job::Search(asked))) => run_hunt(files, rt, &asked),
+        Ok(Some(Job::BadOption(name))) => bad_option(rt, name),
         Ok(None) => COMMAND_LINE,
         Err(error) => refuse_command_line(rt, &error),
     }

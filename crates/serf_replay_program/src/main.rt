@@ -13,6 +13,7 @@ mod judge_job;
 mod judge_text;
 mod progress;
 mod random_job;
+mod shrink_job;
 mod stream_job;
 mod summary_job;
 mod write_job;

@@ -1,0 +1,165 @@
+//! `conform --shrink`: the calls at which an agent fails, made fewer.
+
+use crate::conform_job::{no_memory, status_of};
+use crate::jobs::{DEVICE, REFUSED, write_failed};
+use clap::{Arg, ArgAction, ArgMatches};
+use serf_agent::Config;
+use serf_conform::{ConformFault, End, Rules, Verdict};
+use serf_hunt::Case;
+use serf_schedule_text::put_schedule;
+use serf_shrink::{Shrunk, alone_schedule, calls_of, shrink};
+use std::alloc::Global;
+use std::fs;
+use std::io::{Read, Write};
+use std::rt::Files;
+
+/// Whether the calls at which an agent fails are made fewer, and where the schedule of what is left goes.
+#[derive(Clone, Copy)]
+pub struct Shrinking<'a> {
+    pub is_wanted: bool,
+    /// Its file; `None` for standard error.
+    pub save: Option<&'a str>,
+}
+
+/// The word that asks for fewer calls.
+pub fn shrink_flag<'a>(alloc: Global) -> Arg<'a> {
+    Arg::new(alloc, "shrink")
+        .long("shrink")
+        .help(
+            "Tries fewer of the calls at which an agent fails, until no single one can be left out",
+        )
+        .action(ArgAction::SetTrue)
+}
+
+/// The file of what is left.
+pub fn save_option<'a>(alloc: Global) -> Arg<'a> {
+    Arg::new(alloc, "save")
+        .long("save")
+        .value_name("FILE")
+        .help(
+            "Where --shrink writes the schedule of what is left; standard error where it is left out",
+        )
+        .action(ArgAction::Set)
+}
+
+/// What the words ask for; `None` where a file is named, and nothing is to be shrunk.
+pub fn shrinking_of<'a>(matches: &ArgMatches<'a>) -> Option<Shrinking<'a>> {
+    let is_wanted = matches.get_flag("shrink");
+    let save = matches.get_str("save");
+    if save.is_some() && !is_wanted {
+        return None;
+    }
+    Some(Shrinking { is_wanted, save })
+}
+
+/// The calls of an agent up to the one at which it fails, made fewer.
+fn shrunk_calls<R: Read, W: Write>(
+    alloc: Global,
+    reader: &mut R,
+    writer: &mut W,
+    rules: Rules,
+    case: &Case,
+    agent: u64,
+    config: &Config,
+    verdict: &Verdict,
+) -> Result<(usize, Option<Shrunk>), ConformFault> {
+    let mut calls = calls_of(alloc, case, agent)?;
+    calls.truncate(verdict.calls as usize);
+    let count = calls.len();
+    match shrink(alloc, reader, writer, rules, config, calls) {
+        Ok(shrunk) => Ok((count, shrunk)),
+        Err(fault) => Err(fault),
+    }
+}
+
+/// Writes the schedule of what is left to its place, and gives the status.
+fn put_out<F: Files, R: Eprint>(files: &F, rt: &R, asked: &Shrinking, text: &[u8]) -> u8 {
+    let Some(path) = asked.save else {
+        return match str::from_utf8(text) {
+            Ok(text) => {
+                let _ = eprint!(rt; "{text}");
+                REFUSED
+            }
+            Err(_) => write_failed(rt),
+        };
+    };
+    match fs::write(files, path, text) {
+        Ok(()) => REFUSED,
+        Err(_) => write_failed(rt),
+    }
+}
+
+/// Tells what is left, and writes its schedule.
+fn tell_shrunk<F: Files, R: Eprint + AllocGlobal>(
+    files: &F,
+    rt: &R,
+    asked: &Shrinking,
+    config: &Config,
+    count: usize,
+    shrunk: &Shrunk,
+) -> u8 {
+    let left = shrunk.calls.len();
+    let end = if shrunk.is_smallest {
+        ""
+    } else {
+        "; then the agent ended"
+    };
+    let _ = eprintln!(rt; "shrunk to {left} of {count} calls{end}");
+    let schedule = match alone_schedule(rt.alloc(), config, &shrunk.calls) {
+        Ok(schedule) => schedule,
+        Err(_) => return no_memory(rt),
+    };
+    let mut text = Vec::new(rt.alloc());
+    match put_schedule(&mut text, &schedule) {
+        Ok(()) => put_out(files, rt, asked, &text),
+        Err(_) => no_memory(rt),
+    }
+}
+
+/// Makes the calls fewer at which an agent of a case fails, and gives the status: as without this, or that of a device
+/// that fails. Where the calls by themselves don't fail, that is told.
+pub fn shrink_found<F: Files, R: Eprint + AllocGlobal, I: Read, O: Write>(
+    files: &F,
+    rt: &R,
+    asked: &Shrinking,
+    rules: Rules,
+    case: &Case,
+    agent: u64,
+    verdict: &Verdict,
+    reader: &mut I,
+    writer: &mut O,
+) -> u8 {
+    let Some(config) = case.configs.get(agent as usize) else {
+        return REFUSED;
+    };
+    let outcome = shrunk_calls(
+        rt.alloc(),
+        reader,
+        writer,
+        rules,
+        case,
+        agent,
+        config,
+        verdict,
+    );
+    match outcome {
+        Ok((count, Some(shrunk))) => tell_shrunk(files, rt, asked, config, count, &shrunk),
+        Ok((count, None)) => {
+            let _ = eprintln!(rt; "the {count} calls don't fail by themselves");
+            REFUSED
+        }
+        Err(fault) => {
+            let _ = eprintln!(rt; "no shorter schedule: {fault}");
+            if status_of(fault) == DEVICE {
+                DEVICE
+            } else {
+                REFUSED
+            }
+        }
+    }
+}
+
+/// Whether the calls are to be made fewer: where a reply was another one than is wanted.
+pub fn is_shrunk(asked: &Shrinking, verdict: &Verdict) -> bool {
+    asked.is_wanted && matches!(&verdict.end, End::Differs(_))
+}

@@ -1,0 +1,2 @@
+pub mod SublistLemmas
+pub mod TrialLemmas
