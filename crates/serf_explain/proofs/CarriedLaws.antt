@@ -1,5 +1,5 @@
 -- What is told of events, one part of them after another.
-use Rattle.std.proofs.Common.{◌≡◌, ◌<◌, ℕ, codes, length, arith, List, [], ◌∷◌, ◌++◌, map, refl, sym, ap, subst, ◌∙◌, append_assoc, append-nil}
+use Rattle.std.proofs.Common.{◌≡◌, ◌<◌, ℕ, codes, length, arith, List, [], ◌∷◌, ◌++◌, refl, sym, ap, subst, ◌∙◌, append_assoc, append-nil}
 use Rattle.std.proofs.lemmas.List.{map-append}
 use Rattle.serf_wire.specs.declared.texts.EventBody.{EventBody}
 use Rattle.serf_window.specs.Window.{TimedEntry}
@@ -38,7 +38,7 @@ judged-more i j all part left old mid new judge next h adds judging = record {
     added = h.lines.added ++ adds.added;
     new_is = adds.new_is ∙ ap (λ (ls : List Carried). ls ++ adds.added) h.lines.new_is ∙ append_assoc old h.lines.added adds.added;
     carried = subst (λ (rs : List (List ℕ)). AreCarried (h.done ++ part) j rs) (sym (map-append (λ (l : Carried). l.reason.items) h.lines.added adds.added))
-    (carried-append h.done part j (reasons_in h.lines.added) (reasons_in adds.added) h.lines.carried adds.carried);
+        (carried-append h.done part j (reasons_in h.lines.added) (reasons_in adds.added) h.lines.carried adds.carried);
   };
   judging = subst (λ (k : IdealAgent). IsJudging i k next) (sym (after-append h.done part j)) judging;
 }

@@ -1,18 +1,17 @@
 -- The verdict on an event of a merge, from that before the merge and that on what entered in it.
-use Rattle.std.proofs.Common.{◌≡◌, ℕ, zero, suc, ◌+◌, ◌-◌, ◌<◌, ◌≤◌, ◌==◌, ◌&&◌, ◌||◌, ◌⊎◌, ◌%◌, inl, inr, nat_lt, nat_le, max, cond, Bool, true, false, List, [], ◌∷◌, ◌++◌, length, map, filter, Option, Some, None, refl, sym, ap, subst, ◌∙◌, append_assoc, length-append, arith, All}
-use Rattle.std.proofs.lemmas.Bool.{cases_Bool, eq-eqb, leb-true, leb-false, ltb-false, ltb-true, true≢false}
+use Rattle.std.proofs.Common.{◌≡◌, ℕ, ◌+◌, ◌-◌, ◌<◌, ◌≤◌, ◌==◌, ◌&&◌, ◌||◌, inl, inr, nat_lt, nat_le, cond, Bool, true, false, List, [], ◌∷◌, ◌++◌, length, map, Option, Some, None, refl, sym, ap, subst, ◌∙◌, append_assoc, arith, All}
+use Rattle.std.proofs.lemmas.Bool.{cases_Bool, eq-eqb, ltb-false}
 use Rattle.std.proofs.lemmas.List.Elements.{All-cons, All-head, All-nil, All-push, All-tail, All-weaker}
 use Rattle.std.proofs.lemmas.List.{map-append}
 use Rattle.std.proofs.lemmas.List.Folds.{list_any-append}
 use Rattle.std.proofs.lemmas.Bool.Decides.{nat_tests}
-use Rattle.std.specs.List.{list_any}
 use Rattle.serf_lamport.specs.Clock.{observed}
 use Rattle.serf_wire.specs.declared.texts.EventBody.{EventBody}
 use Rattle.serf_window.specs.declared.verdict.Verdict.{Verdict}
 use Rattle.serf_window.specs.declared.verdict.Verdict.TheVariants as verdicts
 use Rattle.serf_window.specs.Laws.{SlotLaws}
 use Rattle.serf_window.specs.Texts.{same_texts}
-use Rattle.serf_window.specs.Window.{SlotOf, TimedEntry, TimesBelow, WindowOf, count_at, count_in, held_at, held_of, slot_for, slots_of, verdict_of, was_entered}
+use Rattle.serf_window.specs.Window.{SlotOf, TimedEntry, TimesBelow, WindowOf, count_at, count_in, slots_of, verdict_of, was_entered}
 use Rattle.serf_agent.specs.declared.outcome.Reason.{Reason}
 use Rattle.serf_agent.specs.declared.outcome.Reason.TheVariants as reasons
 use Rattle.serf_agent.specs.declared.config.Config.{Config}
@@ -120,8 +119,8 @@ life-slots-below laws track life last n clock sound up pos =
 pub reason-both : (laws : SlotLaws EventBody) (n k life last clock minimum t : ℕ) (track : Track EventBody) (what : EventBody) (es : List (TimedEntry EventBody))
     → IsTrackSound track life last → 0 < n → 0 < k → track.clock ≤ clock → track.minimum ≤ minimum → TimesBelow (observed clock t) (slots_of n es)
     → both_verdicts (track_reason same_texts n k life track t what) (verdict_of same_texts n k es (observed clock t) minimum t what)
-        (nat_le (k - count_in (slots_of n (of_life life track.history)) t) (count_in (slots_of n es) t))
-        ≡ track_reason same_texts n k life (record { clock = clock; minimum = minimum; history = track.history ++ map (past life) es }) t what
+    (nat_le (k - count_in (slots_of n (of_life life track.history)) t) (count_in (slots_of n es) t))
+    ≡ track_reason same_texts n k life (record { clock = clock; minimum = minimum; history = track.history ++ map (past life) es }) t what
 reason-both laws n k life last clock minimum t track what es sound pos some up lifted below =
     let hs : List (Past EventBody) = track.history in
     let c : ℕ = observed clock t in

@@ -1,5 +1,5 @@
 -- How many entries of a time are in slots that are lent.
-use Rattle.std.proofs.Common.{◌≡◌, ℕ, zero, suc, ◌==◌, ◌%◌, inl, inr, cond, Bool, true, false, List, [], ◌∷◌, length, map, Option, Some, None, refl, sym, ap, ◌∙◌}
+use Rattle.std.proofs.Common.{◌≡◌, ℕ, zero, suc, ◌==◌, ◌%◌, inl, inr, cond, List, [], ◌∷◌, length, map, Option, Some, None, refl, sym, ap, ◌∙◌}
 use Rattle.std.proofs.lemmas.Bool.{cases_Bool}
 use Rattle.std.proofs.lemmas.List.{length-map}
 use Rattle.std.specs.Prelude.{slice_get, slice_index_or}
@@ -16,7 +16,7 @@ found t None = 0
 found t (Some s) = length (cond (s.0 == t) s.1 [])
 
 at-place : (xs : List (TimeSlot EventBody)) (k t : ℕ) → found t (slice_get (map slot_in_memory xs) k) ≡ length (held_of (slice_index_or (map slot_view xs) k empty_slot) t)
-at-place [] k t = elim (cases_Bool (0 == t)) [ | inl here ↦ rw here refl | inr there ↦ rw there refl ]
+at-place [] k t = elim (cases_Bool (0 == t)) [ inl here ↦ rw here refl | inr there ↦ rw there refl ]
 at-place (x ∷ xs) zero t = refl
 at-place (x ∷ xs) (suc k) t = at-place xs k t
 

@@ -5,7 +5,7 @@ use Rattle.std.specs.List.{AllByRecursion}
 use Rattle.std.specs.Option.{option_map}
 use Rattle.std.proofs.lemmas.Option.{slice_get-map}
 use Rattle.serf_agent.specs.Sound.{IsSound}
-use Rattle.serf_agent.specs.View.{ConcreteState, view_of}
+use Rattle.serf_agent.specs.View.{view_of}
 use Rattle.serf_model.specs.Cluster.{Cluster, IdealNode}
 use Rattle.serf_model.specs.Ready.{AreRepresentable, IsRepresentable}
 use Rattle.serf_world.specs.View.{IsViewed, NodeState, WorldState, agent_at, node_of}

@@ -47,7 +47,6 @@ abbrev pub after_events : List (TimedEntry EventBody) → IdealAgent → IdealAg
 after_events [] i = i
 after_events (e ∷ es) i = after_events es (after_event i e)
 
-
 -- the same of a merge: where a state carries no event, one reason says so
 abbrev pub AreMerged : List (TimedEntry EventBody) → IdealAgent → List (List ℕ) → Type 0
 AreMerged [] i reasons = reasons ≡ codes "the state carries no event" ∷ []

@@ -1,9 +1,8 @@
 -- Texts between quotes, and what is said of an event.
-use Rattle.std.specs.Prelude.{ℕ, ◌==◌, ◌++◌, ◌||◌, nat_le, Bool, if◌then◌else◌, List, [], ◌∷◌, codes, decimal, length, take}
+use Rattle.std.specs.Prelude.{ℕ, ◌==◌, ◌++◌, ◌||◌, nat_le, if◌then◌else◌, List, [], ◌∷◌, codes, decimal, length, take}
 use Rattle.std.specs.List.{flat_map}
 use Rattle.serf_replay.specs.TextParts.{hex_text}
 use Rattle.serf_wire.specs.declared.texts.EventBody.{EventBody}
-use Rattle.serf_window.specs.Window.{TimedEntry}
 use Rattle.serf_explain.specs.Because.{byte_text}
 
 -- a byte of a quoted text: a quote and a backslash too stand as their hex digits

@@ -96,7 +96,9 @@ impl Judge {
         };
         Ok(Judge {
             clock: agent.event_time().max(clock),
-            minimum: agent.event_minimum().max(least(is_join, config.ignore_old, clock)),
+            minimum: agent
+                .event_minimum()
+                .max(least(is_join, config.ignore_old, clock)),
             entered,
         })
     }

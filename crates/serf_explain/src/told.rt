@@ -1,8 +1,8 @@
 //! An action that was done, with what is known around it.
 
 use crate::marks::Marks;
-use crate::merges::Carried;
 use crate::memory::Memory;
+use crate::merges::Carried;
 use crate::quoted::put_quoted;
 use serf_agent::Agent;
 use serf_snap::MemSink;

@@ -34,7 +34,7 @@ loop-action-preserved g c =
       omega (arith, ap length next, inv.4),
       ap (fold after r) (sym next) ∙ inv.5,
       append_assoc clusters (r.cluster ∷ []) (clusters_from (after r c.in-Some.action).cluster (into_iter_items c.next.new.self))
-      ∙ ap (λ (left : List Action). clusters ++ clusters_from r.cluster left) (sym next) ∙ inv.6,
+          ∙ ap (λ (left : List Action). clusters ++ clusters_from r.cluster left) (sym next) ∙ inv.6,
     )
 
 pub returns : goal.returns

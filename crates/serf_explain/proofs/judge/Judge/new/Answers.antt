@@ -1,4 +1,4 @@
-use Rattle.std.proofs.Common.{◌≡◌, ◌<◌, ℕ, max, [], ◌&&◌, cond, refl, sym, ap, ◌∙◌, append-nil, arith}
+use Rattle.std.proofs.Common.{◌≡◌, ◌<◌, max, [], ◌&&◌, cond, refl, sym, ap, ◌∙◌, append-nil, arith}
 use Rattle.std.proofs.lemmas.List.Elements.{All-nil}
 use Rattle.serf_window.specs.Window.{slots_of}
 use Rattle.serf_agent.specs.declared.config.Config.{Config}
@@ -10,7 +10,7 @@ returns c = λ i m sound is same.
     let config : c.config-config.result.now ≡ i.config = c.config-config.ensures.config ∙ ap (λ (s : ConcreteState). s.config) is in
     let clock : c.max.result ≡ max i.events.clock m.event_clock = c.max.ensures ∙ (λ q. max ((c.event_time.ensures ∙ ap (λ (s : ConcreteState). s.events.clock) is) q) (sym same q)) in
     let minimum : c.max-2.result ≡ max i.events.minimum (cond (c.args.is_join && i.config.ignore_old) m.event_clock 0) =
-        c.max-2.ensures ∙ (λ q. max ((c.event_minimum.ensures ∙ ap (λ (s : ConcreteState). s.events.minimum) is) q) ((c.least.ensures ∙ (λ p. cond (c.args.is_join && (config p).ignore_old) (sym same p) 0)) q)) in
+    c.max-2.ensures ∙ (λ q. max ((c.event_minimum.ensures ∙ ap (λ (s : ConcreteState). s.events.minimum) is) q) ((c.least.ensures ∙ (λ p. cond (c.args.is_join && (config p).ignore_old) (sym same p) 0)) q)) in
     record {
       entered = [];
       config_same = refl;
