@@ -144,11 +144,11 @@ class Story:
         time = int(event[0])
         if verdict.startswith(b"below the least time "):
             return time < numbers[0]
-        if b" times below the event clock " in verdict:
+        if verdict.startswith(b"too old: "):
             return numbers[2] - numbers[1] > time == numbers[0]
-        if b", as many as are taken of one time, were taken of time " in verdict:
+        if verdict.startswith(b"too many of its time: "):
             return numbers[1] == time
-        return self.is_seen(number, agent, verdict, event)
+        return verdict.startswith(b"seen: ") and self.is_seen(number, agent, verdict.removeprefix(b"seen: "), event)
 
 
 def taken_apart(count, name, schedule):
@@ -208,7 +208,7 @@ def random_schedules(count):
 
 
 def incident(count):
-    """The page of the incident has the last lines as they are."""
+    """The page of the incident has the last lines as they are, and a file too; its pictures are what the program draws."""
     page = read("examples", "incident", "README.md").decode()
     for name in ("as_flushed", "as_serf_kept"):
         schedule = run(["write"], read("examples", "incident", name + ".written"))[1]
@@ -217,7 +217,9 @@ def incident(count):
             what_is_said(count, name, story)
         at = 1 + next(place for place, words in enumerate(actions_of(schedule)[0]) if words[0] == b"restart")
         status, text, said = run(["explain", "--agent", "1", "--from", str(at)], schedule)
+        count.check(f"{name}: the last lines stand in a file", text == read("examples", "incident", name + ".reasons"), text)
         shown = "".join("    " + line + "\n" for line in text.decode().split("\n")[:-1])
+        count.check(f"{name}: its picture", run(["draw"], schedule)[1] == read("examples", "incident", name + ".svg"))
         count.check(f"{name}: the last lines stand in the page", (status, said) == (0, b"") and shown and shown in page, text)
 
 

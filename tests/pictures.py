@@ -1,6 +1,7 @@
 """Pictures of runs: each example beside its stored picture, any bytes in names and payloads, ranges, and that no labels overlap.
 
-A label's box is an estimate: 45 units a character, which is 0.6 of the size of the font.
+A label's box is an estimate: 45 units a character, which is 0.6 of the size of the font. Mermaid itself is not run: its text
+is held against the part of its grammar of sequence diagrams that is used, as Mermaid's documents have it.
 """
 
 import os
@@ -18,6 +19,14 @@ PROGRAM = os.path.join(TOP, "serf-replay")
 SVG = "{http://www.w3.org/2000/svg}"
 GLYPH = 45
 PLACE = re.compile(r"translate\((-?\d+) (\d+)\)")
+
+
+# A participant with its alias; a message between two participants, or a note over one, with a text to the line's end.
+TEXT = r"(\d+ (?:[A-Za-z0-9 .@_]|#\d+;)*(?:, clock \d+)?)"
+WHO = r"(a\d+|outside)"
+PARTICIPANT = re.compile(rf"participant (a\d+) as {TEXT}\Z")
+MESSAGE = re.compile(rf"{WHO}(->>|-->>|-x){WHO}: {TEXT}\Z")
+NOTE = re.compile(rf"Note over {WHO}: {TEXT}\Z")
 
 
 class Count:
@@ -43,6 +52,32 @@ def paths(root):
     """The arrows: each one's class and its two places."""
     found = [(path.get("class"), path.get("d")) for path in root.findall(f"{SVG}path")]
     return [(kind, tuple(tuple(map(int, place.split())) for place in line[1:].split("L"))) for kind, line in found if kind in "tir"]
+
+
+def crosses(root):
+    return [path.get("transform") for path in root.findall(f"{SVG}path") if path.get("class") == "x"]
+
+
+def shown(text):
+    """A text of Mermaid's, its entity codes as what they stand for."""
+    return re.sub(r"#(\d+);", lambda code: chr(int(code[1])), text)
+
+
+def mermaid_is_sound(count, name, words, schedule, root):
+    """The diagram is in the grammar, and says what the picture of the same run says."""
+    ran = drawn(["--as", "mermaid", *words], schedule)
+    head, *lines, end = ran.stdout.decode("ascii").split("\n")
+    count.check(f"{name}: a sequence diagram", (ran.returncode, head, end) == (0, "sequenceDiagram", ""), ran)
+    who = [PARTICIPANT.match(line) for line in lines]
+    lanes = len(root.findall(f"{SVG}text[@class='h']"))
+    count.check(f"{name}: its participants", all(who[:lanes]) and not any(who[lanes:]), lines)
+    messages, notes = [MESSAGE.match(line) for line in lines[lanes:]], [NOTE.match(line) for line in lines[lanes:]]
+    count.check(f"{name}: its lines", all(message or note for message, note in zip(messages, notes)), lines)
+    count.check(f"{name}: its messages", len(list(filter(None, messages))) == len(paths(root)), lines)
+    texts = [re.sub(r", clock \d+\Z", "", shown((message or note).groups()[-1])) for message, note in zip(messages, notes) if message or note]
+    numbers = [text.text for text in root.findall(f"{SVG}text[@class='n']")]
+    labels = [next(text.text or "" for text in group.findall(f"{SVG}text") if text.get("class") != "c") for group in root.findall(f"{SVG}g")]
+    count.check(f"{name}: its texts", texts == [f"{number} {label}" for number, label in zip(numbers, labels)], texts)
 
 
 def boxes(root):
@@ -84,6 +119,11 @@ def examples(count):
             given = [line.split() for line in schedule.read().splitlines() if line.split()[:1] in ([b"deliver"], [b"merge"])]
         count.check(f"{name}: an arrow for each delivery and merge", len(paths(root)) == len(given), paths(root))
         nothing_overlaps(count, name, root)
+        trace = subprocess.run([PROGRAM, "replay", os.path.join(folder, file)], capture_output=True, timeout=600).stdout
+        sent = [line.split()[2] for line in trace.splitlines() if line.split()[1] == b"sent"]
+        lost = [number for number in sent if number not in {line[2] for line in given}]
+        count.check(f"{name}: a cross for each packet that nobody got", len(crosses(root)) == len(lost), lost)
+        mermaid_is_sound(count, name, [os.path.join(folder, file)], b"", root)
 
 
 AGENTS = b"agent 61 4 4 512 8 keep\nagent 62 4 4 512 8 keep\n"
@@ -91,7 +131,7 @@ AGENTS = b"agent 61 4 4 512 8 keep\nagent 62 4 4 512 8 keep\n"
 
 def bad_bytes(count):
     """Any bytes stay in their place."""
-    for name in (b"\x00\x1f\x7f\xff", b"<b>&amp;", b"]]>", b"\"'", b"\xe2\x80\xae", b"<script>", b"x" * 128):
+    for name in (b"\x00\x1f\x7f\xff", b"#;\n%%{end}\r: end", b"->>-x;wrap:", b"<b>&amp;", b"]]>", b"\"'", b"\xe2\x80\xae", b"<script>", b"x" * 128):
         text = b"agent %s 4 4 9216 8 keep\nfire 0 %s %s 0\ndeliver 0 0 0\n" % ((name.hex().encode(),) * 3)
         ran = drawn([], text)
         root = tree.fromstring(ran.stdout)
@@ -100,8 +140,13 @@ def bad_bytes(count):
         wanted = "".join(chr(byte) if 32 <= byte <= 126 else "\ufffd" for byte in shown)
         count.check(f"{name[:8]} is shown", root.findall(f"{SVG}text[@class='h']")[0].text.strip() == wanted.strip(), ran.stdout)
         nothing_overlaps(count, f"{name[:8]}", root)
+        mermaid_is_sound(count, f"{name[:8]}", [], text, root)
     ran = drawn([], AGENTS + b"fire 0 61 %s 0\ninject %s\ndeliver 1 0 0\n" % (b"41" * 400, b"ff" * 9216))
     count.check("long ones are told with their length", b"AAAAAAAA..(400)" in ran.stdout and b">9216 bytes injected<" in ran.stdout, ran.stdout)
+
+
+def root_of(words, schedule):
+    return tree.fromstring(drawn(words, schedule).stdout)
 
 
 def arrows(count):
@@ -110,6 +155,9 @@ def arrows(count):
     wanted = [("t", ((500, 150), (1500, 250))), ("i", ((500, 150), (1500, 350))), ("r", ((-500, 450), (500, 550))), ("r", ((-500, 650), (500, 650)))]
     count.check("arrows go from senders to getters", paths(root) == wanted, paths(root))
     count.check("a restart breaks the lane", len(root.findall(f"{SVG}g/{SVG}path[@class='g']")) == 1)
+    wanted_crosses = ["translate(1500 250)"]
+    count.check("a packet that nobody gets has a cross", crosses(root) == wanted_crosses, crosses(root))
+    mermaid_is_sound(count, "arrows", [], text, root)
     root = tree.fromstring(drawn(["--from", "2", "--to", "3"], text).stdout)
     count.check("a range has its arrows", paths(root) == wanted[:2], paths(root))
     root = tree.fromstring(drawn(["--agent", "1"], text).stdout)
@@ -118,8 +166,11 @@ def arrows(count):
     count.check("a range behind the end", (ran.returncode, ran.stderr, paths(tree.fromstring(ran.stdout))) == (0, b"no action is drawn\n", []), ran)
     ran = drawn([], AGENTS + b"deliver 0\n")
     count.check("a bad line", (ran.returncode, ran.stdout, ran.stderr) == (1, b"", b"bad line 3 WordCount\n"), ran)
-    ran = drawn(["--agent", "x"], text)
-    count.check("an agent that is no number", (ran.returncode, ran.stdout) == (2, b""), ran)
+    mermaid_is_sound(count, "an agent by itself", ["--agent", "1"], text, root_of(["--agent", "1"], text))
+    for words in (["--agent", "x"], ["--as", "png"]):
+        ran = drawn(words, text)
+        count.check(f"bad words {words}", (ran.returncode, ran.stdout) == (2, b""), ran)
+    count.check("an SVG where it is asked for", drawn(["--as", "svg"], text).stdout == drawn([], text).stdout)
 
 
 def many(count):
@@ -130,6 +181,7 @@ def many(count):
     count.check("30 lanes", len(root.findall(f"{SVG}text[@class='h']")) == 30)
     count.check("150 arrows", len(paths(root)) == 150)
     nothing_overlaps(count, "a large cluster", root)
+    mermaid_is_sound(count, "a large cluster", [], agents + actions, root)
 
 
 def main():

@@ -3,3 +3,4 @@ pub mod Escape
 pub mod Label
 pub mod Drawing
 pub mod Svg
+pub mod Mermaid

@@ -7,6 +7,7 @@ use Rattle.serf_draw.specs.declared.picture.Arrow.TheVariants.{NoPacket, Unsent,
 use Rattle.serf_draw.specs.declared.picture.Lane.{Lane}
 use Rattle.serf_draw.specs.declared.picture.Picture.{Picture}
 use Rattle.serf_draw.specs.declared.picture.Row.{Row}
+use Rattle.serf_draw.specs.declared.picture.Sender.{Sender}
 use Rattle.serf_draw.specs.declared.picture.Tone.{Tone}
 use Rattle.serf_draw.specs.declared.picture.Tone.TheVariants.{Taken, Ignored, Refused}
 use Rattle.serf_draw.specs.declared.style.TheConstants.{OPENING, STYLE}
@@ -87,6 +88,10 @@ arrow_of_text lanes row (From sender) = arrow_line lanes row sender.agent sender
 abbrev pub arrow_text : List Lane → Row → List ℕ
 arrow_text lanes row = arrow_of_text lanes row row.arrow
 
+-- a small cross right of where a packet was sent that nobody got
+unfoldable pub cross_text : List Lane → Sender → List ℕ
+cross_text lanes sender = placed_text (codes "<path class='x' transform='translate(") lanes sender.agent sender.action (codes ")' d='M14 0H27M27-11L49 11M27 11L49-11'/>\n")
+
 -- Rows
 
 -- the action's number, at the left edge
@@ -133,7 +138,7 @@ paper_text top = between (codes "<rect class='p' x='-1000' y='") top (codes "00'
 unfoldable pub frame_text : ℕ → ℕ → ℕ → List ℕ
 frame_text top columns lines = OPENING.now ++ view_text top columns lines ++ size_text columns lines ++ STYLE.now ++ paper_text top
 
--- The frame, the lanes, the arrows, and above them the rows.
+-- The frame, the lanes, the arrows, the crosses, and above them the rows.
 unfoldable pub svg_of : Picture → List ℕ
 svg_of p = frame_text p.top (columns p.lanes.items) (p.bottom - p.top) ++ lanes_text p.top p.bottom 0 p.lanes.items
-    ++ flat_map (arrow_text p.lanes.items) p.rows.items ++ flat_map (row_text p.lanes.items) p.rows.items ++ codes "</svg>\n"
+    ++ flat_map (arrow_text p.lanes.items) p.rows.items ++ flat_map (cross_text p.lanes.items) p.lost.items ++ flat_map (row_text p.lanes.items) p.rows.items ++ codes "</svg>\n"

@@ -3,12 +3,12 @@
 ghost use Rattle.std.specs.Prelude.{◌≡◌, ◌++◌, ◌∷◌, ◌+◌, [], filter, length, IfOk, OnOk};
 ghost use Rattle.serf_replay.specs.Schedule.{parsed_of, schedule_of};
 ghost use Rattle.serf_draw.specs.Asked.{is_chosen};
-ghost use Rattle.serf_draw.specs.Drawing.{Drawing, Draws, IsDrawn, drawing_of, IsPicture, drawn, row_with, shown_lanes, shown_rows};
+ghost use Rattle.serf_draw.specs.Drawing.{Drawing, Draws, IsDrawn, drawing_of, IsPicture, drawn, lost_in, row_with, shown_lanes, shown_rows};
 
 use crate::clock::{changed_clock, event_clock};
 use crate::label::{first_words, label};
-use crate::picture::{Arrow, Asked, Lane, Picture, Row, Sender};
-use crate::row::{actor, add_senders, arrow, given_packet, is_restart, tone};
+use crate::picture::{Arrow, Asked, Lane, Packet, Picture, Row, Sender};
+use crate::row::{actor, add_packets, arrow, given_packet, is_restart, note_packet, tone};
 use serf_agent::Config;
 use serf_replay::{Schedule, ScheduleFault, parse_schedule};
 use serf_wire::Bytes;
@@ -51,18 +51,18 @@ fn add_row(rows: &mut Vec<Row>, asked: &Asked, row: Row) -> Result<(), AllocErro
 fn draw_action(
     alloc: Global,
     world: &mut World,
-    senders: &mut Vec<Sender>,
+    packets: &mut Vec<Packet>,
     rows: &mut Vec<Row>,
     asked: &Asked,
     number: u64,
     action: &Action,
 ) -> Result<(), AllocError>
-    ensures { (d : Drawing) → IsDrawn asked.now d world.old senders.old.items rows.old.items → number ≡ length d.rows + 1 → OnOk result (IsDrawn asked.now (drawn d action.now) world.new senders.new.items rows.new.items) }
+    ensures { (d : Drawing) → IsDrawn asked.now d world.old packets.old.items rows.old.items → number ≡ length d.rows + 1 → OnOk result (IsDrawn asked.now (drawn d action.now) world.new packets.new.items rows.new.items) }
 {
     let agent = actor(action);
     let words = first_words(alloc, action, given_packet(action, world.sent()))?;
     let before = event_clock(world, agent);
-    let arrow = arrow(senders, action);
+    let arrow = arrow(packets, action);
     let Ok(line) = world.step(alloc, action) else {
         return Err(AllocError);
     };
@@ -71,22 +71,45 @@ fn draw_action(
         agent,
         action: number,
     };
-    add_senders(senders, sender, line.sent.as_slice())?;
+    note_packet(packets, action);
+    add_packets(packets, sender, line.sent.as_slice())?;
     let row = row(number, agent, words, arrow, clock, &line)?;
     add_row(rows, asked, row)
 }
 
-/// The rows of the run of these actions.
+/// Adds who sent a packet, where nobody got it and the sender's action is asked for.
+fn add_lost(lost: &mut Vec<Sender>, asked: &Asked, packet: Packet) -> Result<(), AllocError>
+    ensures { OnOk result (lost.new.items ≡ lost.old.items ++ lost_in asked.now (packet ∷ [])) }
+{
+    let sender = packet.sender;
+    if !packet.is_given && asked.shows(sender.action, sender.agent) {
+        lost.push(sender)?;
+    }
+    Ok(())
+}
+
+/// Who sent what nobody got, of these packets.
+fn lost_of(alloc: Global, asked: &Asked, packets: &[Packet]) -> Result<Vec<Sender>, AllocError>
+    ensures { IfOk result (λ lost. lost.items ≡ lost_in asked.now packets.now) }
+{
+    let mut lost = Vec::new(alloc);
+    for packet in packets {
+        add_lost(&mut lost, asked, *packet)?;
+    }
+    Ok(lost)
+}
+
+/// The rows of the run of these actions, and the packets that were sent.
 fn rows_of(
     alloc: Global,
     agents: Roster,
     actions: &[Action],
     asked: &Asked,
-) -> Result<Vec<Row>, AllocError>
-    ensures { IfOk result (λ rows. rows.items ≡ shown_rows asked.now (drawing_of agents actions.now).rows) }
+) -> Result<(Vec<Row>, Vec<Packet>), AllocError>
+    ensures { IfOk result (λ made. (made.0.items ≡ shown_rows asked.now (drawing_of agents actions.now).rows) × (made.1.items ≡ (drawing_of agents actions.now).packets)) }
 {
     let mut world = World::new(alloc, agents)?;
-    let mut senders = Vec::new(alloc);
+    let mut packets = Vec::new(alloc);
     let mut rows = Vec::new(alloc);
     let mut number: u64 = 0;
     for action in actions {
@@ -94,14 +117,14 @@ fn rows_of(
         draw_action(
             alloc,
             &mut world,
-            &mut senders,
+            &mut packets,
             &mut rows,
             asked,
             number,
             action,
         )?;
     }
-    Ok(rows)
+    Ok((rows, packets))
 }
 
 /// Adds a lane, where it is asked for.
@@ -137,12 +160,14 @@ fn picture_of(alloc: Global, schedule: Schedule, asked: &Asked) -> Result<Pictur
 {
     let Schedule { agents, actions } = schedule;
     let lanes = lanes_of(alloc, agents.as_slice(), asked)?;
-    let rows = rows_of(alloc, agents, actions.as_slice(), asked)?;
+    let (rows, packets) = rows_of(alloc, agents, actions.as_slice(), asked)?;
+    let lost = lost_of(alloc, asked, packets.as_slice())?;
     let top = asked.from.saturating_sub(1);
     let bottom = asked.to.min(actions.len() as u64).max(top);
     Ok(Picture {
         lanes,
         rows,
+        lost,
         top,
         bottom,
     })

@@ -1,10 +1,12 @@
-//! Pictures of runs: a lane for each agent, and an arrow for each packet that is given to one.
+//! Pictures of runs: a lane for each agent, and an arrow for each packet that is given to one; as an SVG file, or as the
+//! text of Mermaid.
 #![tactic(auto)]
 
 mod clock;
 mod drawing;
 mod escape;
 mod label;
+mod mermaid;
 mod picture;
 mod row;
 mod style;
@@ -12,5 +14,6 @@ mod svg;
 
 pub use drawing::draw_picture;
 pub use escape::{escape_laws, put_escaped};
-pub use picture::{Arrow, Asked, Lane, Picture, Row, Sender, Tone};
+pub use mermaid::{coded_laws, mermaid_text};
+pub use picture::{Arrow, Asked, Lane, Packet, Picture, Row, Sender, Tone};
 pub use svg::svg_text;

@@ -24,6 +24,13 @@ pub struct Sender {
     pub action: u64,
 }
 
+/// A packet that was sent: who sent it, and whether some action gave it to an agent.
+#[derive(Clone, Copy, Debug, PartialEq, Eq)]
+pub struct Packet {
+    pub sender: Sender,
+    pub is_given: bool,
+}
+
 /// Where the packet that an action gives comes from.
 #[derive(Clone, Copy, Debug, PartialEq, Eq)]
 pub enum Arrow {
@@ -100,11 +107,13 @@ impl Asked {
     }
 }
 
-/// A picture of a run: the lanes of its agents, and the rows of its actions.
+/// A picture of a run: the lanes of its agents, the rows of its actions, and the packets that nobody got.
 #[derive(Debug, Drop)]
 pub struct Picture {
     pub lanes: Vec<Lane>,
     pub rows: Vec<Row>,
+    /// Who sent what no action gives to an agent, once for each such packet, in their order.
+    pub lost: Vec<Sender>,
     /// The number of the action before the first one of the range: the lanes' names stand on its line.
     pub top: u64,
     /// The number of the last action of the range, or `top` where there is none.

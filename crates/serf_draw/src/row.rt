@@ -1,11 +1,11 @@
 //! The row of an action.
 
-ghost use Rattle.std.specs.Prelude.{◌≡◌, ◌++◌, OnOk, replicate, length, slice_get};
+ghost use Rattle.std.specs.Prelude.{◌≡◌, ◌++◌, OnOk, false, replicate, length, slice_get};
 ghost use Rattle.std.specs.Option.{option_copied};
 ghost use Rattle.serf_model.specs.Trace.{actor_of, packet_given};
-ghost use Rattle.serf_draw.specs.Drawing.{arrow_of, from_sender, restarts, tone_of};
+ghost use Rattle.serf_draw.specs.Drawing.{arrow_of, from_packet, given_by, packet_of, restarts, tone_of, with_given};
 
-use crate::picture::{Arrow, Sender, Tone};
+use crate::picture::{Arrow, Packet, Sender, Tone};
 use serf_model::{Action, Answer};
 use serf_wire::Bytes;
 use std::alloc::AllocError;
@@ -50,23 +50,44 @@ pub(crate) fn given_packet<'a>(action: &Action, sent: &'a [Bytes]) -> Option<&'a
     }
 }
 
-fn arrow_from(senders: &[Sender], packet: u64) -> Arrow
-    ensures { result ≡ from_sender (slice_get senders.now packet) }
+fn arrow_from(packets: &[Packet], packet: u64) -> Arrow
+    ensures { result ≡ from_packet (slice_get packets.now packet) }
 {
-    match senders.get(packet as usize) {
-        Some(sender) => Arrow::From(*sender),
+    match packets.get(packet as usize) {
+        Some(packet) => Arrow::From(packet.sender),
         None => Arrow::Unsent,
     }
 }
 
-/// The arrow of an action, where these sent the packets so far.
-pub(crate) fn arrow(senders: &[Sender], action: &Action) -> Arrow
-    ensures { result ≡ arrow_of senders.now action.now }
+/// The arrow of an action, where these packets were sent so far.
+pub(crate) fn arrow(packets: &[Packet], action: &Action) -> Arrow
+    ensures { result ≡ arrow_of packets.now action.now }
 {
     match action {
-        Action::Deliver { packet, .. } => arrow_from(senders, *packet),
-        Action::Merge { packet, .. } => arrow_from(senders, *packet),
+        Action::Deliver { packet, .. } => arrow_from(packets, *packet),
+        Action::Merge { packet, .. } => arrow_from(packets, *packet),
         _ => Arrow::NoPacket,
+    }
+}
+
+/// Notes that a packet was given to an agent, where it was sent.
+fn note_given(packets: &mut Vec<Packet>, packet: u64)
+    ensures { packets.new.items ≡ with_given packets.old.items packet }
+{
+    match packets.get_mut(packet as usize) {
+        Some(packet) => packet.is_given = true,
+        None => {}
+    }
+}
+
+/// Notes the packet that an action gives to an agent.
+pub(crate) fn note_packet(packets: &mut Vec<Packet>, action: &Action)
+    ensures { packets.new.items ≡ given_by packets.old.items action.now }
+{
+    match action {
+        Action::Deliver { packet, .. } => note_given(packets, *packet),
+        Action::Merge { packet, .. } => note_given(packets, *packet),
+        _ => {}
     }
 }
 
@@ -89,16 +110,19 @@ pub(crate) fn is_restart(answer: Answer) -> bool
     }
 }
 
-/// Adds a sender once for each of these packets.
-pub(crate) fn add_senders(
-    senders: &mut Vec<Sender>,
+/// Adds the packets of these numbers, which one action sent.
+pub(crate) fn add_packets(
+    packets: &mut Vec<Packet>,
     sender: Sender,
-    packets: &[u64],
+    numbers: &[u64],
 ) -> Result<(), AllocError>
-    ensures { OnOk result (senders.new.items ≡ senders.old.items ++ replicate (length packets.now) sender) }
+    ensures { OnOk result (packets.new.items ≡ packets.old.items ++ replicate (length numbers.now) (packet_of sender)) }
 {
-    for _packet in packets {
-        senders.push(sender)?;
+    for _number in numbers {
+        packets.push(Packet {
+            sender,
+            is_given: false,
+        })?;
     }
     Ok(())
 }

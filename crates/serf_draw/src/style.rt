@@ -13,6 +13,7 @@ path{fill:none;stroke-width:8}
 .l,.b{stroke:var(--lane)}
 .g{stroke:var(--paper);stroke-width:20}
 .t{stroke:var(--t)}.i{stroke:var(--i)}.r{stroke:var(--r)}
+.x{stroke:var(--i)}
 path.t{marker-end:url(#t)}path.i{marker-end:url(#i);stroke-dasharray:24 16}path.r{marker-end:url(#r)}
 .t circle,.t text,#t path{fill:var(--t)}.i circle,.i text,#i path{fill:var(--i)}.r circle,.r text,#r path{fill:var(--r)}
 text{fill:var(--ink);stroke:var(--paper);stroke-width:24;stroke-linejoin:round;paint-order:stroke;white-space:pre}

@@ -3,11 +3,11 @@
 ghost use Rattle.std.specs.Prelude.{◌≡◌, ◌++◌, ◌+◌, ◌-◌, IfOk, OnOk};
 ghost use Rattle.std.specs.List.{flat_map};
 ghost use Rattle.serf_draw.specs.Label.{short};
-ghost use Rattle.serf_draw.specs.Svg.{agent_thousands, arrow_line, arrow_of_text, arrow_text, between, class_text, clock_text, columns as columns_of, dot_text, frame_text, label_text, lane_line, lane_place as place_among, lanes_text, mark_text, name_text, number_text, paper_text, place_text, placed_text, row_text, size_text, svg_of, text_element, thousands, tone_word as word_of, view_text};
+ghost use Rattle.serf_draw.specs.Svg.{agent_thousands, arrow_line, arrow_of_text, arrow_text, between, class_text, clock_text, columns as columns_of, cross_text, dot_text, frame_text, label_text, lane_line, lane_place as place_among, lanes_text, mark_text, name_text, number_text, paper_text, place_text, placed_text, row_text, size_text, svg_of, text_element, thousands, tone_word as word_of, view_text};
 
 use crate::escape::put_escaped;
 use crate::label::put_short;
-use crate::picture::{Arrow, Lane, Picture, Row, Tone};
+use crate::picture::{Arrow, Lane, Picture, Row, Sender, Tone};
 use crate::style::{OPENING, STYLE};
 use serf_replay::put_number;
 use std::alloc::{AllocError, Global};
@@ -24,7 +24,12 @@ fn tone_word(tone: Tone) -> &'static [u8]
 
 /// Appends a number between two texts.
 #[tactic(auto, unfolding(crate::specs::Svg::between))]
-fn put_between(out: &mut Vec<u8>, before: &[u8], n: u64, behind: &[u8]) -> Result<(), AllocError>
+pub(crate) fn put_between(
+    out: &mut Vec<u8>,
+    before: &[u8],
+    n: u64,
+    behind: &[u8],
+) -> Result<(), AllocError>
     ensures { OnOk result (out.new.items ≡ out.old.items ++ between before.now n behind.now) }
 {
     out.extend_from_slice(before)?;
@@ -114,7 +119,7 @@ fn put_placed(
     out.extend_from_slice(behind)
 }
 
-fn short_name(alloc: Global, name: &[u8]) -> Result<Vec<u8>, AllocError>
+pub(crate) fn short_name(alloc: Global, name: &[u8]) -> Result<Vec<u8>, AllocError>
     ensures { IfOk result (λ text. text.items ≡ short name.now) }
 {
     let mut text = Vec::new(alloc);
@@ -199,6 +204,29 @@ fn put_arrows(out: &mut Vec<u8>, lanes: &[Lane], rows: &[Row]) -> Result<(), All
 {
     for row in rows {
         put_arrow(out, lanes, row)?;
+    }
+    Ok(())
+}
+
+#[tactic(auto, unfolding(crate::specs::Svg::cross_text))]
+fn put_cross(out: &mut Vec<u8>, lanes: &[Lane], sender: Sender) -> Result<(), AllocError>
+    ensures { OnOk result (out.new.items ≡ out.old.items ++ cross_text lanes.now sender) }
+{
+    put_placed(
+        out,
+        b"<path class='x' transform='translate(",
+        lanes,
+        sender.agent,
+        sender.action,
+        b")' d='M14 0H27M27-11L49 11M27 11L49-11'/>\n",
+    )
+}
+
+fn put_crosses(out: &mut Vec<u8>, lanes: &[Lane], lost: &[Sender]) -> Result<(), AllocError>
+    ensures { OnOk result (out.new.items ≡ out.old.items ++ flat_map (cross_text lanes.now) lost.now) }
+{
+    for sender in lost {
+        put_cross(out, lanes, *sender)?;
     }
     Ok(())
 }
@@ -328,7 +356,7 @@ fn put_frame(out: &mut Vec<u8>, top: u64, columns: u64, lines: u64) -> Result<()
 /// A picture as the text of one SVG file: no script, no font to fetch, in light and dark by the reader's preference.
 ///
 /// Each row has one label, so that labels stand on lines of their own, and each packet that is given one arrow, from
-/// where it was sent. Names and labels are escaped. It is an `AllocError` only where there is no memory for the text.
+/// where it was sent. A packet that nobody got ends in a small cross. Names and labels are escaped. It is an `AllocError` only where there is no memory for the text.
 #[tactic(auto, unfolding(crate::specs::Svg::svg_of))]
 pub fn svg_text(alloc: Global, picture: &Picture) -> Result<Vec<u8>, AllocError>
     ensures { IfOk result (λ text. text.items ≡ svg_of picture.now) }
@@ -340,6 +368,7 @@ pub fn svg_text(alloc: Global, picture: &Picture) -> Result<Vec<u8>, AllocError>
     put_frame(&mut out, top, columns(lanes), bottom.saturating_sub(top))?;
     put_lanes(alloc, &mut out, top, bottom, lanes)?;
     put_arrows(&mut out, lanes, rows)?;
+    put_crosses(&mut out, lanes, picture.lost.as_slice())?;
     put_rows(&mut out, lanes, rows)?;
     out.extend_from_slice(b"</svg>\n")?;
     Ok(out)

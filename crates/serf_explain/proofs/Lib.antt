@@ -1,2 +1,6 @@
 pub mod ReasonLaws
+pub mod WorldLaws
+pub mod CarriedLaws
+pub mod SlotLaws
+pub mod JudgeLaws
 pub mod TellLaws

@@ -51,3 +51,19 @@ adds-some n a b h differs = by h.reasons h.added
     by : (rs : List (List ℕ)) → b ≡ a ++ flat_map (because_line n) rs → AddsSome n a b
     by [] is = absurd (differs (ap (λ (l : List ℕ). length l) (is ∙ append-nil a)))
     by (r ∷ rs) is = record { reasons = r ∷ rs; some = omega arith; added = is }
+
+pub adds-behind : (n : ℕ) (a b c : List ℕ) → AddsReasons n a b → AddsSome n b c → AddsSome n a c
+adds-behind n a b c h k = by h.reasons h.added
+  where
+    some : (rs ss : List (List ℕ)) → 0 < length ss → 0 < length (rs ++ ss)
+    some [] ss m = m
+    some (r ∷ rs) ss m = omega arith
+
+    by : (rs : List (List ℕ)) → b ≡ a ++ flat_map (because_line n) rs → AddsSome n a c
+    by rs is = record {
+      reasons = rs ++ k.reasons;
+      some = some rs k.reasons k.some;
+      added = k.added ∙ ap (λ t. t ++ flat_map (because_line n) k.reasons) is
+          ∙ append_assoc a (flat_map (because_line n) rs) (flat_map (because_line n) k.reasons)
+          ∙ ap (λ t. a ++ t) (sym (lines-append n rs k.reasons));
+    }

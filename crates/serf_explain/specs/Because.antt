@@ -25,3 +25,10 @@ pub record AddsSome (n : ℕ) (old new : List ℕ) : Type 0 where
   pub reasons : List (List ℕ)
   pub some : 0 < length reasons
   pub added : new ≡ old ++ flat_map (because_line n) reasons
+
+-- and they are some, and such
+pub record AddsSuch (P : List (List ℕ) → Type 0) (n : ℕ) (old new : List ℕ) : Type 0 where
+  pub reasons : List (List ℕ)
+  pub some : 0 < length reasons
+  pub added : new ≡ old ++ flat_map (because_line n) reasons
+  pub such : P reasons

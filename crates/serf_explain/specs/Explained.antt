@@ -4,7 +4,8 @@ use Rattle.std.specs.List.{flat_map}
 use Rattle.serf_agent.specs.declared.config.Config.{Config}
 use Rattle.serf_model.specs.declared.action.Action.{Action}
 use Rattle.serf_model.specs.declared.line.Line.{Line}
-use Rattle.serf_model.specs.Cluster.{Run, run_of, trace_of}
+use Rattle.serf_model.specs.declared.line.Answer.TheVariants as answers
+use Rattle.serf_model.specs.Cluster.{Cluster, Run, run_of, start, step, trace_of}
 use Rattle.serf_model.specs.Ready.{AreRepresentable}
 use Rattle.serf_model.specs.Trace.{Turn, actor_of}
 use Rattle.serf_world.specs.View.{IsViewed, WorldState}
@@ -14,12 +15,20 @@ use Rattle.serf_replay.specs.Schedule.{schedule_of}
 use Rattle.serf_replay.specs.Show.{action_text, trace_text}
 use Rattle.serf_explain.specs.declared.range.Range.{Range}
 use Rattle.serf_explain.specs.Because.{because_line}
+use Rattle.serf_explain.specs.Carried.{AreMerged, OfMerge}
 use Rattle.serf_explain.specs.Range.{is_shown}
 
--- a turn of a run, and the reasons that are told of it
+-- a turn of a run, the cluster before it, and the reasons that are told of it
 pub record Explained : Type 0 where
+  pub before : Cluster
   pub turn : Turn
   pub reasons : List (List ℕ)
+
+-- There is a reason at least. Those of a merge are one for each event that its state carries, in their order, with the
+-- verdict of the ideal agent that receives one after another.
+pub record IsReasoned (before : Cluster) (action : Action) (line : Line) (reasons : List (List ℕ)) : Type 0 where
+  pub some : 0 < length reasons
+  pub merged : line.answer ≡ answers.Merged → OfMerge AreMerged before action reasons
 
 -- an action's lines just as its trace has them, and a line for each of its reasons behind them
 abbrev pub lines_text : List (List ℕ) → ℕ → Line → List (List ℕ) → List ℕ
@@ -34,16 +43,25 @@ abbrev pub turns_text : Range → List (List ℕ) → ℕ → List Explained →
 turns_text range sent n [] = []
 turns_text range sent n (e ∷ es) = turn_text range sent n e.turn.action e.turn.line e.reasons ++ turns_text range sent (n + 1) es
 
--- The turns of a run, each with a reason at least.
-pub record IsExplained (turns : List Turn) (explained : List Explained) : Type 0 where
+-- the clusters that actions began from, one after another
+abbrev pub clusters_from : Cluster → List Action → List Cluster
+clusters_from c [] = []
+clusters_from c (action ∷ rest) = c ∷ clusters_from (step c action).cluster rest
+
+abbrev pub clusters_before : List Config → List Action → List Cluster
+clusters_before configs actions = clusters_from (start configs).cluster actions
+
+-- The turns of a run, with the clusters before them, each with its reasons.
+pub record IsExplained (turns : List Turn) (clusters : List Cluster) (explained : List Explained) : Type 0 where
   pub turns_are : map (λ (e : Explained). e.turn) explained ≡ turns
-  pub reasons : All (λ (e : Explained). 0 < length e.reasons) explained
+  pub clusters_are : map (λ (e : Explained). e.before) explained ≡ clusters
+  pub reasons : All (λ (e : Explained). IsReasoned e.before e.turn.action e.turn.line e.reasons) explained
 
 -- The text is that of the run of these actions: of each action in the range the very lines of its trace, and a line for
 -- each of its reasons.
 pub record TellsRun (range : Range) (configs : List Config) (actions : List Action) (text : List ℕ) : Type 0 where
   pub explained : List Explained
-  pub whole : IsExplained (run_of configs actions).turns explained
+  pub whole : IsExplained (run_of configs actions).turns (clusters_before configs actions) explained
   pub text_is : text ≡ turns_text range (run_of configs actions).cluster.sent 1 explained
 
 -- The input is a schedule of so many actions, and the text tells its run; and what `replay` writes of it is the run's
@@ -56,15 +74,16 @@ pub record Explains (range : Range) (input text : List ℕ) (count : ℕ) : Type
   pub counted : count ≡ length schedule.actions
 
 -- The world stores what a run came to, and the text is that of its turns, whatever else will be sent.
-pub record IsTold (range : Range) (r : Run) (w : WorldState) (text : List ℕ) : Type 0 where
+pub record IsTold (range : Range) (r : Run) (clusters : List Cluster) (w : WorldState) (text : List ℕ) : Type 0 where
   pub view : IsViewed r.cluster w
   pub representable : AreRepresentable r.cluster
   pub explained : List Explained
-  pub whole : IsExplained r.turns explained
+  pub whole : IsExplained r.turns clusters explained
   pub told : (more : List (List ℕ)) → turns_text range (r.cluster.sent ++ more) 1 explained ≡ text
 
 -- a text grew by an action's lines and its reasons, of which there are some, or by nothing where it isn't shown
-pub record AddsTurn (is_shown : Bool) (sent : List (List ℕ)) (n : ℕ) (line : Line) (old new : List ℕ) : Type 0 where
+pub record AddsTurn (P : List (List ℕ) → Type 0) (is_shown : Bool) (sent : List (List ℕ)) (n : ℕ) (line : Line) (old new : List ℕ) : Type 0 where
   pub reasons : List (List ℕ)
   pub some : 0 < length reasons
+  pub such : P reasons
   pub added : new ≡ old ++ (if is_shown then lines_text sent n line reasons else [])

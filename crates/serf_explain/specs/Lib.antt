@@ -1,3 +1,6 @@
 pub mod Range
 pub mod Because
+pub mod Words
+pub mod Carried
+pub mod Judging
 pub mod Explained

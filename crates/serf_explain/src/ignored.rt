@@ -3,8 +3,9 @@
 use crate::memory::Ended;
 use crate::quoted::{put_event, put_query, put_quoted, put_since, say};
 use crate::told::{Actor, Told, put_name};
-use serf_agent::Reason;
+use serf_agent::{Agent, Reason};
 use serf_lamport::Time;
+use serf_snap::MemSink;
 use serf_wire::Message;
 use std::alloc::AllocError;
 
@@ -17,7 +18,7 @@ pub(crate) struct Event<'a> {
 }
 
 /// Appends which action handed an event to an agent before.
-pub(crate) fn put_seen(
+fn put_seen(
     out: &mut Vec<u8>,
     told: &Told,
     actor: &Actor,
@@ -33,6 +34,19 @@ pub(crate) fn put_seen(
         Some(action) => say(out, b" at action ", action),
         None => out.extend_from_slice(b" before"),
     }
+}
+
+/// Appends which action handed an event to an agent, this one or one before.
+pub(crate) fn put_seen_at(
+    out: &mut Vec<u8>,
+    agent: &Agent<MemSink>,
+    event: &Event,
+    action: u64,
+) -> Result<(), AllocError> {
+    put_name(out, agent)?;
+    out.extend_from_slice(b" was handed ")?;
+    put_event(out, event.time, event.name, event.payload)?;
+    say(out, b" at action ", action)
 }
 
 /// Appends why a time is below the window.
@@ -77,7 +91,7 @@ fn put_event_ignored(
 }
 
 /// Appends why an event is ignored that its agent was not handed before.
-pub(crate) fn put_event_reason(
+fn put_event_reason(
     out: &mut Vec<u8>,
     actor: &Actor,
     event: &Event,

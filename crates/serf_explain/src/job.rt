@@ -1,27 +1,29 @@
 //! The whole job: a schedule in, its trace with its reasons out.
 
-ghost use Rattle.std.specs.Prelude.{◌≡◌, ◌<◌, ◌≤◌, ◌+◌, List, ℕ, true, false, Err, length, OnOk, IfOk, IfErr, IfSome, IsErrOf};
+ghost use Rattle.std.specs.Prelude.{◌≡◌, ◌<◌, ◌≤◌, ◌+◌, ◌++◌, ◌∷◌, [], List, ℕ, true, false, Err, length, OnOk, IfOk, IfErr, IfSome, IsErrOf};
 ghost use Rattle.std.specs.Io.KnownBytes.{Appends, Consumes};
-ghost use Rattle.serf_world.specs.Cluster.{Run, after};
+ghost use Rattle.serf_world.specs.Cluster.{Cluster, Run, after};
+ghost use Rattle.serf_explain.specs.Carried.{TellsMerged};
+ghost use Rattle.serf_explain.specs.Judging.{reasons_in};
 ghost use Rattle.serf_replay.specs.Io.{AppendsFront};
 ghost use Rattle.serf_replay.specs.Output.{output_of};
 ghost use Rattle.serf_explain.specs.Explained.{AddsTurn, Explains, IsTold, TellsRun};
 
 use crate::memory::Memory;
 use crate::range::{Range, actor};
-use crate::reasons::put_reasons;
+use crate::reasons::{lines_before, put_reasons};
 use crate::told::Told;
 use serf_replay::{
     Cause, InputFault, MAX_SCHEDULE_BYTES, ReplayFault, Schedule, ScheduleFault, Watch, lines_stay,
     parse_schedule, put_action, read_input, write_output,
 };
-use serf_world::{Action, World};
+use serf_world::{Action, Answer, World};
 use std::alloc::{AllocError, Global};
 use std::io::{Read, Write};
 
 /// Appends an action's lines and those of its reasons.
 fn put_shown(alloc: Global, out: &mut Vec<u8>, told: &Told) -> Result<(), AllocError>
-    ensures { OnOk result (AddsTurn true told.now.world.now.sent told.now.number told.now.line.now out.old.items out.new.items) }
+    ensures { OnOk result (AddsTurn (λ reasons. told.now.line.now.answer ≡ Answer.Merged → TellsMerged (reasons_in told.now.carried.now) reasons) true told.now.world.now.sent told.now.number told.now.line.now out.old.items out.new.items) }
 {
     put_action(out, told.world.sent(), told.number, told.line)?;
     put_reasons(alloc, out, told)
@@ -29,12 +31,12 @@ fn put_shown(alloc: Global, out: &mut Vec<u8>, told: &Told) -> Result<(), AllocE
 
 /// Appends nothing.
 fn put_nothing(out: &mut Vec<u8>, told: &Told)
-    ensures { AddsTurn false told.now.world.now.sent told.now.number told.now.line.now out.old.items out.new.items }
+    ensures { AddsTurn (λ reasons. told.now.line.now.answer ≡ Answer.Merged → TellsMerged (reasons_in told.now.carried.now) reasons) false told.now.world.now.sent told.now.number told.now.line.now out.old.items out.new.items }
 {}
 
 /// Appends what is shown of an action: its lines and those of its reasons, or nothing.
 fn put_turn(alloc: Global, out: &mut Vec<u8>, is_shown: bool, told: &Told) -> Result<(), AllocError>
-    ensures { OnOk result (AddsTurn is_shown told.now.world.now.sent told.now.number told.now.line.now out.old.items out.new.items) }
+    ensures { OnOk result (AddsTurn (λ reasons. told.now.line.now.answer ≡ Answer.Merged → TellsMerged (reasons_in told.now.carried.now) reasons) is_shown told.now.world.now.sent told.now.number told.now.line.now out.old.items out.new.items) }
 {
     match is_shown {
         true => put_shown(alloc, out, told),
@@ -55,9 +57,10 @@ fn add_turn(
     number: u64,
     action: &Action,
 ) -> Result<(), AllocError>
-    ensures { (r : Run) → IsTold range.now r world.old out.old.items → number ≡ length r.turns + 1 → OnOk result (IsTold range.now (after r action.now) world.new out.new.items) }
+    ensures { (r : Run) (clusters : List Cluster) → IsTold range.now r clusters world.old out.old.items → number ≡ length r.turns + 1 → OnOk result (IsTold range.now (after r action.now) (clusters ++ r.cluster ∷ []) world.new out.new.items) }
 {
     lines_stay();
+    let carried = lines_before(alloc, world, memory, number, action)?;
     let Ok(line) = world.step(alloc, action) else {
         return Err(AllocError);
     };
@@ -68,6 +71,7 @@ fn add_turn(
         memory,
         action,
         line: &line,
+        carried: &carried,
     };
     put_turn(alloc, out, range.shows(number, actor(action)), &told)?;
     memory.note(alloc, world, number, action, &line)?;
@@ -84,7 +88,7 @@ fn take_turn(
     number: u64,
     action: Action,
 ) -> Result<(), AllocError>
-    ensures { (r : Run) → IsTold range.now r world.old out.old.items → number ≡ length r.turns + 1 → OnOk result (IsTold range.now (after r action) world.new out.new.items) }
+    ensures { (r : Run) (clusters : List Cluster) → IsTold range.now r clusters world.old out.old.items → number ≡ length r.turns + 1 → OnOk result (IsTold range.now (after r action) (clusters ++ r.cluster ∷ []) world.new out.new.items) }
 {
     add_turn(alloc, world, memory, out, range, number, &action)
 }

@@ -6,6 +6,7 @@ mod answers;
 mod because;
 mod ignored;
 mod job;
+mod judge;
 mod marks;
 mod memory;
 mod merges;

@@ -1,224 +1,255 @@
-//! What became of each event that a merged state carries.
+//! What becomes of each event that a state carries, told before the state is merged.
 
-ghost use Rattle.std.specs.Prelude.{OnOk};
-ghost use Rattle.serf_explain.specs.Because.{AddsReasons, AddsSome};
+ghost use Rattle.std.specs.Prelude.{◌≡◌, ◌++◌, ◌∷◌, [], OnOk, IfOk};
+ghost use Rattle.serf_wire.specs.Lists.{event_of as text_of, events_left, slot_of, slots_left};
+ghost use Rattle.serf_wire.specs.Message.{PushPull};
+ghost use Rattle.serf_agent.specs.Events.{admission};
+ghost use Rattle.serf_agent.specs.Ideal.{IdealAgent};
+ghost use Rattle.serf_agent.specs.Sound.{IsSound};
+ghost use Rattle.serf_agent.specs.States.{after_event, at_time, events_of, events_of_slot, joined};
+ghost use Rattle.serf_agent.specs.View.{view_of};
+ghost use Rattle.serf_explain.specs.Carried.{AreCarried, carried_words, slot_words, verdict_words};
+ghost use Rattle.serf_explain.specs.Judging.{AddsLines, HasJudged, IsJudging, reasons_in};
 
-use crate::because::put_because;
-use crate::ignored::{Event, put_full, put_seen, put_too_old};
+use crate::ignored::{Event, put_full, put_seen_at, put_too_old};
+use crate::judge::Judge;
+use crate::marks::Marks;
+use crate::memory::Memory;
 use crate::quoted::{put_event, put_since, say};
-use crate::refusals::put_sink_fault;
-use crate::told::{Actor, Told};
+use serf_agent::{Agent, Reason};
 use serf_lamport::Time;
-use serf_wire::{EventViews, SlotView, SlotViews};
-use serf_world::{Answer, EventLine};
+use serf_replay::put_number;
+use serf_snap::MemSink;
+use serf_wire::{EventView, EventViews, SlotView, SlotViews};
 use std::alloc::{AllocError, Global};
 
-/// How far a merge was told.
-#[derive(Clone, Copy, Debug)]
-struct Walk {
-    /// The slot that is told, counted from 0.
-    slot: u64,
-    /// The event clock behind the events that were told.
-    clock: u64,
-    /// How many of the hand-outs were told.
-    handed: usize,
-    /// Whether the disk failed at the last event that was told, so that none behind it was looked at.
-    has_failed: bool,
+/// A merge that is to be done: the action's number, the agent and its number, and what is remembered of the actions before.
+#[derive(Clone, Copy)]
+pub(crate) struct Merging<'a> {
+    pub(crate) number: u64,
+    pub(crate) agent_number: u64,
+    pub(crate) agent: &'a Agent<MemSink>,
+    pub(crate) before: Option<&'a Marks>,
+    pub(crate) memory: &'a Memory,
 }
 
-/// Whether an event was handed out next.
-fn is_handed(line: Option<&EventLine>, event: &Event) -> bool {
-    match line {
-        Some(line) => {
-            line.time.get() == event.time
-                && line.name.as_slice() == event.name
-                && line.payload.as_slice() == event.payload
-        }
-        None => false,
-    }
+/// What is told of an event, and whether it is new.
+#[derive(Drop)]
+pub(crate) struct Carried {
+    pub(crate) reason: Vec<u8>,
+    pub(crate) is_new: bool,
 }
 
-/// Appends that an event is below the least time, and since when that stands.
-fn put_below(out: &mut Vec<u8>, told: &Told, actor: &Actor) -> Result<(), AllocError> {
-    let minimum = actor.agent.event_minimum();
-    say(out, b"below the least time ", minimum)?;
-    let before = actor.before.event_minimum;
-    if before.value == minimum {
-        put_since(out, before.since)
-    } else {
-        put_since(out, told.number)
+fn verdict_word(verdict: Option<Reason>) -> &'static [u8]
+    ensures { result.now ≡ verdict_words verdict }
+{
+    match verdict {
+        None => b"new, and handed out",
+        Some(Reason::Oversize) => b"too large: ",
+        Some(Reason::BelowMinimum) => b"below the least time ",
+        Some(Reason::TooOld) => b"too old: ",
+        Some(Reason::Seen) => b"seen: ",
+        Some(Reason::TimeFull) => b"too many of its time: ",
+        _ => b"left: ",
     }
 }
 
-/// Whether the disk failed at this event's line, in a merge that its disk ended.
-fn has_failed(told: &Told, actor: &Actor, event: &Event) -> bool {
-    match (told.line.answer, Time::new(event.time)) {
-        (Answer::Merged, _) | (_, None) => false,
-        (_, Some(time)) => actor
-            .agent
-            .judge_event(time, event.name, event.payload)
-            .is_none(),
-    }
-}
-
-/// Appends why an event that was not handed out was left.
-fn put_left(
-    out: &mut Vec<u8>,
-    told: &Told,
-    actor: &Actor,
-    walk: &mut Walk,
-    event: &Event,
-) -> Result<(), AllocError> {
-    let config = actor.agent.config();
-    let texts = (event.name.len() as u64).saturating_add(event.payload.len() as u64);
-    if texts > 9216 {
-        say(out, b"its name and payload have ", texts)?;
-        return out.extend_from_slice(b" bytes together, more than 9216");
-    }
-    if event.time < actor.agent.event_minimum() {
-        return put_below(out, told, actor);
-    }
-    let clock = walk.clock.max(event.time.saturating_add(1));
-    if event.time < clock.saturating_sub(config.event_buffer) {
-        return put_too_old(out, event.time, config.event_buffer, b"event", clock);
-    }
-    let handed = told
-        .memory
-        .handed_at(actor.number, event.time, event.name, event.payload);
-    if handed.is_some() {
-        return put_seen(out, told, actor, event);
-    }
-    if has_failed(told, actor, event) {
-        walk.has_failed = true;
-        out.extend_from_slice(b"new, but ")?;
-        return put_sink_fault(out, told, actor);
-    }
-    put_full(out, config.per_time, event.time)
+#[tactic(auto, unfolding(crate::specs::Carried::slot_words))]
+fn put_slot_words(out: &mut Vec<u8>, slot: u64) -> Result<(), AllocError>
+    ensures { OnOk result (out.new.items ≡ out.old.items ++ slot_words slot) }
+{
+    out.extend_from_slice(b"slot ")?;
+    put_number(out, slot)?;
+    out.extend_from_slice(b" brings ")
 }
 
 /// Appends what became of an event.
+#[tactic(auto, unfolding(crate::specs::Carried::carried_words))]
 fn put_carried(
     out: &mut Vec<u8>,
-    told: &Told,
-    actor: &Actor,
-    walk: &mut Walk,
-    event: &Event,
-) -> Result<(), AllocError> {
-    say(out, b"slot ", walk.slot)?;
-    out.extend_from_slice(b" brings ")?;
-    put_event(out, event.time, event.name, event.payload)?;
+    slot: u64,
+    time: u64,
+    event: &EventView,
+    verdict: Option<Reason>,
+    detail: &[u8],
+) -> Result<(), AllocError>
+    ensures { OnOk result (out.new.items ≡ out.old.items ++ carried_words slot time (text_of event.now) verdict detail.now) }
+{
+    put_slot_words(out, slot)?;
+    put_event(out, time, event.name, event.payload)?;
     out.extend_from_slice(b": ")?;
-    if is_handed(told.line.events.as_slice().get(walk.handed), event) {
-        walk.handed = walk.handed.saturating_add(1);
-        out.extend_from_slice(b"new, and handed out")?;
-    } else {
-        put_left(out, told, actor, walk, event)?;
+    out.extend_from_slice(verdict_word(verdict))?;
+    out.extend_from_slice(detail)
+}
+
+/// Appends the least time, and since when that stands.
+fn put_least(out: &mut Vec<u8>, merging: &Merging, minimum: u64) -> Result<(), AllocError> {
+    say(out, b"", minimum)?;
+    let since = match merging.before {
+        Some(before) if before.event_minimum.value == minimum => before.event_minimum.since,
+        _ => merging.number,
+    };
+    put_since(out, since)
+}
+
+/// Appends what is told of a verdict on an event beside its first words.
+fn put_detail(
+    out: &mut Vec<u8>,
+    merging: &Merging,
+    judge: &Judge,
+    event: &Event,
+    verdict: Option<Reason>,
+) -> Result<(), AllocError> {
+    let config = merging.agent.config();
+    match verdict {
+        Some(Reason::Oversize) => {
+            let texts = (event.name.len() as u64).saturating_add(event.payload.len() as u64);
+            say(out, b"its name and payload have ", texts)?;
+            out.extend_from_slice(b" bytes together, more than 9216")
+        }
+        Some(Reason::BelowMinimum) => put_least(out, merging, judge.minimum),
+        Some(Reason::TooOld) => {
+            put_too_old(out, event.time, config.event_buffer, b"event", judge.clock)
+        }
+        Some(Reason::Seen) => put_seen_at(
+            out,
+            merging.agent,
+            event,
+            merging
+                .memory
+                .handed_at(merging.agent_number, event.time, event.name, event.payload)
+                .unwrap_or(merging.number),
+        ),
+        Some(Reason::TimeFull) => put_full(out, config.per_time, event.time),
+        _ => Ok(()),
     }
-    walk.clock = walk.clock.max(event.time.saturating_add(1));
+}
+
+/// What is told of a verdict beside its first words.
+fn detail_of(
+    alloc: Global,
+    merging: &Merging,
+    judge: &Judge,
+    event: &Event,
+    verdict: Option<Reason>,
+) -> Result<Vec<u8>, AllocError> {
+    let mut out = Vec::new(alloc);
+    put_detail(&mut out, merging, judge, event, verdict)?;
+    Ok(out)
+}
+
+/// Adds what is told of an event.
+fn add_carried(
+    alloc: Global,
+    lines: &mut Vec<Carried>,
+    slot: u64,
+    time: u64,
+    event: &EventView,
+    verdict: Option<Reason>,
+    detail: &[u8],
+) -> Result<(), AllocError>
+    ensures { (e : IdealAgent) → verdict ≡ admission e time (text_of event.now) → OnOk result (AddsLines (record { time = time; key = text_of event.now } ∷ []) e lines.old.items lines.new.items) }
+{
+    let mut reason = Vec::with_capacity(alloc, 96)?;
+    put_carried(&mut reason, slot, time, event, verdict, detail)?;
+    lines.push(Carried {
+        reason,
+        is_new: verdict.is_none(),
+    })?;
     Ok(())
 }
 
-/// Appends the line of the next event, unless the disk has failed before it.
-fn put_next(
-    out: &mut Vec<u8>,
-    reason: &mut Vec<u8>,
-    told: &Told,
-    actor: &Actor,
-    walk: &mut Walk,
-    event: &Event,
+/// Adds what is told of the next event.
+fn add_event(
+    alloc: Global,
+    merging: &Merging,
+    judge: &mut Judge,
+    lines: &mut Vec<Carried>,
+    slot: u64,
+    time: Time,
+    event: &EventView,
 ) -> Result<(), AllocError>
-    ensures { OnOk result (AddsReasons told.now.number out.old.items out.new.items) }
+    ensures lines { (i j : IdealAgent) → IsSound i → merging.now.agent.now.concrete ≡ view_of i → IsJudging i j judge.old → OnOk result (AddsLines (record { time = time; key = text_of event.now } ∷ []) j lines.old.items lines.new.items) }
+    ensures judging { (i j : IdealAgent) → IsSound i → merging.now.agent.now.concrete ≡ view_of i → IsJudging i j judge.old → OnOk result (IsJudging i (after_event j (record { time = time; key = text_of event.now })) judge.new) }
 {
-    if walk.has_failed {
-        return Ok(());
-    }
-    reason.clear();
-    put_carried(reason, told, actor, walk, event)?;
-    put_because(out, told.number, reason.as_slice())
+    let verdict = judge.judge(alloc, merging.agent, time, event)?;
+    let lying = Event {
+        time: time.get(),
+        name: event.name,
+        payload: event.payload,
+    };
+    let detail = detail_of(alloc, merging, judge, &lying, verdict)?;
+    add_carried(alloc, lines, slot, time.get(), event, verdict, &detail)
 }
 
-/// Appends a line for each event of a slot.
-fn put_slot(
-    out: &mut Vec<u8>,
-    reason: &mut Vec<u8>,
-    told: &Told,
-    actor: &Actor,
-    walk: &mut Walk,
+/// Adds what is told of each event of a slot.
+fn add_events(
+    alloc: Global,
+    merging: &Merging,
+    judge: &mut Judge,
+    lines: &mut Vec<Carried>,
+    slot: u64,
     time: Time,
     events: EventViews,
 ) -> Result<(), AllocError>
-    ensures { OnOk result (AddsReasons told.now.number out.old.items out.new.items) }
+    ensures { (i j : IdealAgent) → IsSound i → merging.now.agent.now.concrete ≡ view_of i → IsJudging i j judge.old → OnOk result (HasJudged i j (at_time time (events_left events.entry)) [] lines.old.items lines.new.items judge.new) }
 {
     for event in events {
-        let event = Event {
-            time: time.get(),
-            name: event.name,
-            payload: event.payload,
-        };
-        put_next(out, reason, told, actor, walk, &event)?;
+        add_event(alloc, merging, judge, lines, slot, time, &event)?;
     }
     Ok(())
 }
 
-/// Appends a line for each event of a slot, if it has any.
-fn put_held(
-    out: &mut Vec<u8>,
-    reason: &mut Vec<u8>,
-    told: &Told,
-    actor: &Actor,
-    walk: &mut Walk,
-    slot: &SlotView,
+/// Adds what is told of each event of a slot, if it has any.
+fn add_slot(
+    alloc: Global,
+    merging: &Merging,
+    judge: &mut Judge,
+    lines: &mut Vec<Carried>,
+    slot: u64,
+    content: &SlotView,
 ) -> Result<(), AllocError>
-    ensures { OnOk result (AddsReasons told.now.number out.old.items out.new.items) }
+    ensures { (i j : IdealAgent) → IsSound i → merging.now.agent.now.concrete ≡ view_of i → IsJudging i j judge.old → OnOk result (HasJudged i j (events_of_slot (slot_of content.now)) [] lines.old.items lines.new.items judge.new) }
 {
-    match *slot {
-        SlotView::Held(time, events) => put_slot(out, reason, told, actor, walk, time, events),
+    match *content {
+        SlotView::Held(time, events) => {
+            add_events(alloc, merging, judge, lines, slot, time, events)
+        }
         SlotView::Empty => Ok(()),
     }
 }
 
-/// Appends a line for each event of these slots.
-fn put_slots(
-    out: &mut Vec<u8>,
-    reason: &mut Vec<u8>,
-    told: &Told,
-    actor: &Actor,
-    walk: &mut Walk,
+/// Adds what is told of each event of these slots.
+fn add_slots(
+    alloc: Global,
+    merging: &Merging,
+    judge: &mut Judge,
+    lines: &mut Vec<Carried>,
     slots: SlotViews,
 ) -> Result<(), AllocError>
-    ensures { OnOk result (AddsReasons told.now.number out.old.items out.new.items) }
+    ensures { (i j : IdealAgent) → IsSound i → merging.now.agent.now.concrete ≡ view_of i → IsJudging i j judge.old → OnOk result (HasJudged i j (events_of (slots_left slots.entry)) [] lines.old.items lines.new.items judge.new) }
 {
-    for slot in slots {
-        put_held(out, reason, told, actor, walk, &slot)?;
-        walk.slot = walk.slot.saturating_add(1);
+    let mut slot: u64 = 0;
+    for content in slots {
+        add_slot(alloc, merging, judge, lines, slot, &content)?;
+        slot = slot.saturating_add(1);
     }
     Ok(())
 }
 
-/// Appends a line for each event that a merged state carries, in its order; a line that says so where it carries none.
-///
-/// Where the disk failed in the merge, the line of that event is the last.
-pub(crate) fn put_merge(
+/// What is told of each event that a state carries, in its order, where it is merged on a disk that works.
+pub(crate) fn carried_lines(
     alloc: Global,
-    out: &mut Vec<u8>,
-    told: &Told,
-    actor: &Actor,
+    merging: &Merging,
     event_clock: u64,
     slots: SlotViews,
-) -> Result<(), AllocError>
-    ensures { OnOk result (AddsSome told.now.number out.old.items out.new.items) }
+    is_join: bool,
+) -> Result<Vec<Carried>, AllocError>
+    ensures { IfOk result (λ lines. (i : IdealAgent) (m : PushPull) → IsSound i → merging.now.agent.now.concrete ≡ view_of i → m.event_clock ≡ event_clock → m.slots ≡ slots_left slots.entry
+        → AreCarried (events_of m.slots) (joined m is_join i) (reasons_in lines.items)) }
 {
-    let mut walk = Walk {
-        slot: 0,
-        clock: actor.before.event_clock.value.max(event_clock),
-        handed: 0,
-        has_failed: false,
-    };
-    let mut reason = Vec::new(alloc);
-    let before = out.len();
-    put_slots(out, &mut reason, told, actor, &mut walk, slots)?;
-    if out.len() == before {
-        return put_because(out, told.number, b"the state carries no event");
-    }
-    Ok(())
+    let mut judge = Judge::new(alloc, merging.agent, event_clock, is_join)?;
+    let mut lines = Vec::new(alloc);
+    add_slots(alloc, merging, &mut judge, &mut lines, slots)?;
+    Ok(lines)
 }

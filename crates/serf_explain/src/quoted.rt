@@ -1,5 +1,10 @@
 //! Texts between quotes, and what is said of events and queries.
 
+ghost use Rattle.std.specs.Prelude.{◌≡◌, ◌<◌, ◌++◌, length, OnOk};
+ghost use Rattle.std.specs.List.{flat_map};
+ghost use Rattle.serf_window.specs.Texts.{event_of};
+ghost use Rattle.serf_explain.specs.Words.{event_words, front_quoted, quoted, quoted_byte, whole_quoted};
+
 use crate::because::put_byte;
 use serf_replay::{put_hex, put_number};
 use std::alloc::AllocError;
@@ -11,7 +16,10 @@ const WHOLE: usize = 64;
 const FRONT: usize = 32;
 
 /// Appends a byte of a quoted text: a quote and a backslash stand as `\xNN`.
-fn put_quoted_byte(out: &mut Vec<u8>, byte: u8) -> Result<(), AllocError> {
+#[tactic(auto, unfolding(crate::specs::Words::quoted_byte))]
+fn put_quoted_byte(out: &mut Vec<u8>, byte: u8) -> Result<(), AllocError>
+    ensures { OnOk result (out.new.items ≡ out.old.items ++ quoted_byte byte) }
+{
     if byte == b'"' || byte == b'\\' {
         out.extend_from_slice(b"\\x")?;
         put_hex(out, &[byte])
@@ -20,25 +28,46 @@ fn put_quoted_byte(out: &mut Vec<u8>, byte: u8) -> Result<(), AllocError> {
     }
 }
 
-fn put_quoted_bytes(out: &mut Vec<u8>, bytes: &[u8]) -> Result<(), AllocError> {
+fn put_quoted_bytes(out: &mut Vec<u8>, bytes: &[u8]) -> Result<(), AllocError>
+    ensures { OnOk result (out.new.items ≡ out.old.items ++ flat_map quoted_byte bytes.now) }
+{
     for byte in bytes {
         put_quoted_byte(out, *byte)?;
     }
     Ok(())
 }
 
-/// Appends a text between quotes; of a long one its front, and how many bytes it has.
-pub(crate) fn put_quoted(out: &mut Vec<u8>, text: &[u8]) -> Result<(), AllocError> {
+#[tactic(auto, unfolding(crate::specs::Words::whole_quoted))]
+fn put_whole(out: &mut Vec<u8>, text: &[u8]) -> Result<(), AllocError>
+    ensures { OnOk result (out.new.items ≡ out.old.items ++ whole_quoted text.now) }
+{
     out.extend_from_slice(b"\"")?;
-    if text.len() <= WHOLE {
-        put_quoted_bytes(out, text)?;
-        return out.extend_from_slice(b"\"");
-    }
+    put_quoted_bytes(out, text)?;
+    out.extend_from_slice(b"\"")
+}
+
+#[tactic(auto, unfolding(crate::specs::Words::front_quoted))]
+fn put_front(out: &mut Vec<u8>, text: &[u8]) -> Result<(), AllocError>
+    requires { 64 < length text.now }
+    ensures { OnOk result (out.new.items ≡ out.old.items ++ front_quoted text.now) }
+{
     let (front, _rest) = text.split_at(FRONT);
+    out.extend_from_slice(b"\"")?;
     put_quoted_bytes(out, front)?;
     out.extend_from_slice(b"..\" (")?;
     put_number(out, text.len() as u64)?;
     out.extend_from_slice(b" bytes)")
+}
+
+/// Appends a text between quotes; of a long one its front, and how many bytes it has.
+pub(crate) fn put_quoted(out: &mut Vec<u8>, text: &[u8]) -> Result<(), AllocError>
+    ensures { OnOk result (out.new.items ≡ out.old.items ++ quoted text.now) }
+{
+    if text.len() <= WHOLE {
+        put_whole(out, text)
+    } else {
+        put_front(out, text)
+    }
 }
 
 /// Appends a text and a number.
@@ -48,13 +77,17 @@ pub(crate) fn say(out: &mut Vec<u8>, text: &[u8], number: u64) -> Result<(), All
 }
 
 /// Appends `event 3 "deploy" "v2"`.
+#[tactic(auto, unfolding(crate::specs::Words::event_words))]
 pub(crate) fn put_event(
     out: &mut Vec<u8>,
     time: u64,
     name: &[u8],
     payload: &[u8],
-) -> Result<(), AllocError> {
-    say(out, b"event ", time)?;
+) -> Result<(), AllocError>
+    ensures { OnOk result (out.new.items ≡ out.old.items ++ event_words time (event_of name.now payload.now)) }
+{
+    out.extend_from_slice(b"event ")?;
+    put_number(out, time)?;
     out.extend_from_slice(b" ")?;
     put_quoted(out, name)?;
     out.extend_from_slice(b" ")?;

@@ -1,25 +1,119 @@
 //! The reasons of an action.
 
-ghost use Rattle.std.specs.Prelude.{OnOk};
-ghost use Rattle.serf_explain.specs.Because.{AddsSome};
+ghost use Rattle.std.specs.Prelude.{◌≡◌, ◌++◌, slice_get, Ok, OnOk, IfOk};
+ghost use Rattle.std.specs.List.{flat_map};
+ghost use Rattle.std.specs.Option.{option_copied, option_map};
+ghost use Rattle.serf_wire.specs.Decoded.{decoded};
+ghost use Rattle.serf_wire.specs.Message.{PushPull, message_of, push_pull};
+ghost use Rattle.serf_agent.specs.Sound.{IsSound};
+ghost use Rattle.serf_agent.specs.States.{events_of, joined};
+ghost use Rattle.serf_agent.specs.View.{view_of};
+ghost use Rattle.serf_agent.specs.Ideal.{IdealAgent};
+ghost use Rattle.serf_model.specs.Cluster.{Cluster};
+ghost use Rattle.serf_model.specs.Ready.{AreRepresentable};
+ghost use Rattle.serf_world.specs.View.{IsViewed, agent_at};
+ghost use Rattle.serf_explain.specs.Because.{AddsReasons, AddsSome, AddsSuch, because_line};
+ghost use Rattle.serf_explain.specs.Carried.{AreCarried, TellsMerge, TellsMerged};
+ghost use Rattle.serf_explain.specs.Judging.{reasons_in};
 
 use crate::answers::put_reason;
 use crate::because::put_because;
-use crate::merges::put_merge;
+use crate::memory::Memory;
+use crate::merges::{Carried, Merging, carried_lines};
 use crate::range::actor;
-use crate::told::{Actor, Told, actor_at, message_of};
-use serf_wire::Message;
-use serf_world::{Action, Answer, Refusal};
+use crate::refusals::put_sink_fault;
+use crate::told::{Actor, Told, actor_at};
+use serf_wire::{Bytes, Message, decode};
+use serf_world::{Action, Answer, Refusal, World};
 use std::alloc::{AllocError, Global};
 
-/// The agent that merged a state, wholly or up to where its disk failed.
-fn merging_actor<'a>(told: &Told<'a>) -> Option<Actor<'a>> {
-    let Action::Merge { to, .. } = told.action else {
-        return None;
+/// How many bytes the words have that tell of a new event: `new, and handed out`.
+const NEW_WORDS: usize = 19;
+
+/// What is told of the events of a message that is to be merged.
+fn message_lines(
+    alloc: Global,
+    merging: &Merging,
+    message: &Message,
+    is_join: bool,
+) -> Result<Vec<Carried>, AllocError>
+    ensures { IfOk result (λ lines. (i : IdealAgent) (p : PushPull) → IsSound i → merging.now.agent.now.concrete ≡ view_of i → message_of message.now ≡ push_pull p
+        → AreCarried (events_of p.slots) (joined p is_join i) (reasons_in lines.items)) }
+{
+    match *message {
+        Message::PushPull {
+            event_clock,
+            slots,
+            ..
+        } => carried_lines(alloc, merging, event_clock, slots, is_join),
+        Message::UserEvent { .. }
+        | Message::Query { .. }
+        | Message::QueryResponse { .. }
+        | Message::Foreign(_) => Ok(Vec::new(alloc)),
+    }
+}
+
+/// What is told of the events of a packet that is to be merged.
+fn packet_lines(
+    alloc: Global,
+    merging: &Merging,
+    packet: &[u8],
+    is_join: bool,
+) -> Result<Vec<Carried>, AllocError>
+    ensures { IfOk result (λ lines. (i : IdealAgent) (p : PushPull) → IsSound i → merging.now.agent.now.concrete ≡ view_of i → decoded packet.now ≡ Ok (push_pull p)
+        → AreCarried (events_of p.slots) (joined p is_join i) (reasons_in lines.items)) }
+{
+    match decode(packet) {
+        Ok(message) => message_lines(alloc, merging, &message, is_join),
+        Err(_) => Ok(Vec::new(alloc)),
+    }
+}
+
+/// The agent that is to merge a state.
+fn merging_at<'a>(world: &'a World, memory: &'a Memory, number: u64, to: u64) -> Option<Merging<'a>>
+    ensures { option_map (λ m. m.agent.now.concrete) result ≡ agent_at world.now to }
+{
+    match world.agent(to) {
+        Some(agent) => Some(Merging {
+            number,
+            agent_number: to,
+            agent,
+            before: memory.marks(to),
+            memory,
+        }),
+        None => None,
+    }
+}
+
+/// The packet of this number.
+fn packet_at(sent: &[Bytes], number: u64) -> Option<&[u8]>
+    ensures { option_copied result ≡ slice_get sent.now number }
+{
+    match sent.get(number as usize) {
+        Some(packet) => Some(packet.as_slice()),
+        None => None,
+    }
+}
+
+/// What is told of each event of a state that is to be merged; nothing of any other action.
+pub(crate) fn lines_before(
+    alloc: Global,
+    world: &World,
+    memory: &Memory,
+    number: u64,
+    action: &Action,
+) -> Result<Vec<Carried>, AllocError>
+    ensures { (c : Cluster) → IsViewed c world.now → AreRepresentable c → IfOk result (λ lines. TellsMerge c action.now (reasons_in lines.items)) }
+{
+    let Action::Merge { to, packet, join } = action else {
+        return Ok(Vec::new(alloc));
     };
-    match told.line.answer {
-        Answer::Merged | Answer::Refused(Refusal::SinkFault) => actor_at(told, *to),
-        _ => None,
+    match merging_at(world, memory, number, *to) {
+        Some(merging) => match packet_at(world.sent(), *packet) {
+            Some(bytes) => packet_lines(alloc, &merging, bytes, *join),
+            None => Ok(Vec::new(alloc)),
+        },
+        None => Ok(Vec::new(alloc)),
     }
 }
 
@@ -32,50 +126,91 @@ fn put_lone(alloc: Global, out: &mut Vec<u8>, told: &Told) -> Result<(), AllocEr
     put_because(out, told.number, reason.as_slice())
 }
 
-/// Appends a line for each event that a message carries, where it is a state.
-fn put_state_reasons(
+/// Appends the lines of what is told of events.
+fn put_lines(out: &mut Vec<u8>, number: u64, carried: &[Carried]) -> Result<(), AllocError>
+    ensures { OnOk result (out.new.items ≡ out.old.items ++ flat_map (because_line number) (reasons_in carried.now)) }
+{
+    for line in carried {
+        put_because(out, number, &line.reason)?;
+    }
+    Ok(())
+}
+
+/// Appends a line for each event that a merged state carries; a line that says so where it carries none.
+fn put_merged(out: &mut Vec<u8>, number: u64, carried: &[Carried]) -> Result<(), AllocError>
+    ensures { OnOk result (AddsSuch (TellsMerged (reasons_in carried.now)) number out.old.items out.new.items) }
+{
+    if carried.len() == 0 {
+        return put_because(out, number, b"the state carries no event");
+    }
+    put_lines(out, number, carried)
+}
+
+/// What is told of the event at which the disk failed.
+fn failed_reason(
+    alloc: Global,
+    told: &Told,
+    actor: &Actor,
+    line: &Carried,
+) -> Result<Vec<u8>, AllocError> {
+    let mut reason = Vec::new(alloc);
+    reason.extend_from_slice(&line.reason)?;
+    reason.truncate(line.reason.len().saturating_sub(NEW_WORDS));
+    reason.extend_from_slice(b"new, but ")?;
+    put_sink_fault(&mut reason, told, actor)?;
+    Ok(reason)
+}
+
+/// Appends a line for each event of a state, up to the one at which the disk failed.
+fn put_failed_merge(
     alloc: Global,
     out: &mut Vec<u8>,
     told: &Told,
     actor: &Actor,
-    message: &Message,
 ) -> Result<(), AllocError>
     ensures { OnOk result (AddsSome told.now.number out.old.items out.new.items) }
 {
-    match *message {
-        Message::PushPull {
-            event_clock,
-            slots,
-            ..
-        } => put_merge(alloc, out, told, actor, event_clock, slots),
-        Message::UserEvent { .. }
-        | Message::Query { .. }
-        | Message::QueryResponse { .. }
-        | Message::Foreign(_) => put_lone(alloc, out, told),
+    let mut handed = told.line.events.as_slice().len();
+    for line in told.carried {
+        if line.is_new {
+            if handed == 0 {
+                let reason = failed_reason(alloc, told, actor, line)?;
+                return put_because(out, told.number, &reason);
+            }
+            handed -= 1;
+        }
+        put_because(out, told.number, &line.reason)?;
+    }
+    put_lone(alloc, out, told)
+}
+
+/// The agent that merged a state up to where its disk failed.
+fn failed_actor<'a>(told: &Told<'a>) -> Option<Actor<'a>> {
+    let Action::Merge { to, .. } = told.action else {
+        return None;
+    };
+    match told.line.answer {
+        Answer::Refused(Refusal::SinkFault) => actor_at(told, *to),
+        _ => None,
     }
 }
 
-/// Appends a line for each reason of an action that gave a message to its agent.
-fn put_message_reasons(
-    alloc: Global,
-    out: &mut Vec<u8>,
-    told: &Told,
-    message: &Message,
-) -> Result<(), AllocError>
+/// Appends a line for each reason of an action that merged no whole state.
+fn put_unmerged(alloc: Global, out: &mut Vec<u8>, told: &Told) -> Result<(), AllocError>
     ensures { OnOk result (AddsSome told.now.number out.old.items out.new.items) }
 {
-    match merging_actor(told) {
-        Some(actor) => put_state_reasons(alloc, out, told, &actor, message),
+    match failed_actor(told) {
+        Some(actor) => put_failed_merge(alloc, out, told, &actor),
         None => put_lone(alloc, out, told),
     }
 }
 
 /// Appends a line for each reason of an action: one at least.
 pub(crate) fn put_reasons(alloc: Global, out: &mut Vec<u8>, told: &Told) -> Result<(), AllocError>
-    ensures { OnOk result (AddsSome told.now.number out.old.items out.new.items) }
+    ensures { OnOk result (AddsSuch (λ reasons. told.now.line.now.answer ≡ Answer.Merged → TellsMerged (reasons_in told.now.carried.now) reasons) told.now.number out.old.items out.new.items) }
 {
-    match message_of(told) {
-        Some(message) => put_message_reasons(alloc, out, told, &message),
-        None => put_lone(alloc, out, told),
+    match told.line.answer {
+        Answer::Merged => put_merged(out, told.number, told.carried),
+        _ => put_unmerged(alloc, out, told),
     }
 }

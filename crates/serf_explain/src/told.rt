@@ -2,6 +2,7 @@
 
 use crate::marks::Marks;
 use crate::memory::Memory;
+use crate::merges::Carried;
 use crate::quoted::put_quoted;
 use serf_agent::Agent;
 use serf_snap::MemSink;
@@ -18,6 +19,8 @@ pub(crate) struct Told<'a> {
     pub(crate) memory: &'a Memory,
     pub(crate) action: &'a Action,
     pub(crate) line: &'a Line,
+    /// What is told of each event, where a state is merged on a disk that works.
+    pub(crate) carried: &'a [Carried],
 }
 
 /// Appends the name of an agent between quotes.

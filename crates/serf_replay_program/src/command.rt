@@ -224,8 +224,8 @@ fn job_of<'a>(alloc: Global, matches: &ArgMatches<'a>) -> Result<Option<Job<'a>>
         "conform" => conform_of(inner),
         "explain" => Some(Job::Explain(explanation_of(inner))),
         "draw" => Some(match drawing_of(alloc, inner)? {
-            Some(drawing) => Job::Draw(drawing),
-            None => Job::BadOption("agent"),
+            Ok(drawing) => Job::Draw(drawing),
+            Err(name) => Job::BadOption(name),
         }),
         "write" => Some(Job::Write(inner.get_str("FILE"))),
         "judge" => Some(Job::Judge(inner.get_str("LOG"), kept_of(alloc, inner)?)),

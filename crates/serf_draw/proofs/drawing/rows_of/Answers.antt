@@ -10,7 +10,7 @@ loop-action-init c = (
   record {
     view = c.in_ok-world.ensures.start;
     representable = c.in_ok-world.ensures.representable;
-    senders_are = c.new-senders.ensures.items;
+    packets_are = c.new-packets.ensures.items;
     rows_are = c.new-rows.ensures.items;
   },
   refl,

@@ -5,6 +5,6 @@ use Rattle.serf_draw.proofs.drawing.rows_of.Given as goal
 
 -- what was drawn so far, and the actions that are left lead on to the whole drawing
 abbrev pub invariant-loop-action : goal.invariant-loop-action
-invariant-loop-action l = (d : Drawing) × IsDrawn l.asked d l.world l.senders.items l.rows.items
+invariant-loop-action l = (d : Drawing) × IsDrawn l.asked d l.world l.packets.items l.rows.items
     × (l.number ≡ length d.rows) × (l.number ≡ l.action-index)
     × (fold drawn d (drop l.action-index l.actions) ≡ drawing_of l.fn.agents l.actions)

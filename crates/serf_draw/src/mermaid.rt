@@ -1,0 +1,182 @@
+//! A picture as a sequence diagram in Mermaid's language.
+
+ghost use Rattle.std.specs.Prelude.{◌≡◌, ◌++◌, ◌==◌, ℕ, List, IfOk, OnOk, true};
+ghost use Rattle.std.specs.List.{flat_map, list_all, list_any};
+ghost use Rattle.serf_draw.specs.Mermaid.{arrow_word as word_of, clock_words, coded, coded_byte, is_coded, is_plain as is_plain_byte, mermaid_of, message_line, note_line, participant, participant_line, row_line, words_of};
+
+use crate::picture::{Arrow, Lane, Picture, Row, Tone};
+use crate::svg::{put_between, short_name};
+use std::alloc::{AllocError, Global};
+
+/// A letter, a digit, a space, a full stop, an `@` or a `_`.
+fn is_plain(byte: u8) -> bool
+    ensures { result ≡ is_plain_byte byte }
+{
+    (97 <= byte && byte <= 122)
+        || (65 <= byte && byte <= 90)
+        || (48 <= byte && byte <= 57)
+        || byte == b' '
+        || byte == b'.'
+        || byte == b'@'
+        || byte == b'_'
+}
+
+/// Appends a byte: a plain one as it is, and any other as an entity code.
+fn put_coded_byte(out: &mut Vec<u8>, byte: u8) -> Result<(), AllocError>
+    ensures { OnOk result (out.new.items ≡ out.old.items ++ coded_byte byte) }
+{
+    if is_plain(byte) {
+        out.push(byte)?;
+        Ok(())
+    } else if 32 <= byte && byte <= 126 {
+        put_between(out, b"#", u64::from(byte), b";")
+    } else {
+        out.extend_from_slice(b"#65533;")
+    }
+}
+
+fn put_coded(out: &mut Vec<u8>, text: &[u8]) -> Result<(), AllocError>
+    ensures { OnOk result (out.new.items ≡ out.old.items ++ coded text.now) }
+{
+    for byte in text {
+        put_coded_byte(out, *byte)?;
+    }
+    Ok(())
+}
+
+/// A coded text has letters, digits, spaces, full stops, `@`, `_`, `#` and `;` alone: no line break, no `%`, no `:` and no
+/// `-`. A `#` or a `;` in it is an entity code's, by the definition. Does nothing.
+#[tactic(auto, using(crate::proofs::CodedLemmas::all_coded))]
+pub fn coded_laws()
+    ensures coded { (text : List ℕ) → list_all is_coded (coded text) ≡ true }
+{}
+
+/// Whether an agent has a lane among these.
+fn has_lane(lanes: &[Lane], agent: u64) -> bool
+    ensures { result ≡ list_any (λ l. l.agent == agent) lanes.now }
+{
+    lanes.iter().any(|lane| lane.agent == agent)
+}
+
+fn put_participant(out: &mut Vec<u8>, lanes: &[Lane], agent: Option<u64>) -> Result<(), AllocError>
+    ensures { OnOk result (out.new.items ≡ out.old.items ++ participant lanes.now agent) }
+{
+    match agent {
+        Some(agent) => {
+            if has_lane(lanes, agent) {
+                put_between(out, b"a", agent, b"")
+            } else {
+                out.extend_from_slice(b"outside")
+            }
+        }
+        None => out.extend_from_slice(b"outside"),
+    }
+}
+
+#[tactic(auto, unfolding(crate::specs::Mermaid::participant_line))]
+fn put_participant_line(alloc: Global, out: &mut Vec<u8>, lane: &Lane) -> Result<(), AllocError>
+    ensures { OnOk result (out.new.items ≡ out.old.items ++ participant_line lane.now) }
+{
+    put_between(out, b"participant a", lane.agent, b" as ")?;
+    put_between(out, b"", lane.agent, b" ")?;
+    let name = short_name(alloc, lane.name.as_slice())?;
+    put_coded(out, &name)?;
+    out.extend_from_slice(b"\n")
+}
+
+fn put_participants(alloc: Global, out: &mut Vec<u8>, lanes: &[Lane]) -> Result<(), AllocError>
+    ensures { OnOk result (out.new.items ≡ out.old.items ++ flat_map participant_line lanes.now) }
+{
+    for lane in lanes {
+        put_participant_line(alloc, out, lane)?;
+    }
+    Ok(())
+}
+
+fn put_clock_words(out: &mut Vec<u8>, clock: Option<u64>) -> Result<(), AllocError>
+    ensures { OnOk result (out.new.items ≡ out.old.items ++ clock_words clock) }
+{
+    match clock {
+        Some(clock) => put_between(out, b", clock ", clock, b"\n"),
+        None => out.extend_from_slice(b"\n"),
+    }
+}
+
+#[tactic(auto, unfolding(crate::specs::Mermaid::words_of))]
+fn put_words(out: &mut Vec<u8>, row: &Row) -> Result<(), AllocError>
+    ensures { OnOk result (out.new.items ≡ out.old.items ++ words_of row.now) }
+{
+    put_between(out, b": ", row.action, b" ")?;
+    put_coded(out, row.label.as_slice())?;
+    put_clock_words(out, row.event_clock)
+}
+
+fn arrow_word(tone: Tone) -> &'static [u8]
+    ensures { result.now ≡ word_of tone }
+{
+    match tone {
+        Tone::Taken => b"->>",
+        Tone::Ignored => b"-->>",
+        Tone::Refused => b"-x",
+    }
+}
+
+#[tactic(auto, unfolding(crate::specs::Mermaid::message_line))]
+fn put_message(
+    out: &mut Vec<u8>,
+    lanes: &[Lane],
+    row: &Row,
+    sender: Option<u64>,
+) -> Result<(), AllocError>
+    ensures { OnOk result (out.new.items ≡ out.old.items ++ message_line lanes.now row.now sender) }
+{
+    put_participant(out, lanes, sender)?;
+    out.extend_from_slice(arrow_word(row.tone))?;
+    put_participant(out, lanes, row.agent)?;
+    put_words(out, row)
+}
+
+#[tactic(auto, unfolding(crate::specs::Mermaid::note_line))]
+fn put_note(out: &mut Vec<u8>, lanes: &[Lane], row: &Row) -> Result<(), AllocError>
+    ensures { OnOk result (out.new.items ≡ out.old.items ++ note_line lanes.now row.now) }
+{
+    out.extend_from_slice(b"Note over ")?;
+    put_participant(out, lanes, row.agent)?;
+    put_words(out, row)
+}
+
+fn put_row_line(out: &mut Vec<u8>, lanes: &[Lane], row: &Row) -> Result<(), AllocError>
+    ensures { OnOk result (out.new.items ≡ out.old.items ++ row_line lanes.now row.now) }
+{
+    match row.arrow {
+        Arrow::NoPacket => put_note(out, lanes, row),
+        Arrow::Unsent => put_message(out, lanes, row, None),
+        Arrow::From(sender) => put_message(out, lanes, row, sender.agent),
+    }
+}
+
+fn put_row_lines(out: &mut Vec<u8>, lanes: &[Lane], rows: &[Row]) -> Result<(), AllocError>
+    ensures { OnOk result (out.new.items ≡ out.old.items ++ flat_map (row_line lanes.now) rows.now) }
+{
+    for row in rows {
+        put_row_line(out, lanes, row)?;
+    }
+    Ok(())
+}
+
+/// A picture as the text of a sequence diagram in Mermaid's language: a participant for each lane, a message for each
+/// packet that is given, from who sent it, and a note for each other action. Packets that nobody got aren't shown.
+///
+/// Names and labels are coded, so that no byte of theirs leaves its place. It is an `AllocError` only where there is no
+/// memory for the text.
+#[tactic(auto, unfolding(crate::specs::Mermaid::mermaid_of))]
+pub fn mermaid_text(alloc: Global, picture: &Picture) -> Result<Vec<u8>, AllocError>
+    ensures { IfOk result (λ text. text.items ≡ mermaid_of picture.now) }
+{
+    let mut out = Vec::new(alloc);
+    let lanes = picture.lanes.as_slice();
+    out.extend_from_slice(b"sequenceDiagram\n")?;
+    put_participants(alloc, &mut out, lanes)?;
+    put_row_lines(&mut out, lanes, picture.rows.as_slice())?;
+    Ok(out)
+}

@@ -1,0 +1,67 @@
+-- What is told of the events that a merged state carries.
+use Rattle.std.specs.Prelude.{◌≡◌, ℕ, ◌++◌, List, [], ◌∷◌, Option, Some, None, Ok, codes, decimal, slice_get}
+use Rattle.serf_wire.specs.declared.texts.EventBody.{EventBody}
+use Rattle.serf_window.specs.Window.{TimedEntry}
+use Rattle.serf_agent.specs.declared.outcome.Reason.{Reason}
+use Rattle.serf_agent.specs.declared.outcome.Reason.TheVariants.{BelowMinimum, TooOld, Seen, TimeFull, Oversize}
+use Rattle.serf_agent.specs.Events.{admission}
+use Rattle.serf_agent.specs.Ideal.{IdealAgent}
+use Rattle.serf_agent.specs.States.{after_event, events_of, joined}
+use Rattle.serf_wire.specs.Decoded.{decoded}
+use Rattle.serf_wire.specs.Message.{PushPull, push_pull}
+use Rattle.serf_model.specs.declared.action.Action.{Action}
+use Rattle.serf_model.specs.declared.action.Action.TheVariants as actions
+use Rattle.serf_model.specs.Cluster.{Cluster, IdealNode}
+use Rattle.serf_explain.specs.Words.{event_words}
+
+-- what is said of a verdict on an event: no two begin alike
+abbrev pub verdict_words : Option Reason → List ℕ
+verdict_words None = codes "new, and handed out"
+verdict_words (Some Oversize) = codes "too large: "
+verdict_words (Some BelowMinimum) = codes "below the least time "
+verdict_words (Some TooOld) = codes "too old: "
+verdict_words (Some Seen) = codes "seen: "
+verdict_words (Some TimeFull) = codes "too many of its time: "
+verdict_words (Some _) = codes "left: "
+
+-- an event with its slot, and what became of it
+unfoldable pub slot_words : ℕ → List ℕ
+slot_words slot = codes "slot " ++ decimal slot ++ codes " brings "
+
+unfoldable pub carried_words : ℕ → ℕ → EventBody → Option Reason → List ℕ → List ℕ
+carried_words slot time what verdict detail = slot_words slot ++ event_words time what ++ codes ": " ++ verdict_words verdict ++ detail
+
+-- a reason says that this became of an event, in some slot and with some detail
+pub record IsCarried (e : TimedEntry EventBody) (verdict : Option Reason) (reason : List ℕ) : Type 0 where
+  pub slot : ℕ
+  pub detail : List ℕ
+  pub words : reason ≡ carried_words slot e.time e.key verdict detail
+
+-- One reason for each event, in their order, with the verdict of the agent that receives one after another.
+abbrev pub AreCarried : List (TimedEntry EventBody) → IdealAgent → List (List ℕ) → Type 0
+AreCarried [] i reasons = reasons ≡ []
+AreCarried (e ∷ es) i reasons = (reason : List ℕ) × (others : List (List ℕ)) × (reasons ≡ reason ∷ others) × IsCarried e (admission i e.time e.key) reason × AreCarried es (after_event i e) others
+
+-- the agent once it has received these
+abbrev pub after_events : List (TimedEntry EventBody) → IdealAgent → IdealAgent
+after_events [] i = i
+after_events (e ∷ es) i = after_events es (after_event i e)
+
+-- the same of a merge: where a state carries no event, one reason says so
+abbrev pub AreMerged : List (TimedEntry EventBody) → IdealAgent → List (List ℕ) → Type 0
+AreMerged [] i reasons = reasons ≡ codes "the state carries no event" ∷ []
+AreMerged (e ∷ es) i reasons = AreCarried (e ∷ es) i reasons
+
+-- what is told of events once they were merged
+abbrev pub TellsMerged : List (List ℕ) → List (List ℕ) → Type 0
+TellsMerged carried reasons = (es : List (TimedEntry EventBody)) (i : IdealAgent) → AreCarried es i carried → AreMerged es i reasons
+
+-- the reasons are those of the state that an action merges in a cluster, if it merges one, told so
+abbrev pub OfMerge : (List (TimedEntry EventBody) → IdealAgent → List (List ℕ) → Type 0) → Cluster → Action → List (List ℕ) → Type 0
+OfMerge Told c (actions.Merge to packet join) reasons =
+    (m : IdealNode) (bytes : List ℕ) (p : PushPull) → slice_get c.nodes to ≡ Some m → slice_get c.sent packet ≡ Some bytes → decoded bytes ≡ Ok (push_pull p)
+    → Told (events_of p.slots) (joined p join m.agent) reasons
+OfMerge Told c _ reasons = Unit {0}
+
+abbrev pub TellsMerge : Cluster → Action → List (List ℕ) → Type 0
+TellsMerge c action reasons = OfMerge AreCarried c action reasons

@@ -1,0 +1,24 @@
+-- Texts between quotes, and what is said of an event.
+use Rattle.std.specs.Prelude.{ℕ, ◌==◌, ◌++◌, ◌||◌, nat_le, if◌then◌else◌, List, [], ◌∷◌, codes, decimal, length, take}
+use Rattle.std.specs.List.{flat_map}
+use Rattle.serf_replay.specs.TextParts.{hex_text}
+use Rattle.serf_wire.specs.declared.texts.EventBody.{EventBody}
+use Rattle.serf_explain.specs.Because.{byte_text}
+
+-- a byte of a quoted text: a quote and a backslash too stand as their hex digits
+unfoldable pub quoted_byte : ℕ → List ℕ
+quoted_byte byte = if byte == 34 || byte == 92 then codes "\\x" ++ hex_text (byte ∷ []) else byte_text byte
+
+unfoldable pub whole_quoted : List ℕ → List ℕ
+whole_quoted text = codes "\"" ++ flat_map quoted_byte text ++ codes "\""
+
+unfoldable pub front_quoted : List ℕ → List ℕ
+front_quoted text = codes "\"" ++ flat_map quoted_byte (take 32 text) ++ codes "..\" (" ++ decimal (length text) ++ codes " bytes)"
+
+-- a text between quotes; of one that is longer than 64 bytes its front, and how many bytes it has
+abbrev pub quoted : List ℕ → List ℕ
+quoted text = if nat_le (length text) 64 then whole_quoted text else front_quoted text
+
+-- an event: its time, its name and its payload
+unfoldable pub event_words : ℕ → EventBody → List ℕ
+event_words time what = codes "event " ++ decimal time ++ codes " " ++ quoted what.name ++ codes " " ++ quoted what.payload

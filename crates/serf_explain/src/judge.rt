@@ -1,0 +1,179 @@
+//! The verdict on each event of a merge, before the merge is done.
+
+ghost use Rattle.std.specs.Prelude.{◌≡◌, ◌<◌, ◌≤◌, ◌-◌, ◌++◌, ◌∷◌, ◌&&◌, [], List, length, nat_le, map, if◌then◌else◌, IfOk, OnOk, None};
+ghost use Rattle.serf_lamport.specs.Clock.{observed};
+ghost use Rattle.serf_wire.specs.declared.texts.EventBody.{EventBody};
+ghost use Rattle.serf_wire.specs.Buffers.{slots_lent};
+ghost use Rattle.serf_wire.specs.Lists.{event_of as text_of};
+ghost use Rattle.serf_wire.specs.Message.{PushPull};
+ghost use Rattle.serf_window.specs.Slots.{slot_view};
+ghost use Rattle.serf_window.specs.Window.{TimedEntry, count_in, slots_of, time_in};
+ghost use Rattle.serf_agent.specs.Events.{admission};
+ghost use Rattle.serf_agent.specs.Ideal.{IdealAgent};
+ghost use Rattle.serf_agent.specs.Sound.{IsSound};
+ghost use Rattle.serf_agent.specs.States.{after_event, joined};
+ghost use Rattle.serf_agent.specs.View.{view_of};
+ghost use Rattle.serf_explain.specs.Judging.{IsJudging, both_verdicts};
+
+use serf_agent::{Agent, Reason};
+use serf_lamport::Time;
+use serf_snap::MemSink;
+use serf_window::{EventWindow, Verdict, Window, slot_laws};
+use serf_wire::{EventView, LentEventSlots, LentSlot};
+use std::alloc::{AllocError, Global};
+
+/// What becomes of an agent in a merge: its event clock, the least time that it takes, and what entered it in the merge.
+#[derive(Drop)]
+pub(crate) struct Judge {
+    pub(crate) clock: u64,
+    pub(crate) minimum: u64,
+    entered: EventWindow,
+}
+
+/// The greatest number of bytes that the texts of an event have together.
+const LONGEST_TEXTS: u64 = 9216;
+
+/// How many events of a time these slots hold.
+fn count_of(slots: LentEventSlots, time: u64) -> usize
+    ensures { result ≡ count_in (map slot_view (slots_lent slots.entry)) time }
+{
+    if slots.len() == 0 {
+        return 0;
+    }
+    let place = time % slots.len() as u64;
+    match slots.get(place as usize) {
+        Some(slot) => {
+            if slot.time.get() == time {
+                slot.held.len()
+            } else {
+                0
+            }
+        }
+        None => 0,
+    }
+}
+
+/// The verdict from that before the merge, that on what entered in it, and whether both together are too many.
+fn both(before: Option<Reason>, entered: Verdict, full: bool) -> Option<Reason>
+    ensures { result ≡ both_verdicts before entered full }
+{
+    match entered {
+        Verdict::BelowMinimum => Some(Reason::BelowMinimum),
+        Verdict::TooOld => Some(Reason::TooOld),
+        Verdict::Seen => Some(Reason::Seen),
+        Verdict::TimeFull => match before {
+            Some(Reason::Seen) => before,
+            _ => Some(Reason::TimeFull),
+        },
+        Verdict::New => match before {
+            None => { if full { Some(Reason::TimeFull) } else { None } }
+            Some(_) => before,
+        },
+    }
+}
+
+/// The least time that a state asks for: its event clock, where who joins ignores old events.
+fn least(is_join: bool, ignore_old: bool, clock: u64) -> u64
+    ensures { result ≡ if is_join && ignore_old then clock else 0 }
+{
+    if is_join && ignore_old { clock } else { 0 }
+}
+
+impl Judge {
+    /// What becomes of an agent that hears of another's event clock.
+    pub(crate) fn new(
+        alloc: Global,
+        agent: &Agent<MemSink>,
+        clock: u64,
+        is_join: bool,
+    ) -> Result<Judge, AllocError>
+        ensures { (i : IdealAgent) (m : PushPull) → IsSound i → agent.now.concrete ≡ view_of i → m.event_clock ≡ clock
+            → IfOk result (IsJudging i (joined m is_join i)) }
+    {
+        let config = agent.config();
+        let Ok(entered) = Window::new(alloc, config.event_buffer, config.per_time) else {
+            return Err(AllocError);
+        };
+        Ok(Judge {
+            clock: agent.event_time().max(clock),
+            minimum: agent
+                .event_minimum()
+                .max(least(is_join, config.ignore_old, clock)),
+            entered,
+        })
+    }
+
+    /// Whether as many events of a time as are taken entered before the merge and in it.
+    fn is_full(&self, agent: &Agent<MemSink>, time: u64) -> bool
+        ensures { result ≡ nat_le (agent.now.concrete.config.per_time - count_in agent.now.concrete.events.slots time) (count_in self.now.entered.slots time) }
+    {
+        let before = count_of(agent.slots(), time) as u64;
+        let left = agent.config().per_time.saturating_sub(before);
+        left <= count_of(self.entered.slots(), time) as u64
+    }
+
+    /// Why the next event of the merge is ignored; `None` where it is new.
+    fn reason(&self, agent: &Agent<MemSink>, time: Time, event: &EventView) -> Option<Reason>
+        ensures reason { (i j : IdealAgent) → IsSound i → agent.now.concrete ≡ view_of i → IsJudging i j self.now → result ≡ admission j time (text_of event.now) }
+        ensures not_later { result ≡ None → time_in self.now.entered.slots time ≤ time }
+        ensures not_full { result ≡ None → count_in self.now.entered.slots time < self.now.entered.per_time }
+    {
+        slot_laws();
+        let texts = (event.name.len() as u64).saturating_add(event.payload.len() as u64);
+        if texts > LONGEST_TEXTS {
+            return Some(Reason::Oversize);
+        }
+        let before = agent.judge_event(time, event.name, event.payload);
+        let clock = self.clock.max(time.get() + 1);
+        let entered = self.entered.offer(clock, self.minimum, time, event);
+        both(before, entered, self.is_full(agent, time.get()))
+    }
+
+    /// Judges the next event of the merge, and takes it in where it is new.
+    pub(crate) fn judge(
+        &mut self,
+        alloc: Global,
+        agent: &Agent<MemSink>,
+        time: Time,
+        event: &EventView,
+    ) -> Result<Option<Reason>, AllocError>
+        ensures { (i j : IdealAgent) → IsSound i → agent.now.concrete ≡ view_of i → IsJudging i j self.old
+            → IfOk result (λ reason. (reason ≡ admission j time (text_of event.now)) × IsJudging i (after_event j (record { time = time; key = text_of event.now })) self.new) }
+    {
+        slot_laws();
+        match self.reason(agent, time, event) {
+            Some(reason) => {
+                self.observe(time);
+                Ok(Some(reason))
+            }
+            None => {
+                self.take_in(alloc, time, event)?;
+                Ok(None)
+            }
+        }
+    }
+
+    fn observe(&mut self, time: Time)
+        ensures clock { self.new.clock ≡ observed self.old.clock time }
+        ensures minimum { self.new.minimum ≡ self.old.minimum }
+        ensures entered { self.new.entered ≡ self.old.entered }
+    {
+        self.clock = self.clock.max(time.get() + 1);
+    }
+
+    /// Takes in an event that is new, and observes its time.
+    fn take_in(&mut self, alloc: Global, time: Time, event: &EventView) -> Result<(), AllocError>
+        requires not_later { time_in self.old.entered.slots time ≤ time }
+        requires not_full { count_in self.old.entered.slots time < self.old.entered.per_time }
+        ensures clock { OnOk result (self.new.clock ≡ observed self.old.clock time) }
+        ensures minimum { OnOk result (self.new.minimum ≡ self.old.minimum) }
+        ensures per_time { OnOk result (self.new.entered.per_time ≡ self.old.entered.per_time) }
+        ensures slots { OnOk result ((entries : List (TimedEntry EventBody)) → self.old.entered.slots ≡ slots_of (length self.old.entered.slots) entries
+            → self.new.entered.slots ≡ slots_of (length self.old.entered.slots) (entries ++ record { time = time; key = text_of event.now } ∷ [])) }
+    {
+        let entry = self.entered.prepare(alloc, time, event)?;
+        self.entered.enter(entry);
+        self.observe(time);
+        Ok(())
+    }
+}
