@@ -321,7 +321,7 @@ def shrinks(cases):
         cases.run(f"the right agent, {name}", [sys.executable, AGENT], saved, 0, ["calls agree"])
         cases.count.check(f"none too many, {name}", not fails_without_one(cases, agent, saved), "a call can be left out")
     agent = [sys.executable, AGENT, "--wrong", "never_seen"]
-    cases.run("to standard error", agent, "--random", 1, ["shrunk to ", "\nagent ", "\ninject ", "\ndeliver 0 0 "], ["1-60", "--shrink"])
+    cases.run("to standard error", agent, "--random", 1, ["shrunk to ", "\nagent ", "\ninject ", "\nmerge 0 0 "], ["1-60", "--shrink"])
     example = os.path.join(TOP, "examples", "deploy_gossiped_twice.schedule")
     cases.run("of a schedule", agent, example, 1, ["shrunk to "], ["--shrink"])
     cases.run("of an agent that agrees", [sys.executable, AGENT], example, 0, ["calls agree"], ["--shrink"])

@@ -3,7 +3,8 @@
 Each schedule of examples/ and of tests/rows that is read is replayed, and random ones of each kind. Then each agent's
 calls go through the pipe's lines in turn, each packet by its bytes, and each reply has to be what the trace shows of that
 action: the answer, the packets, the events and the query that was handed out. At the end each switch is tried on the same
-schedules, and what they show of them is printed: the names of those that no schedule shows, and how many are shown.
+schedules, and what they show of them is printed: the names of those that no schedule shows, and how many are shown. For a
+sample of the switches `conform --random 1-200 --shrink` makes the calls fewer, and their median is printed.
 
     tests/python_agent.py [--seeds FIRST-LAST] [SCHEDULE..]
 
@@ -14,6 +15,8 @@ switch.
 import argparse
 import functools
 import os
+import re
+import statistics
 import subprocess
 import sys
 
@@ -21,6 +24,7 @@ TOP = os.path.dirname(os.path.dirname(os.path.abspath(__file__)))
 sys.path.insert(0, os.path.join(TOP, "tools"))
 sys.path.insert(0, os.path.join(TOP, "conformance", "python"))
 sys.dont_write_bytecode = True
+import conform
 import programs
 from serf_agent import switches
 from serf_agent.pipe import Pipe
@@ -35,6 +39,10 @@ GIVES = {"deliver": 2, "merge": 2}
 
 # At least so many of 100 switches are to be shown.
 SHOWN = 95
+
+# Every so many switches one is in the sample, and the median of the calls that are left is at most this.
+SAMPLE = 12
+CALLS = 6
 
 
 def read(path):
@@ -133,6 +141,23 @@ def unshown(given):
     return None if 100 * count >= SHOWN * len(switches.SWITCHES) else f"{count} of {len(switches.SWITCHES)} are shown"
 
 
+def calls_left(name):
+    """How many calls are left of those that show a switch, or None."""
+    _, report = conform.compare(["--random", "1-200", "--shrink"], [sys.executable, conform.AGENT, "--wrong", name])
+    left = re.search(r"^shrunk to (\d+) of ", report, re.M)
+    return int(left.group(1)) if left else None
+
+
+def unshrunk():
+    """What is wrong with the schedules that are left of a sample of the switches, or None."""
+    sample = list(switches.SWITCHES)[::SAMPLE]
+    calls = [calls_left(name) for name in sample]
+    calls = [count for count in calls if count is not None]
+    median = statistics.median(calls) if calls else 0
+    print(f"of {len(sample)} switches {len(calls)} are shrunk, to {median} calls in the median")
+    return None if calls and median <= CALLS else f"{calls} calls are left"
+
+
 def main():
     words = argparse.ArgumentParser()
     words.add_argument("--seeds", default="1-4")
@@ -152,6 +177,7 @@ def main():
     said = [(name, found) for name, found, _ in compared]
     if not asked.files:
         said.append(("the switches", unshown(given)))
+        said.append(("fewer calls", unshrunk()))
     failed = [(name, found) for name, found in said if found]
     for name, found in failed:
         print(f"FAILED {name}: {found}")
