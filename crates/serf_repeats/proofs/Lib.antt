@@ -1,2 +1,2 @@
-pub mod RepeatLaws
+pub mod SpotLaws
 pub mod OnceLaws

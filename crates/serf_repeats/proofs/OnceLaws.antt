@@ -146,12 +146,12 @@ once-no_repeat turns once r h =
 
 -- ---- from the list of all event lines to places
 
-get-left : {X : Type 0} (xs ys : List X) (i : ℕ) → i < length xs → slice_get (xs ++ ys) i ≡ slice_get xs i
+pub get-left : {X : Type 0} (xs ys : List X) (i : ℕ) → i < length xs → slice_get (xs ++ ys) i ≡ slice_get xs i
 get-left [] ys i lt = absurd (omega arith)
 get-left (x ∷ xs) ys zero lt = refl
 get-left (x ∷ xs) ys (suc i) lt = get-left xs ys i (omega arith)
 
-get-right : {X : Type 0} (xs ys : List X) (i k : ℕ) → i ≡ length xs + k → slice_get (xs ++ ys) i ≡ slice_get ys k
+pub get-right : {X : Type 0} (xs ys : List X) (i k : ℕ) → i ≡ length xs + k → slice_get (xs ++ ys) i ≡ slice_get ys k
 get-right [] ys i k e = let same : i ≡ k = omega arith in ap (slice_get ys) same
 get-right (x ∷ xs) ys zero k e = absurd (omega arith)
 get-right (x ∷ xs) ys (suc i) k e = get-right xs ys i k (omega arith)

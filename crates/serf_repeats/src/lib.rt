@@ -1,6 +1,7 @@
 //! A search for repeats in any trace: an event that one agent was handed twice.
 #![tactic(auto)]
 
+mod key;
 mod laws;
 mod place;
 mod repeats;

@@ -1,77 +1,84 @@
 //! Events that were handed to one agent twice.
 
-ghost use Rattle.std.specs.Prelude.{◌≡◌, ◌↔◌, ◌<◌, IsTrue, List, MatchOption, None, Some, length, map};
+ghost use Rattle.std.specs.Prelude.{◌≡◌, ◌↔◌, ◌++◌, [], IfOk, List, MatchOption, None, OnOk, map};
 ghost use Rattle.serf_model.specs.Promises.{Once};
 ghost use Rattle.serf_model.specs.Trace.{Turn};
-ghost use Rattle.serf_repeats.specs.Repeats.{AreEqual, HasNoRepeat, HasNoRepeatAt, HasNoRepeatIn, IsFirstEqual, IsFirstRepeat, IsFirstRepeatAt, IsFirstRepeatIn, IsNoneEqual, event_line_at};
+ghost use Rattle.serf_model.specs.declared.line.Line.{Line as Shown};
+ghost use Rattle.serf_pairs.specs.Pairs.{HasNoPair, IsFirstPair};
+ghost use Rattle.serf_repeats.specs.declared.key.LineKey.{LineKey as Key};
+ghost use Rattle.serf_repeats.specs.Repeats.{HasNoRepeat, IsFirstRepeat};
+ghost use Rattle.serf_repeats.specs.Spots.{AreOf, Spot, key_eq, spots_at, spots_from};
 
+use crate::key::{LineKey, key_of};
 use crate::laws::once_has_no_repeat;
 use crate::place::{Place, Repeat};
 use serf_model::{EventLine, Line, Trace};
+use serf_pairs::first_pair;
+use std::alloc::{AllocError, Global};
 
-/// Whether two event lines belong to one agent, and have one time, name and payload.
-fn are_equal(one: &EventLine, other: &EventLine) -> bool
-    ensures { IsTrue result ↔ AreEqual one.now other.now }
+/// Puts the keys and the places of an action's event lines behind the others.
+fn take_events<'a>(
+    keys: &mut Vec<LineKey<'a>>,
+    places: &mut Vec<Place>,
+    line: usize,
+    events: &'a [EventLine],
+) -> Result<(), AllocError>
+    ensures { (spots : List Spot) → AreOf keys.old.items places.old.items spots → OnOk result (AreOf keys.new.items places.new.items (spots ++ spots_at line 0 events.entry.now)) }
 {
-    one.agent == other.agent
-        && one.time == other.time
-        && one.name.as_slice() == other.name.as_slice()
-        && one.payload.as_slice() == other.payload.as_slice()
+    for (event, shown) in events.iter().enumerate() {
+        keys.push(key_of(shown))?;
+        places.push(Place { line, event })?;
+    }
+    Ok(())
 }
 
-/// The first place of an event line that equals this one.
-fn first_equal(lines: &[Line], event: &EventLine) -> Option<Place>
-    ensures { MatchOption result (IsNoneEqual lines.now event.now) (IsFirstEqual lines.now event.now) }
+/// Puts the keys and the places of all event lines where there were none.
+fn take_lines<'a>(
+    keys: &mut Vec<LineKey<'a>>,
+    places: &mut Vec<Place>,
+    lines: &'a [Line],
+) -> Result<(), AllocError>
+    ensures { AreOf keys.old.items places.old.items [] → OnOk result (AreOf keys.new.items places.new.items (spots_from 0 lines.entry.now)) }
 {
     for (line, shown) in lines.iter().enumerate() {
-        let events = shown.events.as_slice();
-        if let Some(event) = events.iter().position(|other| are_equal(other, event)) {
-            return Some(Place { line, event });
-        }
+        take_events(keys, places, line, shown.events.as_slice())?;
     }
-    None
+    Ok(())
 }
 
-/// The repeat whose later event line is this one, which stands at this place.
-fn repeat_at(lines: &[Line], later: Place, event: &EventLine) -> Option<Repeat>
-    requires { event_line_at lines.now later ≡ Some event.now }
-    ensures { MatchOption result (HasNoRepeatAt lines.now later) (IsFirstRepeatAt lines.now later) }
+/// The repeat at two places of the list of all event lines.
+fn repeat_at(places: &[Place], pair: Option<(usize, usize)>) -> Option<Repeat>
+    ensures { (lines : List Shown) (keys : List Key) → AreOf keys places.now (spots_from 0 lines)
+        → MatchOption pair (HasNoPair key_eq keys) (λ p. IsFirstPair key_eq keys p.0 p.1) → MatchOption result (HasNoRepeat lines) (IsFirstRepeat lines) }
 {
-    let earlier = first_equal(lines, event)?;
-    if earlier == later {
+    let Some((first, second)) = pair else {
         return None;
-    }
-    Some(Repeat { earlier, later })
-}
-
-/// The first repeat among those whose later event line belongs to the action of this number.
-fn first_repeat_in(lines: &[Line], line: usize) -> Option<Repeat>
-    requires { line < length lines.now }
-    ensures { MatchOption result (HasNoRepeatIn lines.now line) (IsFirstRepeatIn lines.now line) }
-{
-    let events = lines[line].events.as_slice();
-    for (event, shown) in events.iter().enumerate() {
-        if let Some(repeat) = repeat_at(lines, Place { line, event }, shown) {
-            return Some(repeat);
-        }
-    }
-    None
+    };
+    let Some(earlier) = places.get(first) else {
+        return None;
+    };
+    let Some(later) = places.get(second) else {
+        return None;
+    };
+    Some(Repeat {
+        earlier: *earlier,
+        later: *later,
+    })
 }
 
 /// The first event line of a trace that repeats an earlier one, and the first that it repeats; `None` where no agent was
-/// handed an event twice. Takes no memory.
+/// handed an event twice.
 ///
-/// So it is `None` exactly where the turns that the trace shows keep the promise `Once`.
-pub fn first_repeat(trace: &Trace) -> Option<Repeat>
-    ensures first { MatchOption result (HasNoRepeat trace.now.lines) (IsFirstRepeat trace.now.lines) }
-    ensures once { (turns : List Turn) → map (λ t. t.line) turns ≡ trace.now.lines → (result ≡ None) ↔ Once turns }
+/// So it is `None` exactly where the turns that the trace shows keep the promise `Once`. Each event line is looked up
+/// once by its hash. It is an `AllocError` only where there is no memory for that.
+pub fn first_repeat(alloc: Global, trace: &Trace) -> Result<Option<Repeat>, AllocError>
+    ensures first { IfOk result (λ found. MatchOption found (HasNoRepeat trace.now.lines) (IsFirstRepeat trace.now.lines)) }
+    ensures once { (turns : List Turn) → map (λ t. t.line) turns ≡ trace.now.lines → IfOk result (λ found. (found ≡ None) ↔ Once turns) }
 {
     once_has_no_repeat();
-    let lines = trace.lines.as_slice();
-    for line in 0..lines.len() {
-        if let Some(repeat) = first_repeat_in(lines, line) {
-            return Some(repeat);
-        }
-    }
-    None
+    let mut keys = Vec::new(alloc);
+    let mut places = Vec::new(alloc);
+    take_lines(&mut keys, &mut places, trace.lines.as_slice())?;
+    let pair = first_pair(alloc, keys.as_slice())?;
+    Ok(repeat_at(places.as_slice(), pair))
 }

@@ -34,23 +34,30 @@ fn trace_of(
 }
 
 /// Says what a trace has, and gives the status.
-fn tell<R: Print + Eprint>(rt: &R, trace: Option<Trace>) -> u8 {
-    let (said, status) = match trace.map(|trace| first_repeat(&trace)) {
-        None => (println!(rt; "refused"), 0),
-        Some(None) => (println!(rt; "no repeat"), 0),
-        Some(Some(repeat)) => {
+fn tell<R: Print + Eprint + AllocGlobal>(rt: &R, trace: Option<Trace>) -> u8 {
+    let Some(trace) = trace else {
+        return said(rt, println!(rt; "refused").is_ok(), 0);
+    };
+    match first_repeat(rt.alloc(), &trace) {
+        Ok(None) => said(rt, println!(rt; "no repeat").is_ok(), 0),
+        Ok(Some(repeat)) => {
             let (at, of) = (repeat.later, repeat.earlier);
-            let said = println!(rt;
+            let line = println!(rt;
                 "repeat: line {}, event {}, of line {}, event {}",
                 at.line, at.event, of.line, of.event
             );
-            (said, 1)
+            said(rt, line.is_ok(), 1)
         }
-    };
-    if said.is_err() {
-        failed(rt, "write fault")
-    } else {
+        Err(_) => failed(rt, "no memory"),
+    }
+}
+
+/// The status, where the line was written.
+fn said(rt: &impl Eprint, is_written: bool, status: u8) -> u8 {
+    if is_written {
         status
+    } else {
+        failed(rt, "write fault")
     }
 }
 

@@ -1,22 +1,19 @@
-use Rattle.std.proofs.Common.{refl, sym, subst, ◌∙◌}
-use Rattle.serf_repeats.specs.Repeats.{HasNoRepeat}
-use Rattle.serf_repeats.proofs.RepeatLaws.{first-repeat, no-repeat}
+use Rattle.std.proofs.Common.{ap, map, []}
+use Rattle.serf_model.specs.Promises.{Once}
+use Rattle.serf_repeats.specs.Spots.{AreOf, key_identity, spots_from}
+use Rattle.serf_repeats.proofs.SpotLaws.{none-once}
 use Rattle.serf_repeats.proofs.repeats.first_repeat.Goals as goal
 
-pub returns-in-Some-clause-first : goal.returns-in-Some-clause-first
-returns-in-Some-clause-first c = rw (← c.as_slice-lines.ensures) (first-repeat c.as_slice-lines.result.now c.loop-line.line c.in-Some.repeat c.loop-line.invariant c.in-Some.ensures)
-
-pub returns-in-Some-clause-once : goal.returns-in-Some-clause-once
-returns-in-Some-clause-once c = λ turns shows. (
-  λ none. absurd (cc none),
-  λ once. absurd (subst HasNoRepeat (shows ∙ sym c.as_slice-lines.ensures) ((c.once_has_no_repeat.ensures turns).1 once) c.in-Some.repeat c.in-Some.ensures.repeat),
-)
-
 pub returns-clause-first : goal.returns-clause-first
-returns-clause-first c = rw (← c.as_slice-lines.ensures) (no-repeat c.as_slice-lines.result.now c.loop-line.line c.loop-line.invariant c.loop-line-test.false)
+returns-clause-first c =
+    let empty : AreOf c.new-keys.result.items c.new-places.result.items [] = record { keys_are = ap (map key_identity) c.new-keys.ensures.items; places_are = c.new-places.ensures.items } in
+    let taken = c.in_ok-take_lines.ensures empty in
+    let are : AreOf c.as_slice-2.result.now c.as_slice-3.result.now (spots_from 0 c.args.trace.now.lines) = rw (c.as_slice-2.ensures.value, c.as_slice-3.ensures.value, ← c.as_slice.ensures) taken in
+    c.repeat_at.ensures c.args.trace.now.lines c.as_slice-2.result.now are c.in_ok-pair.ensures
 
 pub returns-clause-once : goal.returns-clause-once
-returns-clause-once c = λ turns shows. (
-  λ none. (c.once_has_no_repeat.ensures turns).0 (subst HasNoRepeat (c.as_slice-lines.ensures ∙ sym shows) (no-repeat c.as_slice-lines.result.now c.loop-line.line c.loop-line.invariant c.loop-line-test.false)),
-  λ once. refl,
-)
+returns-clause-once c = λ turns shows.
+    let empty : AreOf c.new-keys.result.items c.new-places.result.items [] = record { keys_are = ap (map key_identity) c.new-keys.ensures.items; places_are = c.new-places.ensures.items } in
+    let taken = c.in_ok-take_lines.ensures empty in
+    let are : AreOf c.as_slice-2.result.now c.as_slice-3.result.now (spots_from 0 c.args.trace.now.lines) = rw (c.as_slice-2.ensures.value, c.as_slice-3.ensures.value, ← c.as_slice.ensures) taken in
+    none-once c.repeat_at.result c.args.trace.now.lines (map (λ t. t.line) turns) (Once turns) (c.repeat_at.ensures c.args.trace.now.lines c.as_slice-2.result.now are c.in_ok-pair.ensures) shows (c.once_has_no_repeat.ensures turns)
