@@ -185,7 +185,7 @@ def fresh_clone(count, root):
 
 def one_figure(count):
     """The build's time is told in three places, in the same words."""
-    figure = "about 20 minutes on four processors"
+    figure = "about 25 minutes on four processors"
     for name in ("README.md", "serf-replay", os.path.join("bench", "run")):
         with open(os.path.join(TOP, name), encoding="utf-8") as file:
             count.check(f"the build's time in {name}", figure in file.read())
