@@ -82,6 +82,7 @@ GROWTHS = {
     "sink_reserve": 2,
     "sink_with": 1,
     "step": 165,
+    "take_due": 27,
 }
 
 # Each public call that is passed an allocator, and the case that makes it; None where it takes no memory.
@@ -94,6 +95,7 @@ CALLS = {
     "serf_agent Agent::query": "query",
     "serf_agent Agent::receive": "receive_event",
     "serf_agent Agent::save_member_clock": "save_member_clock",
+    "serf_agent Agent::take_due": "take_due",
     "serf_agent BytesList::new": None,
     "serf_agent Config::new": "default_config",
     "serf_agent HandedQuery::respond": "respond",

@@ -19,7 +19,6 @@ USING = re.compile(r"\busing\((\w+)::proofs::([\w:]+)\)")
 # What isn't closed yet: by crate, the file, and the crate and the module of the lemmas.
 OPEN = {
     "serf_agent": (
-        ("proofs/LifeLaws.antt", "serf_wire", "SpelledRanges"),
         ("proofs/SoundLaws.antt", "serf_snap", "NoteLaws"),
     ),
     "serf_random": (

@@ -7,6 +7,7 @@ pub mod NoteLaws
 pub mod SendLaws
 pub mod SoundLaws
 pub mod StepLaws
+pub mod TakenQueries
 pub mod TrackLaws
 pub mod ViewLaws
 pub mod WireLaws

@@ -1,6 +1,6 @@
 -- What each call leaves of an ideal agent's history, and so what is handed out over all lives.
 use Rattle.serf_agent.proofs.Names.{◌≡◌, ◌≢◌, ℕ, ◌-◌, ◌^◌, ◌<◌, ◌≤◌, ◌++◌, ◌∷◌, [], nat_le, cond, Bool, true, false, List, Option, Some, None, Result, Ok, Err, map, refl, sym, ap, subst, ◌∙◌, append-nil, arith, All, AllPairs, leb-false, All-nil, All-pop, All-push, All-weaker, all_pairs_push, WireFault, EventBody, decoded, Message, Query, QueryResponse, user_event, query, query_response, push_pull, foreign, InRange, event_of, TimedEntry, ClockKind, last_clock, Device, Writing, Kept, Failed, opened}
-use Rattle.serf_wire.proofs.SpelledRanges.{decoded_ranged}
+use Rattle.serf_wire.specs.Laws.{DecodesInRange}
 use Rattle.serf_snap.specs.declared.kind.ClockKind.TheVariants as kinds
 use Rattle.serf_agent.specs.declared.config.Config.{Config}
 use Rattle.serf_agent.specs.declared.open_query.OpenQuery.{OpenQuery}
@@ -29,6 +29,15 @@ use Rattle.serf_agent.proofs.LineLaws.{compacts_so, saves_so}
 use Rattle.serf_agent.proofs.SoundLaws.{admission-new, query_admission-new, sound-closed, sound-compact, sound-counted, sound-event_entered, sound-event_observed, sound-joined, sound-note_failed, sound-query_asked, sound-query_entered, sound-query_observed, sound-restarted, sound-saved, sound-unopened, text-unopened}
 use Rattle.serf_agent.proofs.StepLaws.{small-short}
 use Rattle.serf_agent.proofs.TrackLaws.{later-fresh}
+
+-- ---- what the crates below promise
+
+-- each clock of a text is a time, no bytes behind a text lower its clocks, and each number of a message that was decoded
+-- has its type's size
+pub record Below : Type 0 where
+  pub times : (k : ClockKind) (text : List ℕ) → last_clock k text < 2 ^ 64 - 1
+  pub grows : (k : ClockKind) (front tail : List ℕ) → last_clock k front ≤ last_clock k (front ++ tail)
+  pub ranged : DecodesInRange
 
 -- ---- a history, and what of it was handed out
 
@@ -138,18 +147,18 @@ moves-message i now (query_response r) w s runs ranged may = moves-response i no
 moves-message i now (push_pull m) w s runs ranged may = still i i s refl refl
 moves-message i now (foreign kind) w s runs ranged may = still i i s refl refl
 
-moves-read : (i : IdealAgent) (now : ℕ) (packet : List ℕ) (r : Result Message WireFault) (w : Writing) → IsSound i → i.snapshot.stopped ≡ false → decoded packet ≡ r → MayEnd i (receive_read i now r) w
+moves-read : Below → (i : IdealAgent) (now : ℕ) (packet : List ℕ) (r : Result Message WireFault) (w : Writing) → IsSound i → i.snapshot.stopped ≡ false → decoded packet ≡ r → MayEnd i (receive_read i now r) w
     → Moves i (ended i (receive_read i now r) w).agent (map event_entry (handed_by (ended i (receive_read i now r) w).answer)) (got_entries (ended i (receive_read i now r) w).answer)
-moves-read i now packet (Ok m) w s runs is may = moves-message i now m w s runs (decoded_ranged packet m is) may
-moves-read i now packet (Err fault) w s runs is may = still i i s refl refl
+moves-read laws i now packet (Ok m) w s runs is may = moves-message i now m w s runs (laws.ranged packet m is) may
+moves-read laws i now packet (Err fault) w s runs is may = still i i s refl refl
 
-moves-got : (i : IdealAgent) (now : ℕ) (packet : List ℕ) (w : Writing) → IsSound i → MayAct i (Gets now packet w) → Moves i (after i (Gets now packet w)) (events_out i (Gets now packet w)) (queries_out i (Gets now packet w))
-moves-got i now packet w s may = by i.snapshot.stopped refl may
+moves-got : Below → (i : IdealAgent) (now : ℕ) (packet : List ℕ) (w : Writing) → IsSound i → MayAct i (Gets now packet w) → Moves i (after i (Gets now packet w)) (events_out i (Gets now packet w)) (queries_out i (Gets now packet w))
+moves-got laws i now packet w s may = by i.snapshot.stopped refl may
   where
     by : (b : Bool) → i.snapshot.stopped ≡ b → MayEnd i (cond b (answers i (Err receives.Stopped)) (receive_read i now (decoded packet))) w
         → (let call = cond b (answers i (Err receives.Stopped)) (receive_read i now (decoded packet)) in Moves i (ended i call w).agent (map event_entry (handed_by (ended i call w).answer)) (got_entries (ended i call w).answer))
     by true is m = still i i s refl refl
-    by false is m = moves-read i now packet (decoded packet) w s is refl m
+    by false is m = moves-read laws i now packet (decoded packet) w s is refl m
 
 -- ---- firing
 
@@ -239,20 +248,16 @@ text-of-flushed i text s h = record {
   queries = All-weaker (λ (p : Past ℕ). p.entry.time ≤ i.snapshot.query_clock) (λ (p : Past ℕ). p.entry.time ≤ last_clock kinds.Query text) (λ p low. omega (arith, low, h.queries)) i.queries.history s.queries.noted;
 }
 
--- each clock of a text is a time
-abbrev pub ClocksAreTimes : Type 0
-ClocksAreTimes = (k : ClockKind) (text : List ℕ) → last_clock k text < 2 ^ 64 - 1
-
-moves : ClocksAreTimes → (i : IdealAgent) (a : Act) → IsSound i → MayAct i a → Moves i (after i a) (events_out i a) (queries_out i a)
-moves times i (Fires what flag w) s may = moves-fired i what flag w (fire_fault i what flag) s refl may
-moves times i (Asks now id name payload params w) s may = moves-query_fired i now id name payload params w (query_fault i id name payload params) s refl may
-moves times i (Gets now packet w) s may = moves-got i now packet w s may
-moves times i (Hears m is_join) s may = still i _ (sound-joined m is_join i s may) refl refl
-moves times i (Takes e w) s may = moves-received i e.time e.key false w (admission i e.time e.key) s may.0 may.1 refl may.2
-moves times i (Saves w) s may = moves-saved i w s may
-moves times i (Compacts w) s may = moves-compacted i w s may
-moves times i (Closes now) s may = still i _ (sound-closed now i s) refl refl
-moves times i (Opens text d) s may = still i _ (sound-restarted i text d s (text-of-flushed i text s may) (times kinds.Member text)) refl refl
+moves : Below → (i : IdealAgent) (a : Act) → IsSound i → MayAct i a → Moves i (after i a) (events_out i a) (queries_out i a)
+moves laws i (Fires what flag w) s may = moves-fired i what flag w (fire_fault i what flag) s refl may
+moves laws i (Asks now id name payload params w) s may = moves-query_fired i now id name payload params w (query_fault i id name payload params) s refl may
+moves laws i (Gets now packet w) s may = moves-got laws i now packet w s may
+moves laws i (Hears m is_join) s may = still i _ (sound-joined m is_join i s may) refl refl
+moves laws i (Takes e w) s may = moves-received i e.time e.key false w (admission i e.time e.key) s may.0 may.1 refl may.2
+moves laws i (Saves w) s may = moves-saved i w s may
+moves laws i (Compacts w) s may = moves-compacted i w s may
+moves laws i (Closes now) s may = still i _ (sound-closed now i s) refl refl
+moves laws i (Opens text d) s may = still i _ (sound-restarted i text d s (text-of-flushed i text s may) (laws.times kinds.Member text)) refl refl
 
 -- ---- lives
 
@@ -261,11 +266,11 @@ record Keeps (s : Lived) : Type 0 where
   events_once : IsOnce s.agent.events.history s.events
   queries_once : IsOnce s.agent.queries.history s.queries
 
-keeps : ClocksAreTimes → (acts : List Act) (s : Lived) → Keeps s → MayLive s.agent acts → Keeps (lived s acts)
-keeps times [] s k may = k
-keeps times (a ∷ rest) s k may =
-    let m = moves times s.agent a k.sound may.0 in
-    keeps times rest (acted s a) (record {
+keeps : Below → (acts : List Act) (s : Lived) → Keeps s → MayLive s.agent acts → Keeps (lived s acts)
+keeps laws [] s k may = k
+keeps laws (a ∷ rest) s k may =
+    let m = moves laws s.agent a k.sound may.0 in
+    keeps laws rest (acted s a) (record {
       sound = m.sound;
       events_once = grown s.agent.events.history (after s.agent a).events.history (events_out s.agent a) s.events k.events_once m.events_grow;
       queries_once = grown s.agent.queries.history (after s.agent a).queries.history (queries_out s.agent a) s.queries k.queries_once m.queries_grow;
@@ -274,49 +279,45 @@ keeps times (a ∷ rest) s k may =
 nothing-once : {K : Type 0} → IsOnce {K = K} [] []
 nothing-once {K} = record { once = λ i j d lt within. absurd (omega arith); fresh = λ e all. All-nil (λ (x : TimedEntry K). x ≢ e); below = λ t all. All-nil (λ (x : TimedEntry K). x.time < t) }
 
-keeps-first : ClocksAreTimes → (config : Config) (text : List ℕ) (d : Device) → is_sound config ≡ true → Keeps (first_life config text d)
-keeps-first times config text d ok =
+keeps-first : Below → (config : Config) (text : List ℕ) (d : Device) → is_sound config ≡ true → Keeps (first_life config text d)
+keeps-first laws config text d ok =
     let i = unopened config (opened text d) in
     record {
-      sound = sound-restarted i text d (sound-unopened config text d ok (times kinds.Member text)) (text-unopened config (opened text d) text) (times kinds.Member text);
+      sound = sound-restarted i text d (sound-unopened config text d ok (laws.times kinds.Member text)) (text-unopened config (opened text d) text) (laws.times kinds.Member text);
       events_once = nothing-once;
       queries_once = nothing-once;
     }
 
 -- ---- what is promised
 
-pub once : ClocksAreTimes → HandsOutOnce
-once times = λ config text d acts ok may. (keeps times acts (first_life config text d) (keeps-first times config text d ok) may).events_once.once
+pub once : Below → HandsOutOnce
+once laws = λ config text d acts ok may. (keeps laws acts (first_life config text d) (keeps-first laws config text d ok) may).events_once.once
 
-pub queries_once : ClocksAreTimes → HandsOutQueriesOnce
-queries_once times = λ config text d acts ok may. (keeps times acts (first_life config text d) (keeps-first times config text d ok) may).queries_once.once
+pub queries_once : Below → HandsOutQueriesOnce
+queries_once laws = λ config text d acts ok may. (keeps laws acts (first_life config text d) (keeps-first laws config text d ok) may).queries_once.once
 
-pub later : ClocksAreTimes → FiresLater
-later times = λ config text d acts what flag w f ok may is.
+pub later : Below → FiresLater
+later laws = λ config text d acts what flag w f ok may is.
     let before = lived (first_life config text d) acts in
-    let k = keeps times acts (first_life config text d) (keeps-first times config text d ok) may in
+    let k = keeps laws acts (first_life config text d) (keeps-first laws config text d ok) may in
     let at = fired-at before.agent what flag w (fire_fault before.agent what flag) f is in
     subst (λ (t : ℕ). All (λ (e : TimedEntry EventBody). e.time < t) before.events) (sym at) (k.events_once.below before.agent.events.clock k.sound.events.below_clock)
 
-pub queries_later : ClocksAreTimes → AsksLater
-queries_later times = λ config text d acts now id name payload params w f ok may is.
+pub queries_later : Below → AsksLater
+queries_later laws = λ config text d acts now id name payload params w f ok may is.
     let before = lived (first_life config text d) acts in
-    let k = keeps times acts (first_life config text d) (keeps-first times config text d ok) may in
+    let k = keeps laws acts (first_life config text d) (keeps-first laws config text d ok) may in
     let at = asked-at-clock before.agent now id name payload params w (query_fault before.agent id name payload params) f is in
     subst (λ (t : ℕ). All (λ (e : TimedEntry ℕ). e.time < t) before.queries) (sym at) (k.queries_once.below before.agent.queries.clock k.sound.queries.below_clock)
 
--- no bytes behind a text lower its clocks
-abbrev pub ClocksGrow : Type 0
-ClocksGrow = (k : ClockKind) (front tail : List ℕ) → last_clock k front ≤ last_clock k (front ++ tail)
-
-pub flushed_there : ClocksAreTimes → ClocksGrow → DurableHasFlushed
-flushed_there times grows = λ config text d acts durable tail ok may is.
-    let k = keeps times acts (first_life config text d) (keeps-first times config text d ok) may in
+pub flushed_there : Below → DurableHasFlushed
+flushed_there laws = λ config text d acts durable tail ok may is.
+    let k = keeps laws acts (first_life config text d) (keeps-first laws config text d ok) may in
     let kept = k.sound.snapshot durable is in
     let s = (lived (first_life config text d) acts).agent.snapshot in
     let event : s.event_clock ≤ last_clock kinds.Event durable = kept.at_least kinds.Event in
     let asked : s.query_clock ≤ last_clock kinds.Query durable = kept.at_least kinds.Query in
     record {
-      events = omega (arith, event, grows kinds.Event durable tail);
-      queries = omega (arith, asked, grows kinds.Query durable tail);
+      events = omega (arith, event, laws.grows kinds.Event durable tail);
+      queries = omega (arith, asked, laws.grows kinds.Query durable tail);
     }

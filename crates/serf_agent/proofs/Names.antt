@@ -1,24 +1,28 @@
 -- What the proofs of this crate use of other crates.
 pub use Rattle.std.proofs.Common.{Bool, Err, IfSome, IsErrOf, IsOk, IsSomeAnd, IsTrue, List, MatchBool, None, Ok, OnErr, OnOk, Option, Result, Some}
-pub use Rattle.std.proofs.Common.{[], ap, append-nil, append_assoc, arith, cond, false, filter, get_or, inl, inr, length, length-append, map, max}
+pub use Rattle.std.proofs.Common.{[], ap, append-nil, append_assoc, arith, cond, drop, false, filter, get_or, inl, inr, length, length-append, map, max}
 pub use Rattle.std.proofs.Common.{min, nat_eq, nat_le, nat_lt, not, refl, rules, subst, suc, sym, take, true, zero, ℕ, ◌%◌, ◌&&◌, ◌++◌, ◌+◌, ◌-◌, ◌<◌}
 pub use Rattle.std.proofs.Common.{◌==◌, ◌^◌, ◌||◌, ◌↔◌, ◌∙◌, ◌∷◌, ◌≡◌, ◌≢◌, ◌≤◌, ◌⊎◌}
+pub use Rattle.std.proofs.Math.Numerals.{add-one}
 pub use Rattle.std.proofs.lemmas.Bool.{and_from, and_parts, cases_Bool, cases_lt, eq-eqb, eqb-false, le-ltb, leb-false, leb-true, lt-leb, lt-ltb}
 pub use Rattle.std.proofs.lemmas.Bool.{ltb-false, ne_eqb, or_parts, true≢false}
-pub use Rattle.std.proofs.lemmas.List.{map_more}
-pub use Rattle.std.proofs.lemmas.List.Elements.{All-cons, All-filter, All-head, All-nil, All-pop, All-push, All-tail, All-weaker}
+pub use Rattle.std.proofs.lemmas.Grind.{drop_more_same}
+pub use Rattle.std.proofs.lemmas.List.{get_or-drop, map_more, take-append-drop, take_all}
+pub use Rattle.std.proofs.lemmas.List.Elements.{All-cons, All-filter, All-head, All-nil, All-pop, All-push, All-tail, All-weaker, filter-append, filter_more}
 pub use Rattle.std.proofs.lemmas.List.FromFn.{get_or-map-range_with_len, length-map-range_with_len}
 pub use Rattle.std.proofs.lemmas.List.Kept.{AllPairs-filter}
 pub use Rattle.std.proofs.lemmas.List.Quantifiers.{all_pairs_push}
+pub use Rattle.std.proofs.lemmas.Option.{get_or_from_slice_get, slice_get_cases, slice_get-map, slice_get_within}
 pub use Rattle.std.proofs.lemmas.Slice.Eq.{bytes_eq-Decides}
-pub use Rattle.std.specs.List.{flat_map, list_any, range_with_len}
+pub use Rattle.std.specs.List.{flat_map, list_any, range_with_len, slice_get}
 pub use Rattle.std.specs.Map.{lookup, set_value}
-pub use Rattle.std.specs.Option.{option_copied, option_copied_mut}
+pub use Rattle.std.specs.Option.{option_copied, option_copied_mut, option_map}
 pub use Rattle.std.specs.Prelude.{All, AllPairs}
 pub use Rattle.std.specs.Str.{bytes_eq}
+pub use Rattle.std.specs.Vec.{vec_capacity}
 pub use Rattle.std.specs.declared.alloc.AllocError.{AllocError}
 pub use Rattle.indexmap.proofs.CallerLemmas.{filter-RetainsPairs}
-pub use Rattle.indexmap.specs.IndexMap.{insert_entry}
+pub use Rattle.indexmap.specs.IndexMap.{insert_entry, set_value_at}
 pub use Rattle.serf_lamport.specs.Clock.{observed}
 pub use Rattle.serf_pack.specs.Canonical.{raw_bytes, raw_head}
 pub use Rattle.serf_snap.specs.Clocks.{clock_line, last_clock}

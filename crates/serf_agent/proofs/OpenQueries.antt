@@ -1,5 +1,5 @@
 -- Lists of open queries by time.
-use Rattle.serf_agent.proofs.Names.{◌≡◌, ◌≢◌, ℕ, zero, suc, ◌+◌, ◌-◌, ◌<◌, ◌≤◌, ◌==◌, nat_eq, nat_lt, not, cond, ◌⊎◌, inl, inr, Bool, true, false, List, [], ◌∷◌, ◌++◌, length, filter, get_or, Option, Some, None, Result, Ok, Err, OnErr, refl, sym, ◌∙◌, ap, subst, arith, All, AllPairs, list_any, lookup, set_value, bytes_eq, bytes_eq-Decides, ne_eqb, or_parts, true≢false, All-nil, All-cons, All-head, All-tail, insert_entry}
+use Rattle.serf_agent.proofs.Names.{◌≡◌, ◌≢◌, ℕ, zero, suc, ◌+◌, ◌<◌, nat_eq, not, cond, Bool, true, false, List, [], ◌∷◌, ◌++◌, length, filter, get_or, Some, Result, Ok, Err, OnErr, OnOk, refl, sym, ◌∙◌, ap, subst, arith, All, AllPairs, list_any, lookup, set_value, bytes_eq, bytes_eq-Decides, ne_eqb, or_parts, true≢false, All-nil, All-cons, All-head, All-tail, insert_entry}
 
 -- a key above all others goes last
 pub insert-later : {X : Type 0} (es : List (ℕ × X)) (t : ℕ) (x : X) → All (λ e. e.0 < t) es → insert_entry nat_eq es t x ≡ es ++ (t, x) ∷ []
@@ -30,6 +30,15 @@ set_value-same {X} test (e ∷ es) x is = by (test e.0) is (set_value-same test 
 pub on_err-map : {A E : Type 0} (r : Result A E) {P Q : Type 0} → (P → Q) → OnErr r P → OnErr r Q
 on_err-map (Ok x) f h = h
 on_err-map (Err e) f h = f h
+
+pub on_ok-map : {A E : Type 0} (r : Result A E) {P Q : Type 0} → (P → Q) → OnOk r P → OnOk r Q
+on_ok-map (Ok x) f h = f h
+on_ok-map (Err e) f h = h
+
+-- what holds of a value that is this on success and that on a failure
+pub either-result : {A E X : Type 0} (P : X → Type 0) (r : Result A E) {new done old : X} → OnOk r (new ≡ done) → OnErr r (new ≡ old) → P done → P old → P new
+either-result P (Ok x) ok err d o = subst P (sym ok) d
+either-result P (Err e) ok err d o = subst P (sym err) o
 
 -- writing a value keeps what holds of the keys, and of the values
 pub set_value-keys : {X : Type 0} (P : ℕ → Type 0) (test : ℕ → Bool) (es : List (ℕ × X)) (x : X) → All (λ e. P e.0) es → All (λ e. P e.0) (set_value test es x)

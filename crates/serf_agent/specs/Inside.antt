@@ -1,10 +1,12 @@
 -- How an agent keeps what it stores: private to the crate.
-use Rattle.std.specs.Prelude.{◌≡◌, ℕ, ◌+◌, ◌<◌, true, List, [], length, All}
+use Rattle.std.specs.Prelude.{◌≡◌, ℕ, ◌+◌, ◌<◌, true, List, [], length, All, Some, slice_get}
+use Rattle.indexmap.specs.IndexMap.{set_value_at}
 use Rattle.serf_wire.specs.declared.texts.EventBody.{EventBody}
 use Rattle.serf_window.specs.Window.{WindowOf, slots_of}
 use Rattle.serf_agent.specs.declared.config.Config.{Config}
 use Rattle.serf_agent.specs.declared.open_query.OpenQuery.{OpenQuery}
 use Rattle.serf_agent.specs.Config.{is_sound}
+use Rattle.serf_agent.specs.Queries.{is_due}
 use Rattle.serf_snap.specs.Notes.{SnapshotView}
 use Rattle.serf_agent.specs.Tracks.{ConcreteTrack}
 use Rattle.serf_agent.specs.View.{ConcreteState}
@@ -38,3 +40,11 @@ first_concrete config s =
       snapshot = s;
       asked = [];
     }
+
+-- the query at an index was due, and one of its time and deadline stands in its place
+pub record IsTaken (now index : ℕ) (taken : ℕ × OpenQuery) (old new : List (ℕ × OpenQuery)) : Type 0 where
+  pub was : slice_get old index ≡ Some taken
+  pub due : is_due now taken ≡ true
+  pub left : OpenQuery
+  pub same : left.deadline ≡ taken.1.deadline
+  pub is : new ≡ set_value_at old index left

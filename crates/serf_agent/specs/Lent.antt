@@ -1,4 +1,4 @@
--- What is lent from a packet, as the ideal agent sees it: a query and a response are private to the crate.
+-- What is lent from a packet, as the ideal agent sees it: a query is private to the crate.
 use Rattle.std.specs.Prelude.{ℕ, List}
 use Rattle.serf_wire.specs.declared.parts.QueryParts.{QueryParts}
 use Rattle.serf_wire.specs.Lists.{texts_left, status_left, slots_left}

@@ -11,6 +11,7 @@ pub mod Events
 pub mod States
 pub mod Queries
 pub mod Receive
+pub mod Answers
 pub mod Restart
 pub mod Lives
 pub mod Reasons

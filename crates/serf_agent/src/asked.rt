@@ -1,6 +1,7 @@
 //! The queries that an agent fired and that still take answers, by time.
 
-ghost use Rattle.std.specs.Prelude.{◌≡◌, ◌<◌, ℕ, List, [], ◌∷◌, ◌++◌, OnOk, OnErr, IfSome, All, filter, nat_lt, not, length, map, nat_eq, option_copied};
+ghost use Rattle.std.specs.Prelude.{◌≡◌, ◌<◌, ℕ, List, [], ◌∷◌, ◌++◌, false, OnOk, OnErr, IfOk, IfNone, IfSome, IsOk, All, filter, nat_lt, not, length, map, nat_eq, option_copied, slice_get};
+ghost use Rattle.serf_agent.specs.Inside.{IsTaken};
 ghost use Rattle.serf_agent.specs.Lent.{response_in};
 ghost use Rattle.serf_agent.specs.Queries.{asked_at, counted, is_due, with_asked_at};
 
@@ -26,6 +27,13 @@ impl Model for Asked {
     ghost Value = { List (ℕ × OpenQuery) };
 
     ghost view = { λ a. a.queries.entries };
+}
+
+/// How many of these queries have a deadline before a moment. Takes no memory.
+fn count_due(queries: &[OpenQuery], now: u64) -> usize
+    ensures { result ≡ length (filter (λ q. nat_lt q.deadline now) queries.now) }
+{
+    queries.iter().filter(|query| query.deadline < now).count()
 }
 
 impl Asked {
@@ -101,5 +109,43 @@ impl Asked {
             { query.deadline >= now },
         );
         before - self.queries.len()
+    }
+
+    /// The query at an index, where its deadline is before a moment: it is moved out, and one of its deadline that has
+    /// no answers stands in its place. Takes no memory.
+    fn take_if_due(&mut self, alloc: Global, now: u64, index: usize) -> Option<(u64, OpenQuery)>
+        ensures taken { IfSome result (λ q. IsTaken now index q self.old self.new) }
+        ensures stays { IfNone result (self.new ≡ self.old) }
+        ensures not_due { IfNone result (IfSome (slice_get self.old index) (λ q. is_due now q ≡ false)) }
+    {
+        let (time, query) = self.queries.get_index(index)?;
+        if query.deadline >= now {
+            return None;
+        }
+        let time = *time;
+        let query = self.queries.get_index_mut(index)?;
+        Some((time, query.take(alloc)))
+    }
+
+    /// Takes out the queries whose deadline is before a moment, as they stood and in order; the others keep theirs. Or
+    /// changes nothing where there is no memory for the list of them, which is wanted only where there is one.
+    pub(crate) fn take_due(
+        &mut self,
+        alloc: Global,
+        now: u64,
+    ) -> Result<Vec<(u64, OpenQuery)>, AllocError>
+        ensures closed { IfOk result (λ closed. closed.items ≡ filter (is_due now) self.old) }
+        ensures left { OnOk result (self.new ≡ filter (λ q. not (is_due now q)) self.old) }
+        ensures err { OnErr result (self.new ≡ self.old) }
+        ensures none_due { filter (is_due now) self.old ≡ [] → IsOk result }
+    {
+        let mut closed = Vec::with_capacity(alloc, count_due(self.values(), now))?;
+        for index in 0..self.queries.len() {
+            if let Some(query) = self.take_if_due(alloc, now, index) {
+                closed.push_reserved(query);
+            }
+        }
+        self.close_due(now);
+        Ok(closed)
     }
 }

@@ -20,6 +20,10 @@ pub const DEFAULT_RESPONDERS: u64 = 1024;
 /// How many events, or queries, of one time are taken. This project's own.
 pub const DEFAULT_PER_TIME: u64 = 1024;
 
+/// How many bytes a snapshot may have before a compaction is worth its while (`serf.go`: `snapshotSizeLimit`), to hand to
+/// [`Agent::should_compact`](crate::Agent::should_compact).
+pub const DEFAULT_SNAPSHOT_LIMIT: u64 = 128 * 1024;
+
 impl Config {
     /// Serf's own settings for a node of this name, and this project's for what Serf leaves open; joining lifts no least
     /// time. `AllocError` where there is no memory for the name.

@@ -1,6 +1,6 @@
 //! User events: firing them, and taking those that come.
 
-ghost use Rattle.std.specs.Prelude.{◌≡◌, ◌≢◌, ◌<◌, ◌≤◌, ◌+◌, ◌-◌, ◌^◌, false, List, None, length, Err, OnOk, OnErr, IfOk, IsErrOf};
+ghost use Rattle.std.specs.Prelude.{◌≡◌, ◌≢◌, ◌<◌, ◌≤◌, ◌+◌, ◌-◌, ◌^◌, false, List, None, length, Err, OnOk, OnErr, IfOk, IsErrOf, Ok};
 ghost use Rattle.serf_wire.specs.Canonical.{canonical};
 ghost use Rattle.serf_wire.specs.Message.{user_event_of};
 ghost use Rattle.serf_window.specs.Texts.{event_of};
@@ -150,6 +150,7 @@ impl<S: Sink> Agent<S> {
         ensures memory { IsErrOf result ReceiveFault.OutOfMemory → self.new ≡ self.old }
         ensures refused { OnErr result (result ≢ Err ReceiveFault.SinkFault → self.new ≡ self.old) }
         ensures cause { IsErrOf result ReceiveFault.SinkFault → HasFailed self.old.device.failures self.new.device.failures }
+        ensures no_answer { (result ≢ Ok Outcome.Ack) × (result ≢ Ok Outcome.Response) }
     {
         match self.admission(time, name, payload) {
             Some(reason) => {

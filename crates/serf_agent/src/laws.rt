@@ -4,6 +4,7 @@ ghost use Rattle.serf_agent.specs.Laws.{AdmitsNew, ShortPackets, StaysSound};
 ghost use Rattle.serf_agent.specs.Lives.{AsksLater, DurableHasFlushed, FiresLater, HandsOutOnce, HandsOutQueriesOnce};
 
 use serf_snap::text_laws;
+use serf_wire::decoded_ranges;
 
 /// What is promised of one agent over its own disk, over all its lives: every call that it can be asked for, in any order,
 /// whatever its sink does with each line, and restarts between them, each on a text that has what was flushed, with any
@@ -20,6 +21,7 @@ pub fn life_promises()
     ensures flushed { DurableHasFlushed }
 {
     text_laws();
+    decoded_ranges();
 }
 
 /// Each change of a sound agent leaves a sound agent, and what an agent admits it never entered before. Does nothing.

@@ -43,8 +43,12 @@ mod states;
 mod track;
 
 pub use agent::Agent;
+pub use answer::Answer;
 pub use config::Config;
-pub use defaults::{DEFAULT_EVENT_LIMIT, DEFAULT_PER_TIME, DEFAULT_RESPONDERS, DEFAULT_SLOTS};
+pub use defaults::{
+    DEFAULT_EVENT_LIMIT, DEFAULT_PER_TIME, DEFAULT_RESPONDERS, DEFAULT_SLOTS,
+    DEFAULT_SNAPSHOT_LIMIT,
+};
 pub use handed::HandedQuery;
 pub use laws::{life_promises, short_packets, sound_steps};
 pub use lent_queries::LentQueries;

@@ -12,6 +12,7 @@ use crate::lists::{BytesList, Response, Responses};
 use crate::outcome::Reason;
 use serf_wire::Bytes;
 use std::alloc::{AllocError, Global};
+use std::mem;
 
 /// A query that this agent fired, while it takes answers (Serf's `query.go`, `QueryResponse`).
 #[derive(Debug, Drop)]
@@ -105,5 +106,20 @@ impl OpenQuery {
         }
         let payload = Bytes::copy_of(alloc, answer.payload)?;
         self.responses.push(Response { from, payload })
+    }
+
+    /// Moves the query out, and leaves one of its deadline that has no answers. Takes no memory.
+    pub(crate) fn take(&mut self, alloc: Global) -> OpenQuery
+        ensures taken { result ≡ self.old }
+        ensures left { self.new.deadline ≡ self.old.deadline }
+    {
+        let emptied = OpenQuery {
+            id: self.id,
+            deadline: self.deadline,
+            wants_ack: self.wants_ack,
+            acks: BytesList::new(alloc),
+            responses: Responses::new(alloc),
+        };
+        mem::replace(self, emptied)
     }
 }

@@ -65,9 +65,10 @@ pub enum Outcome {
         /// Whether the packet is to be sent on unchanged.
         rebroadcast: bool,
     },
-    /// An ack was counted.
+    /// An ack was counted. [`Answer::of_packet`](crate::Answer::of_packet) says to which query, and from whom.
     Ack,
-    /// A response was counted.
+    /// A response was counted. [`Answer::of_packet`](crate::Answer::of_packet) says to which query, from whom, and with
+    /// which payload.
     Response,
     /// Nothing came of it, for this reason.
     Ignored(Reason),

@@ -1,6 +1,6 @@
 //! Queries: taking those that come, and counting what is answered.
 
-ghost use Rattle.std.specs.Prelude.{◌≡◌, ◌≢◌, ◌<◌, ◌≤◌, ◌-◌, ◌^◌, false, if◌then◌else◌, None, Some, length, Err, OnOk, OnErr, IfOk, IsErrOf};
+ghost use Rattle.std.specs.Prelude.{◌≡◌, ◌≢◌, ◌<◌, ◌≤◌, ◌-◌, ◌^◌, false, true, if◌then◌else◌, None, Some, [], filter, length, not, Ok, Err, OnOk, OnErr, IfOk, IsOk, IsErrOf};
 ghost use Rattle.serf_wire.specs.Lists.{texts_left};
 ghost use Rattle.serf_wire.specs.Message.{query};
 ghost use Rattle.serf_wire.specs.Parts.{query_of};
@@ -9,11 +9,12 @@ ghost use Rattle.serf_snap.specs.declared.kind.ClockKind.TheVariants as kinds;
 ghost use Rattle.serf_snap.specs.Device.{HasFailed};
 ghost use Rattle.serf_snap.specs.Notes.{Kept, Failed, noted, written};
 ghost use Rattle.serf_snap.specs.Clocks.{clock_line};
+ghost use Rattle.serf_agent.specs.Answers.{Counts};
 ghost use Rattle.serf_agent.specs.Calls.{AsksSink, MayNote};
 ghost use Rattle.serf_agent.specs.Devices.{FailsLine, device_noted};
 ghost use Rattle.serf_agent.specs.Ideal.{IdealAgent, with_snapshot};
 ghost use Rattle.serf_agent.specs.Lent.{query_in, response_in};
-ghost use Rattle.serf_agent.specs.Queries.{ack_packet, all_pass, close_due, counted_as, handed_query, has_flag, query_admission, query_entered, receive_query, receive_response};
+ghost use Rattle.serf_agent.specs.Queries.{ack_packet, all_pass, close_due, counted_as, handed_query, has_flag, is_ack, is_due, query_admission, query_entered, receive_query, receive_response};
 ghost use Rattle.serf_agent.specs.Receive.{TakesMemory};
 ghost use Rattle.serf_agent.specs.Sound.{IsSound};
 ghost use Rattle.serf_agent.specs.Steps.{Steps};
@@ -23,6 +24,7 @@ use crate::agent::Agent;
 use crate::answer::Answer;
 use crate::flags::{ACK, NO_BROADCAST, has_flag};
 use crate::handed::{HandedQuery, ack_of};
+use crate::open_query::OpenQuery;
 use crate::outcome::{LineFault, Outcome, Reason, ReceiveFault};
 use serf_lamport::Time;
 use serf_snap::{ClockKind, NoteFault, Sink};
@@ -107,6 +109,7 @@ impl<S: Sink> Agent<S> {
         ensures memory { IsErrOf result ReceiveFault.OutOfMemory → self.new ≡ self.old }
         ensures refused { OnErr result (result ≢ Err ReceiveFault.SinkFault → self.new ≡ self.old) }
         ensures cause { IsErrOf result ReceiveFault.SinkFault → HasFailed self.old.device.failures self.new.device.failures }
+        ensures no_answer { (result ≢ Ok Outcome.Ack) × (result ≢ Ok Outcome.Response) }
     {
         match self.query_admission(query.time, query.id) {
             Some(reason) => {
@@ -215,6 +218,8 @@ impl<S: Sink> Agent<S> {
         ensures memory { IsErrOf result ReceiveFault.OutOfMemory → self.new ≡ self.old }
         ensures refused { OnErr result (result ≢ Err ReceiveFault.SinkFault → self.new ≡ self.old) }
         ensures no_fault { result ≢ Err ReceiveFault.SinkFault }
+        ensures ack { result ≡ Ok Outcome.Ack → (is_ack (response_in answer.now) ≡ true) × Counts (response_in answer.now) self.old.concrete.asked self.new.concrete.asked }
+        ensures response { result ≡ Ok Outcome.Response → (is_ack (response_in answer.now) ≡ false) × Counts (response_in answer.now) self.old.concrete.asked self.new.concrete.asked }
     {
         let Some(query) = self.asked.get(answer.time) else {
             return Ok(Outcome::Ignored(Reason::NotOpen));
@@ -233,12 +238,29 @@ impl<S: Sink> Agent<S> {
     }
 
     /// Takes out the open queries whose deadline is before a moment, and answers how many they are; the others keep their
-    /// order. Works on a stopped agent too. Takes no memory.
+    /// order. [`Agent::take_due`] hands them out. Works on a stopped agent too. Takes no memory.
     pub fn close_due(&mut self, now: u64) -> usize
         ensures step { (i : IdealAgent) → IsSound i → self.old.concrete ≡ view_of i
             → (result ≡ (close_due i now).answer) × (self.new.concrete ≡ view_of (close_due i now).agent) × IsSound (close_due i now).agent }
         ensures device { self.new.device ≡ self.old.device }
     {
         self.asked.close_due(now)
+    }
+
+    /// Takes out the open queries whose deadline is before a moment, and hands them out with their times: as they stood,
+    /// with the acks and the responses that were counted, in the order in which they were fired. It leaves what
+    /// [`Agent::close_due`] leaves, and works on a stopped agent too.
+    ///
+    /// Memory is wanted for their list alone, and none where no query is due; its want changes nothing.
+    pub fn take_due(&mut self, alloc: Global, now: u64) -> Result<Vec<(u64, OpenQuery)>, AllocError>
+        ensures closed { IfOk result (λ closed. closed.items ≡ filter (is_due now) self.old.concrete.asked) }
+        ensures left { OnOk result (self.new.concrete.asked ≡ filter (λ q. not (is_due now q)) self.old.concrete.asked) }
+        ensures step { (i : IdealAgent) → IsSound i → self.old.concrete ≡ view_of i
+            → OnOk result ((self.new.concrete ≡ view_of (close_due i now).agent) × IsSound (close_due i now).agent) }
+        ensures device { self.new.device ≡ self.old.device }
+        ensures memory { OnErr result (self.new ≡ self.old) }
+        ensures none_due { filter (is_due now) self.old.concrete.asked ≡ [] → IsOk result }
+    {
+        self.asked.take_due(alloc, now)
     }
 }

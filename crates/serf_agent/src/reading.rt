@@ -1,8 +1,9 @@
 //! What an agent tells of itself. None of these calls takes memory.
 
-ghost use Rattle.std.specs.Prelude.{◌≡◌, false, true, map, option_copied};
+ghost use Rattle.std.specs.Prelude.{◌≡◌, ◌<◌, ◌-◌, ◌^◌, false, true, map, option_copied, IfSome};
 ghost use Rattle.serf_wire.specs.Buffers.{slots_lent};
 ghost use Rattle.serf_window.specs.Slots.{slot_view};
+ghost use Rattle.serf_snap.specs.Compaction.{is_worth_compacting};
 ghost use Rattle.serf_snap.specs.Device.{IsClean, append_failing, flush_failing, durable_of, with_plan, replace_failing};
 ghost use Rattle.serf_agent.specs.Config.{is_sound};
 ghost use Rattle.serf_agent.specs.Queries.{asked_at};
@@ -64,6 +65,17 @@ impl<S: Sink> Agent<S> {
         ensures { result ≡ self.now.concrete.snapshot.stopped }
     {
         self.snapshot.is_stopped()
+    }
+
+    /// Whether the snapshot is worth a compaction: more than `limit` bytes are kept, and a compaction would take away at
+    /// least half of them. Never on a stopped agent, which can't compact, and never at a limit of 2^64 - 1. Serf's own
+    /// limit is [`DEFAULT_SNAPSHOT_LIMIT`](crate::DEFAULT_SNAPSHOT_LIMIT).
+    pub fn should_compact(&self, limit: u64) -> bool
+        ensures exact { self.now.concrete.snapshot.stopped ≡ false → limit < 2 ^ 64 - 1 → IfSome self.now.concrete.snapshot.durable (λ text. result ≡ is_worth_compacting limit self.now.concrete.snapshot text) }
+        ensures stopped { self.now.concrete.snapshot.stopped ≡ true → result ≡ false }
+        ensures never { limit ≡ 2 ^ 64 - 1 → result ≡ false }
+    {
+        self.snapshot.should_compact(limit)
     }
 
     /// The slots of the event buffer, in order. One that was never used has the time 0 and no events.

@@ -1,8 +1,9 @@
 //! Packets that come.
 
-ghost use Rattle.std.specs.Prelude.{◌≡◌, ◌≢◌, false, Err, OnErr, IsErrOf};
+ghost use Rattle.std.specs.Prelude.{◌≡◌, ◌≢◌, false, true, Ok, Err, OnErr, IsErrOf};
 ghost use Rattle.serf_wire.specs.Message.{message_of};
 ghost use Rattle.serf_snap.specs.Device.{HasFailed};
+ghost use Rattle.serf_agent.specs.Answers.{CountsAnswer, answer_in, answer_of};
 ghost use Rattle.serf_agent.specs.Ideal.{IdealAgent};
 ghost use Rattle.serf_agent.specs.Receive.{TakesMemory, receive, receive_message};
 ghost use Rattle.serf_agent.specs.Sound.{IsSound};
@@ -39,6 +40,10 @@ impl<S: Sink> Agent<S> {
         ensures memory { IsErrOf result ReceiveFault.OutOfMemory → self.new ≡ self.old }
         ensures refused { OnErr result (result ≢ Err ReceiveFault.SinkFault → self.new ≡ self.old) }
         ensures cause { IsErrOf result ReceiveFault.SinkFault → HasFailed self.old.device.failures self.new.device.failures }
+
+        // What was counted is just the answer that the packet is, which `Answer::of_packet` lends.
+        ensures ack { result ≡ Ok Outcome.Ack → CountsAnswer true (answer_in packet.now) self.old.concrete.asked self.new.concrete.asked }
+        ensures response { result ≡ Ok Outcome.Response → CountsAnswer false (answer_in packet.now) self.old.concrete.asked self.new.concrete.asked }
     {
         if self.snapshot.is_stopped() {
             return Err(ReceiveFault::Stopped);
@@ -63,6 +68,8 @@ impl<S: Sink> Agent<S> {
         ensures memory { IsErrOf result ReceiveFault.OutOfMemory → self.new ≡ self.old }
         ensures refused { OnErr result (result ≢ Err ReceiveFault.SinkFault → self.new ≡ self.old) }
         ensures cause { IsErrOf result ReceiveFault.SinkFault → HasFailed self.old.device.failures self.new.device.failures }
+        ensures ack { result ≡ Ok Outcome.Ack → CountsAnswer true (answer_of (message_of message.now)) self.old.concrete.asked self.new.concrete.asked }
+        ensures response { result ≡ Ok Outcome.Response → CountsAnswer false (answer_of (message_of message.now)) self.old.concrete.asked self.new.concrete.asked }
     {
         match *message {
             Message::UserEvent {

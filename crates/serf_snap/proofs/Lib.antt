@@ -3,3 +3,4 @@ pub mod FailLemmas
 pub mod NoteLaws
 pub mod PlanLaws
 pub mod Names
+pub mod LengthLaws

@@ -1,3 +1,4 @@
 pub mod Clocks
 pub mod Device
 pub mod Notes
+pub mod Compaction

@@ -17,6 +17,7 @@ mod clocks;
 mod file;
 mod kind;
 mod laws;
+mod lengths;
 mod memory;
 mod sink;
 mod snapshot;

@@ -4,11 +4,13 @@ ghost use Rattle.std.specs.Prelude.{◌≡◌, ◌↔◌, ◌⊎◌, ◌<◌, �
 ghost use Rattle.std.specs.Option.{option_map};
 ghost use Rattle.std.specs.Vec.{vec_len};
 ghost use Rattle.serf_snap.specs.Clocks.{clock_line, compacted_text, is_whole, line_above_zero, seal_line, sealed};
+ghost use Rattle.serf_snap.specs.Compaction.{is_worth_compacting};
 ghost use Rattle.serf_snap.specs.Device.{Observable, Fails, FailsReplace, HasFailed, HasText, IsClean, append_failing, appended, flush_failing, flushed, durable_of, replace_called, replace_decremented, replace_failing, replaced, unreplaced};
 ghost use Rattle.serf_snap.specs.Notes.{AreTimes, Failed, HasTriedNote, Kept, MayReplace, MayWrite, compacted, compaction_of, last_line, note_fails, note_decremented, noted, opened, opened_device, with_new_plan, written};
 
 use crate::clocks::{Clocks, ends_whole, read_clocks};
 use crate::kind::ClockKind;
+use crate::lengths::{is_worth_compacting, sealed_length};
 use crate::memory::MemSink;
 use crate::sink::{ReplaceFault, ReplaceSink, Sink, SinkFault};
 use itoa::Buffer;
@@ -49,12 +51,15 @@ pub enum OpenFault {
 pub struct Snapshot<S: Sink> {
     last: Clocks,
     stopped: bool,
+    /// How many bytes are durable, while it isn't stopped: a number that stays at 2^64 - 1.
+    kept: u64,
     sink: S,
 }
 
 impl<S: Sink> Model for Snapshot<S> {
     ghost use Rattle.std.specs.Prelude.{◌≡◌, ◌<◌, ◌-◌, ◌^◌, false};
     ghost use Rattle.serf_snap.specs.Notes.{SnapshotState};
+    ghost use Rattle.serf_snap.specs.Compaction.{IsLengthOf};
     ghost use Rattle.serf_snap.specs.Device.{IsClean, durable_of};
 
     ghost Value = { SnapshotState };
@@ -73,7 +78,8 @@ impl<S: Sink> Model for Snapshot<S> {
 
     ghost invariant = { λ a.
         (a.stopped ≡ false → IsClean (S.device a.sink))
-        × (a.last.member_clock < 2 ^ 64 - 1) × (a.last.event_clock < 2 ^ 64 - 1) × (a.last.query_clock < 2 ^ 64 - 1) };
+        × (a.last.member_clock < 2 ^ 64 - 1) × (a.last.event_clock < 2 ^ 64 - 1) × (a.last.query_clock < 2 ^ 64 - 1)
+        × (a.stopped ≡ false → IsLengthOf (durable_of (S.device a.sink)) a.kept) };
 }
 
 /// The bytes that the longest clock line has: a prefix of 13, 20 digits and a newline.
@@ -192,6 +198,7 @@ impl<S: Sink> Snapshot<S> {
         Ok(Snapshot {
             last: read_clocks(text),
             stopped: false,
+            kept: sealed_length(text),
             sink,
         })
     }
@@ -238,6 +245,7 @@ impl<S: Sink> Snapshot<S> {
         match keep(&mut self.sink, line.as_slice()) {
             Ok(()) => {
                 self.last = self.last.with(kind, value);
+                self.kept = self.kept.saturating_add(line.len() as u64);
                 Ok(())
             }
             Err(SinkFault) => {
@@ -262,6 +270,21 @@ impl<S: Sink> Snapshot<S> {
         ensures { result ≡ self.now.snapshot.stopped }
     {
         self.stopped
+    }
+
+    /// Whether a compaction is worth its while: more than `limit` bytes are kept, and it would take away at least half
+    /// of them. Never on a stopped snapshot, which can't be compacted, and never at a limit of 2^64 - 1.
+    ///
+    /// The bytes are those of the text that it was opened on, of its end where that was torn, and of the lines and the
+    /// compactions since: so also over a sink that tells nothing of its bytes. Takes no memory, and the same time
+    /// however long the text is. (`snapshot.go`, `appendLine`, which compacts where the file is longer than 128 KiB and
+    /// than twice what its nodes are estimated to need.)
+    pub fn should_compact(&self, limit: u64) -> bool
+        ensures exact { self.now.snapshot.stopped ≡ false → limit < 2 ^ 64 - 1 → IfSome self.now.snapshot.durable (λ text. result ≡ is_worth_compacting limit self.now.snapshot text) }
+        ensures stopped { self.now.snapshot.stopped ≡ true → result ≡ false }
+        ensures never { limit ≡ 2 ^ 64 - 1 → result ≡ false }
+    {
+        !self.stopped && is_worth_compacting(limit, self.kept, self.last)
     }
 
     /// The sink, for reading. Takes no memory.
@@ -306,7 +329,10 @@ impl<S: ReplaceSink> Snapshot<S> {
         }
         let text = text_of(alloc, self.last).map_err(|_| NoteFault::OutOfMemory)?;
         match self.sink.replace(alloc, text.as_slice()) {
-            Ok(()) => Ok(()),
+            Ok(()) => {
+                self.kept = text.len() as u64;
+                Ok(())
+            }
             Err(ReplaceFault::OutOfMemory) => Err(NoteFault::OutOfMemory),
             Err(ReplaceFault::SinkFault) => {
                 self.stopped = true;

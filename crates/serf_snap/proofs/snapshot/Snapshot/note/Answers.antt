@@ -1,6 +1,7 @@
-use Rattle.serf_snap.proofs.Names.{◌^◌, ◌-◌}
+use Rattle.serf_snap.proofs.Names.{◌^◌, ◌-◌, ◌∙◌, sym}
 use Rattle.serf_snap.specs.declared.kind.ClockKind.TheVariants.{Member, Event, Query}
 use Rattle.serf_snap.proofs.ClockLaws.{once_set-below}
+use Rattle.serf_snap.proofs.LengthLaws.{length-noted}
 use Rattle.serf_snap.proofs.snapshot.Snapshot.note.Goals as goal
 
 pub invariant_of-self-in-Ok : goal.invariant_of-self-in-Ok
@@ -10,4 +11,6 @@ invariant_of-self-in-Ok g c =
       rw c.with-self-inside.ensures.member (once_set-below Member c.args.kind c.get-value.result c.self.inside.last.member_clock (2 ^ 64 - 1) c.get-value.ensures.time top.1),
       rw c.with-self-inside.ensures.event (once_set-below Event c.args.kind c.get-value.result c.self.inside.last.event_clock (2 ^ 64 - 1) c.get-value.ensures.time top.2),
       rw c.with-self-inside.ensures.query (once_set-below Query c.args.kind c.get-value.result c.self.inside.last.query_clock (2 ^ 64 - 1) c.get-value.ensures.time top.3),
+      λ runs. length-noted (g.S.Sink.device c.self.inside.sink) (g.S.Sink.device c.reserve.new.self) (g.S.Sink.device c.keep.new.sink) c.as_slice.result.now c.self.inside.kept c.len.result c.saturating_add-self-inside.result
+          c.reserve.ensures.device c.in-Ok.ensures.ok (top.0 runs) (top.4 runs) (c.as_slice.ensures.len ∙ sym c.len.ensures) c.saturating_add-self-inside.ensures,
     )

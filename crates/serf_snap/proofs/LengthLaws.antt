@@ -1,0 +1,36 @@
+-- When a text is worth a compaction, from a length that stays at 2^64 - 1.
+use Rattle.serf_snap.proofs.Names.{◌/◌, le-leb, both_ways, ◌≡◌, ℕ, ◌+◌, ◌-◌, ◌*◌, ◌^◌, ◌<◌, ◌≤◌, ◌&&◌, min, nat_le, nat_lt, true, List, [], ◌++◌, length, length-append, option_map, Option, Some, None, IfSome, arith, ap, ◌∙◌, leb-true, lt-ltb}
+use Rattle.serf_snap.specs.Compaction.{IsLengthOf}
+use Rattle.serf_snap.specs.Device.{Device, Observable, IsClean, appended, durable_of, flushed}
+
+half-of : (n kept c : ℕ) → kept ≡ min n (2 ^ 64 - 1) → c ≤ 102 → nat_le c (kept / 2) ≡ nat_le (2 * c) n
+half-of n kept c is short = both_ways _ _
+    (λ t. le-leb (2 * c) n (omega (arith, is, leb-true c (kept / 2) t)))
+    (λ t. le-leb c (kept / 2) (omega (arith, is, leb-true (2 * c) n t)))
+
+pub worth-above : (limit n kept c : ℕ) → kept ≡ min n (2 ^ 64 - 1) → c ≤ 102 → limit < kept → nat_le c (kept / 2) ≡ (nat_lt limit n && nat_le (2 * c) n)
+worth-above limit n kept c is short above =
+    let longer : nat_lt limit n ≡ true = lt-ltb limit n (omega arith) in
+    rw longer (half-of n kept c is short)
+
+-- what holds of each text holds of one that is exposed
+pub if_some-of : {A : Type 0} {P Q : A → Type 0} (o : Option A) → ((a : A) → P a → Q a) → IfSome o P → IfSome o Q
+if_some-of None f h = h
+if_some-of (Some a) f h = f a h
+
+-- a line that was appended and flushed is counted
+pub length-kept : (d : Device) (line : List ℕ) (kept more : ℕ) → IsClean d → IsLengthOf (durable_of d) kept → length line ≡ more → IsLengthOf (durable_of (flushed (appended line d))) (min (kept + more) (2 ^ 64 - 1))
+length-kept d line kept more clean is long = by d.observed_bytes clean is
+  where
+    by : (o : Option Observable) → IfSome o (λ (t : Observable). t.buffered ≡ []) → IsLengthOf (option_map (λ (t : Observable). t.durable) o) kept
+        → IsLengthOf (option_map (λ (t : Observable). t.durable) (option_map (λ (t : Observable). record { buffered = []; durable = t.durable ++ t.buffered }) (option_map (λ (t : Observable). record { buffered = t.buffered ++ line; durable = t.durable }) o))) (min (kept + more) (2 ^ 64 - 1))
+    by None clean is = tt
+    by (Some t) clean is =
+        let empty : length t.buffered ≡ 0 = ap (λ (l : List ℕ). length l) clean in
+        let all : length (t.durable ++ (t.buffered ++ line)) ≡ length t.durable + (length t.buffered + length line) = length-append t.durable (t.buffered ++ line) ∙ ap (λ n. length t.durable + n) (length-append t.buffered line) in
+        omega (arith, is, empty, all, long)
+
+pub length-noted : (old mid new : Device) (line : List ℕ) (kept more now : ℕ) → mid ≡ old → new ≡ flushed (appended line mid) → IsClean old → IsLengthOf (durable_of old) kept
+    → length line ≡ more → now ≡ min (kept + more) (2 ^ 64 - 1) → IsLengthOf (durable_of new) now
+length-noted old mid new line kept more now same is clean counts long total =
+    rw (is, same, total) (length-kept old line kept more clean counts long)

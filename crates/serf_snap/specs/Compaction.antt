@@ -1,0 +1,11 @@
+-- When a compaction is worth its while (`snapshot.go`, `appendLine` and `snapshotMaxSize`).
+use Rattle.std.specs.Prelude.{◌≡◌, ℕ, ◌-◌, ◌*◌, ◌^◌, min, nat_lt, nat_le, Bool, ◌&&◌, List, length, Option, IfSome}
+use Rattle.serf_snap.specs.Notes.{SnapshotView, compaction_of}
+
+-- the text is longer than the limit, and a compaction takes away at least half of it
+abbrev pub is_worth_compacting : ℕ → SnapshotView → List ℕ → Bool
+is_worth_compacting limit s text = nat_lt limit (length text) && nat_le (2 * length (compaction_of s)) (length text)
+
+-- the number of bytes of a text that is exposed, which stays at 2^64 - 1
+abbrev pub IsLengthOf : Option (List ℕ) → ℕ → Type 0
+IsLengthOf durable kept = IfSome durable (λ (text : List ℕ). kept ≡ min (length text) (2 ^ 64 - 1))
