@@ -147,6 +147,15 @@ struct serf_agent_handed {
     uint8_t relay_factor;
 };
 
+/* What an ack or a response says. */
+struct serf_agent_answer {
+    uint64_t time;   /* the query's time */
+    size_t from_len; /* the answering node's name */
+    size_t payload_len;
+    uint32_t id; /* the query's ID */
+    bool is_ack;
+};
+
 /* The agent's clocks. */
 struct serf_agent_clocks {
     uint64_t member;
@@ -204,6 +213,10 @@ uint32_t serf_agent_gave(struct serf_agent *handle, struct serf_agent_gave *gave
 /* An event that the last call handed out, from 0 on, and as much of its texts as fits. */
 uint32_t serf_agent_event(struct serf_agent *handle, size_t index, struct serf_agent_event *event, uint8_t *name,
                           size_t name_room, uint8_t *payload, size_t payload_room);
+/* What a packet says that is an ack or a response, and as much of its texts as fits: SERF_AGENT_NOTHING where it is neither.
+   Where serf_agent_receive gave ACK or RESPONSE it is what was counted. It needs no handle. */
+uint32_t serf_agent_answer(const uint8_t *packet, size_t packet_len, struct serf_agent_answer *answer, uint8_t *from,
+                           size_t from_room, uint8_t *payload, size_t payload_room);
 /* The packet that the last call gave to send (fire, query, local_state, respond): its length, and as much of it as fits. */
 uint32_t serf_agent_packet(struct serf_agent *handle, size_t *len, uint8_t *to, size_t room);
 /* The ack to send to the query's address and port, of a query that is handed out here (receive, query). */

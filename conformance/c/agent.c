@@ -3,7 +3,6 @@
  * Its snapshot is in memory. `break` is unsupported, since the library has no disk, and so is a packet that is no message,
  * since the library's code doesn't say why it is none. */
 #define _GNU_SOURCE
-#include "answers.h"
 #include "pipe.h"
 
 enum { WORDS = 4096, ROOM = 1 << 20 };
@@ -58,7 +57,7 @@ static void put_received(const struct serf_agent_gave *gave, struct bytes packet
     printf("%s%s", kinds[gave->kind], gave->kind == SERF_AGENT_GAVE_IGNORED ? reasons[gave->reason] : "");
     printf(gave->kind == SERF_AGENT_GAVE_FOREIGN ? "%u\n" : "\n", gave->foreign);
     if (gave->kind == SERF_AGENT_GAVE_ACK || gave->kind == SERF_AGENT_GAVE_RESPONSE) {
-        put_counted(packet.at, gave->kind == SERF_AGENT_GAVE_ACK);
+        put_counted(packet);
     }
     if (gave->rebroadcast) {
         put_line("sent", packet);

@@ -59,3 +59,15 @@ static void put_line(const char *word, struct bytes bytes) {
     fputs(word, stdout);
     put(bytes.at, bytes.len, "\n");
 }
+
+/* The line of an answer that was counted: what its packet says. */
+static void put_counted(struct bytes packet) {
+    static uint8_t from[1 << 20], payload[1 << 20];
+    struct serf_agent_answer said;
+    serf_agent_answer(packet.at, packet.len, &said, from, sizeof from, payload, sizeof payload);
+    printf("counted %s %llu %u", said.is_ack ? "ack" : "response", (number)said.time, said.id);
+    put(from, said.from_len, said.is_ack ? "\n" : "");
+    if (!said.is_ack) {
+        put(payload, said.payload_len, "\n");
+    }
+}

@@ -175,6 +175,25 @@ static void packets(void) {
     is("close", serf_agent_close(&agent), SERF_AGENT_OK);
 }
 
+static void answers(void) {
+    struct serf_agent agent = {0};
+    struct serf_agent_answer said = {0};
+    size_t len = 0;
+    is("no packet is no answer", serf_agent_answer(NULL, 0, &said, NULL, 0, NULL, 0), SERF_AGENT_NOTHING);
+    is("open", opened(&agent, "a", ""), SERF_AGENT_OK);
+    is("fire", fired(&agent, "x"), SERF_AGENT_OK);
+    written(&agent);
+    is("an event", serf_agent_packet(&agent, &len, room, sizeof room), SERF_AGENT_OK);
+    is("an event is no answer", serf_agent_answer(room, len, &said, NULL, 0, NULL, 0), SERF_AGENT_NOTHING);
+    is("query", asked(&agent, 1000), SERF_AGENT_OK);
+    written(&agent);
+    is("its own ack", serf_agent_ack(&agent, &len, room, sizeof room), SERF_AGENT_OK);
+    is("an ack is an answer", serf_agent_answer(room, len, &said, NULL, 0, NULL, 0), SERF_AGENT_OK);
+    is("what it says", (uint32_t)(said.is_ack && said.id == 7 && said.from_len == 1), 1);
+    is("a cut ack is none", serf_agent_answer(room, len - 1, &said, NULL, 0, NULL, 0), SERF_AGENT_NOTHING);
+    is("close", serf_agent_close(&agent), SERF_AGENT_OK);
+}
+
 static uint64_t drawn(void) {
     static uint64_t state = 1;
     uint64_t z = (state += 0x9e3779b97f4a7c15u);
@@ -228,6 +247,8 @@ static void any_bytes(int count) {
         size_t len = any_packet(any, sound, sound_packet(sound, sizeof sound));
         uint8_t *own = malloc(len);
         memcpy(own, any, len);
+        struct serf_agent_answer said;
+        serf_agent_answer(own, len, &said, room, 8, room, 8);
         uint32_t code = drawn() % 4 ? serf_agent_receive(&agent, drawn() % 4, own, len) : serf_agent_merge(&agent, own, len, drawn() % 2);
         free(own);
         written(&agent);
@@ -247,6 +268,7 @@ int main(int count, char **words) {
     unwritten_bytes();
     numbers_of_queries();
     packets();
+    answers();
     any_bytes(count > 1 ? atoi(words[1]) : 20000);
     printf("%d passed, %d failed\n", passed, failed);
     return failed != 0;

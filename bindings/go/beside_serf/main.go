@@ -116,8 +116,8 @@ func open(path string) *ours {
 			all.note("query proved %d %d", query.Time, query.ID)
 			check(made.Respond(query, []byte("proved")))
 		},
-		Answer: func(kind serfagent.Kind, _ []byte) {
-			all.note("# proved counted %s", map[serfagent.Kind]string{serfagent.Ack: "an ack", serfagent.Response: "a response"}[kind])
+		Answer: func(kind serfagent.Kind, answer *serfagent.Answer) {
+			all.note("# proved counted %s %s %s", map[serfagent.Kind]string{serfagent.Ack: "the ack of", serfagent.Response: "the response of"}[kind], answer.From, answer.Payload)
 		},
 		Fault: func(err error) { log.Print(err) },
 	})
@@ -234,10 +234,13 @@ func judged() {
 			os.Exit(1)
 		}
 	}
-	acks, responses := all.count("# proved counted an ack"), all.count("# proved counted a response")
-	if acks != 3 || responses != 3 {
-		fmt.Printf("FAILED: our agent counted %d acks and %d responses\n", acks, responses)
-		os.Exit(1)
+	for _, node := range []string{"real-1", "real-2", "proved"} {
+		for _, line := range []string{"# proved counted the ack of " + node + " ", "# proved counted the response of " + node + " " + node} {
+			if all.count(line) != 1 {
+				fmt.Printf("FAILED: %d times, and not once: %s\n", all.count(line), line)
+				os.Exit(1)
+			}
+		}
 	}
 	fmt.Println("all came that had to, and nothing came twice")
 }

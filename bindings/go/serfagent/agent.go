@@ -130,6 +130,13 @@ const (
 	Seen         Reason = C.SERF_AGENT_SEEN
 )
 
+// Answer is an answer that was counted, of the query of this time and ID: who sent it, and what a response says.
+type Answer struct {
+	Time          uint64
+	ID            uint32
+	From, Payload []byte
+}
+
 // Received is what came of a packet. Where Rebroadcast says so, it is to be sent on unchanged.
 type Received struct {
 	Kind        Kind
@@ -137,6 +144,7 @@ type Received struct {
 	Event       *Event
 	Query       *Handed
 	Ack         []byte
+	Answer      *Answer
 	Rebroadcast bool
 	Foreign     uint8
 }
@@ -309,6 +317,18 @@ func (a *Agent) handed(number C.uint64_t) (*Handed, error) {
 	}, nil
 }
 
+func answer(packet []byte) (*Answer, error) {
+	var about C.struct_serf_agent_answer
+	var from, payload []byte
+	for i := 0; i < 2; i++ {
+		from, payload = make([]byte, about.from_len), make([]byte, about.payload_len)
+		if err := refused(C.serf_agent_answer(ptr(packet), size(packet), &about, ptr(from), size(from), ptr(payload), size(payload))); err != nil {
+			return nil, err
+		}
+	}
+	return &Answer{uint64(about.time), uint32(about.id), from, payload}, nil
+}
+
 // Receive takes a packet of the network.
 func (a *Agent) Receive(now uint64, packet []byte) (*Received, error) {
 	a.mu.Lock()
@@ -328,6 +348,11 @@ func (a *Agent) Receive(now uint64, packet []byte) (*Received, error) {
 	}
 	if found.Query, err = a.handed(gave.handed); err != nil {
 		return nil, err
+	}
+	if found.Kind == Ack || found.Kind == Response {
+		if found.Answer, err = answer(packet); err != nil {
+			return nil, err
+		}
 	}
 	found.Ack, err = a.packet(true)
 	return found, err

@@ -23,8 +23,8 @@ const Waiting = 4096
 type Handlers struct {
 	Event func(*serfagent.Event)
 	Query func(*serfagent.Handed)
-	// Answer gets each packet that was counted as an ack or as a response to a query of this node.
-	Answer func(kind serfagent.Kind, packet []byte)
+	// Answer gets each ack and each response that was counted of a query of this node.
+	Answer func(kind serfagent.Kind, answer *serfagent.Answer)
 	// Fault gets what went wrong with the file or the network. After a fault of the file the agent is closed.
 	Fault func(error)
 }
@@ -154,8 +154,8 @@ func (d *Delegate) receive(packet []byte) {
 	if received.Rebroadcast {
 		d.queue.QueueBroadcast(broadcast(packet))
 	}
-	if (received.Kind == serfagent.Ack || received.Kind == serfagent.Response) && d.handlers.Answer != nil {
-		d.work.add(func() { d.handlers.Answer(received.Kind, packet) })
+	if received.Answer != nil && d.handlers.Answer != nil {
+		d.work.add(func() { d.handlers.Answer(received.Kind, received.Answer) })
 	}
 }
 

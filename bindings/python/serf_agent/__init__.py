@@ -1,12 +1,13 @@
 """The proved Serf agent, by ctypes: ``Agent`` over a snapshot's file. docs/EMBEDDING.md says what to call when."""
 
-from .agent import Agent, AgentError, Asked, Clocks, Event, Fired, Handed, Received, Settings
+from .agent import Agent, AgentError, Answer, Asked, Clocks, Event, Fired, Handed, Received, Settings
 from .library import Code, Kind, Library, Reason
 from .store import Broken, Full, Locked, MissingFolder, NotAFile, ReadOnly, Store, StoreError
 
 __all__ = [
     "Agent",
     "AgentError",
+    "Answer",
     "Asked",
     "Broken",
     "Clocks",

@@ -5,7 +5,7 @@ import threading
 from dataclasses import dataclass
 from typing import Optional
 
-from .library import CBytes, CClocks, CEvent, CGave, CHanded, Code, CParams, CSettings, Handle, Kind, Library, Reason
+from .library import CAnswer, CBytes, CClocks, CEvent, CGave, CHanded, Code, CParams, CSettings, Handle, Kind, Library, Reason
 from .store import Store
 
 
@@ -56,6 +56,16 @@ class Handed:
 
 
 @dataclass(frozen=True)
+class Answer:
+    """An answer that was counted, of the query of this time and ID: who sent it, and what a response says."""
+
+    time: int
+    id: int
+    sender: bytes
+    payload: bytes
+
+
+@dataclass(frozen=True)
 class Received:
     """What came of a packet. Where ``rebroadcast`` says so, it is to be sent on unchanged."""
 
@@ -66,6 +76,7 @@ class Received:
     ack: Optional[bytes]
     rebroadcast: bool
     foreign: int
+    answer: Optional[Answer] = None
 
 
 @dataclass(frozen=True)
@@ -174,6 +185,14 @@ class Agent:
         self._call("event", index, about, name, len(name), payload, len(payload))
         return Event(about.time, name.raw, payload.raw, about.coalesce)
 
+    def _answer(self, packet):
+        """What an ack's or a response's packet says."""
+        about = CAnswer()
+        self._library.answer(*texts(packet), about, None, 0, None, 0)
+        sender, payload = (ctypes.create_string_buffer(length) for length in (about.from_len, about.payload_len))
+        self._library.answer(*texts(packet), about, sender, len(sender), payload, len(payload))
+        return Answer(about.time, about.id, sender.raw, payload.raw)
+
     def _packet(self, name="packet"):
         """A packet that the call gave, or None: the message itself, or this node's own ack."""
         length = ctypes.c_size_t()
@@ -205,7 +224,8 @@ class Agent:
             event = self._event(0) if gave.events else None
             query = self._handed(gave.handed) if gave.handed else None
             ack = self._packet("ack")
-            return Received(Kind(gave.kind), Reason(gave.reason), event, query, ack, gave.rebroadcast, gave.foreign)
+            answer = self._answer(packet) if gave.kind in (Kind.ACK, Kind.RESPONSE) else None
+            return Received(Kind(gave.kind), Reason(gave.reason), event, query, ack, gave.rebroadcast, gave.foreign, answer)
 
     def fire(self, name, payload=b"", coalesce=False):
         """Fires an event: ``Fired``."""

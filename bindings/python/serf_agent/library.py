@@ -103,6 +103,10 @@ class CHanded(Structure):
     )
 
 
+class CAnswer(Structure):
+    _fields_ = [("time", c_uint64), ("from_len", c_size_t), ("payload_len", c_size_t), ("id", c_uint32), ("is_ack", c_bool)]
+
+
 class CClocks(Structure):
     _fields_ = [(name, c_uint64) for name in ("member", "event", "query", "event_minimum", "query_minimum")]
 
@@ -116,6 +120,7 @@ STRUCTS = {
     "serf_agent_event": CEvent,
     "serf_agent_params": CParams,
     "serf_agent_handed": CHanded,
+    "serf_agent_answer": CAnswer,
     "serf_agent_clocks": CClocks,
 }
 
@@ -144,6 +149,7 @@ FUNCTIONS = {
     "compact": [HANDLE],
     "gave": [HANDLE, POINTER(CGave)],
     "event": [HANDLE, c_size_t, POINTER(CEvent), *TEXT, *TEXT],
+    "answer": [*TEXT, POINTER(CAnswer), *TEXT, *TEXT],
     "packet": [HANDLE, POINTER(c_size_t), *TEXT],
     "ack": [HANDLE, POINTER(c_size_t), *TEXT],
     "handed": [HANDLE, c_uint64, POINTER(CHanded), *TEXT, *TEXT, *TEXT, *TEXT],

@@ -162,6 +162,15 @@ const REASONS: [Reason; 11] = [
     Reason::ResponseTwice,
 ];
 
+/// An answer that was counted: of the query of this time and ID, from whom, and what a response says.
+#[derive(Clone, Debug, PartialEq, Eq)]
+pub struct Answer {
+    pub time: u64,
+    pub id: u32,
+    pub from: Vec<u8>,
+    pub payload: Vec<u8>,
+}
+
 /// What came of a packet.
 #[derive(Clone, Debug, PartialEq, Eq)]
 #[non_exhaustive]
@@ -173,8 +182,8 @@ pub enum Outcome {
         handed: Option<Handed>,
         ack: Option<Vec<u8>>,
     },
-    Ack,
-    Response,
+    Ack(Answer),
+    Response(Answer),
     Ignored(Reason),
     /// A message of this type, which isn't read.
     Foreign(u8),
@@ -226,6 +235,28 @@ pub struct Clocks {
     pub query: u64,
     pub event_minimum: u64,
     pub query_minimum: u64,
+}
+
+/// What an ack's or a response's packet says.
+fn answer_of(packet: &[u8]) -> Result<Answer, Error> {
+    let mut about = raw::Answer::default();
+    let (mut from, mut payload) = (Vec::new(), Vec::new());
+    for _ in 0..2 {
+        (from, payload) = (vec![0; about.from_len], vec![0; about.payload_len]);
+        // SAFETY: each pointer comes with its length.
+        answered(unsafe {
+            raw::serf_agent_answer(
+                packet.as_ptr(),
+                packet.len(),
+                &mut about,
+                from.as_mut_ptr(),
+                from.len(),
+                payload.as_mut_ptr(),
+                payload.len(),
+            )
+        })?;
+    }
+    Ok(Answer { time: about.time, id: about.id, from, payload })
 }
 
 /// A getter of a packet: the message itself, or this node's own ack.
@@ -393,8 +424,8 @@ impl Agent {
         let outcome = match gave.kind {
             1 => Outcome::Event(self.event(0)?),
             2 => Outcome::Query { handed: self.handed(gave.handed)?, ack: self.packet(OWN_ACK)? },
-            3 => Outcome::Ack,
-            4 => Outcome::Response,
+            3 => Outcome::Ack(answer_of(packet)?),
+            4 => Outcome::Response(answer_of(packet)?),
             5 => Outcome::Ignored(*REASONS.get((gave.reason as usize).wrapping_sub(1)).ok_or(Error::Refused(Code::Other(gave.reason)))?),
             6 => Outcome::Foreign(gave.foreign),
             7 => Outcome::PushPull,

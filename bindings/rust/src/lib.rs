@@ -10,5 +10,5 @@ mod agent;
 mod raw;
 mod store;
 
-pub use agent::{Agent, Asked, Clocks, Code, Error, Event, Fired, Handed, Outcome, QueryParams, Reason, Received, Settings};
+pub use agent::{Agent, Answer, Asked, Clocks, Code, Error, Event, Fired, Handed, Outcome, QueryParams, Reason, Received, Settings};
 pub use store::{Store, StoreError};

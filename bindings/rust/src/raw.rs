@@ -75,6 +75,16 @@ pub struct Handed {
 
 #[repr(C)]
 #[derive(Default)]
+pub struct Answer {
+    pub time: u64,
+    pub from_len: usize,
+    pub payload_len: usize,
+    pub id: u32,
+    pub is_ack: bool,
+}
+
+#[repr(C)]
+#[derive(Default)]
 pub struct Clocks {
     pub member: u64,
     pub event: u64,
@@ -132,6 +142,15 @@ extern "C" {
         event: *mut Event,
         name: *mut u8,
         name_room: usize,
+        payload: *mut u8,
+        payload_room: usize,
+    ) -> u32;
+    pub fn serf_agent_answer(
+        packet: *const u8,
+        packet_len: usize,
+        answer: *mut Answer,
+        from: *mut u8,
+        from_room: usize,
         payload: *mut u8,
         payload_room: usize,
     ) -> u32;

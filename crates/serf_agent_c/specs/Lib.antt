@@ -10,3 +10,4 @@ pub mod Opening
 pub mod Reads
 pub mod Exports
 pub mod Held
+pub mod Answers

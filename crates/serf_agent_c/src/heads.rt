@@ -78,3 +78,14 @@ pub struct ClocksHead {
     pub event_minimum: u64,
     pub query_minimum: u64,
 }
+
+/// What an ack or a response says.
+#[repr(C)]
+#[derive(Clone, Copy)]
+pub struct AnswerHead {
+    pub time: u64,
+    pub from_len: usize,
+    pub payload_len: usize,
+    pub id: u32,
+    pub is_ack: bool,
+}

@@ -13,14 +13,16 @@
 ghost use Rattle.std.specs.Prelude.{◌-◌, ◌^◌, min, true, ◌≡◌, ◌≢◌, ◌++◌, ◌∷◌, ◌+◌, if◌then◌else◌, ◌==◌, [], None, Some, IfSome, false, length, slice_get};
 ghost use Rattle.std.specs.Option.{is_some};
 ghost use Rattle.serf_window.specs.Texts.{event_of};
+ghost use Rattle.serf_agent.specs.Answers.{answer_in};
 ghost use Rattle.serf_agent.specs.Config.{is_sound};
 ghost use Rattle.serf_agent.specs.Events.{fire};
 ghost use Rattle.serf_agent.specs.Queries.{fire_query};
 ghost use Rattle.serf_agent.specs.Receive.{receive};
 ghost use Rattle.serf_agent.specs.States.{compact, save};
+ghost use Rattle.serf_agent_c.specs.Answers.{ReadsAnswer, answer_head};
 ghost use Rattle.serf_agent_c.specs.Asking.{AddsFilter, Closes, Responds, params_of, waiting_at};
 ghost use Rattle.serf_agent_c.specs.Calls.{Forgoes, Gives, Takes, Tells, Waits};
-ghost use Rattle.serf_agent_c.specs.Codes.{fire_code, note_code, query_code, receive_code, state_code};
+ghost use Rattle.serf_agent_c.specs.Codes.{number_of, fire_code, note_code, query_code, receive_code, state_code};
 ghost use Rattle.serf_agent_c.specs.Exports.{Reads, Through};
 ghost use Rattle.serf_agent_c.specs.Gaves.{ack_in, events_in, handed_in, packet_in};
 ghost use Rattle.serf_agent_c.specs.Members.{AddsLeft, AddsStatus};
@@ -30,6 +32,7 @@ ghost use Rattle.serf_agent_c.specs.Reads.{ReadsAs, ReadsQuery, TellsDeadline, c
 ghost use Rattle.serf_agent_c.specs.Sessions.{is_ready, settled};
 ghost use Rattle.serf_agent_c.specs.Texts.{copied, lacking, text_of};
 
+mod answers;
 mod asking;
 mod calls;
 mod code;
@@ -47,7 +50,9 @@ mod session;
 pub use code::Code;
 use gave::Gave;
 pub use handle::Handle;
-pub use heads::{BytesHead, ClocksHead, EventHead, GaveHead, HandedHead, Params, Settings};
+pub use heads::{
+    AnswerHead, BytesHead, ClocksHead, EventHead, GaveHead, HandedHead, Params, Settings,
+};
 use session::Session;
 use std::alloc::Global;
 
@@ -381,6 +386,19 @@ pub extern "C" fn serf_agent_event(
     let code = session.read_event(index, event, name, payload);
     *handle = Handle::of(session);
     code.number()
+}
+
+/// What an ack's or a response's packet says: where `serf_agent_receive` gave `ACK` or `RESPONSE`, it is what was counted.
+#[unsafe(no_mangle)]
+pub extern "C" fn serf_agent_answer(
+    packet: &[u8],
+    answer: &mut AnswerHead,
+    from: &mut [u8],
+    payload: &mut [u8],
+) -> u32
+    ensures { (code : Code) × (result ≡ number_of code) × ReadsAnswer (answer_in packet.now) (λ r. (answer.new ≡ answer_head r) × (from.new ≡ copied r.from from.old) × (payload.new ≡ copied r.payload payload.old)) code }
+{
+    answers::read_answer(packet, answer, from, payload).number()
 }
 
 /// The packet that the last call gave to send: its length, and as much of it as fits.
