@@ -1,6 +1,6 @@
 """A host in C over a file, killed at random moments, and its file torn: no event twice, over all lives.
 
-    tests/crashes.py [--kills N] [--seed N] [--library FILE]
+    tests/crashes.py [--kills N] [--seed N] [--library FILE] [--over-ci]
 
 One node lives on one file. In each life a host (tests/crashes/host.c) gets all packets so far again, and then new ones,
 whole states, firings, compactions and saves of the member clock, while SIGKILL comes at a random moment. Of every second
@@ -9,7 +9,8 @@ may be handed out twice, and each firing has to be later than all that was hande
 
 Then, with no kill, each call's bytes are cut at each of their places, with each kind of garbage behind.
 
---library takes another static library than that of crates/serf_agent_c, which else is built by `rt lib`.
+--library takes another static library than that of crates/serf_agent_c, which else is built by `rt lib`; --over-ci builds
+it over those that `rt ci` left, as the gate does.
 """
 
 import argparse
@@ -269,12 +270,13 @@ def main():
     words.add_argument("--kills", type=int, default=200)
     words.add_argument("--seed", type=int, default=1)
     words.add_argument("--library")
+    words.add_argument("--over-ci", action="store_true")
     asked = words.parse_args()
     count = Count()
     folder = tempfile.mkdtemp(prefix="crashes-")
     try:
         host = os.path.join(folder, "host")
-        fault = None if asked.library else c_library.fault_of_library()
+        fault = None if asked.library else c_library.fault_of_library(asked.over_ci)
         fault = fault or c_library.fault_of_host(host, HOST, asked.library or c_library.LIBRARY)
         if fault:
             print(fault)

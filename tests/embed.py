@@ -1,11 +1,11 @@
 """Hosts of the agent in C: header and library are one, bad input has a code, and the bindings' stores and examples.
 
-    tests/embed.py [--library FILE] [--program FILE]
+    tests/embed.py [--library FILE] [--program FILE] [--over-ci]
 
 C and Python have to be there. Rust and Go are built and run where `cargo` and `go` are on PATH, and without the network;
 which were not is printed. --library takes another static library than that of crates/serf_agent_c, which else is built by
 `rt lib`; no declaration of Rattle is compared then. --program takes another program than the proved one, which
-conformance/c is held against.
+conformance/c is held against. --over-ci builds the library over those that `rt ci` left, as the gate does.
 """
 
 import argparse
@@ -198,6 +198,7 @@ def in_conform(count, places, program):
 def main():
     words = argparse.ArgumentParser(description=__doc__, formatter_class=argparse.RawDescriptionHelpFormatter)
     words.add_argument("--library")
+    words.add_argument("--over-ci", action="store_true")
     words.add_argument("--program")
     asked = words.parse_args()
     count = Count()
@@ -205,7 +206,7 @@ def main():
     os.chmod(folder, 0o755)
     try:
         places = Places(folder, os.path.abspath(asked.library or c_library.LIBRARY))
-        fault = None if asked.library else c_library.fault_of_library()
+        fault = None if asked.library else c_library.fault_of_library(asked.over_ci)
         fault = fault or c_library.fault_of_shared(places.shared, places.library)
         if fault:
             print(fault)
