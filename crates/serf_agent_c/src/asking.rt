@@ -168,8 +168,8 @@ impl Session {
         code
     }
 
-    /// Takes out the open queries whose deadline is before a moment.
-    pub(crate) fn close_due(&mut self, now: u64, closed: &mut usize) -> Code
+    /// Closes the open queries whose deadline is before a moment, and gives them.
+    pub(crate) fn close_due(&mut self, alloc: Global, now: u64, closed: &mut usize) -> Code
         ensures waits { Waits self.old self.new result }
         ensures memory { Forgoes self.old self.new result }
         ensures tells { Tells self.old self.new result }
@@ -179,7 +179,11 @@ impl Session {
             Ok(()) => {}
             Err(code) => return code,
         }
-        *closed = self.agent.close_due(now);
+        let Ok(queries) = self.agent.take_due(alloc, now) else {
+            return Code::OutOfMemory;
+        };
+        *closed = queries.len();
+        self.give(Gave::Closed(queries));
         Code::Done
     }
 }
