@@ -15,7 +15,7 @@ use Rattle.serf_agent_c.specs.declared.heads.Params.{Params}
 use Rattle.serf_agent_c.specs.declared.session.Session.{Session}
 use Rattle.serf_agent_c.specs.Calls.{answer_code}
 use Rattle.serf_agent_c.specs.Codes.{respond_code}
-use Rattle.serf_agent_c.specs.Gaves.{closed_in}
+use Rattle.serf_agent_c.specs.Gaves.{closed_in, handed_in}
 use Rattle.serf_agent_c.specs.Reads.{kind_of}
 use Rattle.serf_agent_c.specs.Sessions.{is_ready, settled}
 
@@ -71,3 +71,7 @@ Closes now closed s t code =
     × (t.agent.concrete.asked ≡ filter (λ q. not (is_due now q)) s.agent.concrete.asked)
     × ((i : IdealAgent) → IsSound i → s.agent.concrete ≡ view_of i
     → (closed ≡ (close_due i now).answer) × (t.agent.concrete ≡ view_of (close_due i now).agent) × IsSound (close_due i now).agent)
+
+-- Where the last call handed no query out and no open query is due, memory isn't wanting.
+abbrev pub Spares : ℕ → Session → Code → Type 0
+Spares now s code = is_ready s ≡ true → handed_in s.gave ≡ None → filter (is_due now) s.agent.concrete.asked ≡ [] → code ≢ OutOfMemory

@@ -3,7 +3,7 @@
 ghost use Rattle.std.specs.Prelude.{◌≡◌, ◌≢◌, ◌-◌, ◌++◌, ◌∷◌, [], true, IfOk, None, Some, Err, slice_set};
 ghost use Rattle.serf_agent.specs.Queries.{fire_query};
 ghost use Rattle.serf_agent.specs.Handed.{Handed};
-ghost use Rattle.serf_agent_c.specs.Asking.{AddsFilter, Closes, Responds, left_of, params_of, reply_of, waiting_at};
+ghost use Rattle.serf_agent_c.specs.Asking.{AddsFilter, Closes, Responds, Spares, left_of, params_of, reply_of, waiting_at};
 ghost use Rattle.serf_agent_c.specs.Calls.{Forgoes, Gives, Takes, Tells, Waits, answer_code};
 ghost use Rattle.serf_agent_c.specs.Codes.{query_code, respond_code};
 ghost use Rattle.serf_agent_c.specs.Sessions.{is_ready};
@@ -174,6 +174,7 @@ impl Session {
         ensures memory { Forgoes self.old self.new result }
         ensures tells { Tells self.old self.new result }
         ensures closes { Closes now closed.new self.old self.new result }
+        ensures spares { Spares now self.old result }
     {
         match self.begin() {
             Ok(()) => {}

@@ -20,7 +20,7 @@ ghost use Rattle.serf_agent.specs.Queries.{fire_query};
 ghost use Rattle.serf_agent.specs.Receive.{receive};
 ghost use Rattle.serf_agent.specs.States.{compact, save};
 ghost use Rattle.serf_agent_c.specs.Answers.{ReadsAnswer, answer_head};
-ghost use Rattle.serf_agent_c.specs.Asking.{AddsFilter, Closes, Responds, params_of, waiting_at};
+ghost use Rattle.serf_agent_c.specs.Asking.{AddsFilter, Closes, Responds, Spares, params_of, waiting_at};
 ghost use Rattle.serf_agent_c.specs.Calls.{Forgoes, Gives, Takes, Tells, Waits};
 ghost use Rattle.serf_agent_c.specs.Codes.{number_of, fire_code, note_code, query_code, receive_code, state_code};
 ghost use Rattle.serf_agent_c.specs.Exports.{Reads, Through};
@@ -321,7 +321,7 @@ pub extern "C" fn serf_agent_close_due(
     now: u64,
     closed: &mut usize,
 ) -> u32
-    ensures { Through (λ s t code. Waits s t code × Forgoes s t code × Tells s t code × Closes now closed.new s t code) handle.old.place.value handle.new.place.value result }
+    ensures { Through (λ s t code. Waits s t code × Forgoes s t code × Tells s t code × Closes now closed.new s t code × Spares now s code) handle.old.place.value handle.new.place.value result }
 {
     let Some(mut session) = handle.take(alloc) else {
         return Code::Empty.number();
