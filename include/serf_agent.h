@@ -64,7 +64,8 @@ enum serf_agent_kind {
     SERF_AGENT_GAVE_ASKED = 9,     /* query: the packet to send, perhaps the query and an ack */
     SERF_AGENT_GAVE_MERGED = 10,   /* merge: the events that are new, in order */
     SERF_AGENT_GAVE_STATE = 11,    /* local_state: the packet to send */
-    SERF_AGENT_GAVE_REPLY = 12     /* respond: the packet to send to the address and port of the handed query */
+    SERF_AGENT_GAVE_REPLY = 12,    /* respond: the packet to send to the address and port of the handed query */
+    SERF_AGENT_GAVE_CLOSED = 13    /* close_due: the queries that it closed, with their answers */
 };
 
 /* Why a packet was ignored: serf_agent_gave's reason. */
@@ -81,6 +82,11 @@ enum serf_agent_reason {
     SERF_AGENT_ACK_NOT_ASKED = 9, /* an ack, though none was asked for */
     SERF_AGENT_ACK_TWICE = 10,    /* a second ack of one node */
     SERF_AGENT_RESPONSE_TWICE = 11 /* a second response of one node */
+};
+
+/* Numbers of Serf's own. */
+enum serf_agent_default {
+    SERF_AGENT_DEFAULT_SNAPSHOT_LIMIT = 131072 /* should_compact: how many bytes a file may have before it is compacted */
 };
 
 /* A handle: all 0 at first. */
@@ -156,6 +162,21 @@ struct serf_agent_answer {
     bool is_ack;
 };
 
+/* A query of this agent's own that close_due closed. */
+struct serf_agent_closed {
+    uint64_t time;
+    uint64_t deadline; /* the last moment at which an answer was counted */
+    size_t acks;       /* how many nodes acked it */
+    size_t responses;  /* how many responded */
+    uint32_t id;
+};
+
+/* A response to a query that close_due closed. */
+struct serf_agent_response {
+    size_t from_len; /* the answering node's name */
+    size_t payload_len;
+};
+
 /* The agent's clocks. */
 struct serf_agent_clocks {
     uint64_t member;
@@ -200,7 +221,8 @@ uint32_t serf_agent_add_filter(struct serf_agent *handle, const uint8_t *filter,
 /* Answers the query of this number; a success spends it. */
 uint32_t serf_agent_respond(struct serf_agent *handle, uint64_t now, uint64_t number, const uint8_t *payload,
                             size_t payload_len);
-/* Takes out the open queries whose deadline is before a moment, and says how many they were. */
+/* Closes the open queries whose deadline is before a moment, and says how many they were; serf_agent_closed and the getters
+   behind it tell of each until the next call. Want of memory closes none. */
 uint32_t serf_agent_close_due(struct serf_agent *handle, uint64_t now, size_t *closed);
 /* Notes the member clock, so that a restart goes on from there. */
 uint32_t serf_agent_save_member_clock(struct serf_agent *handle);
@@ -230,6 +252,17 @@ uint32_t serf_agent_clocks(struct serf_agent *handle, struct serf_agent_clocks *
 uint32_t serf_agent_next_deadline(struct serf_agent *handle, uint64_t *deadline);
 /* How many queries of this agent's own still take answers. */
 uint32_t serf_agent_open_queries(struct serf_agent *handle, size_t *open);
+/* A query that the last call closed (close_due), from 0 on, in the order in which they were fired. */
+uint32_t serf_agent_closed(struct serf_agent *handle, size_t index, struct serf_agent_closed *closed);
+/* The name of a node that acked such a query, from 0 on, in order of arrival: its length, and as much of it as fits. */
+uint32_t serf_agent_closed_ack(struct serf_agent *handle, size_t index, size_t number, size_t *len, uint8_t *to, size_t room);
+/* A response to such a query, from 0 on, in order of arrival, and as much of its texts as fits. */
+uint32_t serf_agent_closed_response(struct serf_agent *handle, size_t index, size_t number,
+                                    struct serf_agent_response *response, uint8_t *from, size_t from_room,
+                                    uint8_t *payload, size_t payload_room);
+/* Whether the file has more bytes than the limit, and serf_agent_compact would take away at least half of them. Never where
+   the limit is 2^64 - 1. */
+uint32_t serf_agent_should_compact(struct serf_agent *handle, uint64_t limit, bool *should);
 
 #ifdef __cplusplus
 }

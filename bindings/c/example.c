@@ -1,5 +1,5 @@
 /* Two agents in one process, joined by hand: an event is fired, comes twice, its agent crashes and comes back, and nothing is
- * handed out twice.
+ * handed out twice. A query is answered, and closed.
  *
  *     example FOLDER
  *
@@ -115,6 +115,40 @@ static void deliver(struct node *node, uint64_t now, const uint8_t *packet, size
     }
 }
 
+/* One asks, the other acks and answers. */
+static void ask(struct node *one, struct node *other, uint64_t now, const char *name, const char *answer) {
+    static uint8_t packet[ROOM];
+    struct serf_agent_params params = {.timeout = 1000, .want_ack = true};
+    struct serf_agent_gave gave;
+    size_t len;
+    done(one, "query", serf_agent_query(&one->agent, now, 7, (const uint8_t *)name, strlen(name), NULL, 0, NULL, 0, &params));
+    len = packet_of(one, packet);
+    deliver(other, now, packet, len);
+    done(other, "gave", serf_agent_gave(&other->agent, &gave));
+    done(other, "ack", serf_agent_ack(&other->agent, &len, packet, ROOM));
+    deliver(one, now, packet, len);
+    done(other, "respond", serf_agent_respond(&other->agent, now, gave.handed, (const uint8_t *)answer, strlen(answer)));
+    len = packet_of(other, packet);
+    deliver(one, now, packet, len);
+}
+
+/* Closes what is due, and prints the answers. */
+static void close_due(struct node *node, uint64_t now) {
+    struct serf_agent_closed closed;
+    struct serf_agent_response response;
+    uint8_t from[128], payload[1024];
+    size_t count, len;
+    done(node, "close_due", serf_agent_close_due(&node->agent, now, &count));
+    for (size_t i = 0; serf_agent_closed(&node->agent, i, &closed) == SERF_AGENT_OK; i++) {
+        for (size_t j = 0; serf_agent_closed_ack(&node->agent, i, j, &len, from, sizeof from) == SERF_AGENT_OK; j++) {
+            printf("%.*s acked the query of %s\n", (int)len, from, node->name);
+        }
+        for (size_t j = 0; serf_agent_closed_response(&node->agent, i, j, &response, from, sizeof from, payload, sizeof payload) == SERF_AGENT_OK; j++) {
+            printf("%.*s answered %.*s\n", (int)response.from_len, from, (int)response.payload_len, payload);
+        }
+    }
+}
+
 int main(int count, char **words) {
     static struct node alpha = {.name = "alpha"}, beta = {.name = "beta"};
     static uint8_t packet[ROOM];
@@ -142,6 +176,9 @@ int main(int count, char **words) {
 
     len = fire(&beta, "rollback", "v1.1", packet);
     deliver(&alpha, 4, packet, len);
+
+    ask(&alpha, &beta, 5, "load", "0.12");
+    close_due(&alpha, 1006);
     crash(&alpha);
     crash(&beta);
     return 0;

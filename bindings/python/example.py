@@ -1,6 +1,6 @@
 #!/usr/bin/env python3
 """Two agents in one process, joined by hand: an event is fired, comes twice, its agent crashes and comes back, and nothing
-is handed out twice.
+is handed out twice. A query is answered, and closed.
 
     example.py FOLDER
 
@@ -37,6 +37,22 @@ def fire(name, agent, event, payload):
     return fired.packet
 
 
+def ask(one, other, now, name, answer):
+    """One asks, the other acks and answers."""
+    received = other.receive(now, one.query(now, 7, name, timeout=1000, want_ack=True).packet)
+    one.receive(now, received.ack)
+    one.receive(now, other.respond(now, received.query.number, answer))
+
+
+def close_due(name, agent, now):
+    """Closes what is due, and prints the answers."""
+    for closed in agent.close_due(now):
+        for node in closed.acks:
+            print(f"{node.decode()} acked the query of {name}")
+        for answer in closed.responses:
+            print(f"{answer.sender.decode()} answered {answer.payload.decode()}")
+
+
 def main():
     if len(sys.argv) != 2:
         print("example.py FOLDER", file=sys.stderr)
@@ -56,6 +72,8 @@ def main():
             deliver("beta", beta, 3, packet)
             packet = fire("beta", beta, b"rollback", b"v1.1")
             deliver("alpha", alpha, 4, packet)
+            ask(alpha, beta, 5, b"load", b"0.12")
+            close_due("alpha", alpha, 1006)
     return 0
 
 

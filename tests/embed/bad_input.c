@@ -47,9 +47,12 @@ static void each(struct serf_agent *agent, const char *when, uint32_t wanted) {
     struct serf_agent_event event;
     struct serf_agent_handed handed;
     struct serf_agent_clocks clocks;
+    struct serf_agent_closed closed;
+    struct serf_agent_response response;
     uint64_t deadline;
     size_t len;
     uint8_t byte = 0;
+    bool should;
     printf("each call, %s\n", when);
     is("fire", fired(agent, "x"), wanted);
     is("receive", serf_agent_receive(agent, 1, &byte, 1), wanted);
@@ -70,6 +73,10 @@ static void each(struct serf_agent *agent, const char *when, uint32_t wanted) {
     is("clocks", serf_agent_clocks(agent, &clocks), wanted);
     is("next_deadline", serf_agent_next_deadline(agent, &deadline), wanted);
     is("open_queries", serf_agent_open_queries(agent, &len), wanted);
+    is("closed", serf_agent_closed(agent, 0, &closed), wanted);
+    is("closed_ack", serf_agent_closed_ack(agent, 0, 0, &len, &byte, 1), wanted);
+    is("closed_response", serf_agent_closed_response(agent, 0, 0, &response, &byte, 1, &byte, 1), wanted);
+    is("should_compact", serf_agent_should_compact(agent, 0, &should), wanted);
 }
 
 static void empty_handles(void) {
@@ -194,6 +201,86 @@ static void answers(void) {
     is("close", serf_agent_close(&agent), SERF_AGENT_OK);
 }
 
+/* A query of this agent's own that another node acked, answered with "yes", and that is closed. */
+static void asked_and_closed(struct serf_agent *agent) {
+    struct serf_agent other = {0};
+    struct serf_agent_gave gave = {0};
+    struct serf_agent_closed closed;
+    size_t len = 0, count = 9;
+    is("open another", opened(&other, "bb", ""), SERF_AGENT_OK);
+    is("query", asked(agent, 1000), SERF_AGENT_OK);
+    written(agent);
+    is("its packet", serf_agent_packet(agent, &len, room, sizeof room), SERF_AGENT_OK);
+    is("it comes", serf_agent_receive(&other, 6, room, len), SERF_AGENT_OK);
+    written(&other);
+    is("what it gave", serf_agent_gave(&other, &gave), SERF_AGENT_OK);
+    is("its ack", serf_agent_ack(&other, &len, room, sizeof room), SERF_AGENT_OK);
+    is("the ack comes", serf_agent_receive(agent, 7, room, len), SERF_AGENT_OK);
+    is("respond", serf_agent_respond(&other, 8, gave.handed, (const uint8_t *)"yes", 3), SERF_AGENT_OK);
+    is("the response", serf_agent_packet(&other, &len, room, sizeof room), SERF_AGENT_OK);
+    is("it comes", serf_agent_receive(agent, 9, room, len), SERF_AGENT_OK);
+    is("none is due at the deadline", serf_agent_close_due(agent, 1005, &count), SERF_AGENT_OK);
+    is("none is closed", (uint32_t)count, 0);
+    is("so none can be read", serf_agent_closed(agent, 0, &closed), SERF_AGENT_NOTHING);
+    is("one is due behind it", serf_agent_close_due(agent, 1006, &count), SERF_AGENT_OK);
+    is("one is closed", (uint32_t)count, 1);
+    is("what it gave", serf_agent_gave(agent, &gave), SERF_AGENT_OK);
+    is("closed queries", gave.kind, SERF_AGENT_GAVE_CLOSED);
+    is("close another", serf_agent_close(&other), SERF_AGENT_OK);
+}
+
+static void closings(void) {
+    struct serf_agent agent = {0};
+    struct serf_agent_closed closed = {0};
+    struct serf_agent_response response = {0};
+    static const size_t wrong[] = {1, 2, UINT32_MAX, SIZE_MAX};
+    uint8_t from[2] = {0}, payload[3] = {0};
+    size_t len = 0;
+    is("open", opened(&agent, "a", ""), SERF_AGENT_OK);
+    asked_and_closed(&agent);
+    is("closed", serf_agent_closed(&agent, 0, &closed), SERF_AGENT_OK);
+    is("what it was", (uint32_t)(closed.time == 1 && closed.deadline == 1005 && closed.id == 7 && closed.acks == 1 && closed.responses == 1), 1);
+    for (size_t i = 0; i < sizeof wrong / sizeof *wrong; i++) {
+        is("a wrong index", serf_agent_closed(&agent, wrong[i], &closed), SERF_AGENT_NOTHING);
+        is("a wrong index", serf_agent_closed_ack(&agent, wrong[i], 0, &len, NULL, 0), SERF_AGENT_NOTHING);
+        is("a wrong index", serf_agent_closed_response(&agent, wrong[i], 0, &response, NULL, 0, NULL, 0), SERF_AGENT_NOTHING);
+        is("a wrong number", serf_agent_closed_ack(&agent, 0, wrong[i], &len, NULL, 0), SERF_AGENT_NOTHING);
+        is("a wrong number", serf_agent_closed_response(&agent, 0, wrong[i], &response, NULL, 0, NULL, 0), SERF_AGENT_NOTHING);
+    }
+    is("an ack's length alone", serf_agent_closed_ack(&agent, 0, 0, &len, NULL, 0), SERF_AGENT_OK);
+    is("its length", (uint32_t)len, 2);
+    is("an ack in a small room", serf_agent_closed_ack(&agent, 0, 0, &len, from, 1), SERF_AGENT_OK);
+    is("as much as fits", (uint32_t)(len == 2 && from[0] == 'b' && from[1] == 0), 1);
+    is("a response's lengths alone", serf_agent_closed_response(&agent, 0, 0, &response, NULL, 0, NULL, 0), SERF_AGENT_OK);
+    is("its lengths", (uint32_t)(response.from_len == 2 && response.payload_len == 3), 1);
+    is("a response in small rooms", serf_agent_closed_response(&agent, 0, 0, &response, from, 1, payload, 2), SERF_AGENT_OK);
+    is("as much as fits", (uint32_t)(from[1] == 0 && payload[1] == 'e' && payload[2] == 0), 1);
+    is("a response", serf_agent_closed_response(&agent, 0, 0, &response, from, 2, payload, 3), SERF_AGENT_OK);
+    is("what it says", (uint32_t)(memcmp(from, "bb", 2) == 0 && memcmp(payload, "yes", 3) == 0), 1);
+    is("another call", fired(&agent, "x"), SERF_AGENT_OK);
+    is("what was closed waits for the line too", serf_agent_closed(&agent, 0, &closed), SERF_AGENT_UNWRITTEN);
+    written(&agent);
+    is("and is gone", serf_agent_closed(&agent, 0, &closed), SERF_AGENT_NOTHING);
+    is("close", serf_agent_close(&agent), SERF_AGENT_OK);
+}
+
+static void limits(void) {
+    struct serf_agent agent = {0};
+    bool should = false;
+    is("open", opened(&agent, "a", "event-clock: 1\nevent-clock: 2\n"), SERF_AGENT_OK);
+    is("should_compact above the limit", serf_agent_should_compact(&agent, 29, &should), SERF_AGENT_OK);
+    is("it should", should, 1);
+    is("should_compact at the limit", serf_agent_should_compact(&agent, 30, &should), SERF_AGENT_OK);
+    is("it shouldn't", should, 0);
+    is("should_compact at the greatest limit", serf_agent_should_compact(&agent, UINT64_MAX, &should), SERF_AGENT_OK);
+    is("it shouldn't", should, 0);
+    is("compact", serf_agent_compact(&agent), SERF_AGENT_OK);
+    written(&agent);
+    is("should_compact once more", serf_agent_should_compact(&agent, 0, &should), SERF_AGENT_OK);
+    is("it shouldn't", should, 0);
+    is("close", serf_agent_close(&agent), SERF_AGENT_OK);
+}
+
 static uint64_t drawn(void) {
     static uint64_t state = 1;
     uint64_t z = (state += 0x9e3779b97f4a7c15u);
@@ -269,6 +356,8 @@ int main(int count, char **words) {
     numbers_of_queries();
     packets();
     answers();
+    closings();
+    limits();
     any_bytes(count > 1 ? atoi(words[1]) : 20000);
     printf("%d passed, %d failed\n", passed, failed);
     return failed != 0;

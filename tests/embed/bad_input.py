@@ -7,7 +7,7 @@ import os
 import sys
 
 sys.path.insert(0, os.path.join(os.path.dirname(os.path.abspath(__file__)), "..", "..", "bindings", "python"))
-from serf_agent import Agent, AgentError, Code, Kind, Locked, MissingFolder, NotAFile, Reason, Settings
+from serf_agent import Agent, AgentError, Answer, Closed, Code, Kind, Locked, MissingFolder, NotAFile, Reason, Settings
 
 FOLDER = sys.argv[1]
 passed = failed = 0
@@ -83,7 +83,10 @@ def queries():
         refused("twice", Code.NOT_HANDED, other.respond, 6, query.number)
         check("the response", one.receive(7, response).kind == Kind.RESPONSE)
         check("again", one.receive(7, response).reason == Reason.RESPONSE_TWICE)
-        check("closed", one.close_due(1002) == 1 and one.open_queries() == 0)
+        time = asked.query.time
+        check("none is due", one.close_due(1001) == [] and one.open_queries() == 1)
+        closed = one.close_due(1002)
+        check("closed", closed == [Closed(time, 7, 1001, (b"b",), (Answer(time, 7, b"b", b"r"),))] and one.open_queries() == 0, closed)
 
 
 def compactions():
@@ -93,7 +96,9 @@ def compactions():
         # a state that says nothing but a member clock of 7
         agent.merge(b"\x02\x81\xa5LTime\x07")
         agent.save_member_clock()
+        check("should compact", agent.should_compact(20) and not agent.should_compact())
         agent.compact()
+        check("should not", not agent.should_compact(0))
         with open(path("f"), "rb") as file:
             text = file.read()
         check("compacted", sorted(text.split(b"\n")) == [b"", b"clock: 6", b"event-clock: 3"], text)

@@ -173,8 +173,16 @@ def compare_python(count, header, layout):
         count.check(f"Python: the layout of {name}", said == wanted, f"{said}, and the compiler has {wanted}")
     numbers = {f"SERF_AGENT_{one.name}": one.value for kind in (binding.Code, binding.Reason) for one in kind}
     numbers |= {f"SERF_AGENT_GAVE_{one.name}": one.value for one in binding.Kind}
+    numbers["SERF_AGENT_DEFAULT_SNAPSHOT_LIMIT"] = binding.DEFAULT_SNAPSHOT_LIMIT
     compare_numbers(count, "Python", numbers, header)
     count.check("Python: all numbers", set(numbers) == set(header.numbers), sorted(set(numbers) ^ set(header.numbers)))
+
+
+def compare_limit(count, language, header, path):
+    """The one number that isn't a code, as a source in Rust or Rattle has it."""
+    with open(path, encoding="utf-8") as file:
+        found = re.search(r"^pub const DEFAULT_SNAPSHOT_LIMIT: u64 = ([\d_]+)(?: \* (\d+))?;$", file.read(), re.M)
+    compare_numbers(count, language, {"DEFAULT_SNAPSHOT_LIMIT": found and int(found[1]) * int(found[2] or 1)}, header, "SERF_AGENT_")
 
 
 def in_capitals(name):
@@ -190,6 +198,7 @@ def compare_rust(count, header, layout):
             texts[name] = file.read()
     raw = re.sub(r"/// What a call for memory answers.*", "", texts["raw"], flags=re.S)
     compare_declared(count, "Rust", Declared([raw]), header, layout)
+    compare_limit(count, "Rust", header, os.path.join(RUST, "agent", "closing.rs"))
     for listed, kind in (("CODES", "Code"), ("REASONS", "Reason")):
         body = re.search(rf"const {listed}: .*? = \[(.*?)\];", texts["agent"], re.S)[1]
         numbers = {in_capitals(name): number for number, name in enumerate(re.findall(rf"{kind}::(\w+)", body), 1)}
@@ -208,6 +217,7 @@ def compare_rattle(count, crate, header, layout):
     codes = {"OK" if name == "DONE" else name: value for name, value in codes.items()}
     wanted = {name: value for name, value in header.numbers.items() if name[len("SERF_AGENT_") :] in codes}
     compare_numbers(count, "Rattle", codes, header, "SERF_AGENT_")
+    compare_limit(count, "Rattle", header, os.path.join(os.path.dirname(crate), "serf_agent", "src", "defaults.rt"))
     count.check("Rattle: all codes", len(wanted) == 18 == len(codes), codes)
 
 

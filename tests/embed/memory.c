@@ -110,6 +110,7 @@ struct look {
     struct serf_agent_clocks clocks;
     struct serf_agent_gave gave;
     struct serf_agent_bytes about;
+    struct serf_agent_closed closed;
     uint64_t deadline;
     size_t packet_len, ack_len, open;
     uint8_t unwritten[256], packet[1024], ack[256];
@@ -126,6 +127,7 @@ static void settle(struct serf_agent *agent, struct look *look) {
     serf_agent_ack(agent, &look->ack_len, look->ack, sizeof look->ack);
     serf_agent_open_queries(agent, &look->open);
     serf_agent_next_deadline(agent, &look->deadline);
+    serf_agent_closed(agent, 0, &look->closed);
 }
 
 static void make_packets(void) {

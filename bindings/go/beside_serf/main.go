@@ -119,6 +119,9 @@ func open(path string) *ours {
 		Answer: func(kind serfagent.Kind, answer *serfagent.Answer) {
 			all.note("# proved counted %s %s %s", map[serfagent.Kind]string{serfagent.Ack: "the ack of", serfagent.Response: "the response of"}[kind], answer.From, answer.Payload)
 		},
+		Closed: func(closed *serfagent.Closed) {
+			all.note("# proved closed its query: %d acks, %d responses", len(closed.Acks), len(closed.Responses))
+		},
 		Fault: func(err error) { log.Print(err) },
 	})
 	check(err)
@@ -192,7 +195,7 @@ func main() {
 	}
 	asked(one)
 	check(proved.Query("who", nil, 2*time.Second, true))
-	time.Sleep(2500 * time.Millisecond)
+	all.wait("# proved closed its query: 3 acks, 3 responses")
 
 	// a firing that isn't gossiped comes by push/pull
 	fired("proved", 4, "quiet", "v1")

@@ -1,5 +1,5 @@
 // Two agents in one process, joined by hand: an event is fired, comes twice, its agent crashes and comes back, and nothing is
-// handed out twice.
+// handed out twice. A query is answered, and closed.
 //
 //	go run ./example FOLDER
 //
@@ -68,6 +68,32 @@ func (n *node) deliver(now uint64, packet []byte) {
 	}
 }
 
+// ask asks, and the other acks and answers.
+func (n *node) ask(other *node, now uint64, name, answer string) {
+	asked, err := n.agent.Query(now, 7, []byte(name), nil, serfagent.QueryParams{Timeout: 1000, WantAck: true})
+	check(err)
+	received, err := other.agent.Receive(now, asked.Packet)
+	check(err)
+	n.deliver(now, received.Ack)
+	response, err := other.agent.Respond(now, received.Query.Number, []byte(answer))
+	check(err)
+	n.deliver(now, response)
+}
+
+// closeDue closes what is due, and prints the answers.
+func (n *node) closeDue(now uint64) {
+	all, err := n.agent.CloseDue(now)
+	check(err)
+	for _, closed := range all {
+		for _, name := range closed.Acks {
+			fmt.Printf("%s acked the query of %s\n", name, n.name)
+		}
+		for _, answer := range closed.Responses {
+			fmt.Printf("%s answered %s\n", answer.From, answer.Payload)
+		}
+	}
+}
+
 func main() {
 	if len(os.Args) != 2 {
 		log.Fatal("example FOLDER")
@@ -90,6 +116,9 @@ func main() {
 
 	packet = beta.fire("rollback", "v1.1")
 	alpha.deliver(4, packet)
+
+	alpha.ask(beta, 5, "load", "0.12")
+	alpha.closeDue(1006)
 	alpha.agent.Close()
 	beta.agent.Close()
 }

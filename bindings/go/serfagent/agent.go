@@ -463,15 +463,6 @@ func (a *Agent) Respond(now, number uint64, payload []byte) ([]byte, error) {
 	return a.packet(false)
 }
 
-// CloseDue closes this agent's queries whose deadline is before now: how many they were.
-func (a *Agent) CloseDue(now uint64) (int, error) {
-	a.mu.Lock()
-	defer a.mu.Unlock()
-	var closed C.size_t
-	err := a.settled(C.serf_agent_close_due(a.handle, C.uint64_t(now), &closed))
-	return int(closed), err
-}
-
 // SaveMemberClock notes the member clock, so that the next life goes on from there.
 func (a *Agent) SaveMemberClock() error {
 	a.mu.Lock()

@@ -25,6 +25,8 @@ type Handlers struct {
 	Query func(*serfagent.Handed)
 	// Answer gets each ack and each response that was counted of a query of this node.
 	Answer func(kind serfagent.Kind, answer *serfagent.Answer)
+	// Closed gets each query of this node whose time is over, with its answers.
+	Closed func(*serfagent.Closed)
 	// Fault gets what went wrong with the file or the network. After a fault of the file the agent is closed.
 	Fault func(error)
 }
@@ -129,9 +131,20 @@ func (d *Delegate) take() {
 		case packet := <-d.packets:
 			d.receive(packet)
 		case <-due.C:
-			_, err := d.agent.CloseDue(d.now())
-			d.fault(err)
+			d.closeDue()
 		}
+	}
+}
+
+func (d *Delegate) closeDue() {
+	all, err := d.agent.CloseDue(d.now())
+	d.fault(err)
+	if d.handlers.Closed == nil {
+		return
+	}
+	for _, closed := range all {
+		closed := closed
+		d.work.add(func() { d.handlers.Closed(closed) })
 	}
 }
 

@@ -1,7 +1,7 @@
 """The proved Serf agent, by ctypes: ``Agent`` over a snapshot's file. docs/EMBEDDING.md says what to call when."""
 
-from .agent import Agent, AgentError, Answer, Asked, Clocks, Event, Fired, Handed, Received, Settings
-from .library import Code, Kind, Library, Reason
+from .agent import Agent, AgentError, Answer, Asked, Clocks, Closed, Event, Fired, Handed, Received, Settings
+from .library import Code, DEFAULT_SNAPSHOT_LIMIT, Kind, Library, Reason
 from .store import Broken, Full, Locked, MissingFolder, NotAFile, ReadOnly, Store, StoreError
 
 __all__ = [
@@ -11,7 +11,9 @@ __all__ = [
     "Asked",
     "Broken",
     "Clocks",
+    "Closed",
     "Code",
+    "DEFAULT_SNAPSHOT_LIMIT",
     "Event",
     "Fired",
     "Full",

@@ -3,9 +3,9 @@
 import ctypes
 import threading
 from dataclasses import dataclass
-from typing import Optional
+from typing import Optional, Tuple
 
-from .library import CAnswer, CBytes, CClocks, CEvent, CGave, CHanded, Code, CParams, CSettings, Handle, Kind, Library, Reason
+from .library import CAnswer, CBytes, CClocks, CClosed, CEvent, CGave, CHanded, Code, CParams, CResponse, CSettings, DEFAULT_SNAPSHOT_LIMIT, Handle, Kind, Library, Reason
 from .store import Store
 
 
@@ -94,6 +94,17 @@ class Asked:
     packet: bytes
     query: Optional[Handed]
     ack: Optional[bytes]
+
+
+@dataclass(frozen=True)
+class Closed:
+    """A query of this agent's own that was closed: the names of the nodes that acked it and the responses, in order of arrival."""
+
+    time: int
+    id: int
+    deadline: int
+    acks: Tuple[bytes, ...]
+    responses: Tuple[Answer, ...]
 
 
 @dataclass(frozen=True)
@@ -214,6 +225,28 @@ class Agent:
         name, payload, source, addr = (text.raw for text in found)
         return Handed(number, about.time, about.id, name, payload, source, addr, about.port, about.relay_factor, about.deadline)
 
+    def _closed_ack(self, index, number):
+        length = ctypes.c_size_t()
+        self._call("closed_ack", index, number, length, None, 0)
+        name = ctypes.create_string_buffer(length.value)
+        self._call("closed_ack", index, number, length, name, len(name))
+        return name.raw
+
+    def _closed_response(self, index, number):
+        about = CResponse()
+        self._call("closed_response", index, number, about, None, 0, None, 0)
+        sender, payload = (ctypes.create_string_buffer(length) for length in (about.from_len, about.payload_len))
+        self._call("closed_response", index, number, about, sender, len(sender), payload, len(payload))
+        return sender.raw, payload.raw
+
+    def _closed(self, index):
+        """A query that the call closed, with its answers."""
+        about = CClosed()
+        self._call("closed", index, about)
+        acks = tuple(self._closed_ack(index, number) for number in range(about.acks))
+        responses = tuple(Answer(about.time, about.id, *self._closed_response(index, number)) for number in range(about.responses))
+        return Closed(about.time, about.id, about.deadline, acks, responses)
+
     # Calls.
 
     def receive(self, now, packet):
@@ -265,11 +298,11 @@ class Agent:
             return self._packet()
 
     def close_due(self, now):
-        """Closes this agent's queries whose deadline is before ``now``: how many they were."""
+        """Closes this agent's queries whose deadline is before ``now``: each ``Closed``, in the order in which they were fired."""
         with self._lock:
             closed = ctypes.c_size_t()
             self._do("close_due", now, closed)
-            return closed.value
+            return [self._closed(index) for index in range(closed.value)]
 
     def save_member_clock(self):
         """Notes the member clock, so that the next life goes on from there."""
@@ -303,4 +336,11 @@ class Agent:
         with self._lock:
             found = ctypes.c_size_t()
             self._call("open_queries", found)
+            return found.value
+
+    def should_compact(self, limit=DEFAULT_SNAPSHOT_LIMIT):
+        """Whether the file has more bytes than ``limit``, and ``compact`` would take away at least half of them."""
+        with self._lock:
+            found = ctypes.c_bool()
+            self._call("should_compact", limit, found)
             return found.value

@@ -48,6 +48,7 @@ class Kind(enum.IntEnum):
     MERGED = 10
     STATE = 11
     REPLY = 12
+    CLOSED = 13
 
 
 class Reason(enum.IntEnum):
@@ -65,6 +66,10 @@ class Reason(enum.IntEnum):
     ACK_NOT_ASKED = 9
     ACK_TWICE = 10
     RESPONSE_TWICE = 11
+
+
+# How many bytes a file may have before it is worth a compaction: Serf's own number.
+DEFAULT_SNAPSHOT_LIMIT = 131072
 
 
 class Place(Structure):
@@ -107,6 +112,14 @@ class CAnswer(Structure):
     _fields_ = [("time", c_uint64), ("from_len", c_size_t), ("payload_len", c_size_t), ("id", c_uint32), ("is_ack", c_bool)]
 
 
+class CClosed(Structure):
+    _fields_ = [("time", c_uint64), ("deadline", c_uint64), ("acks", c_size_t), ("responses", c_size_t), ("id", c_uint32)]
+
+
+class CResponse(Structure):
+    _fields_ = [("from_len", c_size_t), ("payload_len", c_size_t)]
+
+
 class CClocks(Structure):
     _fields_ = [(name, c_uint64) for name in ("member", "event", "query", "event_minimum", "query_minimum")]
 
@@ -121,6 +134,8 @@ STRUCTS = {
     "serf_agent_params": CParams,
     "serf_agent_handed": CHanded,
     "serf_agent_answer": CAnswer,
+    "serf_agent_closed": CClosed,
+    "serf_agent_response": CResponse,
     "serf_agent_clocks": CClocks,
 }
 
@@ -156,6 +171,10 @@ FUNCTIONS = {
     "clocks": [HANDLE, POINTER(CClocks)],
     "next_deadline": [HANDLE, POINTER(c_uint64)],
     "open_queries": [HANDLE, POINTER(c_size_t)],
+    "closed": [HANDLE, c_size_t, POINTER(CClosed)],
+    "closed_ack": [HANDLE, c_size_t, c_size_t, POINTER(c_size_t), *TEXT],
+    "closed_response": [HANDLE, c_size_t, c_size_t, POINTER(CResponse), *TEXT, *TEXT],
+    "should_compact": [HANDLE, c_uint64, POINTER(c_bool)],
 }
 
 

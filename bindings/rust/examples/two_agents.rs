@@ -1,11 +1,11 @@
 //! Two agents in one process, joined by hand: an event is fired, comes twice, its agent crashes and comes back, and nothing is
-//! handed out twice.
+//! handed out twice. A query is answered, and closed.
 //!
 //!     cargo run --example two_agents FOLDER
 //!
 //! FOLDER gets the two snapshots. Where they are there already, the agents go on from them.
 
-use serf_agent::{Agent, Error, Event, Outcome, Reason, Settings};
+use serf_agent::{Agent, Error, Event, Outcome, QueryParams, Reason, Settings};
 use std::path::Path;
 
 struct Node {
@@ -49,6 +49,31 @@ impl Node {
         }
         Ok(())
     }
+
+    /// This node asks, the other acks and answers.
+    fn ask(&mut self, other: &mut Node, now: u64, name: &str, answer: &str) -> Result<(), Error> {
+        let params = QueryParams { timeout: 1000, want_ack: true, ..QueryParams::default() };
+        let asked = self.agent.query(now, 7, name.as_bytes(), b"", &params)?;
+        if let Outcome::Query { handed: Some(query), ack: Some(ack) } = other.agent.receive(now, &asked.packet)?.outcome {
+            self.agent.receive(now, &ack)?;
+            let response = other.agent.respond(now, query.number, answer.as_bytes())?;
+            self.agent.receive(now, &response)?;
+        }
+        Ok(())
+    }
+
+    /// Closes what is due, and prints the answers.
+    fn close_due(&mut self, now: u64) -> Result<(), Error> {
+        for closed in self.agent.close_due(now)? {
+            for node in &closed.acks {
+                println!("{} acked the query of {}", String::from_utf8_lossy(node), self.name);
+            }
+            for answer in &closed.responses {
+                println!("{} answered {}", String::from_utf8_lossy(&answer.from), String::from_utf8_lossy(&answer.payload));
+            }
+        }
+        Ok(())
+    }
 }
 
 fn main() -> Result<(), Box<dyn std::error::Error>> {
@@ -71,5 +96,8 @@ fn main() -> Result<(), Box<dyn std::error::Error>> {
 
     let packet = beta.fire("rollback", "v1.1")?;
     alpha.deliver(4, &packet)?;
+
+    alpha.ask(&mut beta, 5, "load", "0.12")?;
+    alpha.close_due(1006)?;
     Ok(())
 }

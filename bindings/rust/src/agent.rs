@@ -1,8 +1,12 @@
 //! An agent over the library and a snapshot's file.
 
+mod closing;
+
 use crate::raw;
 use crate::store::{Store, StoreError};
 use std::path::Path;
+
+pub use closing::{Closed, DEFAULT_SNAPSHOT_LIMIT};
 
 /// Why the library refused a call.
 #[derive(Clone, Copy, Debug, PartialEq, Eq)]
@@ -504,14 +508,6 @@ impl Agent {
         // SAFETY: the pointer comes with its length.
         self.settled(|handle| unsafe { raw::serf_agent_respond(handle, now, number, payload.as_ptr(), payload.len()) })?;
         self.own_packet()
-    }
-
-    /// Closes this agent's queries whose deadline is before `now`: how many they were.
-    pub fn close_due(&mut self, now: u64) -> Result<usize, Error> {
-        let mut closed = 0;
-        // SAFETY: `closed` is of the type that the library writes.
-        self.settled(|handle| unsafe { raw::serf_agent_close_due(handle, now, &mut closed) })?;
-        Ok(closed)
     }
 
     /// Notes the member clock, so that the next life goes on from there.

@@ -10,5 +10,8 @@ mod agent;
 mod raw;
 mod store;
 
-pub use agent::{Agent, Answer, Asked, Clocks, Code, Error, Event, Fired, Handed, Outcome, QueryParams, Reason, Received, Settings};
+pub use agent::{
+    Agent, Answer, Asked, Clocks, Closed, Code, Error, Event, Fired, Handed, Outcome, QueryParams, Reason, Received, Settings,
+    DEFAULT_SNAPSHOT_LIMIT,
+};
 pub use store::{Store, StoreError};

@@ -85,6 +85,23 @@ pub struct Answer {
 
 #[repr(C)]
 #[derive(Default)]
+pub struct Closed {
+    pub time: u64,
+    pub deadline: u64,
+    pub acks: usize,
+    pub responses: usize,
+    pub id: u32,
+}
+
+#[repr(C)]
+#[derive(Default)]
+pub struct Response {
+    pub from_len: usize,
+    pub payload_len: usize,
+}
+
+#[repr(C)]
+#[derive(Default)]
 pub struct Clocks {
     pub member: u64,
     pub event: u64,
@@ -172,6 +189,19 @@ extern "C" {
     pub fn serf_agent_clocks(handle: *mut Handle, clocks: *mut Clocks) -> u32;
     pub fn serf_agent_next_deadline(handle: *mut Handle, deadline: *mut u64) -> u32;
     pub fn serf_agent_open_queries(handle: *mut Handle, open: *mut usize) -> u32;
+    pub fn serf_agent_closed(handle: *mut Handle, index: usize, closed: *mut Closed) -> u32;
+    pub fn serf_agent_closed_ack(handle: *mut Handle, index: usize, number: usize, len: *mut usize, to: *mut u8, room: usize) -> u32;
+    pub fn serf_agent_closed_response(
+        handle: *mut Handle,
+        index: usize,
+        number: usize,
+        response: *mut Response,
+        from: *mut u8,
+        from_room: usize,
+        payload: *mut u8,
+        payload_room: usize,
+    ) -> u32;
+    pub fn serf_agent_should_compact(handle: *mut Handle, limit: u64, should: *mut bool) -> u32;
 }
 
 /// What a call for memory answers: whether there was any, and where it is.

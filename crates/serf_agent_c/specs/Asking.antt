@@ -1,11 +1,11 @@
 -- What a session does with queries.
-use Rattle.std.specs.Prelude.{[], ◌∷◌, ◌++◌, ◌≡◌, ◌≢◌, ◌==◌, ◌-◌, ℕ, true, if◌then◌else◌, List, Option, Some, None, Result, Ok, Err, slice_get, slice_set}
+use Rattle.std.specs.Prelude.{[], ◌∷◌, ◌++◌, ◌≡◌, ◌≢◌, ◌==◌, ◌-◌, ℕ, true, if◌then◌else◌, List, Option, Some, None, Result, Ok, Err, filter, not, slice_get, slice_set}
 use Rattle.serf_agent.specs.Handed.{Handed}
 use Rattle.serf_agent.specs.declared.outcome.QueryParams.{QueryParams}
 use Rattle.serf_agent.specs.declared.outcome.Reply.{Reply}
 use Rattle.serf_agent.specs.declared.outcome.RespondFault.{RespondFault}
 use Rattle.serf_agent.specs.Ideal.{IdealAgent}
-use Rattle.serf_agent.specs.Queries.{close_due, respond_fault, response_packet}
+use Rattle.serf_agent.specs.Queries.{close_due, is_due, respond_fault, response_packet}
 use Rattle.serf_agent.specs.Sound.{IsSound}
 use Rattle.serf_agent.specs.View.{view_of}
 use Rattle.serf_agent_c.specs.declared.code.Code.{Code}
@@ -15,6 +15,8 @@ use Rattle.serf_agent_c.specs.declared.heads.Params.{Params}
 use Rattle.serf_agent_c.specs.declared.session.Session.{Session}
 use Rattle.serf_agent_c.specs.Calls.{answer_code}
 use Rattle.serf_agent_c.specs.Codes.{respond_code}
+use Rattle.serf_agent_c.specs.Gaves.{closed_in, handed_in}
+use Rattle.serf_agent_c.specs.Reads.{kind_of}
 use Rattle.serf_agent_c.specs.Sessions.{is_ready, settled}
 
 -- how a query is fired
@@ -59,10 +61,17 @@ Responds number now payload s t code =
     → (t.gave ≡ Replied (reply_of q now payload)) × (code ≡ answer_code respond_code (reply_of q now payload))
     × (t.waiting.items ≡ slice_set (settled s) (number - 1) (left_of q (reply_of q now payload))))
 
--- The open queries whose deadline is past are taken out, as the ideal agent does, and the sink isn't called.
+-- The open queries whose deadline is past are closed, as the ideal agent does, and the sink isn't called: just these are what
+-- was given, as they stood and in order, with the answers that were counted.
 abbrev pub Closes : ℕ → ℕ → Session → Session → Code → Type 0
 Closes now closed s t code =
     is_ready s ≡ true → code ≢ OutOfMemory
     → (code ≡ Done) × (t.agent.device ≡ s.agent.device)
+    × (closed_in t.gave ≡ filter (is_due now) s.agent.concrete.asked) × (kind_of t.gave ≡ 13)
+    × (t.agent.concrete.asked ≡ filter (λ q. not (is_due now q)) s.agent.concrete.asked)
     × ((i : IdealAgent) → IsSound i → s.agent.concrete ≡ view_of i
     → (closed ≡ (close_due i now).answer) × (t.agent.concrete ≡ view_of (close_due i now).agent) × IsSound (close_due i now).agent)
+
+-- Where the last call handed no query out and no open query is due, memory isn't wanting.
+abbrev pub Spares : ℕ → Session → Code → Type 0
+Spares now s code = is_ready s ≡ true → handed_in s.gave ≡ None → filter (is_due now) s.agent.concrete.asked ≡ [] → code ≢ OutOfMemory

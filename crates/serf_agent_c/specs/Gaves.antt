@@ -1,10 +1,11 @@
 -- What C reads of the agent's last answer.
 use Rattle.std.specs.Prelude.{ℕ, List, [], ◌∷◌, Option, Some, None, Ok}
 use Rattle.serf_agent.specs.Handed.{Handed}
+use Rattle.serf_agent.specs.declared.open_query.OpenQuery.{OpenQuery}
 use Rattle.serf_agent.specs.declared.outcome.EventOut.{EventOut}
 use Rattle.serf_agent.specs.declared.outcome.Outcome.TheVariants as outcomes
 use Rattle.serf_agent_c.specs.declared.gave.Gave.{Gave}
-use Rattle.serf_agent_c.specs.declared.gave.Gave.TheVariants.{Received, Fired, Asked, Merged, State, Replied}
+use Rattle.serf_agent_c.specs.declared.gave.Gave.TheVariants.{Received, Fired, Asked, Merged, State, Replied, Closed}
 
 -- the events that are handed out, in order
 abbrev pub events_in : Gave → List EventOut
@@ -32,3 +33,8 @@ abbrev pub ack_in : Gave → Option (List ℕ)
 ack_in (Received (Ok (outcomes.Query handed ack rebroadcast))) = ack
 ack_in (Asked (Ok fired)) = fired.ack
 ack_in _ = None
+
+-- the queries that were closed, with their times, in the order in which they were fired
+abbrev pub closed_in : Gave → List (ℕ × OpenQuery)
+closed_in (Closed queries) = queries.items
+closed_in _ = []

@@ -8,6 +8,7 @@ pub mod Members
 pub mod Merging
 pub mod Opening
 pub mod Reads
+pub mod Closings
 pub mod Exports
 pub mod Held
 pub mod Answers

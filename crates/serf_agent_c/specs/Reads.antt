@@ -71,6 +71,7 @@ kind_of (gaves.Asked (Ok fired)) = 9
 kind_of (gaves.Merged events fault) = 10
 kind_of (gaves.State (Ok packet)) = 11
 kind_of (gaves.Replied (Ok reply)) = 12
+kind_of (gaves.Closed queries) = 13
 kind_of _ = 0
 
 -- the numbers of `enum serf_agent_reason`

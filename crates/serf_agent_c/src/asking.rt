@@ -3,7 +3,7 @@
 ghost use Rattle.std.specs.Prelude.{◌≡◌, ◌≢◌, ◌-◌, ◌++◌, ◌∷◌, [], true, IfOk, None, Some, Err, slice_set};
 ghost use Rattle.serf_agent.specs.Queries.{fire_query};
 ghost use Rattle.serf_agent.specs.Handed.{Handed};
-ghost use Rattle.serf_agent_c.specs.Asking.{AddsFilter, Closes, Responds, left_of, params_of, reply_of, waiting_at};
+ghost use Rattle.serf_agent_c.specs.Asking.{AddsFilter, Closes, Responds, Spares, left_of, params_of, reply_of, waiting_at};
 ghost use Rattle.serf_agent_c.specs.Calls.{Forgoes, Gives, Takes, Tells, Waits, answer_code};
 ghost use Rattle.serf_agent_c.specs.Codes.{query_code, respond_code};
 ghost use Rattle.serf_agent_c.specs.Sessions.{is_ready};
@@ -168,18 +168,23 @@ impl Session {
         code
     }
 
-    /// Takes out the open queries whose deadline is before a moment.
-    pub(crate) fn close_due(&mut self, now: u64, closed: &mut usize) -> Code
+    /// Closes the open queries whose deadline is before a moment, and gives them.
+    pub(crate) fn close_due(&mut self, alloc: Global, now: u64, closed: &mut usize) -> Code
         ensures waits { Waits self.old self.new result }
         ensures memory { Forgoes self.old self.new result }
         ensures tells { Tells self.old self.new result }
         ensures closes { Closes now closed.new self.old self.new result }
+        ensures spares { Spares now self.old result }
     {
         match self.begin() {
             Ok(()) => {}
             Err(code) => return code,
         }
-        *closed = self.agent.close_due(now);
+        let Ok(queries) = self.agent.take_due(alloc, now) else {
+            return Code::OutOfMemory;
+        };
+        *closed = queries.len();
+        self.give(Gave::Closed(queries));
         Code::Done
     }
 }

@@ -1,11 +1,11 @@
 //! What the last call of an agent gave, as the agent answered it.
 
 ghost use Rattle.std.specs.Prelude.{◌≡◌, option_copied, slice_get};
-ghost use Rattle.serf_agent_c.specs.Gaves.{ack_in, events_in, handed_in, packet_in};
+ghost use Rattle.serf_agent_c.specs.Gaves.{ack_in, closed_in, events_in, handed_in, packet_in};
 
 use serf_agent::{
-    EventOut, FireFault, Fired, FiredQuery, HandedQuery, MergeFault, Outcome, PushPullFault,
-    QueryFault, ReceiveFault, Reply, RespondFault,
+    EventOut, FireFault, Fired, FiredQuery, HandedQuery, MergeFault, OpenQuery, Outcome,
+    PushPullFault, QueryFault, ReceiveFault, Reply, RespondFault,
 };
 use serf_snap::NoteFault;
 use serf_wire::Bytes;
@@ -23,6 +23,8 @@ pub enum Gave {
     State(Result<Bytes, PushPullFault>),
     Replied(Result<Reply, RespondFault>),
     Noted(Result<(), NoteFault>),
+    /// The queries that were closed, with their times, in the order in which they were fired.
+    Closed(Vec<(u64, OpenQuery)>),
 }
 
 impl Gave {
@@ -69,6 +71,16 @@ impl Gave {
         match self {
             Gave::Received(Ok(Outcome::Query { handed, .. })) => handed.as_ref(),
             Gave::Asked(Ok(fired)) => fired.handed.as_ref(),
+            _ => None,
+        }
+    }
+
+    /// A query that was closed, in order.
+    pub(crate) fn closed(&self, index: usize) -> Option<&(u64, OpenQuery)>
+        ensures { option_copied result ≡ slice_get (closed_in self.now) index }
+    {
+        match self {
+            Gave::Closed(queries) => queries.as_slice().get(index),
             _ => None,
         }
     }

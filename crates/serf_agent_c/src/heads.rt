@@ -89,3 +89,22 @@ pub struct AnswerHead {
     pub id: u32,
     pub is_ack: bool,
 }
+
+/// A query of the agent's own that the last call closed.
+#[repr(C)]
+#[derive(Clone, Copy)]
+pub struct ClosedHead {
+    pub time: u64,
+    pub deadline: u64,
+    pub acks: usize,
+    pub responses: usize,
+    pub id: u32,
+}
+
+/// A response to a closed query.
+#[repr(C)]
+#[derive(Clone, Copy)]
+pub struct ResponseHead {
+    pub from_len: usize,
+    pub payload_len: usize,
+}

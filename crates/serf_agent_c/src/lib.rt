@@ -20,7 +20,7 @@ ghost use Rattle.serf_agent.specs.Queries.{fire_query};
 ghost use Rattle.serf_agent.specs.Receive.{receive};
 ghost use Rattle.serf_agent.specs.States.{compact, save};
 ghost use Rattle.serf_agent_c.specs.Answers.{ReadsAnswer, answer_head};
-ghost use Rattle.serf_agent_c.specs.Asking.{AddsFilter, Closes, Responds, params_of, waiting_at};
+ghost use Rattle.serf_agent_c.specs.Asking.{AddsFilter, Closes, Responds, Spares, params_of, waiting_at};
 ghost use Rattle.serf_agent_c.specs.Calls.{Forgoes, Gives, Takes, Tells, Waits};
 ghost use Rattle.serf_agent_c.specs.Codes.{number_of, fire_code, note_code, query_code, receive_code, state_code};
 ghost use Rattle.serf_agent_c.specs.Exports.{Reads, Through};
@@ -35,9 +35,11 @@ ghost use Rattle.serf_agent_c.specs.Texts.{copied, lacking, text_of};
 mod answers;
 mod asking;
 mod calls;
+mod closings;
 mod code;
 mod copies;
 mod gave;
+mod getters;
 mod handle;
 mod heads;
 mod lookups;
@@ -49,9 +51,16 @@ mod session;
 
 pub use code::Code;
 use gave::Gave;
+pub use getters::{
+    serf_agent_ack, serf_agent_answer, serf_agent_clocks, serf_agent_closed, serf_agent_closed_ack,
+    serf_agent_closed_response, serf_agent_event, serf_agent_gave, serf_agent_handed,
+    serf_agent_next_deadline, serf_agent_open_queries, serf_agent_packet,
+    serf_agent_should_compact,
+};
 pub use handle::Handle;
 pub use heads::{
-    AnswerHead, BytesHead, ClocksHead, EventHead, GaveHead, HandedHead, Params, Settings,
+    AnswerHead, BytesHead, ClocksHead, ClosedHead, EventHead, GaveHead, HandedHead, Params,
+    ResponseHead, Settings,
 };
 use session::Session;
 use std::alloc::Global;
@@ -304,7 +313,7 @@ pub extern "C" fn serf_agent_respond(
     code.number()
 }
 
-/// Takes out the open queries whose deadline is before a moment, and says how many they were.
+/// Closes the open queries whose deadline is before a moment, gives them with their answers, and says how many they were.
 #[unsafe(no_mangle)]
 pub extern "C" fn serf_agent_close_due(
     alloc: Global,
@@ -312,12 +321,12 @@ pub extern "C" fn serf_agent_close_due(
     now: u64,
     closed: &mut usize,
 ) -> u32
-    ensures { Through (λ s t code. Waits s t code × Forgoes s t code × Tells s t code × Closes now closed.new s t code) handle.old.place.value handle.new.place.value result }
+    ensures { Through (λ s t code. Waits s t code × Forgoes s t code × Tells s t code × Closes now closed.new s t code × Spares now s code) handle.old.place.value handle.new.place.value result }
 {
     let Some(mut session) = handle.take(alloc) else {
         return Code::Empty.number();
     };
-    let code = session.close_due(now, closed);
+    let code = session.close_due(alloc, now, closed);
     *handle = Handle::of(session);
     code.number()
 }
@@ -351,161 +360,6 @@ pub extern "C" fn serf_agent_compact(alloc: Global, handle: &mut Handle) -> u32
         return Code::Empty.number();
     };
     let code = session.compact(alloc);
-    *handle = Handle::of(session);
-    code.number()
-}
-
-/// What the last call gave.
-#[unsafe(no_mangle)]
-pub extern "C" fn serf_agent_gave(alloc: Global, handle: &mut Handle, gave: &mut GaveHead) -> u32
-    ensures { Reads (λ s code. (code ≡ Code.Done) × (gave.new ≡ record { kind = kind_of s.gave; reason = reason_of s.gave; handed = if is_some (handed_in s.gave) then length s.waiting.items + 1 else 0; events = length (events_in s.gave); foreign = foreign_of s.gave; rebroadcast = rebroadcast_of s.gave })) handle.old.place.value handle.new.place.value result }
-{
-    let Some(session) = handle.take(alloc) else {
-        return Code::Empty.number();
-    };
-    session.read_gave(gave);
-    *handle = Handle::of(session);
-    Code::Done.number()
-}
-
-/// An event that the last call handed out, from 0 on, and as much of its texts as fits.
-#[unsafe(no_mangle)]
-pub extern "C" fn serf_agent_event(
-    alloc: Global,
-    handle: &mut Handle,
-    index: usize,
-    event: &mut EventHead,
-    name: &mut [u8],
-    payload: &mut [u8],
-) -> u32
-    ensures { Reads (λ s code. ReadsAs (is_ready s) (slice_get (events_in s.gave) index) (λ o. (event.new ≡ event_head o) × (name.new ≡ copied o.name name.old) × (payload.new ≡ copied o.payload payload.old)) code) handle.old.place.value handle.new.place.value result }
-{
-    let Some(session) = handle.take(alloc) else {
-        return Code::Empty.number();
-    };
-    let code = session.read_event(index, event, name, payload);
-    *handle = Handle::of(session);
-    code.number()
-}
-
-/// What an ack's or a response's packet says: where `serf_agent_receive` gave `ACK` or `RESPONSE`, it is what was counted.
-#[unsafe(no_mangle)]
-pub extern "C" fn serf_agent_answer(
-    packet: &[u8],
-    answer: &mut AnswerHead,
-    from: &mut [u8],
-    payload: &mut [u8],
-) -> u32
-    ensures { (code : Code) × (result ≡ number_of code) × ReadsAnswer (answer_in packet.now) (λ r. (answer.new ≡ answer_head r) × (from.new ≡ copied r.from from.old) × (payload.new ≡ copied r.payload payload.old)) code }
-{
-    answers::read_answer(packet, answer, from, payload).number()
-}
-
-/// The packet that the last call gave to send: its length, and as much of it as fits.
-#[unsafe(no_mangle)]
-pub extern "C" fn serf_agent_packet(
-    alloc: Global,
-    handle: &mut Handle,
-    len: &mut usize,
-    to: &mut [u8],
-) -> u32
-    ensures { Reads (λ s code. ReadsAs (is_ready s) (packet_in s.gave) (λ p. (len.new ≡ length p) × (to.new ≡ copied p to.old)) code) handle.old.place.value handle.new.place.value result }
-{
-    let Some(session) = handle.take(alloc) else {
-        return Code::Empty.number();
-    };
-    let code = session.read_packet(len, to);
-    *handle = Handle::of(session);
-    code.number()
-}
-
-/// The ack to send, of a query that is handed out here: its length, and as much of it as fits.
-#[unsafe(no_mangle)]
-pub extern "C" fn serf_agent_ack(
-    alloc: Global,
-    handle: &mut Handle,
-    len: &mut usize,
-    to: &mut [u8],
-) -> u32
-    ensures { Reads (λ s code. ReadsAs (is_ready s) (ack_in s.gave) (λ p. (len.new ≡ length p) × (to.new ≡ copied p to.old)) code) handle.old.place.value handle.new.place.value result }
-{
-    let Some(session) = handle.take(alloc) else {
-        return Code::Empty.number();
-    };
-    let code = session.read_ack(len, to);
-    *handle = Handle::of(session);
-    code.number()
-}
-
-/// A query that was handed out and not yet answered, by its number, and as much of its texts as fits.
-#[unsafe(no_mangle)]
-pub extern "C" fn serf_agent_handed(
-    alloc: Global,
-    handle: &mut Handle,
-    number: u64,
-    handed: &mut HandedHead,
-    name: &mut [u8],
-    payload: &mut [u8],
-    source: &mut [u8],
-    addr: &mut [u8],
-) -> u32
-    ensures { Reads (λ s code. ReadsQuery (is_ready s) (waiting_at number (settled s)) (λ q. (handed.new ≡ handed_head q) × (name.new ≡ copied q.name name.old) × (payload.new ≡ copied q.payload payload.old) × (source.new ≡ copied q.source source.old) × (addr.new ≡ copied q.addr addr.old)) code) handle.old.place.value handle.new.place.value result }
-{
-    let Some(session) = handle.take(alloc) else {
-        return Code::Empty.number();
-    };
-    let code = session.read_handed(number, handed, name, payload, source, addr);
-    *handle = Handle::of(session);
-    code.number()
-}
-
-/// The agent's clocks.
-#[unsafe(no_mangle)]
-pub extern "C" fn serf_agent_clocks(
-    alloc: Global,
-    handle: &mut Handle,
-    clocks: &mut ClocksHead,
-) -> u32
-    ensures { Reads (λ s code. ReadsAs (is_ready s) (Some (clocks_head s.agent.concrete)) (λ head. clocks.new ≡ head) code) handle.old.place.value handle.new.place.value result }
-{
-    let Some(session) = handle.take(alloc) else {
-        return Code::Empty.number();
-    };
-    let code = session.read_clocks(clocks);
-    *handle = Handle::of(session);
-    code.number()
-}
-
-/// The least deadline of the open queries, if one is open.
-#[unsafe(no_mangle)]
-pub extern "C" fn serf_agent_next_deadline(
-    alloc: Global,
-    handle: &mut Handle,
-    deadline: &mut u64,
-) -> u32
-    ensures { Reads (λ s code. (is_ready s ≡ false → code ≡ Code.Unwritten) × (is_ready s ≡ true → TellsDeadline s.agent.concrete deadline.new code)) handle.old.place.value handle.new.place.value result }
-{
-    let Some(session) = handle.take(alloc) else {
-        return Code::Empty.number();
-    };
-    let code = session.read_next_deadline(deadline);
-    *handle = Handle::of(session);
-    code.number()
-}
-
-/// How many queries of this agent's own still take answers.
-#[unsafe(no_mangle)]
-pub extern "C" fn serf_agent_open_queries(
-    alloc: Global,
-    handle: &mut Handle,
-    total: &mut usize,
-) -> u32
-    ensures { Reads (λ s code. ReadsAs (is_ready s) (Some (min (length s.agent.concrete.asked) (2 ^ 64 - 1))) (λ n. total.new ≡ n) code) handle.old.place.value handle.new.place.value result }
-{
-    let Some(session) = handle.take(alloc) else {
-        return Code::Empty.number();
-    };
-    let code = session.read_open_queries(total);
     *handle = Handle::of(session);
     code.number()
 }

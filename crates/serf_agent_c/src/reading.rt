@@ -61,6 +61,7 @@ impl Gave {
             Gave::Merged(..) => 10,
             Gave::State(Ok(_)) => 11,
             Gave::Replied(Ok(_)) => 12,
+            Gave::Closed(_) => 13,
             _ => 0,
         }
     }

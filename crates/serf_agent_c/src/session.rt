@@ -1,6 +1,6 @@
 //! An agent, what its last call gave, and what the host's file lacks.
 
-ghost use Rattle.std.specs.Prelude.{◌≡◌, ◌<◌, ◌++◌, ◌∷◌, [], false, true, length, map, Err, OnOk, OnErr, Some};
+ghost use Rattle.std.specs.Prelude.{◌≡◌, ◌<◌, ◌++◌, ◌∷◌, [], false, true, length, map, Err, IsOk, None, OnOk, OnErr, Some};
 ghost use Rattle.std.specs.Vec.{vec_capacity, vec_len};
 ghost use Rattle.std.specs.Option.{option_to_list};
 ghost use Rattle.serf_agent_c.specs.Gaves.{handed_in};
@@ -81,6 +81,7 @@ impl Session {
         ensures rest { (self.new.agent ≡ self.old.agent) × (self.new.written ≡ self.old.written) × (self.new.replaces ≡ self.old.replaces) × (self.new.filters ≡ self.old.filters) }
         ensures members { (self.new.status ≡ self.old.status) × (self.new.left ≡ self.old.left) }
         ensures err { OnErr result ((self.new.waiting.items ≡ self.old.waiting.items) × (self.new.gave ≡ self.old.gave)) }
+        ensures none_handed { handed_in self.old.gave ≡ None → IsOk result }
     {
         if self.gave.handed().is_none() {
             self.gave = Gave::Nothing;
@@ -103,6 +104,7 @@ impl Session {
         ensures members { (self.new.status ≡ self.old.status) × (self.new.left ≡ self.old.left) }
         ensures unwritten { is_ready self.old ≡ false → (result ≡ Err Code.Unwritten) × (self.new ≡ self.old) }
         ensures refused { is_ready self.old ≡ true → OnErr result (result ≡ Err Code.OutOfMemory) }
+        ensures none_handed { is_ready self.old ≡ true → handed_in self.old.gave ≡ None → IsOk result }
     {
         if !self.is_ready() {
             return Err(Code::Unwritten);

@@ -1,0 +1,82 @@
+//! The queries that an agent closed, with their answers, and when its file is worth a compaction.
+
+use super::{answered, Agent, Answer, Error};
+use crate::raw;
+
+/// A query of this agent's own that was closed: the names of the nodes that acked it and the responses, in order of arrival.
+#[derive(Clone, Debug, PartialEq, Eq)]
+pub struct Closed {
+    pub time: u64,
+    pub id: u32,
+    /// The last moment at which an answer was counted.
+    pub deadline: u64,
+    pub acks: Vec<Vec<u8>>,
+    pub responses: Vec<Answer>,
+}
+
+/// How many bytes a file may have before it is worth a compaction: Serf's own number, for [`Agent::should_compact`].
+pub const DEFAULT_SNAPSHOT_LIMIT: u64 = 131_072;
+
+impl Agent {
+    fn closed_ack(&mut self, index: usize, number: usize) -> Result<Vec<u8>, Error> {
+        let (mut len, mut name) = (0, Vec::new());
+        for _ in 0..2 {
+            name = vec![0; len];
+            // SAFETY: the pointer comes with its length.
+            answered(unsafe { raw::serf_agent_closed_ack(&mut *self.handle, index, number, &mut len, name.as_mut_ptr(), name.len()) })?;
+        }
+        Ok(name)
+    }
+
+    fn closed_response(&mut self, index: usize, number: usize) -> Result<(Vec<u8>, Vec<u8>), Error> {
+        let mut about = raw::Response::default();
+        let (mut from, mut payload) = (Vec::new(), Vec::new());
+        for _ in 0..2 {
+            (from, payload) = (vec![0; about.from_len], vec![0; about.payload_len]);
+            // SAFETY: each pointer comes with its length.
+            answered(unsafe {
+                raw::serf_agent_closed_response(
+                    &mut *self.handle,
+                    index,
+                    number,
+                    &mut about,
+                    from.as_mut_ptr(),
+                    from.len(),
+                    payload.as_mut_ptr(),
+                    payload.len(),
+                )
+            })?;
+        }
+        Ok((from, payload))
+    }
+
+    /// A query that the call closed, with its answers.
+    fn closed(&mut self, index: usize) -> Result<Closed, Error> {
+        let mut about = raw::Closed::default();
+        // SAFETY: `about` is of the type that the library writes.
+        answered(unsafe { raw::serf_agent_closed(&mut *self.handle, index, &mut about) })?;
+        let raw::Closed { time, deadline, id, .. } = about;
+        let acks = (0..about.acks).map(|number| self.closed_ack(index, number)).collect::<Result<_, _>>()?;
+        let responses = (0..about.responses).map(|number| {
+            let (from, payload) = self.closed_response(index, number)?;
+            Ok(Answer { time, id, from, payload })
+        });
+        Ok(Closed { time, id, deadline, responses: responses.collect::<Result<_, Error>>()?, acks })
+    }
+
+    /// Closes this agent's queries whose deadline is before `now`: each with its answers, in the order in which they were fired.
+    pub fn close_due(&mut self, now: u64) -> Result<Vec<Closed>, Error> {
+        let mut closed = 0;
+        // SAFETY: `closed` is of the type that the library writes.
+        self.settled(|handle| unsafe { raw::serf_agent_close_due(handle, now, &mut closed) })?;
+        (0..closed).map(|index| self.closed(index)).collect()
+    }
+
+    /// Whether the file has more bytes than `limit`, and [`Agent::compact`] would take away at least half of them.
+    pub fn should_compact(&mut self, limit: u64) -> Result<bool, Error> {
+        let mut should = false;
+        // SAFETY: `should` is of the type that the library writes.
+        answered(unsafe { raw::serf_agent_should_compact(&mut *self.handle, limit, &mut should) })?;
+        Ok(should)
+    }
+}

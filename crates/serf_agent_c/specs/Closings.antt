@@ -1,0 +1,31 @@
+-- What C reads of the queries that the last call closed, and whether the host's file is worth a compaction.
+use Rattle.std.specs.Prelude.{◌≡◌, ◌<◌, ◌-◌, ◌^◌, ℕ, Bool, true, false, List, Option, Some, None, IfSome, length, slice_get}
+use Rattle.serf_snap.specs.Compaction.{is_worth_compacting}
+use Rattle.serf_snap.specs.Notes.{SnapshotView}
+use Rattle.serf_agent.specs.declared.lists.Response.{Response}
+use Rattle.serf_agent.specs.declared.open_query.OpenQuery.{OpenQuery}
+use Rattle.serf_agent_c.specs.declared.heads.ClosedHead.{ClosedHead}
+use Rattle.serf_agent_c.specs.declared.heads.ResponseHead.{ResponseHead}
+
+abbrev pub closed_head : ℕ × OpenQuery → ClosedHead
+closed_head q = record { time = q.0; deadline = q.1.deadline; acks = length q.1.acks; responses = length q.1.responses; id = q.1.id }
+
+abbrev pub response_head : Response → ResponseHead
+response_head r = record { from_len = length r.from; payload_len = length r.payload }
+
+-- the name of a number that acked a query, and the response of a number, in order of arrival from 0 on
+abbrev pub ack_of : ℕ → Option (ℕ × OpenQuery) → Option (List ℕ)
+ack_of number None = None
+ack_of number (Some q) = slice_get q.1.acks number
+
+abbrev pub response_of : ℕ → Option (ℕ × OpenQuery) → Option Response
+response_of number None = None
+response_of number (Some q) = slice_get q.1.responses number
+
+-- A text is worth a compaction just where it is longer than the limit and a compaction takes away at least half of it; never
+-- where the sink failed, nor at the greatest limit.
+abbrev pub TellsCompaction : ℕ → SnapshotView → Bool → Type 0
+TellsCompaction limit s should =
+    (s.stopped ≡ false → limit < 2 ^ 64 - 1 → IfSome s.durable (λ text. should ≡ is_worth_compacting limit s text))
+    × (s.stopped ≡ true → should ≡ false)
+    × (limit ≡ 2 ^ 64 - 1 → should ≡ false)

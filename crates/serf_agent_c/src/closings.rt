@@ -1,0 +1,130 @@
+//! What C reads of the queries that the last call closed, and whether the host's file is worth a compaction.
+
+ghost use Rattle.std.specs.Prelude.{◌≡◌, false, length, option_copied, slice_get, true};
+ghost use Rattle.serf_agent_c.specs.Closings.{TellsCompaction, ack_of, closed_head, response_head, response_of};
+ghost use Rattle.serf_agent_c.specs.Gaves.{closed_in};
+ghost use Rattle.serf_agent_c.specs.Reads.{ReadsAs};
+ghost use Rattle.serf_agent_c.specs.Sessions.{is_ready};
+ghost use Rattle.serf_agent_c.specs.Texts.{copied};
+
+use crate::code::Code;
+use crate::copies::copy_into;
+use crate::gave::Gave;
+use crate::heads::{ClosedHead, ResponseHead};
+use crate::session::Session;
+use serf_agent::{OpenQuery, Response};
+use serf_wire::Bytes;
+
+/// What C reads of a query that was closed, beside its answers.
+fn head_of_closed(closed: &(u64, OpenQuery)) -> ClosedHead
+    ensures { result ≡ closed_head closed.now }
+{
+    let (time, query) = closed;
+    ClosedHead {
+        time: *time,
+        deadline: query.deadline,
+        acks: query.acks.as_slice().len(),
+        responses: query.responses.as_slice().len(),
+        id: query.id,
+    }
+}
+
+/// What C reads of a response beside its texts.
+fn head_of_response(response: &Response) -> ResponseHead
+    ensures { result ≡ response_head response.now }
+{
+    ResponseHead {
+        from_len: response.from.as_slice().len(),
+        payload_len: response.payload.as_slice().len(),
+    }
+}
+
+impl Gave {
+    /// A name that acked a closed query, in order of arrival.
+    fn closed_ack(&self, index: usize, number: usize) -> Option<&Bytes>
+        ensures { option_copied result ≡ ack_of number (slice_get (closed_in self.now) index) }
+    {
+        let (_, query) = self.closed(index)?;
+        query.acks.as_slice().get(number)
+    }
+
+    /// A response to a closed query, in order of arrival.
+    fn closed_response(&self, index: usize, number: usize) -> Option<&Response>
+        ensures { option_copied result ≡ response_of number (slice_get (closed_in self.now) index) }
+    {
+        let (_, query) = self.closed(index)?;
+        query.responses.as_slice().get(number)
+    }
+}
+
+impl Session {
+    /// A query that the last call closed.
+    pub(crate) fn read_closed(&self, index: usize, head: &mut ClosedHead) -> Code
+        ensures { ReadsAs (is_ready self.now) (slice_get (closed_in self.now.gave) index) (λ q. head.new ≡ closed_head q) result }
+    {
+        if !self.is_ready() {
+            return Code::Unwritten;
+        }
+        let Some(query) = self.gave.closed(index) else {
+            return Code::Nothing;
+        };
+        *head = head_of_closed(query);
+        Code::Done
+    }
+
+    /// The name of a node that acked a closed query.
+    pub(crate) fn read_closed_ack(
+        &self,
+        index: usize,
+        number: usize,
+        len: &mut usize,
+        to: &mut [u8],
+    ) -> Code
+        ensures { ReadsAs (is_ready self.now) (ack_of number (slice_get (closed_in self.now.gave) index)) (λ name. (len.new ≡ length name) × (to.new ≡ copied name to.old)) result }
+    {
+        if !self.is_ready() {
+            return Code::Unwritten;
+        }
+        let Some(name) = self.gave.closed_ack(index, number) else {
+            return Code::Nothing;
+        };
+        *len = name.as_slice().len();
+        copy_into(to, name.as_slice());
+        Code::Done
+    }
+
+    /// A response to a closed query.
+    pub(crate) fn read_closed_response(
+        &self,
+        index: usize,
+        number: usize,
+        head: &mut ResponseHead,
+        from: &mut [u8],
+        payload: &mut [u8],
+    ) -> Code
+        ensures { ReadsAs (is_ready self.now) (response_of number (slice_get (closed_in self.now.gave) index)) (λ r. (head.new ≡ response_head r) × (from.new ≡ copied r.from from.old) × (payload.new ≡ copied r.payload payload.old)) result }
+    {
+        if !self.is_ready() {
+            return Code::Unwritten;
+        }
+        let Some(response) = self.gave.closed_response(index, number) else {
+            return Code::Nothing;
+        };
+        *head = head_of_response(response);
+        copy_into(from, response.from.as_slice());
+        copy_into(payload, response.payload.as_slice());
+        Code::Done
+    }
+
+    /// Whether the host's file is worth a compaction.
+    pub(crate) fn read_should_compact(&self, limit: u64, should: &mut bool) -> Code
+        ensures waits { is_ready self.now ≡ false → result ≡ Code.Unwritten }
+        ensures tells { is_ready self.now ≡ true → (result ≡ Code.Done) × TellsCompaction limit self.now.agent.concrete.snapshot should.new }
+    {
+        if !self.is_ready() {
+            return Code::Unwritten;
+        }
+        *should = self.agent.should_compact(limit);
+        Code::Done
+    }
+}

@@ -1,0 +1,254 @@
+//! The getters: what C reads through a handle, which they leave as it was.
+
+ghost use Rattle.std.specs.Prelude.{◌-◌, ◌^◌, min, true, ◌≡◌, ◌+◌, if◌then◌else◌, Some, false, length, slice_get};
+ghost use Rattle.std.specs.Option.{is_some};
+ghost use Rattle.serf_agent.specs.Answers.{answer_in};
+ghost use Rattle.serf_agent_c.specs.Answers.{ReadsAnswer, answer_head};
+ghost use Rattle.serf_agent_c.specs.Asking.{waiting_at};
+ghost use Rattle.serf_agent_c.specs.Closings.{TellsCompaction, ack_of, closed_head, response_head, response_of};
+ghost use Rattle.serf_agent_c.specs.Codes.{number_of};
+ghost use Rattle.serf_agent_c.specs.Exports.{Reads};
+ghost use Rattle.serf_agent_c.specs.Gaves.{ack_in, closed_in, events_in, handed_in, packet_in};
+ghost use Rattle.serf_agent_c.specs.Reads.{ReadsAs, ReadsQuery, TellsDeadline, clocks_head, event_head, foreign_of, handed_head, kind_of, reason_of, rebroadcast_of};
+ghost use Rattle.serf_agent_c.specs.Sessions.{is_ready, settled};
+ghost use Rattle.serf_agent_c.specs.Texts.{copied};
+
+use crate::answers::read_answer;
+use crate::code::Code;
+use crate::handle::Handle;
+use crate::heads::{
+    AnswerHead, ClocksHead, ClosedHead, EventHead, GaveHead, HandedHead, ResponseHead,
+};
+use std::alloc::Global;
+
+/// What the last call gave.
+#[unsafe(no_mangle)]
+pub extern "C" fn serf_agent_gave(alloc: Global, handle: &mut Handle, gave: &mut GaveHead) -> u32
+    ensures { Reads (λ s code. (code ≡ Code.Done) × (gave.new ≡ record { kind = kind_of s.gave; reason = reason_of s.gave; handed = if is_some (handed_in s.gave) then length s.waiting.items + 1 else 0; events = length (events_in s.gave); foreign = foreign_of s.gave; rebroadcast = rebroadcast_of s.gave })) handle.old.place.value handle.new.place.value result }
+{
+    let Some(session) = handle.take(alloc) else {
+        return Code::Empty.number();
+    };
+    session.read_gave(gave);
+    *handle = Handle::of(session);
+    Code::Done.number()
+}
+
+/// An event that the last call handed out, from 0 on, and as much of its texts as fits.
+#[unsafe(no_mangle)]
+pub extern "C" fn serf_agent_event(
+    alloc: Global,
+    handle: &mut Handle,
+    index: usize,
+    event: &mut EventHead,
+    name: &mut [u8],
+    payload: &mut [u8],
+) -> u32
+    ensures { Reads (λ s code. ReadsAs (is_ready s) (slice_get (events_in s.gave) index) (λ o. (event.new ≡ event_head o) × (name.new ≡ copied o.name name.old) × (payload.new ≡ copied o.payload payload.old)) code) handle.old.place.value handle.new.place.value result }
+{
+    let Some(session) = handle.take(alloc) else {
+        return Code::Empty.number();
+    };
+    let code = session.read_event(index, event, name, payload);
+    *handle = Handle::of(session);
+    code.number()
+}
+
+/// What an ack's or a response's packet says: where `serf_agent_receive` gave `ACK` or `RESPONSE`, it is what was counted.
+#[unsafe(no_mangle)]
+pub extern "C" fn serf_agent_answer(
+    packet: &[u8],
+    answer: &mut AnswerHead,
+    from: &mut [u8],
+    payload: &mut [u8],
+) -> u32
+    ensures { (code : Code) × (result ≡ number_of code) × ReadsAnswer (answer_in packet.now) (λ r. (answer.new ≡ answer_head r) × (from.new ≡ copied r.from from.old) × (payload.new ≡ copied r.payload payload.old)) code }
+{
+    read_answer(packet, answer, from, payload).number()
+}
+
+/// The packet that the last call gave to send: its length, and as much of it as fits.
+#[unsafe(no_mangle)]
+pub extern "C" fn serf_agent_packet(
+    alloc: Global,
+    handle: &mut Handle,
+    len: &mut usize,
+    to: &mut [u8],
+) -> u32
+    ensures { Reads (λ s code. ReadsAs (is_ready s) (packet_in s.gave) (λ p. (len.new ≡ length p) × (to.new ≡ copied p to.old)) code) handle.old.place.value handle.new.place.value result }
+{
+    let Some(session) = handle.take(alloc) else {
+        return Code::Empty.number();
+    };
+    let code = session.read_packet(len, to);
+    *handle = Handle::of(session);
+    code.number()
+}
+
+/// The ack to send, of a query that is handed out here: its length, and as much of it as fits.
+#[unsafe(no_mangle)]
+pub extern "C" fn serf_agent_ack(
+    alloc: Global,
+    handle: &mut Handle,
+    len: &mut usize,
+    to: &mut [u8],
+) -> u32
+    ensures { Reads (λ s code. ReadsAs (is_ready s) (ack_in s.gave) (λ p. (len.new ≡ length p) × (to.new ≡ copied p to.old)) code) handle.old.place.value handle.new.place.value result }
+{
+    let Some(session) = handle.take(alloc) else {
+        return Code::Empty.number();
+    };
+    let code = session.read_ack(len, to);
+    *handle = Handle::of(session);
+    code.number()
+}
+
+/// A query that was handed out and not yet answered, by its number, and as much of its texts as fits.
+#[unsafe(no_mangle)]
+pub extern "C" fn serf_agent_handed(
+    alloc: Global,
+    handle: &mut Handle,
+    number: u64,
+    handed: &mut HandedHead,
+    name: &mut [u8],
+    payload: &mut [u8],
+    source: &mut [u8],
+    addr: &mut [u8],
+) -> u32
+    ensures { Reads (λ s code. ReadsQuery (is_ready s) (waiting_at number (settled s)) (λ q. (handed.new ≡ handed_head q) × (name.new ≡ copied q.name name.old) × (payload.new ≡ copied q.payload payload.old) × (source.new ≡ copied q.source source.old) × (addr.new ≡ copied q.addr addr.old)) code) handle.old.place.value handle.new.place.value result }
+{
+    let Some(session) = handle.take(alloc) else {
+        return Code::Empty.number();
+    };
+    let code = session.read_handed(number, handed, name, payload, source, addr);
+    *handle = Handle::of(session);
+    code.number()
+}
+
+/// The agent's clocks.
+#[unsafe(no_mangle)]
+pub extern "C" fn serf_agent_clocks(
+    alloc: Global,
+    handle: &mut Handle,
+    clocks: &mut ClocksHead,
+) -> u32
+    ensures { Reads (λ s code. ReadsAs (is_ready s) (Some (clocks_head s.agent.concrete)) (λ head. clocks.new ≡ head) code) handle.old.place.value handle.new.place.value result }
+{
+    let Some(session) = handle.take(alloc) else {
+        return Code::Empty.number();
+    };
+    let code = session.read_clocks(clocks);
+    *handle = Handle::of(session);
+    code.number()
+}
+
+/// The least deadline of the open queries, if one is open.
+#[unsafe(no_mangle)]
+pub extern "C" fn serf_agent_next_deadline(
+    alloc: Global,
+    handle: &mut Handle,
+    deadline: &mut u64,
+) -> u32
+    ensures { Reads (λ s code. (is_ready s ≡ false → code ≡ Code.Unwritten) × (is_ready s ≡ true → TellsDeadline s.agent.concrete deadline.new code)) handle.old.place.value handle.new.place.value result }
+{
+    let Some(session) = handle.take(alloc) else {
+        return Code::Empty.number();
+    };
+    let code = session.read_next_deadline(deadline);
+    *handle = Handle::of(session);
+    code.number()
+}
+
+/// How many queries of this agent's own still take answers.
+#[unsafe(no_mangle)]
+pub extern "C" fn serf_agent_open_queries(
+    alloc: Global,
+    handle: &mut Handle,
+    total: &mut usize,
+) -> u32
+    ensures { Reads (λ s code. ReadsAs (is_ready s) (Some (min (length s.agent.concrete.asked) (2 ^ 64 - 1))) (λ n. total.new ≡ n) code) handle.old.place.value handle.new.place.value result }
+{
+    let Some(session) = handle.take(alloc) else {
+        return Code::Empty.number();
+    };
+    let code = session.read_open_queries(total);
+    *handle = Handle::of(session);
+    code.number()
+}
+
+/// A query that the last call closed, from 0 on, in the order in which they were fired.
+#[unsafe(no_mangle)]
+pub extern "C" fn serf_agent_closed(
+    alloc: Global,
+    handle: &mut Handle,
+    index: usize,
+    closed: &mut ClosedHead,
+) -> u32
+    ensures { Reads (λ s code. ReadsAs (is_ready s) (slice_get (closed_in s.gave) index) (λ q. closed.new ≡ closed_head q) code) handle.old.place.value handle.new.place.value result }
+{
+    let Some(session) = handle.take(alloc) else {
+        return Code::Empty.number();
+    };
+    let code = session.read_closed(index, closed);
+    *handle = Handle::of(session);
+    code.number()
+}
+
+/// The name of a node that acked a closed query, from 0 on, in order of arrival: its length, and as much of it as fits.
+#[unsafe(no_mangle)]
+pub extern "C" fn serf_agent_closed_ack(
+    alloc: Global,
+    handle: &mut Handle,
+    index: usize,
+    number: usize,
+    len: &mut usize,
+    to: &mut [u8],
+) -> u32
+    ensures { Reads (λ s code. ReadsAs (is_ready s) (ack_of number (slice_get (closed_in s.gave) index)) (λ name. (len.new ≡ length name) × (to.new ≡ copied name to.old)) code) handle.old.place.value handle.new.place.value result }
+{
+    let Some(session) = handle.take(alloc) else {
+        return Code::Empty.number();
+    };
+    let code = session.read_closed_ack(index, number, len, to);
+    *handle = Handle::of(session);
+    code.number()
+}
+
+/// A response to a closed query, from 0 on, in order of arrival, and as much of its texts as fits.
+#[unsafe(no_mangle)]
+pub extern "C" fn serf_agent_closed_response(
+    alloc: Global,
+    handle: &mut Handle,
+    index: usize,
+    number: usize,
+    response: &mut ResponseHead,
+    from: &mut [u8],
+    payload: &mut [u8],
+) -> u32
+    ensures { Reads (λ s code. ReadsAs (is_ready s) (response_of number (slice_get (closed_in s.gave) index)) (λ r. (response.new ≡ response_head r) × (from.new ≡ copied r.from from.old) × (payload.new ≡ copied r.payload payload.old)) code) handle.old.place.value handle.new.place.value result }
+{
+    let Some(session) = handle.take(alloc) else {
+        return Code::Empty.number();
+    };
+    let code = session.read_closed_response(index, number, response, from, payload);
+    *handle = Handle::of(session);
+    code.number()
+}
+
+/// Whether the file is worth a compaction: more than `limit` bytes, of which a compaction takes away at least half.
+#[unsafe(no_mangle)]
+pub extern "C" fn serf_agent_should_compact(
+    alloc: Global,
+    handle: &mut Handle,
+    limit: u64,
+    should: &mut bool,
+) -> u32
+    ensures { Reads (λ s code. (is_ready s ≡ false → code ≡ Code.Unwritten) × (is_ready s ≡ true → (code ≡ Code.Done) × TellsCompaction limit s.agent.concrete.snapshot should.new)) handle.old.place.value handle.new.place.value result }
+{
+    let Some(session) = handle.take(alloc) else {
+        return Code::Empty.number();
+    };
+    let code = session.read_should_compact(limit, should);
+    *handle = Handle::of(session);
+    code.number()
+}
