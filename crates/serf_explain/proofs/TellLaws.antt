@@ -17,7 +17,6 @@ use Rattle.serf_explain.specs.declared.range.Range.{Range}
 use Rattle.serf_explain.specs.Range.{is_shown}
 use Rattle.serf_agent.specs.States.{events_of, joined}
 use Rattle.serf_model.specs.declared.action.Action.TheVariants as actions
-use Rattle.serf_model.specs.declared.line.Answer.TheVariants as answers
 use Rattle.serf_explain.specs.Because.{AddsSuch, because_line}
 use Rattle.serf_explain.specs.Carried.{AreMerged, OfMerge, TellsMerge, TellsMerged}
 use Rattle.serf_explain.specs.Seen.{event_delivered, event_given}
@@ -119,13 +118,13 @@ told-after range r clusters action w new line carried past text added n sends st
           (of-merge r.cluster action carried adds.reasons told (adds.such.merged (ap (λ (l : Line). l.answer) takes.line_is ∙ answers)));
     } in
     let before : map (λ (e : Explained). e.turn.line) h.explained ≡ past =
-        sym (lines-of h.explained) ∙ ap (λ (ts : List Turn). map (λ (t : Turn). t.line) ts) h.whole.turns_are ∙ sym h.lines_are in
+    sym (lines-of h.explained) ∙ ap (λ (ts : List Turn). map (λ (t : Turn). t.line) ts) h.whole.turns_are ∙ sym h.lines_are in
     let behind : length past + 1 ≡ n = omega (arith, ap (λ (ls : List Line). length ls) h.lines_are ∙ length-map r.turns (λ (t : Turn). t.line), count) in
     let names : NamesHandOut range past one = λ shown answers a e is.
-        adds.such.seen (ap (λ m. is_shown range m (actor_of action)) (sym behind) ∙ ap (λ (b : Action). is_shown range (length past + 1) (actor_of b)) (sym (acts r.cluster action)) ∙ shown)
-        (ap (λ (l : Line). l.answer) takes.line_is ∙ answers) a e
-        (ap (λ s. event_delivered s action) (sym takes.view.sent ∙ sends)
-        ∙ still-delivered r.cluster.sent turn.packets action a e (ap (λ (b : Action). event_delivered r.cluster.sent b) (sym (acts r.cluster action)) ∙ is)) in
+    adds.such.seen (ap (λ m. is_shown range m (actor_of action)) (sym behind) ∙ ap (λ (b : Action). is_shown range (length past + 1) (actor_of b)) (sym (acts r.cluster action)) ∙ shown)
+    (ap (λ (l : Line). l.answer) takes.line_is ∙ answers) a e
+    (ap (λ s. event_delivered s action) (sym takes.view.sent ∙ sends)
+    ∙ still-delivered r.cluster.sent turn.packets action a e (ap (λ (b : Action). event_delivered r.cluster.sent b) (sym (acts r.cluster action)) ∙ is)) in
     let place : 1 + length h.explained ≡ n = omega (arith, many, count) in
     record {
       view = takes.view;

@@ -1,7 +1,6 @@
 //! Which of a run's lines hand an event to an agent.
 
 ghost use Rattle.std.specs.Prelude.{◌≡◌, position};
-
 ghost use Rattle.serf_window.specs.Texts.{event_of};
 ghost use Rattle.serf_explain.specs.Seen.{hands_out, is_hand_out};
 

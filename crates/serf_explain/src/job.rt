@@ -146,9 +146,11 @@ fn output_text<T: Watch>(
 /// lines that [`serf_replay::replay`] writes, and behind them a line `N because ..` for each reason, one at least. The
 /// answer is how many actions the schedule has.
 ///
-/// At most 16,777,217 bytes are read, and nothing is written before all is read, parsed and run. What a reason says is
-/// tested, and no contract says it; but no byte of it is a control byte, or is not ASCII. The faults are those of
-/// `replay`, and come where they come there. The watch is told of each action of the run that is done.
+/// At most 16,777,217 bytes are read, and nothing is written before all is read, parsed and run. The reasons of a merge
+/// say the verdict on each event, and that of a delivered event which was seen names an earlier action that handed it
+/// out. What else a reason says is tested, and no contract says it; but no byte of it is a control byte, or is not
+/// ASCII. The faults are those of `replay`, and come where they come there. The watch is told of each action of the run
+/// that is done.
 pub fn explain<R: Read, W: Write, T: Watch>(
     alloc: Global,
     reader: &mut R,

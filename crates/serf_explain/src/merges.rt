@@ -124,12 +124,7 @@ fn put_detail(
         Some(Reason::TooOld) => {
             put_too_old(out, event.time, config.event_buffer, b"event", judge.clock)
         }
-        Some(Reason::Seen) => put_seen_at(
-            out,
-            merging.agent,
-            event,
-            handed_at(merging, event),
-        ),
+        Some(Reason::Seen) => put_seen_at(out, merging.agent, event, handed_at(merging, event)),
         Some(Reason::TimeFull) => put_full(out, config.per_time, event.time),
         _ => Ok(()),
     }

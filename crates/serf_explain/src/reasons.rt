@@ -73,7 +73,12 @@ fn packet_lines(
 }
 
 /// The agent that is to merge a state.
-fn merging_at<'a>(world: &'a World, history: &'a History, number: u64, to: u64) -> Option<Merging<'a>>
+fn merging_at<'a>(
+    world: &'a World,
+    history: &'a History,
+    number: u64,
+    to: u64,
+) -> Option<Merging<'a>>
     ensures { option_map (λ m. m.agent.now.concrete) result ≡ agent_at world.now to }
 {
     match world.agent(to) {

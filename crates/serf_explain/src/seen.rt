@@ -135,12 +135,23 @@ fn seen_reason(alloc: Global, told: &Told, of: &Delivered) -> Result<Vec<u8>, Al
 {
     let mut reason = Vec::new(alloc);
     let place = hand_out(told, of);
-    put_seen_words(&mut reason, name_of(told, of.to), &of.event, told.past, place)?;
+    put_seen_words(
+        &mut reason,
+        name_of(told, of.to),
+        &of.event,
+        told.past,
+        place,
+    )?;
     Ok(reason)
 }
 
 /// Appends the line that says so.
-fn put_seen_event(alloc: Global, out: &mut Vec<u8>, told: &Told, of: &Delivered) -> Result<(), AllocError>
+fn put_seen_event(
+    alloc: Global,
+    out: &mut Vec<u8>,
+    told: &Told,
+    of: &Delivered,
+) -> Result<(), AllocError>
     ensures { OnOk result (AddsSuch (λ reasons. (reason : List ℕ) × (reasons ≡ reason ∷ []) × IsSeen told.now.past.now of.now.to of.now.event.time (event_of of.now.event.name.now of.now.event.payload.now) reason) told.now.number out.old.items out.new.items) }
 {
     let reason = seen_reason(alloc, told, of)?;
