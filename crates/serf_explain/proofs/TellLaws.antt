@@ -1,7 +1,8 @@
 -- The text of a run's turns with their reasons, as one action after another is done.
 use Rattle.std.proofs.Common.{◌≡◌, ℕ, ◌+◌, List, [], ◌∷◌, ◌++◌, Option, Some, None, true, false, refl, subst, sym, ap, ◌∙◌, length, append_assoc, arith}
-use Rattle.std.specs.Prelude.{slice_get, if◌then◌else◌}
+use Rattle.std.specs.Prelude.{slice_get, map, zero, suc, if◌then◌else◌}
 use Rattle.std.specs.List.{flat_map}
+use Rattle.std.specs.Option.{option_map}
 use Rattle.std.proofs.lemmas.List.{append-nil, length-map, map-append}
 use Rattle.std.proofs.lemmas.List.Elements.{All-nil, All-push}
 use Rattle.serf_model.specs.declared.action.Action.{Action}
@@ -16,11 +17,13 @@ use Rattle.serf_explain.specs.declared.range.Range.{Range}
 use Rattle.serf_explain.specs.Range.{is_shown}
 use Rattle.serf_agent.specs.States.{events_of, joined}
 use Rattle.serf_model.specs.declared.action.Action.TheVariants as actions
-use Rattle.serf_model.specs.declared.line.Answer.TheVariants as answers
 use Rattle.serf_explain.specs.Because.{AddsSuch, because_line}
 use Rattle.serf_explain.specs.Carried.{AreMerged, OfMerge, TellsMerge, TellsMerged}
+use Rattle.serf_explain.specs.Seen.{event_delivered, event_given}
+use Rattle.serf_wire.specs.declared.texts.EventBody.{EventBody}
+use Rattle.serf_window.specs.Window.{TimedEntry}
 use Rattle.serf_explain.proofs.CarriedLaws.{merged_of, some-merged, told-merged}
-use Rattle.serf_explain.specs.Explained.{AddsTurn, Explained, IsReasoned, IsTold, TellsRun, clusters_before, turn_text, turns_text}
+use Rattle.serf_explain.specs.Explained.{AddsTurn, Explained, IsReasoned, IsTold, NameHandOuts, NamesHandOut, TellsAll, TellsRun, clusters_before, turn_text, turns_text}
 
 -- a turn is of the action that was done
 acts : (c : Cluster) (action : Action) → (step c action).turn.action ≡ action
@@ -60,17 +63,51 @@ of-merge c (actions.Close agent now) carried reasons h tells = tt
 of-merge c (actions.Save agent) carried reasons h tells = tt
 of-merge c (actions.Compact agent) carried reasons h tells = tt
 
--- what is told of a turn that answers that it merged
-abbrev pub Merges : Line → List (List ℕ) → List (List ℕ) → Type 0
-Merges line carried reasons = line.answer ≡ answers.Merged → TellsMerged carried reasons
+-- a packet that was sent stays it
+still-sent : (xs ys : List (List ℕ)) (k : ℕ) (x : List ℕ) → slice_get xs k ≡ Some x → slice_get (xs ++ ys) k ≡ Some x
+still-sent [] ys k x h = absurd (cc (h))
+still-sent (y ∷ xs) ys zero x h = h
+still-sent (y ∷ xs) ys (suc k) x h = still-sent xs ys k x h
+
+still-delivered : (sent more : List (List ℕ)) (action : Action) (a : ℕ) (e : TimedEntry EventBody) → event_delivered sent action ≡ Some (a, e) → event_delivered (sent ++ more) action ≡ Some (a, e)
+still-delivered sent more (actions.Deliver to packet now) a e h = by (slice_get sent packet) refl h
+  where
+    pair : TimedEntry EventBody → ℕ × TimedEntry EventBody
+    pair e = (to, e)
+
+    by : (o : Option (List ℕ)) → slice_get sent packet ≡ o → option_map pair (event_given o) ≡ Some (a, e) → option_map pair (event_given (slice_get (sent ++ more) packet)) ≡ Some (a, e)
+    by None is k = absurd (cc (k))
+    by (Some bytes) is k = ap (λ (o : Option (List ℕ)). option_map pair (event_given o)) (still-sent sent more packet bytes is) ∙ k
+still-delivered sent more (actions.Fire agent name payload coalesce) a e h = h
+still-delivered sent more (actions.Merge to packet join) a e h = h
+still-delivered sent more (actions.State agent) a e h = h
+still-delivered sent more (actions.Query agent now id name payload params) a e h = h
+still-delivered sent more (actions.Respond agent k now payload) a e h = h
+still-delivered sent more (actions.Restart agent tail) a e h = h
+still-delivered sent more (actions.Break agent call n) a e h = h
+still-delivered sent more (actions.Inject bytes) a e h = h
+still-delivered sent more (actions.Close agent now) a e h = h
+still-delivered sent more (actions.Save agent) a e h = h
+still-delivered sent more (actions.Compact agent) a e h = h
+
+-- one more turn that names what it has to
+names-push : (range : Range) (lines : List Line) (es : List Explained) (e : Explained) → NameHandOuts range lines es → NamesHandOut range (lines ++ map (λ (x : Explained). x.turn.line) es) e → NameHandOuts range lines (es ++ e ∷ [])
+names-push range lines [] e h k = (subst (λ (ls : List Line). NamesHandOut range ls e) (append-nil lines) k, tt)
+names-push range lines (x ∷ xs) e h k =
+    (h.0, names-push range (lines ++ x.turn.line ∷ []) xs e h.1 (subst (λ (ls : List Line). NamesHandOut range ls e) (sym (append_assoc lines (x.turn.line ∷ []) (map (λ (y : Explained). y.turn.line) xs))) k))
+
+lines-of : (es : List Explained) → map (λ (t : Turn). t.line) (map (λ (e : Explained). e.turn) es) ≡ map (λ (e : Explained). e.turn.line) es
+lines-of [] = refl
+lines-of (e ∷ es) = ap (λ (ls : List Line). e.turn.line ∷ ls) (lines-of es)
 
 -- one more turn
-pub told-after : (range : Range) (r : Run) (clusters : List Cluster) (action : Action) (w new : WorldState) (line : Line) (carried : List (List ℕ)) (text added : List ℕ) (n : ℕ)
+pub told-after : (range : Range) (r : Run) (clusters : List Cluster) (action : Action) (w new : WorldState) (line : Line) (carried : List (List ℕ)) (past : List Line) (text added : List ℕ) (n : ℕ)
     → ((step r.cluster action).cluster.sent ≡ r.cluster.sent ++ (step r.cluster action).turn.packets)
     → ((more : List (List ℕ)) → action_text ((step r.cluster action).cluster.sent ++ more) n (step r.cluster action).turn.line ≡ action_text (step r.cluster action).cluster.sent n (step r.cluster action).turn.line)
-    → IsTold range r clusters w text → n ≡ length r.turns + 1 → TellsMerge r.cluster action carried → TakesStep (step r.cluster action) new line → AddsTurn (Merges line carried) (is_shown range n (actor_of action)) new.sent n line text added
-    → IsTold range (after r action) (clusters ++ r.cluster ∷ []) new added
-told-after range r clusters action w new line carried text added n sends stays h count told takes adds =
+    → IsTold range r clusters w past text → n ≡ length r.turns + 1 → TellsMerge r.cluster action carried → TakesStep (step r.cluster action) new line
+    → AddsTurn (TellsAll (is_shown range n (actor_of action)) carried past new.sent action line) (is_shown range n (actor_of action)) new.sent n line text added
+    → IsTold range (after r action) (clusters ++ r.cluster ∷ []) new (past ++ line ∷ []) added
+told-after range r clusters action w new line carried past text added n sends stays h count told takes adds =
     let turn : Turn = (step r.cluster action).turn in
     let sent : List (List ℕ) = (step r.cluster action).cluster.sent in
     let one : Explained = record { before = r.cluster; turn = turn; reasons = adds.reasons } in
@@ -78,17 +115,28 @@ told-after range r clusters action w new line carried text added n sends stays h
     let reasoned : IsReasoned r.cluster turn.action turn.line adds.reasons = record {
       some = adds.some;
       merged = λ answers. subst (λ (a : Action). OfMerge AreMerged r.cluster a adds.reasons) (sym (acts r.cluster action))
-          (of-merge r.cluster action carried adds.reasons told (adds.such (ap (λ (l : Line). l.answer) takes.line_is ∙ answers)));
+          (of-merge r.cluster action carried adds.reasons told (adds.such.merged (ap (λ (l : Line). l.answer) takes.line_is ∙ answers)));
     } in
+    let before : map (λ (e : Explained). e.turn.line) h.explained ≡ past =
+    sym (lines-of h.explained) ∙ ap (λ (ts : List Turn). map (λ (t : Turn). t.line) ts) h.whole.turns_are ∙ sym h.lines_are in
+    let behind : length past + 1 ≡ n = omega (arith, ap (λ (ls : List Line). length ls) h.lines_are ∙ length-map r.turns (λ (t : Turn). t.line), count) in
+    let names : NamesHandOut range past one = λ shown answers a e is.
+    adds.such.seen (ap (λ m. is_shown range m (actor_of action)) (sym behind) ∙ ap (λ (b : Action). is_shown range (length past + 1) (actor_of b)) (sym (acts r.cluster action)) ∙ shown)
+    (ap (λ (l : Line). l.answer) takes.line_is ∙ answers) a e
+    (ap (λ s. event_delivered s action) (sym takes.view.sent ∙ sends)
+    ∙ still-delivered r.cluster.sent turn.packets action a e (ap (λ (b : Action). event_delivered r.cluster.sent b) (sym (acts r.cluster action)) ∙ is)) in
     let place : 1 + length h.explained ≡ n = omega (arith, many, count) in
     record {
       view = takes.view;
       representable = takes.representable;
+      lines_are = ap (λ (ls : List Line). ls ++ line ∷ []) h.lines_are ∙ ap (λ (l : Line). map (λ (t : Turn). t.line) r.turns ++ l ∷ []) takes.line_is
+          ∙ sym (map-append (λ (t : Turn). t.line) r.turns (turn ∷ []));
       explained = h.explained ++ one ∷ [];
       whole = record {
         turns_are = map-append (λ (e : Explained). e.turn) h.explained (one ∷ []) ∙ ap (λ ts. ts ++ turn ∷ []) h.whole.turns_are;
         clusters_are = map-append (λ (e : Explained). e.before) h.explained (one ∷ []) ∙ ap (λ cs. cs ++ r.cluster ∷ []) h.whole.clusters_are;
         reasons = All-push (λ (e : Explained). IsReasoned e.before e.turn.action e.turn.line e.reasons) h.explained one h.whole.reasons reasoned;
+        seen = names-push range [] h.explained one h.whole.seen (subst (λ (ls : List Line). NamesHandOut range ls one) (sym before) names);
       };
       told = λ more.
           turns-push range (sent ++ more) 1 h.explained one
@@ -114,14 +162,19 @@ lines-added P sent n line a b d is h = record {
 }
 
 -- an action that isn't shown
-pub nothing-added : (carried : List (List ℕ)) (sent : List (List ℕ)) (n : ℕ) (line : Line) (a : List ℕ) → AddsTurn (Merges line carried) false sent n line a a
-nothing-added carried sent n line a = record { reasons = merged_of carried; some = some-merged carried; such = λ answers. told-merged carried; added = sym (append-nil a) }
+pub nothing-added : (carried : List (List ℕ)) (past : List Line) (sent : List (List ℕ)) (action : Action) (n : ℕ) (line : Line) (a : List ℕ) → AddsTurn (TellsAll false carried past sent action line) false sent n line a a
+nothing-added carried past sent action n line a = record {
+  reasons = merged_of carried;
+  some = some-merged carried;
+  such = record { merged = λ answers. told-merged carried; seen = λ shown. absurd (cc (shown)) };
+  added = sym (append-nil a);
+}
 
 -- a run whose actions are all told
-pub told-whole : (range : Range) (configs : List Config) (actions : List Action) (r : Run) (clusters : List Cluster) (w : WorldState) (text : List ℕ)
-    → r ≡ run_of configs actions → clusters ≡ clusters_before configs actions → IsTold range r clusters w text → TellsRun range configs actions text
-told-whole range configs actions r clusters w text e same h =
-    let k : IsTold range (run_of configs actions) (clusters_before configs actions) w text = subst (λ q. IsTold range q (clusters_before configs actions) w text) e (subst (λ (cs : List Cluster). IsTold range r cs w text) same h) in
+pub told-whole : (range : Range) (configs : List Config) (actions : List Action) (r : Run) (clusters : List Cluster) (w : WorldState) (past : List Line) (text : List ℕ)
+    → r ≡ run_of configs actions → clusters ≡ clusters_before configs actions → IsTold range r clusters w past text → TellsRun range configs actions text
+told-whole range configs actions r clusters w past text e same h =
+    let k : IsTold range (run_of configs actions) (clusters_before configs actions) w past text = subst (λ q. IsTold range q (clusters_before configs actions) w past text) e (subst (λ (cs : List Cluster). IsTold range r cs w past text) same h) in
     record {
       explained = k.explained;
       whole = k.whole;
@@ -129,11 +182,12 @@ told-whole range configs actions r clusters w text e same h =
     }
 
 -- a run of no action
-pub told-first : (range : Range) (configs : List Config) (w : WorldState) (text : List ℕ) → IsViewed (start configs).cluster w → AreRepresentable (start configs).cluster → text ≡ [] → IsTold range (start configs) [] w text
-told-first range configs w text view representable empty = record {
+pub told-first : (range : Range) (configs : List Config) (w : WorldState) (past : List Line) (text : List ℕ) → IsViewed (start configs).cluster w → AreRepresentable (start configs).cluster → past ≡ [] → text ≡ [] → IsTold range (start configs) [] w past text
+told-first range configs w past text view representable none empty = record {
   view = view;
   representable = representable;
+  lines_are = none;
   explained = [];
-  whole = record { turns_are = refl; clusters_are = refl; reasons = All-nil (λ (e : Explained). IsReasoned e.before e.turn.action e.turn.line e.reasons) };
+  whole = record { turns_are = refl; clusters_are = refl; reasons = All-nil (λ (e : Explained). IsReasoned e.before e.turn.action e.turn.line e.reasons); seen = tt };
   told = λ more. sym empty;
 }

@@ -1,7 +1,8 @@
 -- A trace with its reasons.
-use Rattle.std.specs.Prelude.{◌≡◌, ℕ, ◌+◌, ◌<◌, ◌++◌, Bool, if◌then◌else◌, List, [], ◌∷◌, Ok, All, length, map}
+use Rattle.std.specs.Prelude.{◌≡◌, ℕ, ◌+◌, ◌<◌, ◌++◌, Bool, true, if◌then◌else◌, List, [], ◌∷◌, Ok, All, length, map}
 use Rattle.std.specs.List.{flat_map}
 use Rattle.serf_agent.specs.declared.config.Config.{Config}
+use Rattle.serf_agent.specs.declared.outcome.Reason.TheVariants.{Seen}
 use Rattle.serf_model.specs.declared.action.Action.{Action}
 use Rattle.serf_model.specs.declared.line.Line.{Line}
 use Rattle.serf_model.specs.declared.line.Answer.TheVariants as answers
@@ -15,8 +16,9 @@ use Rattle.serf_replay.specs.Schedule.{schedule_of}
 use Rattle.serf_replay.specs.Show.{action_text, trace_text}
 use Rattle.serf_explain.specs.declared.range.Range.{Range}
 use Rattle.serf_explain.specs.Because.{because_line}
-use Rattle.serf_explain.specs.Carried.{AreMerged, OfMerge}
+use Rattle.serf_explain.specs.Carried.{AreMerged, OfMerge, TellsMerged}
 use Rattle.serf_explain.specs.Range.{is_shown}
+use Rattle.serf_explain.specs.Seen.{OfSeen}
 
 -- a turn of a run, the cluster before it, and the reasons that are told of it
 pub record Explained : Type 0 where
@@ -51,17 +53,29 @@ clusters_from c (action ∷ rest) = c ∷ clusters_from (step c action).cluster 
 abbrev pub clusters_before : List Config → List Action → List Cluster
 clusters_before configs actions = clusters_from (start configs).cluster actions
 
+-- Where a turn that is shown answers that a delivered event was seen, and these are the lines before it, its reason names
+-- one of these that handed the event to the agent.
+abbrev pub NamesHandOut : Range → List Line → Explained → Type 0
+NamesHandOut range lines e = is_shown range (length lines + 1) (actor_of e.turn.action) ≡ true → e.turn.line.answer ≡ answers.Ignored Seen
+    → OfSeen lines e.before.sent e.turn.action e.reasons
+
+-- and so each turn, one after another
+abbrev pub NameHandOuts : Range → List Line → List Explained → Type 0
+NameHandOuts range lines [] = Unit {0}
+NameHandOuts range lines (e ∷ es) = NamesHandOut range lines e × NameHandOuts range (lines ++ e.turn.line ∷ []) es
+
 -- The turns of a run, with the clusters before them, each with its reasons.
-pub record IsExplained (turns : List Turn) (clusters : List Cluster) (explained : List Explained) : Type 0 where
+pub record IsExplained (range : Range) (turns : List Turn) (clusters : List Cluster) (explained : List Explained) : Type 0 where
   pub turns_are : map (λ (e : Explained). e.turn) explained ≡ turns
   pub clusters_are : map (λ (e : Explained). e.before) explained ≡ clusters
   pub reasons : All (λ (e : Explained). IsReasoned e.before e.turn.action e.turn.line e.reasons) explained
+  pub seen : NameHandOuts range [] explained
 
 -- The text is that of the run of these actions: of each action in the range the very lines of its trace, and a line for
 -- each of its reasons.
 pub record TellsRun (range : Range) (configs : List Config) (actions : List Action) (text : List ℕ) : Type 0 where
   pub explained : List Explained
-  pub whole : IsExplained (run_of configs actions).turns (clusters_before configs actions) explained
+  pub whole : IsExplained range (run_of configs actions).turns (clusters_before configs actions) explained
   pub text_is : text ≡ turns_text range (run_of configs actions).cluster.sent 1 explained
 
 -- The input is a schedule of so many actions, and the text tells its run; and what `replay` writes of it is the run's
@@ -73,13 +87,19 @@ pub record Explains (range : Range) (input text : List ℕ) (count : ℕ) : Type
   pub tells : TellsRun range schedule.configs schedule.actions text
   pub counted : count ≡ length schedule.actions
 
--- The world stores what a run came to, and the text is that of its turns, whatever else will be sent.
-pub record IsTold (range : Range) (r : Run) (clusters : List Cluster) (w : WorldState) (text : List ℕ) : Type 0 where
+-- The world stores what a run came to, these are its lines, and the text is that of its turns, whatever else will be sent.
+pub record IsTold (range : Range) (r : Run) (clusters : List Cluster) (w : WorldState) (lines : List Line) (text : List ℕ) : Type 0 where
   pub view : IsViewed r.cluster w
   pub representable : AreRepresentable r.cluster
+  pub lines_are : lines ≡ map (λ t. t.line) r.turns
   pub explained : List Explained
-  pub whole : IsExplained r.turns clusters explained
+  pub whole : IsExplained range r.turns clusters explained
   pub told : (more : List (List ℕ)) → turns_text range (r.cluster.sent ++ more) 1 explained ≡ text
+
+-- What is told of an action: of a merge what was told of its events; of an event that was seen which line handed it out.
+pub record TellsAll (shown : Bool) (carried : List (List ℕ)) (past : List Line) (sent : List (List ℕ)) (action : Action) (line : Line) (reasons : List (List ℕ)) : Type 0 where
+  pub merged : line.answer ≡ answers.Merged → TellsMerged carried reasons
+  pub seen : shown ≡ true → line.answer ≡ answers.Ignored Seen → OfSeen past sent action reasons
 
 -- a text grew by an action's lines and its reasons, of which there are some, or by nothing where it isn't shown
 pub record AddsTurn (P : List (List ℕ) → Type 0) (is_shown : Bool) (sent : List (List ℕ)) (n : ℕ) (line : Line) (old new : List ℕ) : Type 0 where

@@ -1,5 +1,6 @@
 //! Why a packet that was delivered is ignored.
 
+use crate::hand_outs::Event;
 use crate::memory::Ended;
 use crate::quoted::{put_event, put_query, put_quoted, put_since, say};
 use crate::told::{Actor, Told, put_name};
@@ -8,33 +9,6 @@ use serf_lamport::Time;
 use serf_snap::MemSink;
 use serf_wire::Message;
 use std::alloc::AllocError;
-
-/// An event, as it lies in its packet.
-#[derive(Clone, Copy)]
-pub(crate) struct Event<'a> {
-    pub(crate) time: u64,
-    pub(crate) name: &'a [u8],
-    pub(crate) payload: &'a [u8],
-}
-
-/// Appends which action handed an event to an agent before.
-fn put_seen(
-    out: &mut Vec<u8>,
-    told: &Told,
-    actor: &Actor,
-    event: &Event,
-) -> Result<(), AllocError> {
-    put_name(out, actor.agent)?;
-    out.extend_from_slice(b" was handed ")?;
-    put_event(out, event.time, event.name, event.payload)?;
-    match told
-        .memory
-        .handed_at(actor.number, event.time, event.name, event.payload)
-    {
-        Some(action) => say(out, b" at action ", action),
-        None => out.extend_from_slice(b" before"),
-    }
-}
 
 /// Appends which action handed an event to an agent, this one or one before.
 pub(crate) fn put_seen_at(
@@ -74,23 +48,19 @@ pub(crate) fn put_full(out: &mut Vec<u8>, per_time: u64, time: u64) -> Result<()
     )
 }
 
-/// Appends why an event that was delivered is ignored.
+/// Appends why an event that was delivered is ignored, and its agent was not handed it before.
 fn put_event_ignored(
     out: &mut Vec<u8>,
-    told: &Told,
     actor: &Actor,
     event: &Event,
     reason: Reason,
 ) -> Result<(), AllocError> {
-    if reason == Reason::Seen {
-        return put_seen(out, told, actor, event);
-    }
     put_event(out, event.time, event.name, event.payload)?;
     out.extend_from_slice(b": ")?;
     put_event_reason(out, actor, event, reason)
 }
 
-/// Appends why an event is ignored that its agent was not handed before.
+/// Appends what it is that keeps an event out.
 fn put_event_reason(
     out: &mut Vec<u8>,
     actor: &Actor,
@@ -242,7 +212,7 @@ pub(crate) fn put_ignored(
                 name,
                 payload,
             };
-            put_event_ignored(out, told, actor, &event, reason)
+            put_event_ignored(out, actor, &event, reason)
         }
         Message::Query { time, id, .. } => {
             put_query_ignored(out, told, actor, time.get(), id, reason)

@@ -3,13 +3,12 @@
 ghost use Rattle.std.specs.Prelude.{◌≡◌, ◌<◌, ◌≤◌, ◌+◌, ◌++◌, ◌∷◌, [], List, ℕ, true, false, Err, length, OnOk, IfOk, IfErr, IfSome, IsErrOf};
 ghost use Rattle.std.specs.Io.KnownBytes.{Appends, Consumes};
 ghost use Rattle.serf_world.specs.Cluster.{Cluster, Run, after};
-ghost use Rattle.serf_explain.specs.Carried.{TellsMerged};
 ghost use Rattle.serf_explain.specs.Judging.{reasons_in};
 ghost use Rattle.serf_replay.specs.Io.{AppendsFront};
 ghost use Rattle.serf_replay.specs.Output.{output_of};
-ghost use Rattle.serf_explain.specs.Explained.{AddsTurn, Explains, IsTold, TellsRun};
+ghost use Rattle.serf_explain.specs.Explained.{AddsTurn, Explains, IsTold, TellsAll, TellsRun};
 
-use crate::memory::Memory;
+use crate::history::History;
 use crate::range::{Range, actor};
 use crate::reasons::{lines_before, put_reasons};
 use crate::told::Told;
@@ -17,13 +16,13 @@ use serf_replay::{
     Cause, InputFault, MAX_SCHEDULE_BYTES, ReplayFault, Schedule, ScheduleFault, Watch, lines_stay,
     parse_schedule, put_action, read_input, write_output,
 };
-use serf_world::{Action, Answer, World};
+use serf_world::{Action, World};
 use std::alloc::{AllocError, Global};
 use std::io::{Read, Write};
 
 /// Appends an action's lines and those of its reasons.
 fn put_shown(alloc: Global, out: &mut Vec<u8>, told: &Told) -> Result<(), AllocError>
-    ensures { OnOk result (AddsTurn (λ reasons. told.now.line.now.answer ≡ Answer.Merged → TellsMerged (reasons_in told.now.carried.now) reasons) true told.now.world.now.sent told.now.number told.now.line.now out.old.items out.new.items) }
+    ensures { OnOk result (AddsTurn (TellsAll true (reasons_in told.now.carried.now) told.now.past.now told.now.world.now.sent told.now.action.now told.now.line.now) true told.now.world.now.sent told.now.number told.now.line.now out.old.items out.new.items) }
 {
     put_action(out, told.world.sent(), told.number, told.line)?;
     put_reasons(alloc, out, told)
@@ -31,12 +30,12 @@ fn put_shown(alloc: Global, out: &mut Vec<u8>, told: &Told) -> Result<(), AllocE
 
 /// Appends nothing.
 fn put_nothing(out: &mut Vec<u8>, told: &Told)
-    ensures { AddsTurn (λ reasons. told.now.line.now.answer ≡ Answer.Merged → TellsMerged (reasons_in told.now.carried.now) reasons) false told.now.world.now.sent told.now.number told.now.line.now out.old.items out.new.items }
+    ensures { AddsTurn (TellsAll false (reasons_in told.now.carried.now) told.now.past.now told.now.world.now.sent told.now.action.now told.now.line.now) false told.now.world.now.sent told.now.number told.now.line.now out.old.items out.new.items }
 {}
 
 /// Appends what is shown of an action: its lines and those of its reasons, or nothing.
 fn put_turn(alloc: Global, out: &mut Vec<u8>, is_shown: bool, told: &Told) -> Result<(), AllocError>
-    ensures { OnOk result (AddsTurn (λ reasons. told.now.line.now.answer ≡ Answer.Merged → TellsMerged (reasons_in told.now.carried.now) reasons) is_shown told.now.world.now.sent told.now.number told.now.line.now out.old.items out.new.items) }
+    ensures { OnOk result (AddsTurn (TellsAll is_shown (reasons_in told.now.carried.now) told.now.past.now told.now.world.now.sent told.now.action.now told.now.line.now) is_shown told.now.world.now.sent told.now.number told.now.line.now out.old.items out.new.items) }
 {
     match is_shown {
         true => put_shown(alloc, out, told),
@@ -51,46 +50,45 @@ fn put_turn(alloc: Global, out: &mut Vec<u8>, is_shown: bool, told: &Told) -> Re
 fn add_turn(
     alloc: Global,
     world: &mut World,
-    memory: &mut Memory,
+    history: &mut History,
     out: &mut Vec<u8>,
     range: &Range,
     number: u64,
     action: &Action,
 ) -> Result<(), AllocError>
-    ensures { (r : Run) (clusters : List Cluster) → IsTold range.now r clusters world.old out.old.items → number ≡ length r.turns + 1 → OnOk result (IsTold range.now (after r action.now) (clusters ++ r.cluster ∷ []) world.new out.new.items) }
+    ensures { (r : Run) (clusters : List Cluster) → IsTold range.now r clusters world.old history.old.lines.items out.old.items → number ≡ length r.turns + 1 → OnOk result (IsTold range.now (after r action.now) (clusters ++ r.cluster ∷ []) world.new history.new.lines.items out.new.items) }
 {
     lines_stay();
-    let carried = lines_before(alloc, world, memory, number, action)?;
+    let carried = lines_before(alloc, world, history, number, action)?;
     let Ok(line) = world.step(alloc, action) else {
         return Err(AllocError);
     };
-    memory.note_events(alloc, number, &line)?;
     let told = Told {
         number,
         world,
-        memory,
+        memory: &history.memory,
+        past: &history.lines,
         action,
         line: &line,
         carried: &carried,
     };
     put_turn(alloc, out, range.shows(number, actor(action)), &told)?;
-    memory.note(alloc, world, number, action, &line)?;
-    Ok(())
+    history.note(alloc, world, number, action, line)
 }
 
 /// Does an action, adds what is shown of it, and lets it go.
 fn take_turn(
     alloc: Global,
     world: &mut World,
-    memory: &mut Memory,
+    history: &mut History,
     out: &mut Vec<u8>,
     range: &Range,
     number: u64,
     action: Action,
 ) -> Result<(), AllocError>
-    ensures { (r : Run) (clusters : List Cluster) → IsTold range.now r clusters world.old out.old.items → number ≡ length r.turns + 1 → OnOk result (IsTold range.now (after r action) (clusters ++ r.cluster ∷ []) world.new out.new.items) }
+    ensures { (r : Run) (clusters : List Cluster) → IsTold range.now r clusters world.old history.old.lines.items out.old.items → number ≡ length r.turns + 1 → OnOk result (IsTold range.now (after r action) (clusters ++ r.cluster ∷ []) world.new history.new.lines.items out.new.items) }
 {
-    add_turn(alloc, world, memory, out, range, number, &action)
+    add_turn(alloc, world, history, out, range, number, &action)
 }
 
 /// What is shown of the run of a schedule, of which nothing is left then.
@@ -105,7 +103,7 @@ fn run_text<T: Watch>(
     let Schedule { agents, actions } = schedule;
     let count = agents.as_slice().len();
     let mut world = World::new(alloc, agents)?;
-    let mut memory = Memory::new(alloc, &world, count)?;
+    let mut history = History::new(alloc, &world, count)?;
     let mut out = Vec::new(alloc);
     let all = actions.len() as u64;
     let mut number: u64 = 0;
@@ -114,7 +112,7 @@ fn run_text<T: Watch>(
         take_turn(
             alloc,
             &mut world,
-            &mut memory,
+            &mut history,
             &mut out,
             range,
             number,
@@ -148,9 +146,11 @@ fn output_text<T: Watch>(
 /// lines that [`serf_replay::replay`] writes, and behind them a line `N because ..` for each reason, one at least. The
 /// answer is how many actions the schedule has.
 ///
-/// At most 16,777,217 bytes are read, and nothing is written before all is read, parsed and run. What a reason says is
-/// tested, and no contract says it; but no byte of it is a control byte, or is not ASCII. The faults are those of
-/// `replay`, and come where they come there. The watch is told of each action of the run that is done.
+/// At most 16,777,217 bytes are read, and nothing is written before all is read, parsed and run. The reasons of a merge
+/// say the verdict on each event, and that of a delivered event which was seen names an earlier action that handed it
+/// out. What else a reason says is tested, and no contract says it; but no byte of it is a control byte, or is not
+/// ASCII. The faults are those of `replay`, and come where they come there. The watch is told of each action of the run
+/// that is done.
 pub fn explain<R: Read, W: Write, T: Watch>(
     alloc: Global,
     reader: &mut R,

@@ -4,6 +4,8 @@
 
 mod answers;
 mod because;
+mod hand_outs;
+mod history;
 mod ignored;
 mod job;
 mod judge;
@@ -14,6 +16,7 @@ mod quoted;
 mod range;
 mod reasons;
 mod refusals;
+mod seen;
 mod told;
 
 pub use job::explain;

@@ -1,12 +1,18 @@
 //! What is remembered of a run, so that later reasons can name earlier actions.
 
+ghost use Rattle.std.specs.Prelude.{◌≡◌, true, slice_get, IfSome};
+ghost use Rattle.std.specs.Option.{option_copied};
+ghost use Rattle.serf_window.specs.Texts.{event_of};
+ghost use Rattle.serf_explain.specs.Seen.{HandsOut};
+
+use crate::hand_outs::{Event, is_hand_out};
 use crate::marks::Marks;
 use crate::range::actor;
 use indexmap::IndexMap;
 use serf_agent::Agent;
 use serf_lamport::Time;
 use serf_snap::MemSink;
-use serf_wire::{Bytes, Message, decode};
+use serf_wire::{Message, decode};
 use serf_world::{Action, Answer, EventLine, Line, World};
 use std::alloc::{AllocError, Global};
 use std::mem;
@@ -26,14 +32,11 @@ pub(crate) struct QueryKey {
     pub(crate) id: u32,
 }
 
-/// An event that was handed out to an agent at an action.
-#[derive(Drop)]
-pub(crate) struct HandOut {
-    pub(crate) action: u64,
-    pub(crate) agent: u64,
-    pub(crate) time: u64,
-    pub(crate) name: Bytes,
-    pub(crate) payload: Bytes,
+/// Where an event that was handed out stands: its action among all, counted from 0, and its place in that action's line.
+#[derive(Clone, Copy)]
+struct HandOut {
+    action: usize,
+    place: usize,
     /// The hand-out before it to the same agent at the same time.
     before: Option<usize>,
 }
@@ -68,12 +71,36 @@ pub(crate) struct Memory {
     agents: Vec<Marks>,
 }
 
-impl HandOut {
-    fn is(&self, agent: u64, time: u64, name: &[u8], payload: &[u8]) -> bool {
-        self.agent == agent
-            && self.time == time
-            && self.name.as_slice() == name
-            && self.payload.as_slice() == payload
+/// The line of the action of this number, counted from 0.
+fn line_at(past: &[Line], action: usize) -> Option<&Line>
+    ensures { option_copied result ≡ slice_get past.now action }
+{
+    match past.get(action) {
+        Some(line) => Some(line),
+        None => None,
+    }
+}
+
+/// The event line at this place.
+fn out_at(outs: &[EventLine], place: usize) -> Option<&EventLine>
+    ensures { option_copied result ≡ slice_get outs.now place }
+{
+    match outs.get(place) {
+        Some(out) => Some(out),
+        None => None,
+    }
+}
+
+/// Whether an event was handed to an agent here.
+fn is_handed(past: &[Line], here: HandOut, agent: u64, event: &Event) -> bool
+    ensures { result ≡ true → HandsOut past.now here.action agent event.now.time (event_of event.now.name.now event.now.payload.now) }
+{
+    match line_at(past, here.action) {
+        Some(line) => match out_at(line.events.as_slice(), here.place) {
+            Some(out) => is_hand_out(out, agent, event),
+            None => false,
+        },
+        None => false,
     }
 }
 
@@ -100,21 +127,21 @@ impl Memory {
         self.agents.get(agent as usize)
     }
 
-    /// The action that handed this event to this agent.
-    pub(crate) fn handed_at(
-        &self,
-        agent: u64,
-        time: u64,
-        name: &[u8],
-        payload: &[u8],
-    ) -> Option<u64> {
-        let mut place = self.last.get(&Moment { agent, time }).copied();
+    /// The last of these actions that handed this event to this agent, counted from 0.
+    pub(crate) fn handed_at(&self, past: &[Line], agent: u64, event: &Event) -> Option<usize>
+        ensures { IfSome result (λ k. HandsOut past.now k agent event.now.time (event_of event.now.name.now event.now.payload.now)) }
+    {
+        let moment = Moment {
+            agent,
+            time: event.time,
+        };
+        let mut place = self.last.get(&moment).copied();
         for _one in 0..self.hand_outs.len() {
-            let found = self.hand_outs.get(place?)?;
-            if found.is(agent, time, name, payload) {
-                return Some(found.action);
+            let here = *self.hand_outs.get(place?)?;
+            if is_handed(past, here, agent, event) {
+                return Some(here.action);
             }
-            place = found.before;
+            place = here.before;
         }
         None
     }
@@ -132,28 +159,24 @@ impl Memory {
     /// Remembers an event that was handed out.
     fn hand_out(
         &mut self,
-        alloc: Global,
-        action: u64,
+        action: usize,
+        place: usize,
         event: &EventLine,
     ) -> Result<(), AllocError> {
         let moment = Moment {
             agent: event.agent,
             time: event.time.get(),
         };
-        let place = self.hand_outs.len();
-        let before = match self.last.insert(moment, place) {
+        let number = self.hand_outs.len();
+        let before = match self.last.insert(moment, number) {
             Ok(before) => before,
             Err(_) => return Err(AllocError),
         };
-        let hand_out = HandOut {
+        self.hand_outs.push(HandOut {
             action,
-            agent: event.agent,
-            time: event.time.get(),
-            name: Bytes::copy_of(alloc, event.name.as_slice())?,
-            payload: Bytes::copy_of(alloc, event.payload.as_slice())?,
+            place,
             before,
-        };
-        self.hand_outs.push(hand_out)?;
+        })?;
         Ok(())
     }
 
@@ -208,15 +231,10 @@ impl Memory {
         Ok(())
     }
 
-    /// Remembers the events that an action handed out.
-    pub(crate) fn note_events(
-        &mut self,
-        alloc: Global,
-        action: u64,
-        line: &Line,
-    ) -> Result<(), AllocError> {
-        for event in line.events.as_slice() {
-            self.hand_out(alloc, action, event)?;
+    /// Remembers the events that an action, counted from 0, handed out.
+    pub(crate) fn note_events(&mut self, action: usize, line: &Line) -> Result<(), AllocError> {
+        for (place, event) in line.events.as_slice().iter().enumerate() {
+            self.hand_out(action, place, event)?;
         }
         Ok(())
     }

@@ -11,10 +11,11 @@ ghost use Rattle.serf_agent.specs.View.{view_of};
 ghost use Rattle.serf_explain.specs.Carried.{AreCarried, carried_words, slot_words, verdict_words};
 ghost use Rattle.serf_explain.specs.Judging.{AddsLines, HasJudged, IsJudging, reasons_in};
 
-use crate::ignored::{Event, put_full, put_seen_at, put_too_old};
+use crate::hand_outs::Event;
+use crate::history::History;
+use crate::ignored::{put_full, put_seen_at, put_too_old};
 use crate::judge::Judge;
 use crate::marks::Marks;
-use crate::memory::Memory;
 use crate::quoted::{put_event, put_since, say};
 use serf_agent::{Agent, Reason};
 use serf_lamport::Time;
@@ -30,7 +31,7 @@ pub(crate) struct Merging<'a> {
     pub(crate) agent_number: u64,
     pub(crate) agent: &'a Agent<MemSink>,
     pub(crate) before: Option<&'a Marks>,
-    pub(crate) memory: &'a Memory,
+    pub(crate) history: &'a History,
 }
 
 /// What is told of an event, and whether it is new.
@@ -92,6 +93,18 @@ fn put_least(out: &mut Vec<u8>, merging: &Merging, minimum: u64) -> Result<(), A
     put_since(out, since)
 }
 
+/// The last action that handed an event to the agent: one before, or else this one.
+fn handed_at(merging: &Merging, event: &Event) -> u64 {
+    let history = merging.history;
+    match history
+        .memory
+        .handed_at(&history.lines, merging.agent_number, event)
+    {
+        Some(place) => (place as u64).saturating_add(1),
+        None => merging.number,
+    }
+}
+
 /// Appends what is told of a verdict on an event beside its first words.
 fn put_detail(
     out: &mut Vec<u8>,
@@ -111,15 +124,7 @@ fn put_detail(
         Some(Reason::TooOld) => {
             put_too_old(out, event.time, config.event_buffer, b"event", judge.clock)
         }
-        Some(Reason::Seen) => put_seen_at(
-            out,
-            merging.agent,
-            event,
-            merging
-                .memory
-                .handed_at(merging.agent_number, event.time, event.name, event.payload)
-                .unwrap_or(merging.number),
-        ),
+        Some(Reason::Seen) => put_seen_at(out, merging.agent, event, handed_at(merging, event)),
         Some(Reason::TimeFull) => put_full(out, config.per_time, event.time),
         _ => Ok(()),
     }

@@ -1,6 +1,6 @@
 //! The reasons of an action.
 
-ghost use Rattle.std.specs.Prelude.{◌≡◌, ◌++◌, slice_get, Ok, OnOk, IfOk};
+ghost use Rattle.std.specs.Prelude.{◌≡◌, ◌++◌, true, slice_get, Ok, OnOk, IfOk};
 ghost use Rattle.std.specs.List.{flat_map};
 ghost use Rattle.std.specs.Option.{option_copied, option_map};
 ghost use Rattle.serf_wire.specs.Decoded.{decoded};
@@ -14,15 +14,18 @@ ghost use Rattle.serf_model.specs.Ready.{AreRepresentable};
 ghost use Rattle.serf_world.specs.View.{IsViewed, agent_at};
 ghost use Rattle.serf_explain.specs.Because.{AddsReasons, AddsSome, AddsSuch, because_line};
 ghost use Rattle.serf_explain.specs.Carried.{AreCarried, TellsMerge, TellsMerged};
+ghost use Rattle.serf_explain.specs.Explained.{TellsAll};
 ghost use Rattle.serf_explain.specs.Judging.{reasons_in};
 
 use crate::answers::put_reason;
 use crate::because::put_because;
-use crate::memory::Memory;
+use crate::history::History;
 use crate::merges::{Carried, Merging, carried_lines};
 use crate::range::actor;
 use crate::refusals::put_sink_fault;
+use crate::seen::put_seen;
 use crate::told::{Actor, Told, actor_at};
+use serf_agent::Reason;
 use serf_wire::{Bytes, Message, decode};
 use serf_world::{Action, Answer, Refusal, World};
 use std::alloc::{AllocError, Global};
@@ -70,7 +73,12 @@ fn packet_lines(
 }
 
 /// The agent that is to merge a state.
-fn merging_at<'a>(world: &'a World, memory: &'a Memory, number: u64, to: u64) -> Option<Merging<'a>>
+fn merging_at<'a>(
+    world: &'a World,
+    history: &'a History,
+    number: u64,
+    to: u64,
+) -> Option<Merging<'a>>
     ensures { option_map (λ m. m.agent.now.concrete) result ≡ agent_at world.now to }
 {
     match world.agent(to) {
@@ -78,15 +86,15 @@ fn merging_at<'a>(world: &'a World, memory: &'a Memory, number: u64, to: u64) ->
             number,
             agent_number: to,
             agent,
-            before: memory.marks(to),
-            memory,
+            before: history.memory.marks(to),
+            history,
         }),
         None => None,
     }
 }
 
 /// The packet of this number.
-fn packet_at(sent: &[Bytes], number: u64) -> Option<&[u8]>
+pub(crate) fn packet_at(sent: &[Bytes], number: u64) -> Option<&[u8]>
     ensures { option_copied result ≡ slice_get sent.now number }
 {
     match sent.get(number as usize) {
@@ -99,7 +107,7 @@ fn packet_at(sent: &[Bytes], number: u64) -> Option<&[u8]>
 pub(crate) fn lines_before(
     alloc: Global,
     world: &World,
-    memory: &Memory,
+    history: &History,
     number: u64,
     action: &Action,
 ) -> Result<Vec<Carried>, AllocError>
@@ -108,7 +116,7 @@ pub(crate) fn lines_before(
     let Action::Merge { to, packet, join } = action else {
         return Ok(Vec::new(alloc));
     };
-    match merging_at(world, memory, number, *to) {
+    match merging_at(world, history, number, *to) {
         Some(merging) => match packet_at(world.sent(), *packet) {
             Some(bytes) => packet_lines(alloc, &merging, bytes, *join),
             None => Ok(Vec::new(alloc)),
@@ -118,7 +126,7 @@ pub(crate) fn lines_before(
 }
 
 /// Appends the line of an action's only reason.
-fn put_lone(alloc: Global, out: &mut Vec<u8>, told: &Told) -> Result<(), AllocError>
+pub(crate) fn put_lone(alloc: Global, out: &mut Vec<u8>, told: &Told) -> Result<(), AllocError>
     ensures { OnOk result (AddsSome told.now.number out.old.items out.new.items) }
 {
     let mut reason = Vec::new(alloc);
@@ -207,10 +215,11 @@ fn put_unmerged(alloc: Global, out: &mut Vec<u8>, told: &Told) -> Result<(), All
 
 /// Appends a line for each reason of an action: one at least.
 pub(crate) fn put_reasons(alloc: Global, out: &mut Vec<u8>, told: &Told) -> Result<(), AllocError>
-    ensures { OnOk result (AddsSuch (λ reasons. told.now.line.now.answer ≡ Answer.Merged → TellsMerged (reasons_in told.now.carried.now) reasons) told.now.number out.old.items out.new.items) }
+    ensures { OnOk result (AddsSuch (TellsAll true (reasons_in told.now.carried.now) told.now.past.now told.now.world.now.sent told.now.action.now told.now.line.now) told.now.number out.old.items out.new.items) }
 {
     match told.line.answer {
         Answer::Merged => put_merged(out, told.number, told.carried),
+        Answer::Ignored(Reason::Seen) => put_seen(alloc, out, told),
         _ => put_unmerged(alloc, out, told),
     }
 }

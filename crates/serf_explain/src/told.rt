@@ -17,6 +17,8 @@ pub(crate) struct Told<'a> {
     pub(crate) number: u64,
     pub(crate) world: &'a World,
     pub(crate) memory: &'a Memory,
+    /// What came of each of them.
+    pub(crate) past: &'a [Line],
     pub(crate) action: &'a Action,
     pub(crate) line: &'a Line,
     /// What is told of each event, where a state is merged on a disk that works.

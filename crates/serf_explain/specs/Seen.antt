@@ -1,0 +1,68 @@
+-- What is told of an event that was delivered, and ignored as seen.
+use Rattle.std.specs.Prelude.{◌≡◌, ℕ, ◌+◌, ◌==◌, ◌++◌, ◌&&◌, Bool, true, false, List, [], ◌∷◌, All, Option, Some, None, IfSome, Result, Ok, codes, decimal, slice_get}
+use Rattle.std.specs.List.{list_any}
+use Rattle.std.specs.Option.{option_map}
+use Rattle.serf_wire.specs.declared.fault.WireFault.{WireFault}
+use Rattle.serf_wire.specs.declared.texts.EventBody.{EventBody}
+use Rattle.serf_wire.specs.Decoded.{decoded}
+use Rattle.serf_wire.specs.Message.{Message, user_event}
+use Rattle.serf_window.specs.Texts.{event_of, same_texts}
+use Rattle.serf_window.specs.Window.{TimedEntry}
+use Rattle.serf_model.specs.declared.action.Action.{Action}
+use Rattle.serf_model.specs.declared.action.Action.TheVariants as actions
+use Rattle.serf_model.specs.declared.line.EventLine.{EventLine}
+use Rattle.serf_model.specs.declared.line.Line.{Line}
+use Rattle.serf_explain.specs.Words.{event_words, quoted}
+
+-- whether an event line hands this event to this agent
+abbrev pub is_hand_out : ℕ → ℕ → EventBody → EventLine → Bool
+is_hand_out a time what e = e.agent == a && (e.time == time && same_texts (event_of e.name e.payload) what)
+
+-- whether an action's line hands it out
+abbrev pub hands_out : ℕ → ℕ → EventBody → Line → Bool
+hands_out a time what line = list_any (is_hand_out a time what) line.events
+
+-- one of these actions hands out this event to this agent: the one of this number, counted from 0
+pub record HandsOut (lines : List Line) (k a time : ℕ) (what : EventBody) : Type 0 where
+  pub line : Line
+  pub at : slice_get lines k ≡ Some line
+  pub hands : hands_out a time what line ≡ true
+
+-- An action that hands this event to this agent, if there is one.
+pub record IsHandOut (lines : List Line) (a time : ℕ) (what : EventBody) (action : Option ℕ) : Type 0 where
+  pub right : IfSome action (λ k. HandsOut lines k a time what)
+  pub none : action ≡ None → All (λ line. hands_out a time what line ≡ false) lines
+
+-- the action is named by its number, which counts from 1
+unfoldable pub at_action : Option ℕ → List ℕ
+at_action None = codes " before"
+at_action (Some k) = codes " at action " ++ decimal (k + 1)
+
+unfoldable pub seen_words : List ℕ → ℕ → EventBody → Option ℕ → List ℕ
+seen_words name time what action = quoted name ++ codes " was handed " ++ event_words time what ++ at_action action
+
+-- A reason says that an agent was handed an event by an earlier action, and which, if these are the earlier ones.
+pub record IsSeen (lines : List Line) (a time : ℕ) (what : EventBody) (reason : List ℕ) : Type 0 where
+  pub name : List ℕ
+  pub action : Option ℕ
+  pub hand_out : IsHandOut lines a time what action
+  pub words : reason ≡ seen_words name time what action
+
+-- the event that a message is
+abbrev pub event_read : Result Message WireFault → Option (TimedEntry EventBody)
+event_read (Ok (user_event e)) = Some (record { time = e.time; key = event_of e.name e.payload })
+event_read _ = None
+
+abbrev pub event_given : Option (List ℕ) → Option (TimedEntry EventBody)
+event_given None = None
+event_given (Some packet) = event_read (decoded packet)
+
+-- the agent to which an action delivers an event, and the event, where these packets were sent
+abbrev pub event_delivered : List (List ℕ) → Action → Option (ℕ × TimedEntry EventBody)
+event_delivered sent (actions.Deliver to packet now) = option_map (λ e. (to, e)) (event_given (slice_get sent packet))
+event_delivered sent _ = None
+
+-- where an action delivers an event, its only reason says so
+abbrev pub OfSeen : List Line → List (List ℕ) → Action → List (List ℕ) → Type 0
+OfSeen lines sent action reasons = (a : ℕ) (e : TimedEntry EventBody) → event_delivered sent action ≡ Some (a, e)
+    → (reason : List ℕ) × (reasons ≡ reason ∷ []) × IsSeen lines a e.time e.key reason
