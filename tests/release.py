@@ -35,14 +35,21 @@ def write(path, text):
         file.write(text)
 
 
+# What of the repository is copied: what ./release reads, and itself.
+PARTS = ["README.md", "LICENSE", "CHANGELOG.md", "SECURITY.md", "include", "bindings", "docs", "examples", "release", "tools"]
+
+
 def clone(root):
-    """A repository with what is committed and changed here, and with outputs that stand for the built ones."""
+    """A repository with the archive's files as they are here, and with outputs that stand for the built ones."""
     top = os.path.join(root, "clone")
-    names = subprocess.run(["git", "ls-files", "-co", "--exclude-standard"], cwd=TOP, check=True, stdout=subprocess.PIPE, text=True).stdout.split("\n")
-    for name in filter(None, names):
-        if os.path.isfile(os.path.join(TOP, name)) and not name.startswith(("crates/", "tests/")):
-            os.makedirs(os.path.dirname(os.path.join(top, name)) or top, exist_ok=True)
-            shutil.copy(os.path.join(TOP, name), os.path.join(top, name))
+    os.makedirs(top)
+    for name in PARTS:
+        path, to = os.path.join(TOP, name), os.path.join(top, name)
+        if os.path.isdir(path):
+            shutil.copytree(path, to, ignore=shutil.ignore_patterns("out", "target", "__pycache__"))
+        else:
+            shutil.copy(path, to)
+    shutil.copy(os.path.join(TOP, ".gitignore"), top)
     who = ["-c", "user.name=a", "-c", "user.email=a@localhost"]
     for words in (["init", "-q"], ["add", "-A"], [*who, "commit", "-qm", "all"]):
         subprocess.run(["git", *words], cwd=top, check=True)

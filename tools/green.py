@@ -11,12 +11,15 @@ def mark(top):
 
 
 def git(top, *words):
-    return subprocess.run(["git", *words], cwd=top, check=True, stdout=subprocess.PIPE, text=True).stdout.strip()
+    return subprocess.run(["git", *words], cwd=top, check=True, stdout=subprocess.PIPE, stderr=subprocess.DEVNULL, text=True).stdout.strip()
 
 
 def state(top):
-    """The hash of all that is committed, or None where something beside it has changed."""
-    return None if git(top, "status", "--porcelain") else git(top, "rev-parse", "HEAD^{tree}")
+    """The hash of all that is committed, or None where something beside it has changed, or where this is no repository."""
+    try:
+        return None if git(top, "status", "--porcelain") else git(top, "rev-parse", "HEAD^{tree}")
+    except (OSError, subprocess.CalledProcessError):
+        return None
 
 
 def keep(top, before):
@@ -30,6 +33,6 @@ def holds(top):
     """Whether the gate was green on the state that stands."""
     try:
         with open(mark(top), encoding="utf-8") as file:
-            return file.read().strip() == state(top)
+            return file.read().strip() == (state(top) or "-")
     except OSError:
         return False
