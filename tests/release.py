@@ -18,6 +18,9 @@ import green
 PROGRAM = "#!/bin/sh\necho serf-replay 9.8.7\n"
 NAME = "serf-replay-9.8.7-x86_64-linux"
 
+# What of the repository is copied: what ./release reads, and itself.
+PARTS = ["README.md", "LICENSE", "CHANGELOG.md", "SECURITY.md", "include", "bindings", "docs", "examples", "release", "tools"]
+
 
 class Count:
     def __init__(self):
@@ -33,10 +36,6 @@ def write(path, text):
     os.makedirs(os.path.dirname(path), exist_ok=True)
     with open(path, "w", encoding="utf-8") as file:
         file.write(text)
-
-
-# What of the repository is copied: what ./release reads, and itself.
-PARTS = ["README.md", "LICENSE", "CHANGELOG.md", "SECURITY.md", "include", "bindings", "docs", "examples", "release", "tools"]
 
 
 def clone(root):
