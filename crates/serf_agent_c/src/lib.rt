@@ -10,26 +10,22 @@
 //! answered by a [`Code`].
 #![tactic(auto)]
 
-ghost use Rattle.std.specs.Prelude.{◌-◌, ◌^◌, min, true, ◌≡◌, ◌≢◌, ◌++◌, ◌∷◌, ◌+◌, if◌then◌else◌, ◌==◌, [], None, Some, IfSome, false, length, slice_get};
+ghost use Rattle.std.specs.Prelude.{true, ◌≡◌, ◌≢◌, ◌++◌, ◌∷◌, if◌then◌else◌, ◌==◌, [], None, Some, IfSome, false, length};
 ghost use Rattle.std.specs.Option.{is_some};
 ghost use Rattle.serf_window.specs.Texts.{event_of};
-ghost use Rattle.serf_agent.specs.Answers.{answer_in};
 ghost use Rattle.serf_agent.specs.Config.{is_sound};
 ghost use Rattle.serf_agent.specs.Events.{fire};
 ghost use Rattle.serf_agent.specs.Queries.{fire_query};
 ghost use Rattle.serf_agent.specs.Receive.{receive};
 ghost use Rattle.serf_agent.specs.States.{compact, save};
-ghost use Rattle.serf_agent_c.specs.Answers.{ReadsAnswer, answer_head};
-ghost use Rattle.serf_agent_c.specs.Asking.{AddsFilter, Closes, Responds, Spares, params_of, waiting_at};
+ghost use Rattle.serf_agent_c.specs.Asking.{AddsFilter, Closes, Responds, Spares, params_of};
 ghost use Rattle.serf_agent_c.specs.Calls.{Forgoes, Gives, Takes, Tells, Waits};
-ghost use Rattle.serf_agent_c.specs.Codes.{number_of, fire_code, note_code, query_code, receive_code, state_code};
+ghost use Rattle.serf_agent_c.specs.Codes.{fire_code, note_code, query_code, receive_code, state_code};
 ghost use Rattle.serf_agent_c.specs.Exports.{Reads, Through};
-ghost use Rattle.serf_agent_c.specs.Gaves.{ack_in, events_in, handed_in, packet_in};
 ghost use Rattle.serf_agent_c.specs.Members.{AddsLeft, AddsStatus};
 ghost use Rattle.serf_agent_c.specs.Merging.{Compacts, IsUnmerged, MergesFrom, SendsState};
 ghost use Rattle.serf_agent_c.specs.Opening.{GoesOn, IsFirst, IsFresh, config_of};
-ghost use Rattle.serf_agent_c.specs.Reads.{ReadsAs, ReadsQuery, TellsDeadline, clocks_head, event_head, foreign_of, handed_head, kind_of, reason_of, rebroadcast_of};
-ghost use Rattle.serf_agent_c.specs.Sessions.{is_ready, settled};
+ghost use Rattle.serf_agent_c.specs.Sessions.{is_ready};
 ghost use Rattle.serf_agent_c.specs.Texts.{copied, lacking, text_of};
 
 mod answers;
