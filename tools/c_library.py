@@ -29,14 +29,16 @@ def ran(words, **more):
 
 def fault_of_library(over_ci=False):
     """Proves and builds the library; what went wrong, or None. `over_ci` takes the libraries below it that `rt ci` has
-    just proved, which `rt lib` would prove again."""
+    just proved, which `rt lib` proves again; that is the way where they aren't there."""
     os.makedirs(os.path.dirname(LIBRARY), exist_ok=True)
     with open(f"{LIBRARY}.lock", "w", encoding="utf-8") as lock:
         # two tests may ask at once: the first one builds
         fcntl.flock(lock, fcntl.LOCK_EX)
         if over_ci and is_noted():
             return None
-        status, said = built_over_ci() if over_ci else ran(["rt", "lib"], cwd=CRATE)
+        status, said = built_over_ci() if over_ci else (1, "")
+        if status:
+            status, said = ran(["rt", "lib"], cwd=CRATE)
         if status or not os.path.exists(LIBRARY):
             return said[-2000:] or "no library was made"
         note()
