@@ -4,4 +4,6 @@ pub mod CarriedLaws
 pub mod SlotLaws
 pub mod JudgeLaws
 pub mod SeenLaws
+pub mod NoteLaws
+pub mod TextLaws
 pub mod TellLaws

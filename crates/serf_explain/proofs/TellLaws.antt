@@ -20,6 +20,8 @@ use Rattle.serf_model.specs.declared.action.Action.TheVariants as actions
 use Rattle.serf_explain.specs.Because.{AddsSuch, because_line}
 use Rattle.serf_explain.specs.Carried.{AreMerged, OfMerge, TellsMerge, TellsMerged}
 use Rattle.serf_explain.specs.Seen.{event_delivered, event_given}
+use Rattle.serf_explain.specs.HandOuts.{Note, OfNoted, note_of, notes_from}
+use Rattle.serf_explain.proofs.NoteLaws.{lines-push, of-seen}
 use Rattle.serf_wire.specs.declared.texts.EventBody.{EventBody}
 use Rattle.serf_window.specs.Window.{TimedEntry}
 use Rattle.serf_explain.proofs.CarriedLaws.{merged_of, some-merged, told-merged}
@@ -101,13 +103,14 @@ lines-of [] = refl
 lines-of (e ∷ es) = ap (λ (ls : List Line). e.turn.line ∷ ls) (lines-of es)
 
 -- one more turn
-pub told-after : (range : Range) (r : Run) (clusters : List Cluster) (action : Action) (w new : WorldState) (line : Line) (carried : List (List ℕ)) (past : List Line) (text added : List ℕ) (n : ℕ)
+pub told-after : (range : Range) (r : Run) (clusters : List Cluster) (action : Action) (w new : WorldState) (line : Line) (carried : List (List ℕ)) (past noted : List Note) (text added : List ℕ) (n : ℕ)
     → ((step r.cluster action).cluster.sent ≡ r.cluster.sent ++ (step r.cluster action).turn.packets)
     → ((more : List (List ℕ)) → action_text ((step r.cluster action).cluster.sent ++ more) n (step r.cluster action).turn.line ≡ action_text (step r.cluster action).cluster.sent n (step r.cluster action).turn.line)
     → IsTold range r clusters w past text → n ≡ length r.turns + 1 → TellsMerge r.cluster action carried → TakesStep (step r.cluster action) new line
     → AddsTurn (TellsAll (is_shown range n (actor_of action)) carried past new.sent action line) (is_shown range n (actor_of action)) new.sent n line text added
-    → IsTold range (after r action) (clusters ++ r.cluster ∷ []) new (past ++ line ∷ []) added
-told-after range r clusters action w new line carried past text added n sends stays h count told takes adds =
+    → noted ≡ past ++ map (note_of n) line.events
+    → IsTold range (after r action) (clusters ++ r.cluster ∷ []) new noted added
+told-after range r clusters action w new line carried past noted text added n sends stays h count told takes adds grows =
     let turn : Turn = (step r.cluster action).turn in
     let sent : List (List ℕ) = (step r.cluster action).cluster.sent in
     let one : Explained = record { before = r.cluster; turn = turn; reasons = adds.reasons } in
@@ -117,20 +120,28 @@ told-after range r clusters action w new line carried past text added n sends st
       merged = λ answers. subst (λ (a : Action). OfMerge AreMerged r.cluster a adds.reasons) (sym (acts r.cluster action))
           (of-merge r.cluster action carried adds.reasons told (adds.such.merged (ap (λ (l : Line). l.answer) takes.line_is ∙ answers)));
     } in
-    let before : map (λ (e : Explained). e.turn.line) h.explained ≡ past =
-    sym (lines-of h.explained) ∙ ap (λ (ts : List Turn). map (λ (t : Turn). t.line) ts) h.whole.turns_are ∙ sym h.lines_are in
-    let behind : length past + 1 ≡ n = omega (arith, ap (λ (ls : List Line). length ls) h.lines_are ∙ length-map r.turns (λ (t : Turn). t.line), count) in
-    let names : NamesHandOut range past one = λ shown answers a e is.
-    adds.such.seen (ap (λ m. is_shown range m (actor_of action)) (sym behind) ∙ ap (λ (b : Action). is_shown range (length past + 1) (actor_of b)) (sym (acts r.cluster action)) ∙ shown)
-    (ap (λ (l : Line). l.answer) takes.line_is ∙ answers) a e
+    let lines : List Line = map (λ (t : Turn). t.line) r.turns in
+    let before : map (λ (e : Explained). e.turn.line) h.explained ≡ lines =
+    sym (lines-of h.explained) ∙ ap (λ (ts : List Turn). map (λ (t : Turn). t.line) ts) h.whole.turns_are in
+    let behind : length lines + 1 ≡ n = omega (arith, length-map r.turns (λ (t : Turn). t.line), count) in
+    let number : n ≡ 1 + length lines = omega (arith, behind) in
+    let names : NamesHandOut range lines one = λ shown answers.
+    let noted : OfNoted past new.sent action adds.reasons = adds.such.seen (ap (λ m. is_shown range m (actor_of action)) (sym behind) ∙ ap (λ (b : Action). is_shown range (length lines + 1) (actor_of b)) (sym (acts r.cluster action)) ∙ shown)
+    (ap (λ (l : Line). l.answer) takes.line_is ∙ answers) in
+    λ a e is.
+    of-seen lines new.sent action adds.reasons (subst (λ (ns : List Note). OfNoted ns new.sent action adds.reasons) h.notes_are noted) a e
     (ap (λ s. event_delivered s action) (sym takes.view.sent ∙ sends)
     ∙ still-delivered r.cluster.sent turn.packets action a e (ap (λ (b : Action). event_delivered r.cluster.sent b) (sym (acts r.cluster action)) ∙ is)) in
     let place : 1 + length h.explained ≡ n = omega (arith, many, count) in
     record {
       view = takes.view;
       representable = takes.representable;
-      lines_are = ap (λ (ls : List Line). ls ++ line ∷ []) h.lines_are ∙ ap (λ (l : Line). map (λ (t : Turn). t.line) r.turns ++ l ∷ []) takes.line_is
-          ∙ sym (map-append (λ (t : Turn). t.line) r.turns (turn ∷ []));
+      notes_are = grows
+          ∙ ap (λ (ns : List Note). ns ++ map (note_of n) line.events) h.notes_are
+          ∙ ap (λ m. notes_from 1 lines ++ map (note_of m) line.events) number
+          ∙ sym (lines-push 1 lines line)
+          ∙ ap (λ (l : Line). notes_from 1 (lines ++ l ∷ [])) takes.line_is
+          ∙ ap (λ (ls : List Line). notes_from 1 ls) (sym (map-append (λ (t : Turn). t.line) r.turns (turn ∷ [])));
       explained = h.explained ++ one ∷ [];
       whole = record {
         turns_are = map-append (λ (e : Explained). e.turn) h.explained (one ∷ []) ∙ ap (λ ts. ts ++ turn ∷ []) h.whole.turns_are;
@@ -162,7 +173,7 @@ lines-added P sent n line a b d is h = record {
 }
 
 -- an action that isn't shown
-pub nothing-added : (carried : List (List ℕ)) (past : List Line) (sent : List (List ℕ)) (action : Action) (n : ℕ) (line : Line) (a : List ℕ) → AddsTurn (TellsAll false carried past sent action line) false sent n line a a
+pub nothing-added : (carried : List (List ℕ)) (past : List Note) (sent : List (List ℕ)) (action : Action) (n : ℕ) (line : Line) (a : List ℕ) → AddsTurn (TellsAll false carried past sent action line) false sent n line a a
 nothing-added carried past sent action n line a = record {
   reasons = merged_of carried;
   some = some-merged carried;
@@ -171,7 +182,7 @@ nothing-added carried past sent action n line a = record {
 }
 
 -- a run whose actions are all told
-pub told-whole : (range : Range) (configs : List Config) (actions : List Action) (r : Run) (clusters : List Cluster) (w : WorldState) (past : List Line) (text : List ℕ)
+pub told-whole : (range : Range) (configs : List Config) (actions : List Action) (r : Run) (clusters : List Cluster) (w : WorldState) (past : List Note) (text : List ℕ)
     → r ≡ run_of configs actions → clusters ≡ clusters_before configs actions → IsTold range r clusters w past text → TellsRun range configs actions text
 told-whole range configs actions r clusters w past text e same h =
     let k : IsTold range (run_of configs actions) (clusters_before configs actions) w past text = subst (λ q. IsTold range q (clusters_before configs actions) w past text) e (subst (λ (cs : List Cluster). IsTold range r cs w past text) same h) in
@@ -182,11 +193,11 @@ told-whole range configs actions r clusters w past text e same h =
     }
 
 -- a run of no action
-pub told-first : (range : Range) (configs : List Config) (w : WorldState) (past : List Line) (text : List ℕ) → IsViewed (start configs).cluster w → AreRepresentable (start configs).cluster → past ≡ [] → text ≡ [] → IsTold range (start configs) [] w past text
+pub told-first : (range : Range) (configs : List Config) (w : WorldState) (past : List Note) (text : List ℕ) → IsViewed (start configs).cluster w → AreRepresentable (start configs).cluster → past ≡ [] → text ≡ [] → IsTold range (start configs) [] w past text
 told-first range configs w past text view representable none empty = record {
   view = view;
   representable = representable;
-  lines_are = none;
+  notes_are = none;
   explained = [];
   whole = record { turns_are = refl; clusters_are = refl; reasons = All-nil (λ (e : Explained). IsReasoned e.before e.turn.action e.turn.line e.reasons); seen = tt };
   told = λ more. sym empty;

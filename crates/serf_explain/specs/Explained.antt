@@ -17,6 +17,7 @@ use Rattle.serf_replay.specs.Show.{action_text, trace_text}
 use Rattle.serf_explain.specs.declared.range.Range.{Range}
 use Rattle.serf_explain.specs.Because.{because_line}
 use Rattle.serf_explain.specs.Carried.{AreMerged, OfMerge, TellsMerged}
+use Rattle.serf_explain.specs.HandOuts.{Note, OfNoted, notes_from}
 use Rattle.serf_explain.specs.Range.{is_shown}
 use Rattle.serf_explain.specs.Seen.{OfSeen}
 
@@ -87,19 +88,20 @@ pub record Explains (range : Range) (input text : List ℕ) (count : ℕ) : Type
   pub tells : TellsRun range schedule.configs schedule.actions text
   pub counted : count ≡ length schedule.actions
 
--- The world stores what a run came to, these are its lines, and the text is that of its turns, whatever else will be sent.
-pub record IsTold (range : Range) (r : Run) (clusters : List Cluster) (w : WorldState) (lines : List Line) (text : List ℕ) : Type 0 where
+-- The world stores what a run came to, these are what its lines handed out, and the text is that of its turns, whatever else
+-- will be sent.
+pub record IsTold (range : Range) (r : Run) (clusters : List Cluster) (w : WorldState) (notes : List Note) (text : List ℕ) : Type 0 where
   pub view : IsViewed r.cluster w
   pub representable : AreRepresentable r.cluster
-  pub lines_are : lines ≡ map (λ t. t.line) r.turns
+  pub notes_are : notes ≡ notes_from 1 (map (λ t. t.line) r.turns)
   pub explained : List Explained
   pub whole : IsExplained range r.turns clusters explained
   pub told : (more : List (List ℕ)) → turns_text range (r.cluster.sent ++ more) 1 explained ≡ text
 
--- What is told of an action: of a merge what was told of its events; of an event that was seen which line handed it out.
-pub record TellsAll (shown : Bool) (carried : List (List ℕ)) (past : List Line) (sent : List (List ℕ)) (action : Action) (line : Line) (reasons : List (List ℕ)) : Type 0 where
+-- What is told of an action: of a merge what was told of its events; of an event that was seen which action handed it out.
+pub record TellsAll (shown : Bool) (carried : List (List ℕ)) (notes : List Note) (sent : List (List ℕ)) (action : Action) (line : Line) (reasons : List (List ℕ)) : Type 0 where
   pub merged : line.answer ≡ answers.Merged → TellsMerged carried reasons
-  pub seen : shown ≡ true → line.answer ≡ answers.Ignored Seen → OfSeen past sent action reasons
+  pub seen : shown ≡ true → line.answer ≡ answers.Ignored Seen → OfNoted notes sent action reasons
 
 -- a text grew by an action's lines and its reasons, of which there are some, or by nothing where it isn't shown
 pub record AddsTurn (P : List (List ℕ) → Type 0) (is_shown : Bool) (sent : List (List ℕ)) (n : ℕ) (line : Line) (old new : List ℕ) : Type 0 where

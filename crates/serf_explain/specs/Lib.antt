@@ -3,6 +3,7 @@ pub mod Because
 pub mod Words
 pub mod Carried
 pub mod Seen
+pub mod HandOuts
 pub mod Judging
 pub mod Explained
 pub mod Noted

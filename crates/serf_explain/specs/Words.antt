@@ -1,9 +1,13 @@
 -- Texts between quotes, and what is said of an event.
-use Rattle.std.specs.Prelude.{ℕ, ◌==◌, ◌++◌, ◌||◌, nat_le, if◌then◌else◌, List, [], ◌∷◌, codes, decimal, length, take}
+use Rattle.std.specs.Prelude.{ℕ, ◌==◌, ◌++◌, ◌&&◌, ◌||◌, Bool, nat_le, not, if◌then◌else◌, List, [], ◌∷◌, codes, decimal, length, take}
 use Rattle.std.specs.List.{flat_map}
 use Rattle.serf_replay.specs.TextParts.{hex_text}
 use Rattle.serf_wire.specs.declared.texts.EventBody.{EventBody}
-use Rattle.serf_explain.specs.Because.{byte_text}
+use Rattle.serf_explain.specs.Because.{byte_text, is_printable}
+
+-- whether a byte of a quoted text stands as it is: printable, no quote and no backslash
+abbrev pub is_plain : ℕ → Bool
+is_plain byte = is_printable byte && not (byte == 34) && not (byte == 92)
 
 -- a byte of a quoted text: a quote and a backslash too stand as their hex digits
 unfoldable pub quoted_byte : ℕ → List ℕ

@@ -1,13 +1,14 @@
 //! A reason's line.
 
 ghost use Rattle.std.specs.Prelude.{◌≡◌, ◌++◌, OnOk};
-ghost use Rattle.std.specs.List.{flat_map};
+ghost use Rattle.std.specs.List.{flat_map, list_all};
 ghost use Rattle.serf_explain.specs.Because.{because_line, byte_text, is_printable};
 
 use serf_replay::{put_hex, put_number};
 use std::alloc::AllocError;
 
-fn is_printable(byte: u8) -> bool
+/// Whether a byte is printable ASCII.
+pub(crate) fn is_printable(byte: u8) -> bool
     ensures { result ≡ is_printable byte }
 {
     32 <= byte && byte <= 126
@@ -25,14 +26,32 @@ pub(crate) fn put_byte(out: &mut Vec<u8>, byte: u8) -> Result<(), AllocError>
     put_hex(out, &[byte])
 }
 
+/// Whether all bytes are printable.
+fn are_printable(bytes: &[u8]) -> bool
+    ensures { result ≡ list_all is_printable bytes.now }
+{
+    bytes.iter().all(|byte| is_printable(*byte))
+}
+
 /// Appends bytes, each of them printable.
-fn put_printable(out: &mut Vec<u8>, bytes: &[u8]) -> Result<(), AllocError>
+fn put_each(out: &mut Vec<u8>, bytes: &[u8]) -> Result<(), AllocError>
     ensures { OnOk result (out.new.items ≡ out.old.items ++ flat_map byte_text bytes.now) }
 {
     for byte in bytes {
         put_byte(out, *byte)?;
     }
     Ok(())
+}
+
+/// Appends bytes, each of them printable; at once where they all are.
+fn put_printable(out: &mut Vec<u8>, bytes: &[u8]) -> Result<(), AllocError>
+    ensures { OnOk result (out.new.items ≡ out.old.items ++ flat_map byte_text bytes.now) }
+{
+    if are_printable(bytes) {
+        out.extend_from_slice(bytes)
+    } else {
+        put_each(out, bytes)
+    }
 }
 
 /// Appends the line of a reason of the action of this number. No byte of it is a control byte but the newline at its

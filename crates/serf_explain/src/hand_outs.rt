@@ -1,10 +1,13 @@
-//! Which of a run's lines hand an event to an agent.
+//! The events that a run handed out so far.
 
-ghost use Rattle.std.specs.Prelude.{◌≡◌, position};
+ghost use Rattle.std.specs.Prelude.{◌≡◌, ◌++◌, ◌∷◌, [], drop, map, position, slice_get, take, IfOk, IfSome, OnOk};
+ghost use Rattle.std.specs.Option.{option_copied};
 ghost use Rattle.serf_window.specs.Texts.{event_of};
-ghost use Rattle.serf_explain.specs.Seen.{hands_out, is_hand_out};
+ghost use Rattle.serf_explain.specs.HandOuts.{IsNoted, NotedAt, is_note, note_in, note_of, notes_in};
 
+use indexmap::IndexMap;
 use serf_world::{EventLine, Line};
+use std::alloc::{AllocError, Global};
 
 /// An event, as it lies in its packet.
 #[derive(Clone, Copy)]
@@ -14,29 +17,198 @@ pub(crate) struct Event<'a> {
     pub(crate) payload: &'a [u8],
 }
 
-/// Whether an event line hands this event to this agent.
-pub(crate) fn is_hand_out(line: &EventLine, agent: u64, event: &Event) -> bool
-    ensures { result ≡ is_hand_out agent event.now.time (event_of event.now.name.now event.now.payload.now) line.now }
-{
-    line.agent == agent
-        && line.time.get() == event.time
-        && line.name.as_slice() == event.name
-        && line.payload.as_slice() == event.payload
+/// A time of an agent's events, or of its own queries.
+#[derive(Clone, Copy, Debug, PartialEq, Eq, Hash)]
+pub(crate) struct Moment {
+    pub(crate) agent: u64,
+    pub(crate) time: u64,
 }
 
-/// Whether an action's line hands this event to this agent.
-fn hands_out(line: &Line, agent: u64, event: &Event) -> bool
-    ensures { result ≡ hands_out agent event.now.time (event_of event.now.name.now event.now.payload.now) line.now }
-{
-    line.events
-        .as_slice()
-        .iter()
-        .any(|out| is_hand_out(out, agent, event))
+/// An event that was handed to an agent.
+#[derive(Drop)]
+pub(crate) struct HandOut {
+    /// The number of the action that did it, counted from 1.
+    pub(crate) action: u64,
+    pub(crate) agent: u64,
+    pub(crate) time: u64,
+    /// The event's name, and its payload behind that.
+    pub(crate) texts: Vec<u8>,
+    /// How many bytes the name has.
+    pub(crate) name: usize,
+    /// The place of the hand-out before it to the same agent at the same time.
+    before: Option<usize>,
 }
 
-/// The first of these actions that hands this event to this agent, counted from 0.
-pub(crate) fn first_hand_out(past: &[Line], agent: u64, event: &Event) -> Option<usize>
-    ensures { result ≡ position (hands_out agent event.now.time (event_of event.now.name.now event.now.payload.now)) past.now }
+impl HandOut {
+    /// The event of an event line of this action.
+    fn of(
+        alloc: Global,
+        action: u64,
+        event: &EventLine,
+        before: Option<usize>,
+    ) -> Result<HandOut, AllocError>
+        ensures { IfOk result (λ h. note_in h ≡ note_of action event.now) }
+    {
+        let name = event.name.as_slice();
+        let payload = event.payload.as_slice();
+        let mut texts = Vec::with_capacity(alloc, name.len().saturating_add(payload.len()))?;
+        texts.extend_from_slice(name)?;
+        texts.extend_from_slice(payload)?;
+        Ok(HandOut {
+            action,
+            agent: event.agent,
+            time: event.time.get(),
+            texts,
+            name: name.len(),
+            before,
+        })
+    }
+
+    /// The event's name and its payload.
+    fn texts(&self) -> (&[u8], &[u8])
+        ensures name { result.0.now ≡ take self.now.name self.now.texts.items }
+        ensures payload { result.1.now ≡ drop self.now.name self.now.texts.items }
+    {
+        match self.texts.as_slice().split_at_checked(self.name) {
+            Some(both) => both,
+            None => (self.texts.as_slice(), &[]),
+        }
+    }
+
+    /// Whether this event was handed to this agent.
+    fn hands(&self, agent: u64, event: &Event) -> bool
+        ensures { result ≡ is_note agent event.now.time (event_of event.now.name.now event.now.payload.now) (note_in self.now) }
+    {
+        let (name, payload) = self.texts();
+        self.agent == agent
+            && self.time == event.time
+            && name == event.name
+            && payload == event.payload
+    }
+}
+
+/// All of them, in their order.
+#[derive(Drop)]
+pub(crate) struct HandOuts {
+    pub(crate) outs: Vec<HandOut>,
+    /// The place of the last one to an agent at a time.
+    last: IndexMap<Moment, usize>,
+}
+
+/// The place of the first that hands this event to this agent.
+fn first_place(outs: &[HandOut], agent: u64, event: &Event) -> Option<usize>
+    ensures { result ≡ position (λ h. is_note agent event.now.time (event_of event.now.name.now event.now.payload.now) (note_in h)) outs.now }
 {
-    past.iter().position(|line| hands_out(line, agent, event))
+    outs.iter().position(|out| out.hands(agent, event))
+}
+
+/// The hand-out at this place.
+fn hand_out_at(outs: &[HandOut], place: usize) -> Option<&HandOut>
+    ensures { option_copied result ≡ slice_get outs.now place }
+{
+    match outs.get(place) {
+        Some(out) => Some(out),
+        None => None,
+    }
+}
+
+impl HandOuts {
+    /// None so far.
+    pub(crate) fn new(alloc: Global) -> HandOuts
+        ensures { notes_in result.outs.items ≡ [] }
+    {
+        HandOuts {
+            outs: Vec::new(alloc),
+            last: IndexMap::new(alloc),
+        }
+    }
+
+    /// Remembers an event that an action handed out.
+    fn note(&mut self, alloc: Global, action: u64, event: &EventLine) -> Result<(), AllocError>
+        ensures { OnOk result (notes_in self.new.outs.items ≡ notes_in self.old.outs.items ++ note_of action event.now ∷ []) }
+    {
+        let moment = Moment {
+            agent: event.agent,
+            time: event.time.get(),
+        };
+        let Ok(before) = self.last.insert(moment, self.outs.len()) else {
+            return Err(AllocError);
+        };
+        self.outs.push(HandOut::of(alloc, action, event, before)?)?;
+        Ok(())
+    }
+
+    /// Remembers all that an action handed out.
+    pub(crate) fn note_all(
+        &mut self,
+        alloc: Global,
+        action: u64,
+        line: &Line,
+    ) -> Result<(), AllocError>
+        ensures { OnOk result (notes_in self.new.outs.items ≡ notes_in self.old.outs.items ++ map (note_of action) line.now.events) }
+    {
+        for event in line.events.as_slice() {
+            self.note(alloc, action, event)?;
+        }
+        Ok(())
+    }
+
+    /// The action that handed this event to this agent, if the hand-out at this place is that.
+    fn action_at(&self, place: usize, agent: u64, event: &Event) -> Option<u64>
+        ensures { IfSome result (λ n. NotedAt (notes_in self.now.outs.items) n agent event.now.time (event_of event.now.name.now event.now.payload.now)) }
+    {
+        match hand_out_at(&self.outs, place) {
+            Some(out) => {
+                if out.hands(agent, event) {
+                    Some(out.action)
+                } else {
+                    None
+                }
+            }
+            None => None,
+        }
+    }
+
+    /// The last action that handed this event to this agent, found by its time.
+    pub(crate) fn last_of(&self, agent: u64, event: &Event) -> Option<u64>
+        ensures { IfSome result (λ n. NotedAt (notes_in self.now.outs.items) n agent event.now.time (event_of event.now.name.now event.now.payload.now)) }
+    {
+        let moment = Moment {
+            agent,
+            time: event.time,
+        };
+        let mut place = self.last.get(&moment).copied();
+        for _one in 0..self.outs.len() {
+            let here = place?;
+            match self.action_at(here, agent, event) {
+                Some(action) => return Some(action),
+                None => {}
+            }
+            place = self.outs.get(here)?.before;
+        }
+        None
+    }
+
+    /// The first action that handed this event to this agent, found in the list of all.
+    fn first_of(&self, agent: u64, event: &Event) -> Option<u64>
+        ensures { IsNoted (notes_in self.now.outs.items) agent event.now.time (event_of event.now.name.now event.now.payload.now) result }
+    {
+        match first_place(&self.outs, agent, event) {
+            Some(place) => match hand_out_at(&self.outs, place) {
+                Some(out) => Some(out.action),
+                None => None,
+            },
+            None => None,
+        }
+    }
+
+    /// An action that handed this event to this agent, if there is one.
+    pub(crate) fn action_of(&self, agent: u64, event: &Event) -> Option<u64>
+        ensures { IsNoted (notes_in self.now.outs.items) agent event.now.time (event_of event.now.name.now event.now.payload.now) result }
+    {
+        match self.last_of(agent, event) {
+            Some(action) => Some(action),
+            None => self.first_of(agent, event),
+        }
+    }
 }

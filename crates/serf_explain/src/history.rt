@@ -1,25 +1,28 @@
 //! A run so far.
 
-ghost use Rattle.std.specs.Prelude.{◌≡◌, ◌++◌, ◌∷◌, [], IfOk, OnOk};
+ghost use Rattle.std.specs.Prelude.{◌≡◌, ◌++◌, [], map, IfOk, OnOk};
+ghost use Rattle.serf_explain.specs.HandOuts.{note_of, notes_in};
 
+use crate::hand_outs::HandOuts;
 use crate::memory::Memory;
 use serf_world::{Action, Line, World};
 use std::alloc::{AllocError, Global};
 
-/// What came of each action so far, and what is remembered of them.
+/// What is remembered of a run, so that later reasons can name earlier actions. Nothing is kept of an action's line but
+/// the events that it handed out.
 #[derive(Drop)]
 pub(crate) struct History {
-    pub(crate) lines: Vec<Line>,
+    pub(crate) hand_outs: HandOuts,
     pub(crate) memory: Memory,
 }
 
 impl History {
     /// A run of no action.
     pub(crate) fn new(alloc: Global, world: &World, agents: usize) -> Result<History, AllocError>
-        ensures { IfOk result (λ h. h.lines.items ≡ []) }
+        ensures { IfOk result (λ h. notes_in h.hand_outs.outs.items ≡ []) }
     {
         Ok(History {
-            lines: Vec::new(alloc),
+            hand_outs: HandOuts::new(alloc),
             memory: Memory::new(alloc, world, agents)?,
         })
     }
@@ -31,13 +34,11 @@ impl History {
         world: &World,
         number: u64,
         action: &Action,
-        line: Line,
+        line: &Line,
     ) -> Result<(), AllocError>
-        ensures { OnOk result (self.new.lines.items ≡ self.old.lines.items ++ line ∷ []) }
+        ensures { OnOk result (notes_in self.new.hand_outs.outs.items ≡ notes_in self.old.hand_outs.outs.items ++ map (note_of number) line.now.events) }
     {
-        self.memory.note_events(self.lines.len(), &line)?;
-        self.memory.note(alloc, world, number, action, &line)?;
-        self.lines.push(line)?;
-        Ok(())
+        self.memory.note(alloc, world, number, action, line)?;
+        self.hand_outs.note_all(alloc, number, line)
     }
 }

@@ -7,6 +7,7 @@ ghost use Rattle.serf_explain.specs.Judging.{reasons_in};
 ghost use Rattle.serf_replay.specs.Io.{AppendsFront};
 ghost use Rattle.serf_replay.specs.Output.{output_of};
 ghost use Rattle.serf_explain.specs.Explained.{AddsTurn, Explains, IsTold, TellsAll, TellsRun};
+ghost use Rattle.serf_explain.specs.HandOuts.{notes_in};
 
 use crate::history::History;
 use crate::range::{Range, actor};
@@ -22,7 +23,7 @@ use std::io::{Read, Write};
 
 /// Appends an action's lines and those of its reasons.
 fn put_shown(alloc: Global, out: &mut Vec<u8>, told: &Told) -> Result<(), AllocError>
-    ensures { OnOk result (AddsTurn (TellsAll true (reasons_in told.now.carried.now) told.now.past.now told.now.world.now.sent told.now.action.now told.now.line.now) true told.now.world.now.sent told.now.number told.now.line.now out.old.items out.new.items) }
+    ensures { OnOk result (AddsTurn (TellsAll true (reasons_in told.now.carried.now) (notes_in told.now.past.now.outs.items) told.now.world.now.sent told.now.action.now told.now.line.now) true told.now.world.now.sent told.now.number told.now.line.now out.old.items out.new.items) }
 {
     put_action(out, told.world.sent(), told.number, told.line)?;
     put_reasons(alloc, out, told)
@@ -30,12 +31,12 @@ fn put_shown(alloc: Global, out: &mut Vec<u8>, told: &Told) -> Result<(), AllocE
 
 /// Appends nothing.
 fn put_nothing(out: &mut Vec<u8>, told: &Told)
-    ensures { AddsTurn (TellsAll false (reasons_in told.now.carried.now) told.now.past.now told.now.world.now.sent told.now.action.now told.now.line.now) false told.now.world.now.sent told.now.number told.now.line.now out.old.items out.new.items }
+    ensures { AddsTurn (TellsAll false (reasons_in told.now.carried.now) (notes_in told.now.past.now.outs.items) told.now.world.now.sent told.now.action.now told.now.line.now) false told.now.world.now.sent told.now.number told.now.line.now out.old.items out.new.items }
 {}
 
 /// Appends what is shown of an action: its lines and those of its reasons, or nothing.
 fn put_turn(alloc: Global, out: &mut Vec<u8>, is_shown: bool, told: &Told) -> Result<(), AllocError>
-    ensures { OnOk result (AddsTurn (TellsAll is_shown (reasons_in told.now.carried.now) told.now.past.now told.now.world.now.sent told.now.action.now told.now.line.now) is_shown told.now.world.now.sent told.now.number told.now.line.now out.old.items out.new.items) }
+    ensures { OnOk result (AddsTurn (TellsAll is_shown (reasons_in told.now.carried.now) (notes_in told.now.past.now.outs.items) told.now.world.now.sent told.now.action.now told.now.line.now) is_shown told.now.world.now.sent told.now.number told.now.line.now out.old.items out.new.items) }
 {
     match is_shown {
         true => put_shown(alloc, out, told),
@@ -56,7 +57,7 @@ fn add_turn(
     number: u64,
     action: &Action,
 ) -> Result<(), AllocError>
-    ensures { (r : Run) (clusters : List Cluster) → IsTold range.now r clusters world.old history.old.lines.items out.old.items → number ≡ length r.turns + 1 → OnOk result (IsTold range.now (after r action.now) (clusters ++ r.cluster ∷ []) world.new history.new.lines.items out.new.items) }
+    ensures { (r : Run) (clusters : List Cluster) → IsTold range.now r clusters world.old (notes_in history.old.hand_outs.outs.items) out.old.items → number ≡ length r.turns + 1 → OnOk result (IsTold range.now (after r action.now) (clusters ++ r.cluster ∷ []) world.new (notes_in history.new.hand_outs.outs.items) out.new.items) }
 {
     lines_stay();
     let carried = lines_before(alloc, world, history, number, action)?;
@@ -67,13 +68,13 @@ fn add_turn(
         number,
         world,
         memory: &history.memory,
-        past: &history.lines,
+        past: &history.hand_outs,
         action,
         line: &line,
         carried: &carried,
     };
     put_turn(alloc, out, range.shows(number, actor(action)), &told)?;
-    history.note(alloc, world, number, action, line)
+    history.note(alloc, world, number, action, &line)
 }
 
 /// Does an action, adds what is shown of it, and lets it go.
@@ -86,7 +87,7 @@ fn take_turn(
     number: u64,
     action: Action,
 ) -> Result<(), AllocError>
-    ensures { (r : Run) (clusters : List Cluster) → IsTold range.now r clusters world.old history.old.lines.items out.old.items → number ≡ length r.turns + 1 → OnOk result (IsTold range.now (after r action) (clusters ++ r.cluster ∷ []) world.new history.new.lines.items out.new.items) }
+    ensures { (r : Run) (clusters : List Cluster) → IsTold range.now r clusters world.old (notes_in history.old.hand_outs.outs.items) out.old.items → number ≡ length r.turns + 1 → OnOk result (IsTold range.now (after r action) (clusters ++ r.cluster ∷ []) world.new (notes_in history.new.hand_outs.outs.items) out.new.items) }
 {
     add_turn(alloc, world, history, out, range, number, &action)
 }

@@ -95,12 +95,9 @@ fn put_least(out: &mut Vec<u8>, merging: &Merging, minimum: u64) -> Result<(), A
 
 /// The last action that handed an event to the agent: one before, or else this one.
 fn handed_at(merging: &Merging, event: &Event) -> u64 {
-    let history = merging.history;
-    match history
-        .memory
-        .handed_at(&history.lines, merging.agent_number, event)
-    {
-        Some(place) => (place as u64).saturating_add(1),
+    let hand_outs = &merging.history.hand_outs;
+    match hand_outs.last_of(merging.agent_number, event) {
+        Some(action) => action,
         None => merging.number,
     }
 }

@@ -1,11 +1,11 @@
 //! Texts between quotes, and what is said of events and queries.
 
 ghost use Rattle.std.specs.Prelude.{◌≡◌, ◌<◌, ◌++◌, length, OnOk};
-ghost use Rattle.std.specs.List.{flat_map};
+ghost use Rattle.std.specs.List.{flat_map, list_all};
 ghost use Rattle.serf_window.specs.Texts.{event_of};
-ghost use Rattle.serf_explain.specs.Words.{event_words, front_quoted, quoted, quoted_byte, whole_quoted};
+ghost use Rattle.serf_explain.specs.Words.{event_words, front_quoted, is_plain, quoted, quoted_byte, whole_quoted};
 
-use crate::because::put_byte;
+use crate::because::{is_printable, put_byte};
 use serf_replay::{put_hex, put_number};
 use std::alloc::AllocError;
 
@@ -28,13 +28,37 @@ fn put_quoted_byte(out: &mut Vec<u8>, byte: u8) -> Result<(), AllocError>
     }
 }
 
-fn put_quoted_bytes(out: &mut Vec<u8>, bytes: &[u8]) -> Result<(), AllocError>
+/// Whether a byte of a quoted text stands as it is.
+fn is_plain(byte: u8) -> bool
+    ensures { result ≡ is_plain byte }
+{
+    is_printable(byte) && byte != b'"' && byte != b'\\'
+}
+
+fn are_plain(bytes: &[u8]) -> bool
+    ensures { result ≡ list_all is_plain bytes.now }
+{
+    bytes.iter().all(|byte| is_plain(*byte))
+}
+
+fn put_each(out: &mut Vec<u8>, bytes: &[u8]) -> Result<(), AllocError>
     ensures { OnOk result (out.new.items ≡ out.old.items ++ flat_map quoted_byte bytes.now) }
 {
     for byte in bytes {
         put_quoted_byte(out, *byte)?;
     }
     Ok(())
+}
+
+/// Appends the bytes of a quoted text; at once where they all stand as they are.
+fn put_quoted_bytes(out: &mut Vec<u8>, bytes: &[u8]) -> Result<(), AllocError>
+    ensures { OnOk result (out.new.items ≡ out.old.items ++ flat_map quoted_byte bytes.now) }
+{
+    if are_plain(bytes) {
+        out.extend_from_slice(bytes)
+    } else {
+        put_each(out, bytes)
+    }
 }
 
 #[tactic(auto, unfolding(crate::specs::Words::whole_quoted))]

@@ -15,6 +15,7 @@ ghost use Rattle.serf_world.specs.View.{IsViewed, agent_at};
 ghost use Rattle.serf_explain.specs.Because.{AddsReasons, AddsSome, AddsSuch, because_line};
 ghost use Rattle.serf_explain.specs.Carried.{AreCarried, TellsMerge, TellsMerged};
 ghost use Rattle.serf_explain.specs.Explained.{TellsAll};
+ghost use Rattle.serf_explain.specs.HandOuts.{notes_in};
 ghost use Rattle.serf_explain.specs.Judging.{reasons_in};
 
 use crate::answers::put_reason;
@@ -29,6 +30,9 @@ use serf_agent::Reason;
 use serf_wire::{Bytes, Message, decode};
 use serf_world::{Action, Answer, Refusal, World};
 use std::alloc::{AllocError, Global};
+
+/// How many bytes most reasons have, at most.
+pub(crate) const USUAL_BYTES: usize = 160;
 
 /// How many bytes the words have that tell of a new event: `new, and handed out`.
 const NEW_WORDS: usize = 19;
@@ -129,7 +133,7 @@ pub(crate) fn lines_before(
 pub(crate) fn put_lone(alloc: Global, out: &mut Vec<u8>, told: &Told) -> Result<(), AllocError>
     ensures { OnOk result (AddsSome told.now.number out.old.items out.new.items) }
 {
-    let mut reason = Vec::new(alloc);
+    let mut reason = Vec::with_capacity(alloc, USUAL_BYTES)?;
     put_reason(&mut reason, told, actor(told.action))?;
     put_because(out, told.number, reason.as_slice())
 }
@@ -215,7 +219,7 @@ fn put_unmerged(alloc: Global, out: &mut Vec<u8>, told: &Told) -> Result<(), All
 
 /// Appends a line for each reason of an action: one at least.
 pub(crate) fn put_reasons(alloc: Global, out: &mut Vec<u8>, told: &Told) -> Result<(), AllocError>
-    ensures { OnOk result (AddsSuch (TellsAll true (reasons_in told.now.carried.now) told.now.past.now told.now.world.now.sent told.now.action.now told.now.line.now) told.now.number out.old.items out.new.items) }
+    ensures { OnOk result (AddsSuch (TellsAll true (reasons_in told.now.carried.now) (notes_in told.now.past.now.outs.items) told.now.world.now.sent told.now.action.now told.now.line.now) told.now.number out.old.items out.new.items) }
 {
     match told.line.answer {
         Answer::Merged => put_merged(out, told.number, told.carried),

@@ -1,22 +1,23 @@
 //! What is told of an event that was delivered, and ignored as seen.
 
-ghost use Rattle.std.specs.Prelude.{◌≡◌, ◌+◌, ◌<◌, ◌++◌, ◌∷◌, [], ℕ, Option, List, length, Ok, OnOk, IfOk, IfSome};
+ghost use Rattle.std.specs.Prelude.{◌≡◌, ◌++◌, ◌∷◌, [], ℕ, List, Ok, OnOk, IfOk};
 ghost use Rattle.std.specs.Option.{option_map};
 ghost use Rattle.serf_wire.specs.Decoded.{decoded};
 ghost use Rattle.serf_wire.specs.Message.{message_of};
 ghost use Rattle.serf_window.specs.Texts.{event_of};
 ghost use Rattle.serf_explain.specs.Because.{AddsSuch};
 ghost use Rattle.serf_explain.specs.Noted.{delivered_as, event_as};
-ghost use Rattle.serf_explain.specs.Seen.{IsHandOut, IsSeen, OfSeen, at_action, event_delivered, event_read, seen_words};
+ghost use Rattle.serf_explain.specs.HandOuts.{NamesNote, OfNoted, at_number, noted_words, notes_in};
+ghost use Rattle.serf_explain.specs.Seen.{event_delivered, event_read};
 
 use crate::because::put_because;
-use crate::hand_outs::{Event, first_hand_out};
+use crate::hand_outs::Event;
 use crate::quoted::{put_event, put_quoted};
-use crate::reasons::{packet_at, put_lone};
+use crate::reasons::{USUAL_BYTES, packet_at, put_lone};
 use crate::told::Told;
 use serf_replay::put_number;
 use serf_wire::{Message, decode};
-use serf_world::{Action, Line};
+use serf_world::Action;
 use std::alloc::{AllocError, Global};
 
 /// An event that is delivered to the agent of this number.
@@ -69,56 +70,34 @@ fn seen_event<'a>(told: &Told<'a>) -> Option<Delivered<'a>>
     Some(Delivered { to: *to, event })
 }
 
-/// An action that handed an event to an agent, counted from 0.
-fn hand_out(told: &Told, of: &Delivered) -> Option<usize>
-    ensures { IsHandOut told.now.past.now of.now.to of.now.event.time (event_of of.now.event.name.now of.now.event.payload.now) result }
-{
-    match told.memory.handed_at(told.past, of.to, &of.event) {
-        Some(place) => Some(place),
-        None => first_hand_out(told.past, of.to, &of.event),
-    }
-}
-
-/// The number of an action, counted from 1.
-fn number_of(past: &[Line], place: usize) -> u64
-    requires { place < length past.now }
-    ensures { result ≡ place + 1 }
-{
-    let _all = past.len();
-    place as u64 + 1
-}
-
 /// Appends which action it was.
-#[tactic(auto, unfolding(crate::specs::Seen::at_action))]
-fn put_at_action(out: &mut Vec<u8>, past: &[Line], place: Option<usize>) -> Result<(), AllocError>
-    requires { IfSome place (λ k. k < length past.now) }
-    ensures { OnOk result (out.new.items ≡ out.old.items ++ at_action place) }
+#[tactic(auto, unfolding(crate::specs::HandOuts::at_number))]
+fn put_at_number(out: &mut Vec<u8>, number: Option<u64>) -> Result<(), AllocError>
+    ensures { OnOk result (out.new.items ≡ out.old.items ++ at_number number) }
 {
-    match place {
-        Some(place) => {
+    match number {
+        Some(number) => {
             out.extend_from_slice(b" at action ")?;
-            put_number(out, number_of(past, place))
+            put_number(out, number)
         }
         None => out.extend_from_slice(b" before"),
     }
 }
 
 /// Appends which action handed an event to an agent of this name.
-#[tactic(auto, unfolding(crate::specs::Seen::seen_words))]
-fn put_seen_words(
+#[tactic(auto, unfolding(crate::specs::HandOuts::noted_words))]
+fn put_noted_words(
     out: &mut Vec<u8>,
     name: &[u8],
     event: &Event,
-    past: &[Line],
-    place: Option<usize>,
+    number: Option<u64>,
 ) -> Result<(), AllocError>
-    requires { IfSome place (λ k. k < length past.now) }
-    ensures { OnOk result (out.new.items ≡ out.old.items ++ seen_words name.now event.now.time (event_of event.now.name.now event.now.payload.now) place) }
+    ensures { OnOk result (out.new.items ≡ out.old.items ++ noted_words name.now event.now.time (event_of event.now.name.now event.now.payload.now) number) }
 {
     put_quoted(out, name)?;
     out.extend_from_slice(b" was handed ")?;
     put_event(out, event.time, event.name, event.payload)?;
-    put_at_action(out, past, place)
+    put_at_number(out, number)
 }
 
 /// The name of the agent of this number.
@@ -131,17 +110,11 @@ fn name_of<'a>(told: &Told<'a>, agent: u64) -> &'a [u8] {
 
 /// Which action handed this event to its agent before.
 fn seen_reason(alloc: Global, told: &Told, of: &Delivered) -> Result<Vec<u8>, AllocError>
-    ensures { IfOk result (λ reason. IsSeen told.now.past.now of.now.to of.now.event.time (event_of of.now.event.name.now of.now.event.payload.now) reason.items) }
+    ensures { IfOk result (λ reason. NamesNote (notes_in told.now.past.now.outs.items) of.now.to of.now.event.time (event_of of.now.event.name.now of.now.event.payload.now) reason.items) }
 {
-    let mut reason = Vec::new(alloc);
-    let place = hand_out(told, of);
-    put_seen_words(
-        &mut reason,
-        name_of(told, of.to),
-        &of.event,
-        told.past,
-        place,
-    )?;
+    let number = told.past.action_of(of.to, &of.event);
+    let mut reason = Vec::with_capacity(alloc, USUAL_BYTES)?;
+    put_noted_words(&mut reason, name_of(told, of.to), &of.event, number)?;
     Ok(reason)
 }
 
@@ -152,7 +125,7 @@ fn put_seen_event(
     told: &Told,
     of: &Delivered,
 ) -> Result<(), AllocError>
-    ensures { OnOk result (AddsSuch (λ reasons. (reason : List ℕ) × (reasons ≡ reason ∷ []) × IsSeen told.now.past.now of.now.to of.now.event.time (event_of of.now.event.name.now of.now.event.payload.now) reason) told.now.number out.old.items out.new.items) }
+    ensures { OnOk result (AddsSuch (λ reasons. (reason : List ℕ) × (reasons ≡ reason ∷ []) × NamesNote (notes_in told.now.past.now.outs.items) of.now.to of.now.event.time (event_of of.now.event.name.now of.now.event.payload.now) reason) told.now.number out.old.items out.new.items) }
 {
     let reason = seen_reason(alloc, told, of)?;
     put_because(out, told.number, &reason)
@@ -160,7 +133,7 @@ fn put_seen_event(
 
 /// Appends the line of a delivery that was ignored as seen: of an event, which action handed it to its agent before.
 pub(crate) fn put_seen(alloc: Global, out: &mut Vec<u8>, told: &Told) -> Result<(), AllocError>
-    ensures { OnOk result (AddsSuch (OfSeen told.now.past.now told.now.world.now.sent told.now.action.now) told.now.number out.old.items out.new.items) }
+    ensures { OnOk result (AddsSuch (OfNoted (notes_in told.now.past.now.outs.items) told.now.world.now.sent told.now.action.now) told.now.number out.old.items out.new.items) }
 {
     match seen_event(told) {
         Some(of) => put_seen_event(alloc, out, told, &of),

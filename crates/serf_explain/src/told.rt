@@ -1,5 +1,6 @@
 //! An action that was done, with what is known around it.
 
+use crate::hand_outs::HandOuts;
 use crate::marks::Marks;
 use crate::memory::Memory;
 use crate::merges::Carried;
@@ -17,8 +18,8 @@ pub(crate) struct Told<'a> {
     pub(crate) number: u64,
     pub(crate) world: &'a World,
     pub(crate) memory: &'a Memory,
-    /// What came of each of them.
-    pub(crate) past: &'a [Line],
+    /// The events that they handed out.
+    pub(crate) past: &'a HandOuts,
     pub(crate) action: &'a Action,
     pub(crate) line: &'a Line,
     /// What is told of each event, where a state is merged on a disk that works.

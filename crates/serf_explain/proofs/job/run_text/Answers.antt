@@ -5,6 +5,7 @@ use Rattle.std.proofs.lemmas.Grind.{common_steps}
 use Rattle.serf_model.specs.Cluster.{Cluster, Run, after, run_of, start, step}
 use Rattle.serf_model.specs.declared.action.Action.{Action}
 use Rattle.serf_explain.specs.Explained.{clusters_before, clusters_from}
+use Rattle.serf_explain.specs.HandOuts.{notes_in}
 use Rattle.serf_explain.proofs.TellLaws.{told-first, told-whole}
 use Rattle.serf_explain.proofs.job.run_text.Goals as goal
 
@@ -13,7 +14,7 @@ loop-action-init g c =
     let all = c.into_iter-action-iterator.ensures.into_iter_gives.0 in (
       start c.args.schedule.agents,
       [],
-      told-first c.args.range.now c.args.schedule.agents c.in_ok-world.world c.in_ok-history.history.lines.items c.new-out.result.items c.in_ok-world.ensures.start c.in_ok-world.ensures.representable c.in_ok-history.ensures c.new-out.ensures.items,
+      told-first c.args.range.now c.args.schedule.agents c.in_ok-world.world (notes_in c.in_ok-history.history.hand_outs.outs.items) c.new-out.result.items c.in_ok-world.ensures.start c.in_ok-world.ensures.representable c.in_ok-history.ensures c.new-out.ensures.items,
       refl,
       omega (arith, ap length all),
       ap (fold after (start c.args.schedule.agents)) all,
@@ -44,4 +45,4 @@ returns g c =
     let none : into_iter_items c.loop-action.action-iterator ≡ [] = grind (arith, common_steps) in
     let whole : r ≡ run_of c.args.schedule.agents c.args.schedule.actions.items = ap (fold after r) (sym none) ∙ inv.5 in
     let clusters : inv.1 ≡ clusters_before c.args.schedule.agents c.args.schedule.actions.items = sym (append-nil inv.1) ∙ ap (λ (left : List Action). inv.1 ++ clusters_from r.cluster left) (sym none) ∙ inv.6 in
-    told-whole c.args.range.now c.args.schedule.agents c.args.schedule.actions.items r inv.1 c.loop-action.world c.loop-action.history.lines.items c.loop-action.out.items whole clusters inv.2
+    told-whole c.args.range.now c.args.schedule.agents c.args.schedule.actions.items r inv.1 c.loop-action.world (notes_in c.loop-action.history.hand_outs.outs.items) c.loop-action.out.items whole clusters inv.2

@@ -1,0 +1,106 @@
+"""explain.py PROGRAM: `explain` beside `replay`, on schedules of deliveries, firings and merges.
+
+Runs the two by turns. Prints for each schedule the least processor seconds of five runs, the peak of the
+resident set in MB of 1,000,000 bytes, and how many times those of `replay` these are of `explain`. `explain`
+writes a line for each event of a merged state, so how many times the bytes it writes stands beside.
+"""
+
+import os
+import sys
+import tempfile
+
+sys.path.insert(0, os.path.dirname(os.path.abspath(__file__)))
+sys.dont_write_bytecode = True
+from schedules import event
+
+RUNS = 5
+
+
+def agents(count):
+    return "".join(f"agent {0x61 + n:02x} 512 512 512 8 keep\n" for n in range(count))
+
+
+def fire(n):
+    return f"fire 0 6465706c6f79 {(b'v%d' % (n % 32)).hex()} 0\n"
+
+
+def fresh(count, per_time):
+    """So many new events, so many of a time, each delivered once. Each is sent on too, so these have the even numbers."""
+    for n in range(count):
+        yield f"inject {event(1 + n // per_time, b'v%d' % (n % per_time)).hex()}\ndeliver 0 {2 * n} 0\n"
+
+
+def new(per_time):
+    yield agents(1)
+    yield from fresh(100_000, per_time)
+
+
+def seen(per_time):
+    """Deliveries of the events of 512 times, all of which were seen."""
+    count = 512 * per_time
+    yield agents(1)
+    yield from fresh(count, per_time)
+    yield from (f"deliver 0 {2 * (n % count)} 0\n" for n in range(400_000))
+
+
+def spread():
+    """2,000 firings, each delivered ten times to each of ten agents."""
+    yield agents(10)
+    for n in range(2000):
+        yield fire(n)
+        yield from (f"deliver {agent} {10 * n} 0\n" for _ in range(10) for agent in range(10))
+
+
+def firings():
+    yield agents(1)
+    yield from map(fire, range(200_000))
+
+
+def merges():
+    """2,000 merges of a state of 512 slots."""
+    yield agents(2)
+    yield from fresh(512, 1)
+    yield "state 0\n"
+    yield from ["merge 1 1024 sync\n"] * 2000
+
+
+SCHEDULES = {
+    "2,000 events, each delivered ten times to ten agents": spread(),
+    "400,000 seen events, 1 a time": seen(1),
+    "400,000 seen events, 32 a time": seen(32),
+    "100,000 new events, 1 a time": new(1),
+    "100,000 new events, 32 a time": new(32),
+    "200,000 firings": firings(),
+    "2,000 merges of 512 slots": merges(),
+}
+
+
+def cost(program, word, given):
+    """The processor seconds, the peak of the resident set and the bytes written of a run."""
+    with tempfile.TemporaryFile() as out:
+        given.seek(0)
+        actions = [(os.POSIX_SPAWN_DUP2, given.fileno(), 0), (os.POSIX_SPAWN_DUP2, out.fileno(), 1)]
+        child = os.posix_spawn(program, [program, word, "-"], os.environ, file_actions=actions)
+        _, status, usage = os.wait4(child, 0)
+        if status != 0:
+            sys.exit(f"explain.py: {word} ended with status {os.waitstatus_to_exitcode(status)}")
+        return usage.ru_utime + usage.ru_stime, usage.ru_maxrss * 1024, os.fstat(out.fileno()).st_size
+
+
+def main():
+    program = sys.argv[1]
+    for name, lines in SCHEDULES.items():
+        with tempfile.TemporaryFile() as given:
+            given.writelines(line.encode() for line in lines)
+            given.flush()
+            runs = [[cost(program, word, given) for word in ("replay", "explain")] for _ in range(RUNS)]
+        (plain, small, short), (told, large, long) = ([min(of) for of in zip(*side)] for side in zip(*runs))
+        print(
+            f"{name}: replay {plain:.2f} s, {small / 1e6:.1f} MB; explain {told:.2f} s, {large / 1e6:.1f} MB;"
+            f" {told / plain:.1f} times the time, {large / small:.1f} times the memory, {long / short:.1f} times"
+            " the bytes",
+            flush=True,
+        )
+
+
+main()

@@ -1,0 +1,147 @@
+-- The events that were handed out, and the lines that did it.
+use Rattle.std.proofs.Common.{◌≡◌, ℕ, zero, suc, ◌+◌, ◌<◌, ◌≤◌, ◌++◌, ◌||◌, inl, inr, List, [], ◌∷◌, Bool, true, false, length, map, Option, Some, None, arith, refl, sym, ap, ◌∙◌, append_assoc, append-nil}
+use Rattle.std.proofs.lemmas.Bool.{cases_Bool}
+use Rattle.std.proofs.lemmas.Grind.{common_steps}
+use Rattle.std.proofs.lemmas.List.Elements.{All-cons, All-nil}
+use Rattle.std.proofs.lemmas.List.Folds.{list_any-append, list_any_none}
+use Rattle.std.proofs.lemmas.List.Quantifiers.{position-Some}
+use Rattle.std.proofs.lemmas.List.Sums.{fails_before_first}
+use Rattle.std.proofs.lemmas.Option.{slice_get-get_or, slice_get-map}
+use Rattle.std.specs.List.{list_any, position_or_len}
+use Rattle.std.specs.Option.{option_map}
+use Rattle.std.specs.Prelude.{All, codes, decimal, position, slice_get, slice_index_or}
+use Rattle.serf_wire.specs.declared.texts.EventBody.{EventBody}
+use Rattle.serf_model.specs.declared.action.Action.{Action}
+use Rattle.serf_model.specs.declared.line.EventLine.{EventLine}
+use Rattle.serf_model.specs.declared.line.Line.{Line}
+use Rattle.serf_explain.specs.declared.hand_outs.HandOut.{HandOut}
+use Rattle.serf_explain.specs.HandOuts.{IsNoted, NamesNote, Note, NotedAt, OfNoted, at_number, is_note, note_in, note_of, noted_words, notes_from, notes_in}
+use Rattle.serf_explain.specs.Seen.{HandsOut, IsSeen, OfSeen, at_action, hands_out, is_hand_out, seen_words}
+use Rattle.serf_explain.specs.Words.{event_words, quoted}
+
+-- one more line
+pub lines-push : (n : ℕ) (lines : List Line) (line : Line) → notes_from n (lines ++ line ∷ []) ≡ notes_from n lines ++ map (note_of (n + length lines)) line.events
+lines-push n [] line = append-nil (map (note_of n) line.events) ∙ ap (λ m. map (note_of m) line.events) (let none : n ≡ n + 0 = omega arith in none)
+lines-push n (x ∷ xs) line =
+    let later : n + 1 + length xs ≡ n + length (x ∷ xs) = omega arith in
+    ap (λ (t : List Note). map (note_of n) x.events ++ t) (lines-push (n + 1) xs line ∙ ap (λ m. notes_from (n + 1) xs ++ map (note_of m) line.events) later)
+    ∙ sym (append_assoc (map (note_of n) x.events) (notes_from (n + 1) xs) (map (note_of (n + length (x ∷ xs))) line.events))
+
+-- the hand-out at a place
+pub noted-at : (outs : List HandOut) (place a time : ℕ) (what : EventBody) (h : HandOut) → slice_get outs place ≡ Some h → is_note a time what (note_in h) ≡ true → NotedAt (notes_in outs) h.action a time what
+noted-at outs place a time what h at is = record {
+  place = place;
+  note = note_in h;
+  at = slice_get-map note_in outs place ∙ ap (λ (o : Option HandOut). option_map note_in o) at;
+  action_is = refl;
+  hands = is;
+}
+
+some-there : (outs : List HandOut) (place : ℕ) → place < length outs → slice_get outs place ≡ None → ⊥
+some-there [] place inside at = omega arith
+some-there (h ∷ hs) zero inside at = cc (at)
+some-there (h ∷ hs) (suc place) inside at = some-there hs place (omega arith) at
+
+module _ (a time : ℕ) (what : EventBody) where
+  -- the first one, or none
+  pub first-is : (outs : List HandOut) (place : ℕ) (h : HandOut) → Some place ≡ position (λ (h : HandOut). is_note a time what (note_in h)) outs → slice_get outs place ≡ Some h → NotedAt (notes_in outs) h.action a time what
+  first-is outs place h e at =
+      let p : HandOut → Bool = λ (h : HandOut). is_note a time what (note_in h) in
+      let first = position-Some p outs place h (sym e) in
+      let here : Some h ≡ Some (slice_index_or outs place h) = sym at ∙ slice_get-get_or outs place h first.0 in
+      let same : h ≡ slice_index_or outs place h = cc in
+      noted-at outs place a time what h at (ap p same ∙ first.1)
+
+  pub first-there : (outs : List HandOut) (place : ℕ) → Some place ≡ position (λ (h : HandOut). is_note a time what (note_in h)) outs → slice_get outs place ≡ None → ⊥
+  first-there outs place e at =
+      let p : HandOut → Bool = λ (h : HandOut). is_note a time what (note_in h) in
+      let here : position_or_len p outs ≡ place = grind (arith, common_steps) in
+      let inside : place < length outs = grind (arith, common_steps) in
+      some-there outs place inside at
+
+  any-in : (outs : List HandOut) → list_any (is_note a time what) (notes_in outs) ≡ list_any (λ (h : HandOut). is_note a time what (note_in h)) outs
+  any-in [] = refl
+  any-in (h ∷ hs) = ap (λ b. is_note a time what (note_in h) || b) (any-in hs)
+
+  pub none-first : (outs : List HandOut) → None ≡ position (λ (h : HandOut). is_note a time what (note_in h)) outs → list_any (is_note a time what) (notes_in outs) ≡ false
+  none-first outs e =
+      let p : HandOut → Bool = λ (h : HandOut). is_note a time what (note_in h) in
+      let last : length outs ≤ position_or_len p outs = grind (arith, common_steps) in
+      any-in outs ∙ list_any_none p outs (λ k d lt. fails_before_first p outs k d (omega arith))
+
+  -- a line that hands it out
+  record Found (n : ℕ) (lines : List Line) (note : Note) : Type 0 where
+    k : ℕ
+    action_is : note.action ≡ n + k
+    hands : HandsOut lines k a time what
+
+  -- an event line, or one of the notes behind
+  among : (n : ℕ) (es : List EventLine) (rest : List Note) (place : ℕ) (note : Note) (Q : Type 0) → slice_get (map (note_of n) es ++ rest) place ≡ Some note → is_note a time what note ≡ true
+      → (note.action ≡ n → list_any (is_hand_out a time what) es ≡ true → Q) → ((q : ℕ) → slice_get rest q ≡ Some note → Q) → Q
+  among n [] rest place note Q at is here there = there place at
+  among n (e ∷ es) rest zero note Q at is here there =
+      let same : note_of n e ≡ note = cc (at) in
+      let hands : is_hand_out a time what e ≡ true = ap (λ (m : Note). is_note a time what m) same ∙ is in
+      here (sym (ap (λ (m : Note). m.action) same)) (ap (λ b. b || list_any (is_hand_out a time what) es) hands)
+  among n (e ∷ es) rest (suc place) note Q at is here there =
+      among n es rest place note Q at is
+      (λ act any. here act (elim (cases_Bool (is_hand_out a time what e)) [ inl here ↦ ap (λ b. b || list_any (is_hand_out a time what) es) here | inr apart ↦ ap (λ b. b || list_any (is_hand_out a time what) es) apart ∙ any ]))
+      there
+
+  line-of : (n : ℕ) (lines : List Line) (place : ℕ) (note : Note) → slice_get (notes_from n lines) place ≡ Some note → is_note a time what note ≡ true → Found n lines note
+  line-of n [] place note at is = absurd (cc (at))
+  line-of n (line ∷ lines) place note at is =
+      among n line.events (notes_from (n + 1) lines) place note (Found n (line ∷ lines) note) at is
+      (λ act any. record { k = 0; action_is = omega (arith, act); hands = record { line = line; at = refl; hands = any } })
+      (λ q behind.
+      let h = line-of (n + 1) lines q note behind is in
+      record { k = suc h.k; action_is = omega (arith, h.action_is); hands = record { line = h.hands.line; at = h.hands.at; hands = h.hands.hands } })
+
+  any-of : (n : ℕ) (es : List EventLine) → list_any (is_note a time what) (map (note_of n) es) ≡ list_any (is_hand_out a time what) es
+  any-of n [] = refl
+  any-of n (e ∷ es) = ap (λ b. is_hand_out a time what e || b) (any-of n es)
+
+  or-left : (x y : Bool) → (x || y) ≡ false → x ≡ false
+  or-left false y h = refl
+  or-left true y h = h
+
+  or-right : (x y : Bool) → (x || y) ≡ false → y ≡ false
+  or-right false y h = h
+  or-right true y h = absurd (cc (h))
+
+  none-of : (n : ℕ) (lines : List Line) → list_any (is_note a time what) (notes_from n lines) ≡ false → All (λ (line : Line). hands_out a time what line ≡ false) lines
+  none-of n [] h = All-nil (λ (line : Line). hands_out a time what line ≡ false)
+  none-of n (line ∷ lines) h =
+      let both : (hands_out a time what line || list_any (is_note a time what) (notes_from (n + 1) lines)) ≡ false =
+      ap (λ b. b || list_any (is_note a time what) (notes_from (n + 1) lines)) (sym (any-of n line.events)) ∙ sym (list_any-append (is_note a time what) (map (note_of n) line.events) (notes_from (n + 1) lines)) ∙ h in
+      All-cons (λ (l : Line). hands_out a time what l ≡ false) line lines
+      (or-left (hands_out a time what line) (list_any (is_note a time what) (notes_from (n + 1) lines)) both)
+      (none-of (n + 1) lines (or-right (hands_out a time what line) (list_any (is_note a time what) (notes_from (n + 1) lines)) both))
+
+  words-of : (name : List ℕ) (n k : ℕ) → n ≡ 1 + k → noted_words name time what (Some n) ≡ seen_words name time what (Some k)
+  unfolding noted_words seen_words at_number at_action
+  words-of name n k is =
+      let one : n ≡ k + 1 = omega (arith, is) in
+      ap (λ m. quoted name ++ codes " was handed " ++ event_words time what ++ (codes " at action " ++ decimal m)) one
+
+  words-none : (name : List ℕ) → noted_words name time what None ≡ seen_words name time what None
+  unfolding noted_words seen_words at_number at_action
+  words-none name = refl
+
+  is-seen : (lines : List Line) (reason : List ℕ) → NamesNote (notes_from 1 lines) a time what reason → IsSeen lines a time what reason
+  is-seen lines reason h = by h.number h.noted h.words
+    where
+      by : (o : Option ℕ) → IsNoted (notes_from 1 lines) a time what o → reason ≡ noted_words h.name time what o → IsSeen lines a time what reason
+      by None noted words = record { name = h.name; action = None; hand_out = record { right = tt; none = λ q. none-of 1 lines (noted.none refl) }; words = words ∙ words-none h.name }
+      by (Some n) noted words =
+          let found = line-of 1 lines noted.right.place noted.right.note noted.right.at noted.right.hands in
+          record {
+            name = h.name;
+            action = Some found.k;
+            hand_out = record { right = found.hands; none = λ q. absurd (cc (q)) };
+            words = words ∙ words-of h.name n found.k (sym noted.right.action_is ∙ found.action_is);
+          }
+
+-- what names an event that was handed out names a line
+pub of-seen : (lines : List Line) (sent : List (List ℕ)) (action : Action) (reasons : List (List ℕ)) → OfNoted (notes_from 1 lines) sent action reasons → OfSeen lines sent action reasons
+of-seen lines sent action reasons h = λ a e is. let k = h a e is in (k.0, k.1, is-seen a e.time e.key lines k.0 k.2)

@@ -1,0 +1,70 @@
+-- The events that were handed out so far, each with its action: private to the crate.
+use Rattle.std.specs.Prelude.{◌≡◌, ℕ, ◌+◌, ◌==◌, ◌++◌, ◌&&◌, Bool, true, false, List, [], ◌∷◌, Option, Some, None, IfSome, codes, decimal, drop, map, slice_get, take}
+use Rattle.std.specs.List.{list_any}
+use Rattle.serf_wire.specs.declared.texts.EventBody.{EventBody}
+use Rattle.serf_window.specs.Texts.{event_of, same_texts}
+use Rattle.serf_window.specs.Window.{TimedEntry}
+use Rattle.serf_model.specs.declared.action.Action.{Action}
+use Rattle.serf_model.specs.declared.line.EventLine.{EventLine}
+use Rattle.serf_model.specs.declared.line.Line.{Line}
+use Rattle.serf_explain.specs.declared.hand_outs.HandOut.{HandOut}
+use Rattle.serf_explain.specs.Seen.{event_delivered}
+use Rattle.serf_explain.specs.Words.{event_words, quoted}
+
+-- an event that the action of this number, counted from 1, handed to an agent
+pub record Note : Type 0 where
+  pub action : ℕ
+  pub agent : ℕ
+  pub time : ℕ
+  pub what : EventBody
+
+abbrev pub note_of : ℕ → EventLine → Note
+note_of n e = record { action = n; agent = e.agent; time = e.time; what = event_of e.name e.payload }
+
+-- those of actions that are numbered from n on
+abbrev pub notes_from : ℕ → List Line → List Note
+notes_from n [] = []
+notes_from n (line ∷ lines) = map (note_of n) line.events ++ notes_from (n + 1) lines
+
+-- what a hand-out that is kept says
+abbrev pub note_in : HandOut → Note
+note_in h = record { action = h.action; agent = h.agent; time = h.time; what = event_of (take h.name h.texts.items) (drop h.name h.texts.items) }
+
+abbrev pub notes_in : List HandOut → List Note
+notes_in hand_outs = map note_in hand_outs
+
+-- whether this event was handed to this agent
+abbrev pub is_note : ℕ → ℕ → EventBody → Note → Bool
+is_note a time what note = note.agent == a && (note.time == time && same_texts note.what what)
+
+-- the action of this number did it
+pub record NotedAt (notes : List Note) (n a time : ℕ) (what : EventBody) : Type 0 where
+  pub place : ℕ
+  pub note : Note
+  pub at : slice_get notes place ≡ Some note
+  pub action_is : note.action ≡ n
+  pub hands : is_note a time what note ≡ true
+
+-- the number of an action that did it, if there is one
+pub record IsNoted (notes : List Note) (a time : ℕ) (what : EventBody) (number : Option ℕ) : Type 0 where
+  pub right : IfSome number (λ n. NotedAt notes n a time what)
+  pub none : number ≡ None → list_any (is_note a time what) notes ≡ false
+
+unfoldable pub at_number : Option ℕ → List ℕ
+at_number None = codes " before"
+at_number (Some n) = codes " at action " ++ decimal n
+
+unfoldable pub noted_words : List ℕ → ℕ → EventBody → Option ℕ → List ℕ
+noted_words name time what number = quoted name ++ codes " was handed " ++ event_words time what ++ at_number number
+
+-- a reason says that this event was handed to this agent, and by which action
+pub record NamesNote (notes : List Note) (a time : ℕ) (what : EventBody) (reason : List ℕ) : Type 0 where
+  pub name : List ℕ
+  pub number : Option ℕ
+  pub noted : IsNoted notes a time what number
+  pub words : reason ≡ noted_words name time what number
+
+-- where an action delivers an event, its only reason says so
+abbrev pub OfNoted : List Note → List (List ℕ) → Action → List (List ℕ) → Type 0
+OfNoted notes sent action reasons = (a : ℕ) (e : TimedEntry EventBody) → event_delivered sent action ≡ Some (a, e)
+    → (reason : List ℕ) × (reasons ≡ reason ∷ []) × NamesNote notes a e.time e.key reason
