@@ -93,7 +93,7 @@ sealed text = if is_whole text then text else text ++ seal_line
 abbrev pub line_above_zero : ClockKind → ℕ → List ℕ
 line_above_zero kind time = if time == 0 then [] else clock_line kind time
 
--- the text that a compaction leaves: the last line of each kind, where there is one (`snapshot.go`,
--- `compact`, which writes the alive members before them)
+-- The text that a compaction leaves: the last line of each kind of clock, where there is one, and nothing else. (Serf's
+-- `snapshot.go`, `compact`, writes a line for each alive member before them; an agent here keeps no members.)
 abbrev pub compacted_text : ℕ → ℕ → ℕ → List ℕ
 compacted_text member_clock event_clock query_clock = line_above_zero Member member_clock ++ line_above_zero Event event_clock ++ line_above_zero Query query_clock
