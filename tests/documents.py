@@ -6,6 +6,7 @@ Each check is one thing that a document names:
 - `crate::item` and `Type::method` are public items, and `serf_name` is a crate, or a function of a header in C;
 - a clause named in PROMISES.md's tables, or in brackets behind a function, is a clause of some contract;
 - a link leads to a file that stands;
+- the table of ARCHITECTURE.md, "To add something", has each file of a crate that names the sibling of a column;
 - a command that begins with `./` or with `python3` names a script that stands, and a job that the program has
   (`./my-..` is the reader's own).
 """
@@ -27,6 +28,9 @@ ENDINGS = ("rt", "antt", "md", "py", "schedule", "trace", "snapshot", "hex", "ed
 # What a file outside the repository is called where a document speaks of it: Serf's own sources, and a reader's files.
 FOREIGN = {"serf.go", "delegate.go", "snapshot.go", "query.go", "messages.go", "local.snapshot"}
 
+# How a file names the siblings in the head of ARCHITECTURE.md's table "To add something".
+SIBLINGS = {"Oversize": r"\bOversize\b", "TimeFull": r"\bTimeFull\b", "RespondersFull": r"\bRespondersFull\b", "save": r"\b(?:Save|Saved|save_at)\b", "relay_factor": r"relay_factor|RelayFactor"}
+
 SPAN = re.compile(r"`([^`\n]+)`")
 LINK = re.compile(r"\[[^\]\n]*\]\(([^)\s]+)\)")
 COMMAND = re.compile(r"^(?: {4,}|\$ )?((?:\./|python3 )[\w./-]+)((?: [\w./-]+)*)", re.M)
@@ -46,8 +50,12 @@ def read(*parts):
         return file.read()
 
 
+def paths_of(kind):
+    return [path for path in glob.glob(f"{TOP}/crates/*/{kind}/**/*", recursive=True) if os.path.isfile(path) and path.endswith((".rt", ".antt"))]
+
+
 def sources(kind):
-    return [read(path) for path in glob.glob(f"{TOP}/crates/*/{kind}/**/*", recursive=True) if os.path.isfile(path) and path.endswith((".rt", ".antt"))]
+    return [read(path) for path in paths_of(kind)]
 
 
 class Tree:
@@ -119,6 +127,19 @@ def wrong_command(jobs, page, script, words):
     return None
 
 
+def missing_siblings(page):
+    """Each file of a crate that names a sibling of "To add something", and what is wrong with the table of it, or None."""
+    head, *rows = [line.strip("|").split("|") for line in page.partition("## To add something\n")[2].split("\n") if line.startswith("|")]
+    words = {word: at for at, cell in enumerate(head) for word in SPAN.findall(cell)}
+    cells = {crate: row for row in rows for crate in SPAN.findall(row[0])}
+    for path in [path for kind in ("src", "specs", "proofs") for path in paths_of(kind)]:
+        row, text = cells.get(os.path.relpath(path, TOP).split(os.sep)[1], [""] * len(head)), read(path)
+        for word, sibling in SIBLINGS.items():
+            if re.search(sibling, text):
+                is_named = any(path.endswith(os.sep + name) for name in SPAN.findall(row[words[word]]))
+                yield f"{os.path.relpath(path, TOP)} ({word})", None if is_named else "isn't in the table"
+
+
 def jobs_of_program():
     """The words that the program's command line knows."""
     text = "\n".join(sources("src"))
@@ -133,6 +154,8 @@ def main():
         checks = [(span, wrong_span(tree, document, span)) for span in sorted(set(SPAN.findall(page)))]
         checks += [(link, None if "://" in link or tree.has_path(link.partition("#")[0], document) else "leads nowhere") for link in LINK.findall(page) if not link.startswith("#")]
         checks += [(script + words, wrong_command(jobs, page, script, words.split())) for script, words in COMMAND.findall(page)]
+        if document == os.path.join("docs", "ARCHITECTURE.md"):
+            checks += missing_siblings(page)
         if document == os.path.join("docs", "PROMISES.md"):
             checks += [(clause, None if clause in tree.clauses else "no such clause") for clause in clauses_in(page)]
         passed += sum(fault is None for _, fault in checks)

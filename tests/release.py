@@ -97,7 +97,7 @@ def unpacked(count, root):
     top = os.path.join(root, "unpacked", NAME)
     checked = subprocess.run(["sha256sum", "-c", "--quiet", "SHA256SUMS"], cwd=top, capture_output=True, text=True)
     count.check("each file's hash", checked.returncode == 0, checked.stdout + checked.stderr)
-    for path in ("README.md", "LICENSE", "bin/serf-replay", "lib/libserf_agent_c.a", "docs/COMMANDS.md", "examples/README.md", "include/serf_agent.h", "bindings/c/example.c"):
+    for path in ("README.md", "LICENSE", "bin/serf-replay", "lib/libserf_agent_c.a", "docs/COMMANDS.md", "docs/serf-replay.1", "examples/README.md", "include/serf_agent.h", "bindings/c/example.c"):
         count.check(f"it has {path}", os.path.isfile(os.path.join(top, path)))
     ran = subprocess.run([os.path.join(top, "bin", "serf-replay"), "--version"], capture_output=True, text=True)
     count.check("the program runs", ran.stdout == "serf-replay 9.8.7\n", ran)
