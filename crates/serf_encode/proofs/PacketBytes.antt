@@ -1,0 +1,49 @@
+-- The bytes of a packet, and of the texts in it.
+use Rattle.std.proofs.Common.{◌++◌, ℕ, zero, suc, List, [], ◌∷◌, length, arith}
+use Rattle.std.specs.List.{AllByRecursion, flat_map, fold}
+use Rattle.hex.specs.Hex.{IsBytes}
+use Rattle.serf_pack.specs.Canonical.{raw_bytes, raw_head}
+use Rattle.serf_wire.specs.Canonical.{entry}
+
+pub record AreBytes (xs : List ℕ) : Type 0 where
+  pub each : IsBytes xs
+
+behind-by : (xs ys : List ℕ) → IsBytes (xs ++ ys) → IsBytes ys
+behind-by [] ys h = h
+behind-by (x ∷ xs) ys h = behind-by xs ys (λ k. h (suc k))
+
+pub behind : (xs ys : List ℕ) → AreBytes (xs ++ ys) → AreBytes ys
+behind xs ys h = record { each = behind-by xs ys h.each }
+
+front-by : (xs ys : List ℕ) → IsBytes (xs ++ ys) → IsBytes xs
+front-by [] ys h k = omega arith
+front-by (x ∷ xs) ys h zero = h 0
+front-by (x ∷ xs) ys h (suc k) = front-by xs ys (λ i. h (suc i)) k
+
+pub front : (xs ys : List ℕ) → AreBytes (xs ++ ys) → AreBytes xs
+front xs ys h = record { each = front-by xs ys h.each }
+
+-- a byte string's bytes
+raw-bytes : (text : List ℕ) → AreBytes (raw_bytes text) → AreBytes text
+raw-bytes text h = behind (raw_head (length text)) text h
+
+-- of a field that is a text
+pub field_bytes : (key text : List ℕ) → AreBytes (entry key (raw_bytes text)) → AreBytes text
+field_bytes key text h = raw-bytes text (behind (raw_bytes key) (raw_bytes text) h)
+
+pub texts_bytes : (xs : List (List ℕ)) → AreBytes (flat_map raw_bytes xs) → AllByRecursion AreBytes xs
+texts_bytes [] h = tt
+texts_bytes (x ∷ xs) h =
+    (raw-bytes x (front (raw_bytes x) (flat_map raw_bytes xs) h), texts_bytes xs (behind (raw_bytes x) (flat_map raw_bytes xs) h))
+
+-- parts, one behind another
+abbrev pub whole : List ℕ → List (List ℕ) → List ℕ
+whole first parts = fold (λ a p. a ++ p) first parts
+
+first-bytes : (first : List ℕ) (parts : List (List ℕ)) → AreBytes (whole first parts) → AreBytes first
+first-bytes first [] h = h
+first-bytes first (p ∷ ps) h = front first p (first-bytes (first ++ p) ps h)
+
+pub parts_bytes : (first : List ℕ) (parts : List (List ℕ)) → AreBytes (whole first parts) → AllByRecursion AreBytes parts
+parts_bytes first [] h = tt
+parts_bytes first (p ∷ ps) h = (behind first p (first-bytes (first ++ p) ps h), parts_bytes (first ++ p) ps h)
