@@ -9,3 +9,5 @@ pub mod SharedLines
 pub mod EventBack
 pub mod ResponseBack
 pub mod ForeignBack
+pub mod RowsBack
+pub mod QueryBack

@@ -2,8 +2,8 @@
 use Rattle.std.proofs.Common.{◌++◌, ℕ, zero, suc, List, [], ◌∷◌, length, arith}
 use Rattle.std.specs.List.{AllByRecursion, flat_map, fold}
 use Rattle.hex.specs.Hex.{IsBytes}
-use Rattle.serf_pack.specs.Canonical.{raw_bytes, raw_head}
-use Rattle.serf_wire.specs.Canonical.{entry}
+use Rattle.serf_pack.specs.Canonical.{array_head, raw_bytes, raw_head}
+use Rattle.serf_wire.specs.Canonical.{entry, list_bytes}
 
 pub record AreBytes (xs : List ℕ) : Type 0 where
   pub each : IsBytes xs
@@ -31,10 +31,10 @@ raw-bytes text h = behind (raw_head (length text)) text h
 pub field_bytes : (key text : List ℕ) → AreBytes (entry key (raw_bytes text)) → AreBytes text
 field_bytes key text h = raw-bytes text (behind (raw_bytes key) (raw_bytes text) h)
 
-pub texts_bytes : (xs : List (List ℕ)) → AreBytes (flat_map raw_bytes xs) → AllByRecursion AreBytes xs
-texts_bytes [] h = tt
-texts_bytes (x ∷ xs) h =
-    (raw-bytes x (front (raw_bytes x) (flat_map raw_bytes xs) h), texts_bytes xs (behind (raw_bytes x) (flat_map raw_bytes xs) h))
+texts-bytes : (xs : List (List ℕ)) → AreBytes (flat_map raw_bytes xs) → AllByRecursion AreBytes xs
+texts-bytes [] h = tt
+texts-bytes (x ∷ xs) h =
+    (raw-bytes x (front (raw_bytes x) (flat_map raw_bytes xs) h), texts-bytes xs (behind (raw_bytes x) (flat_map raw_bytes xs) h))
 
 -- parts, one behind another
 abbrev pub whole : List ℕ → List (List ℕ) → List ℕ
@@ -47,3 +47,7 @@ first-bytes first (p ∷ ps) h = front first p (first-bytes (first ++ p) ps h)
 pub parts_bytes : (first : List ℕ) (parts : List (List ℕ)) → AreBytes (whole first parts) → AllByRecursion AreBytes parts
 parts_bytes first [] h = tt
 parts_bytes first (p ∷ ps) h = (behind first p (first-bytes (first ++ p) ps h), parts_bytes (first ++ p) ps h)
+
+-- of a field that is a list of texts
+pub texts_bytes : (key : List ℕ) (xs : List (List ℕ)) → AreBytes (entry key (list_bytes raw_bytes xs)) → AllByRecursion AreBytes xs
+texts_bytes key xs h = texts-bytes xs (behind (array_head (length xs)) (flat_map raw_bytes xs) (behind (raw_bytes key) (list_bytes raw_bytes xs) h))
