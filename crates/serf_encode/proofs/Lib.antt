@@ -11,3 +11,4 @@ pub mod ResponseBack
 pub mod ForeignBack
 pub mod RowsBack
 pub mod QueryBack
+pub mod StateLines

@@ -24,17 +24,12 @@ pub front : (xs ys : List ℕ) → AreBytes (xs ++ ys) → AreBytes xs
 front xs ys h = record { each = front-by xs ys h.each }
 
 -- a byte string's bytes
-raw-bytes : (text : List ℕ) → AreBytes (raw_bytes text) → AreBytes text
-raw-bytes text h = behind (raw_head (length text)) text h
+pub raw_text : (text : List ℕ) → AreBytes (raw_bytes text) → AreBytes text
+raw_text text h = behind (raw_head (length text)) text h
 
 -- of a field that is a text
 pub field_bytes : (key text : List ℕ) → AreBytes (entry key (raw_bytes text)) → AreBytes text
-field_bytes key text h = raw-bytes text (behind (raw_bytes key) (raw_bytes text) h)
-
-texts-bytes : (xs : List (List ℕ)) → AreBytes (flat_map raw_bytes xs) → AllByRecursion AreBytes xs
-texts-bytes [] h = tt
-texts-bytes (x ∷ xs) h =
-    (raw-bytes x (front (raw_bytes x) (flat_map raw_bytes xs) h), texts-bytes xs (behind (raw_bytes x) (flat_map raw_bytes xs) h))
+field_bytes key text h = raw_text text (behind (raw_bytes key) (raw_bytes text) h)
 
 -- parts, one behind another
 abbrev pub whole : List ℕ → List (List ℕ) → List ℕ
@@ -48,6 +43,20 @@ pub parts_bytes : (first : List ℕ) (parts : List (List ℕ)) → AreBytes (who
 parts_bytes first [] h = tt
 parts_bytes first (p ∷ ps) h = (behind first p (first-bytes (first ++ p) ps h), parts_bytes (first ++ p) ps h)
 
+-- Lists
+
+each-bytes : {A : Type 0} (P : A → Type 0) (item : A → List ℕ) → ((x : A) → AreBytes (item x) → P x)
+    → (xs : List A) → AreBytes (flat_map item xs) → AllByRecursion P xs
+each-bytes P item says [] h = tt
+each-bytes P item says (x ∷ xs) h =
+    (says x (front (item x) (flat_map item xs) h), each-bytes P item says xs (behind (item x) (flat_map item xs) h))
+
+-- the items of a field, behind their header
+pub items_bytes : {A : Type 0} (P : A → Type 0) (item : A → List ℕ) → ((x : A) → AreBytes (item x) → P x)
+    → (key head : List ℕ) (xs : List A) → AreBytes (entry key (head ++ flat_map item xs)) → AllByRecursion P xs
+items_bytes P item says key head xs h =
+    each-bytes P item says xs (behind head (flat_map item xs) (behind (raw_bytes key) (head ++ flat_map item xs) h))
+
 -- of a field that is a list of texts
 pub texts_bytes : (key : List ℕ) (xs : List (List ℕ)) → AreBytes (entry key (list_bytes raw_bytes xs)) → AllByRecursion AreBytes xs
-texts_bytes key xs h = texts-bytes xs (behind (array_head (length xs)) (flat_map raw_bytes xs) (behind (raw_bytes key) (list_bytes raw_bytes xs) h))
+texts_bytes key xs h = items_bytes AreBytes raw_bytes raw_text key (array_head (length xs)) xs h
