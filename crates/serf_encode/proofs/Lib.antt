@@ -12,3 +12,4 @@ pub mod ForeignBack
 pub mod RowsBack
 pub mod QueryBack
 pub mod StateLines
+pub mod StateMeant
