@@ -13,3 +13,4 @@ pub mod RowsBack
 pub mod QueryBack
 pub mod StateLines
 pub mod StateMeant
+pub mod StateBack
