@@ -10,11 +10,10 @@ use Rattle.serf_replay.specs.MessageText.{content_lines, message_text}
 use Rattle.serf_replay.specs.TextParts.{flag_line, flag_text, hex_line, hex_text, number_line}
 use Rattle.serf_encode.specs.Meant.{event_meant, meant_by, message_meant}
 use Rattle.serf_encode.specs.Rows.{RowText, rows_in}
-use Rattle.serf_encode.specs.Taken.{IsTaken}
 use Rattle.serf_encode.proofs.LinesBack.{at_end, flag_row, hex_row, kind_row, no_row, number_row, row}
 use Rattle.serf_encode.proofs.SharedLines.{content_rows}
 use Rattle.serf_encode.proofs.PacketBytes.{AreBytes, field_bytes, parts_bytes}
-use Rattle.serf_encode.proofs.TakenLaws.{taken_as}
+use Rattle.serf_encode.proofs.TakenLaws.{IsTaken, taken_as}
 use Rattle.serf_encode.proofs.WordsBack.{bytes_back, number_back}
 
 abbrev event-rows : UserEvent → List RowText

@@ -7,9 +7,8 @@ use Rattle.serf_replay.specs.MessageText.{message_text}
 use Rattle.serf_replay.specs.TextParts.{number_line}
 use Rattle.serf_encode.specs.Meant.{meant_by, message_meant}
 use Rattle.serf_encode.specs.Rows.{rows_in}
-use Rattle.serf_encode.specs.Taken.{IsTaken}
 use Rattle.serf_encode.proofs.LinesBack.{at_end, no_row, number_row, row}
-use Rattle.serf_encode.proofs.TakenLaws.{taken_as}
+use Rattle.serf_encode.proofs.TakenLaws.{IsTaken, taken_as}
 use Rattle.serf_encode.proofs.WordsBack.{number_back}
 
 -- a message's type is a byte

@@ -14,3 +14,4 @@ pub mod QueryBack
 pub mod StateLines
 pub mod StateMeant
 pub mod StateBack
+pub mod TextsTaken

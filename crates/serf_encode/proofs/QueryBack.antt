@@ -15,12 +15,11 @@ use Rattle.serf_replay.specs.MessageText.{asker_lines, content_lines, handling_l
 use Rattle.serf_replay.specs.TextParts.{hex_line, hex_text, number_line, signed_line}
 use Rattle.serf_encode.specs.Meant.{meant_by, message_meant, number_up_to, bytes_meant, query_meant, signed_meant}
 use Rattle.serf_encode.specs.Rows.{RowText, rows_in, value_of}
-use Rattle.serf_encode.specs.Taken.{IsTaken}
 use Rattle.serf_encode.proofs.LinesBack.{hex_row, kind_row, no_row, number_row, row, signed_row}
 use Rattle.serf_encode.proofs.SharedLines.{content_rows, identity_rows}
 use Rattle.serf_encode.proofs.PacketBytes.{AreBytes, field_bytes, parts_bytes, texts_bytes}
 use Rattle.serf_encode.proofs.RowsBack.{text_row, texts_back, texts_rows, value_past}
-use Rattle.serf_encode.proofs.TakenLaws.{taken_as}
+use Rattle.serf_encode.proofs.TakenLaws.{IsTaken, taken_as}
 use Rattle.serf_encode.proofs.WordsBack.{bytes_back, number_back, signed_back}
 
 -- its texts, and its numbers

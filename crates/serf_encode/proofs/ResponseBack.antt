@@ -10,11 +10,10 @@ use Rattle.serf_replay.specs.MessageText.{answer_lines, identity_lines, message_
 use Rattle.serf_replay.specs.TextParts.{hex_line, hex_text, number_line}
 use Rattle.serf_encode.specs.Meant.{meant_by, message_meant, response_meant}
 use Rattle.serf_encode.specs.Rows.{RowText, rows_in}
-use Rattle.serf_encode.specs.Taken.{IsTaken}
 use Rattle.serf_encode.proofs.LinesBack.{at_end, hex_row, kind_row, no_row, number_row, row}
 use Rattle.serf_encode.proofs.SharedLines.{identity_rows}
 use Rattle.serf_encode.proofs.PacketBytes.{AreBytes, field_bytes, parts_bytes}
-use Rattle.serf_encode.proofs.TakenLaws.{taken_as}
+use Rattle.serf_encode.proofs.TakenLaws.{IsTaken, taken_as}
 use Rattle.serf_encode.proofs.WordsBack.{bytes_back, number_back}
 
 abbrev answer-rows : List ℕ → ℕ → List ℕ → List RowText

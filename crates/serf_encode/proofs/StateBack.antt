@@ -12,11 +12,10 @@ use Rattle.serf_wire.specs.Message.{PushPull, push_pull}
 use Rattle.serf_wire.specs.Ranges.{IsRangedPushPull, IsTimed}
 use Rattle.serf_wire.specs.Slots.{SlotContent, empty, held}
 use Rattle.serf_encode.specs.Meant.{message_meant}
-use Rattle.serf_encode.specs.Taken.{IsTaken}
 use Rattle.serf_encode.proofs.PacketBytes.{AreBytes, field_bytes, front, items_bytes, parts_bytes, raw_text, texts_bytes}
 use Rattle.serf_encode.proofs.StateLines.{IsSaidEvent, IsSaidMember, IsSaidSlot, IsSaidState, state_back}
 use Rattle.serf_encode.proofs.StateMeant.{means_state, refilled, refilled_state}
-use Rattle.serf_encode.proofs.TakenLaws.{taken_as}
+use Rattle.serf_encode.proofs.TakenLaws.{IsTaken, taken_as}
 
 -- The bytes of its texts
 

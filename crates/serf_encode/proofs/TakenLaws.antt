@@ -2,6 +2,7 @@
 use Rattle.std.proofs.Common.{◌≡◌, ◌∙◌, List, ℕ, Bool, true, false, cond, refl, sym, ap}
 use Rattle.std.specs.Prelude.{Option, Some, None, Result, Ok, Err}
 use Rattle.std.specs.Str.{bytes_eq}
+use Rattle.hex.specs.Hex.{IsBytes}
 use Rattle.std.proofs.lemmas.Slice.Eq.{bytes_eq-Decides}
 use Rattle.serf_wire.specs.Canonical.{canonical, has_long}
 use Rattle.serf_wire.specs.Decoded.{decoded}
@@ -10,6 +11,10 @@ use Rattle.serf_replay.specs.MessageText.{message_text, text_or_fault}
 use Rattle.serf_encode.specs.Encoded.{encoded, encoded_by, packet_of, said_by}
 use Rattle.serf_encode.specs.Meant.{message_meant}
 use Rattle.serf_encode.specs.Rows.{rows_in}
+
+-- where its canonical packet is decoded to just this message, its text is encoded to this packet
+abbrev pub IsTaken : Message → Type 0
+IsTaken m = IsBytes (canonical m) → has_long m ≡ false → decoded (canonical m) ≡ Ok m → encoded (message_text m) ≡ Ok (canonical m)
 
 exact : (text packet : List ℕ) → said_by (text_or_fault (decoded packet)) ≡ text → encoded_by text (Some packet) ≡ Ok packet
 exact text packet is =

@@ -1,23 +1,15 @@
 //! What holds of texts, whichever they are: the contract of a function that does nothing.
 
-ghost use Rattle.std.specs.Prelude.{ℕ};
-ghost use Rattle.serf_wire.specs.Message.{Query, QueryResponse, UserEvent, foreign, query, query_response, user_event};
-ghost use Rattle.serf_encode.specs.Taken.{IsTaken};
+ghost use Rattle.serf_encode.specs.Taken.{TextsAreTaken};
 
-use serf_wire::decoded_ranges;
+use serf_wire::{canonical_packets, decoded_ranges, exact_decoding};
 
-/// The text of a message is encoded, where the message's canonical packet is decoded to just this message. Does
-/// nothing.
-#[tactic(auto, using(crate::proofs::EventBack::event_taken, crate::proofs::QueryBack::query_taken, crate::proofs::ResponseBack::response_taken, crate::proofs::ForeignBack::foreign_taken))]
+/// The text of each message is taken. Does nothing.
 pub fn know_texts_taken()
-    // The text of each user event is taken,
-    ensures user_event { (e : UserEvent) → IsTaken (user_event e) }
-    // that of each query,
-    ensures query { (q : Query) → IsTaken (query q) }
-    // that of each response,
-    ensures response { (r : QueryResponse) → IsTaken (query_response r) }
-    // and that of each message whose type is not read.
-    ensures foreign { (kind : ℕ) → IsTaken (foreign kind) }
+    // The text that the canonical packet of a message is decoded to is encoded to this packet.
+    ensures { TextsAreTaken }
 {
     decoded_ranges();
+    exact_decoding();
+    canonical_packets();
 }
