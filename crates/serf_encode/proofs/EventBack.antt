@@ -1,16 +1,16 @@
 -- The text of a user event, read back.
-use Rattle.std.proofs.Common.{◌≡◌, ◌++◌, ◌+◌, ◌<◌, ◌^◌, ◌∙◌, ℕ, List, [], ◌∷◌, Bool, true, false, Some, Ok, refl, sym, ap, append_assoc, arith, codes, decimal}
+use Rattle.std.proofs.Common.{◌≡◌, ◌++◌, ◌<◌, ◌^◌, ◌∙◌, List, [], ◌∷◌, Bool, true, false, Some, refl, ap, append_assoc, arith, codes, decimal}
 use Rattle.std.specs.Str.{bytes_eq}
 use Rattle.hex.specs.Hex.{IsBytes}
 use Rattle.serf_pack.specs.Canonical.{flag_bytes, map_head, raw_bytes, uint_bytes}
 use Rattle.serf_wire.specs.Canonical.{canonical, entry}
-use Rattle.serf_wire.specs.Message.{UserEvent, user_event, user_event_of}
+use Rattle.serf_wire.specs.Message.{UserEvent, user_event}
 use Rattle.serf_wire.specs.Laws.{DecodesInRange}
 use Rattle.serf_replay.specs.MessageText.{content_lines, message_text}
-use Rattle.serf_replay.specs.TextParts.{flag_line, flag_text, hex_line, hex_text, number_line}
+use Rattle.serf_replay.specs.TextParts.{flag_line, flag_text, hex_text, number_line}
 use Rattle.serf_encode.specs.Meant.{event_meant, meant_by, message_meant}
 use Rattle.serf_encode.specs.Rows.{RowText, rows_in}
-use Rattle.serf_encode.proofs.LinesBack.{at_end, flag_row, hex_row, kind_row, no_row, number_row, row}
+use Rattle.serf_encode.proofs.LinesBack.{at_end, flag_row, kind_row, no_row, number_row, row}
 use Rattle.serf_encode.proofs.SharedLines.{content_rows}
 use Rattle.serf_encode.proofs.PacketBytes.{AreBytes, field_bytes, parts_bytes}
 use Rattle.serf_encode.proofs.TakenLaws.{IsTaken, taken_as}

@@ -1,5 +1,5 @@
 -- The text of a message of a type that is not read, read back.
-use Rattle.std.proofs.Common.{◌≡◌, ◌<◌, ◌∙◌, ℕ, List, [], ◌∷◌, Some, refl, ap, arith, codes, decimal}
+use Rattle.std.proofs.Common.{◌≡◌, ◌<◌, ◌∙◌, ℕ, [], ◌∷◌, Some, refl, ap, arith, codes, decimal}
 use Rattle.hex.specs.Hex.{IsBytes}
 use Rattle.serf_wire.specs.Canonical.{canonical}
 use Rattle.serf_wire.specs.Message.{foreign}

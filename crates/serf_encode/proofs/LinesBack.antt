@@ -1,5 +1,5 @@
 -- The lines of a message's text, cut again.
-use Rattle.std.proofs.Common.{◌≡◌, ◌++◌, ◌<◌, ◌≤◌, ◌^◌, ◌∙◌, ℕ, ℤ, List, [], ◌∷◌, Bool, true, false, Some, refl, sym, ap, append_assoc, arith, codes, decimal, map}
+use Rattle.std.proofs.Common.{◌≡◌, ◌++◌, ◌<◌, ◌^◌, ◌∙◌, ℕ, ℤ, List, [], ◌∷◌, Bool, true, false, Some, refl, sym, ap, append_assoc, arith, decimal, map}
 use Rattle.std.proofs.lemmas.Bool.{and_parts}
 use Rattle.std.proofs.lemmas.Grind.{common_steps}
 use Rattle.std.proofs.lemmas.List.{append-nil}

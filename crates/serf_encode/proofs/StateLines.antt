@@ -1,9 +1,8 @@
 -- The text of a push/pull, cut into its lines.
-use Rattle.std.proofs.Common.{◌≡◌, ◌++◌, ◌+◌, ◌<◌, ◌≤◌, ◌^◌, ◌∙◌, ℕ, List, [], ◌∷◌, length, refl, sym, ap, append_assoc, arith, codes, decimal, map}
+use Rattle.std.proofs.Common.{◌≡◌, ◌++◌, ◌+◌, ◌<◌, ◌≤◌, ◌∙◌, ℕ, List, [], ◌∷◌, length, refl, sym, ap, append_assoc, arith, codes, decimal, map}
 use Rattle.std.specs.List.{AllByRecursion, flat_map}
 use Rattle.serf_wire.specs.declared.texts.EventBody.{EventBody}
 use Rattle.serf_wire.specs.Message.{PushPull, push_pull}
-use Rattle.serf_wire.specs.Ranges.{IsRangedPushPull}
 use Rattle.serf_wire.specs.Slots.{SlotContent, empty, held}
 use Rattle.serf_replay.specs.MessageText.{buffer_lines, event_line, member_lines, message_text, push_pull_head, slot_lines, slots_lines, status_line}
 use Rattle.serf_replay.specs.TextParts.{hex_line, hex_text, number_line, with_hex, with_number}

@@ -1,5 +1,5 @@
 -- What the lines of a push/pull mean.
-use Rattle.std.proofs.Common.{◌≡◌, ◌++◌, ◌+◌, ◌<◌, ◌≤◌, ◌∙◌, ℕ, List, [], ◌∷◌, Some, false, refl, sym, ap, append_assoc, arith, codes, decimal, map}
+use Rattle.std.proofs.Common.{◌≡◌, ◌++◌, ◌+◌, ◌<◌, ◌∙◌, ℕ, List, [], ◌∷◌, Some, false, refl, sym, ap, append_assoc, arith, codes, decimal, map}
 use Rattle.std.proofs.lemmas.List.{append-nil}
 use Rattle.std.specs.List.{AllByRecursion, fold}
 use Rattle.std.specs.Str.{bytes_eq}
@@ -11,7 +11,7 @@ use Rattle.serf_encode.specs.Rows.{RowText, rows_of, value_of}
 use Rattle.serf_encode.proofs.LinesBack.{no_row, row}
 use Rattle.serf_encode.proofs.RowsBack.{list_back, rows_past, text_row, texts_back, value_past}
 use Rattle.serf_encode.proofs.SlotLaws.{last-on}
-use Rattle.serf_encode.proofs.StateLines.{IsSaidEvent, IsSaidMember, IsSaidSlot, IsSaidState, buffer_rows, event_row, member_row, member_rows, slots_rows, state_rows}
+use Rattle.serf_encode.proofs.StateLines.{IsSaidEvent, IsSaidMember, IsSaidSlot, IsSaidState, buffer_rows, event_row, member_row, slots_rows, state_rows}
 use Rattle.serf_encode.proofs.WordsBack.{bytes_back, number_back}
 
 -- Slots

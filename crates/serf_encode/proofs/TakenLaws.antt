@@ -1,6 +1,6 @@
 -- A text that is read back as its message is encoded to the message's packet.
-use Rattle.std.proofs.Common.{◌≡◌, ◌∙◌, List, ℕ, Bool, true, false, cond, refl, sym, ap}
-use Rattle.std.specs.Prelude.{Option, Some, None, Result, Ok, Err}
+use Rattle.std.proofs.Common.{◌≡◌, ◌∙◌, List, ℕ, true, false, refl, ap}
+use Rattle.std.specs.Prelude.{Some, Ok}
 use Rattle.std.specs.Str.{bytes_eq}
 use Rattle.hex.specs.Hex.{IsBytes}
 use Rattle.std.proofs.lemmas.Slice.Eq.{bytes_eq-Decides}

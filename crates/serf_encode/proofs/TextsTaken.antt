@@ -1,13 +1,13 @@
 -- The text that a canonical packet is decoded to is encoded to this packet.
-use Rattle.std.proofs.Common.{◌≡◌, ◌++◌, ◌∙◌, ℕ, List, [], ◌∷◌, Bool, true, false, length, Ok, refl, sym, ap, subst, map}
+use Rattle.std.proofs.Common.{◌≡◌, ◌++◌, ◌∙◌, List, [], ◌∷◌, Ok, refl, sym, ap, subst, map}
 use Rattle.std.proofs.lemmas.List.{length-map}
 use Rattle.std.specs.List.{flat_map, list_any}
 use Rattle.std.specs.Prelude.{◌||◌}
 use Rattle.hex.specs.Hex.{IsBytes}
-use Rattle.serf_wire.specs.Canonical.{canonical, has_long, is_long, is_long_slot, slot_bytes, without_empty_slots, without_events}
+use Rattle.serf_wire.specs.Canonical.{canonical, has_long, is_long_slot, slot_bytes, without_empty_slots, without_events}
 use Rattle.serf_wire.specs.Decoded.{decoded}
 use Rattle.serf_wire.specs.Laws.{CanonicalSpells, DecodesInRange, DecodesSpelled}
-use Rattle.serf_wire.specs.Message.{Message, PushPull, foreign, push_pull, query, query_response, user_event}
+use Rattle.serf_wire.specs.Message.{Message, foreign, push_pull, query, query_response, user_event}
 use Rattle.serf_wire.specs.Slots.{SlotContent, empty, held}
 use Rattle.serf_replay.specs.MessageText.{message_text, text_or_fault}
 use Rattle.serf_encode.specs.Encoded.{encoded}
