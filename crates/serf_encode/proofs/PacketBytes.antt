@@ -12,7 +12,7 @@ behind-by : (xs ys : List ℕ) → IsBytes (xs ++ ys) → IsBytes ys
 behind-by [] ys h = h
 behind-by (x ∷ xs) ys h = behind-by xs ys (λ k. h (suc k))
 
-pub behind : (xs ys : List ℕ) → AreBytes (xs ++ ys) → AreBytes ys
+behind : (xs ys : List ℕ) → AreBytes (xs ++ ys) → AreBytes ys
 behind xs ys h = record { each = behind-by xs ys h.each }
 
 front-by : (xs ys : List ℕ) → IsBytes (xs ++ ys) → IsBytes xs

@@ -73,9 +73,9 @@ apart-by : (n k : ℕ) → k < n → (n == k) ≡ false
 apart-by n k h = grind (arith, common_steps)
 
 -- the text of some bytes is no dash
-pub hex_some : (b : ℕ) (bs : List ℕ) → hex_text (b ∷ bs) ≡ encode_lower (b ∷ bs)
+hex-some : (b : ℕ) (bs : List ℕ) → hex_text (b ∷ bs) ≡ encode_lower (b ∷ bs)
 unfolding hex_text
-hex_some b bs = let some : (length (b ∷ bs) == 0) ≡ false = apart-by (length (b ∷ bs)) 0 (omega arith) in rw some refl
+hex-some b bs = let some : (length (b ∷ bs) == 0) ≡ false = apart-by (length (b ∷ bs)) 0 (omega arith) in rw some refl
 
 two-digits : (b : ℕ) (bs : List ℕ) → IsBytes (b ∷ bs) → bytes_of (encode_lower (b ∷ bs)) ≡ Some (b ∷ bs)
 two-digits b bs h =
@@ -86,7 +86,7 @@ two-digits b bs h =
 bytes-of : (bytes : List ℕ) → IsBytes bytes → bytes_of (hex_text bytes) ≡ Some bytes
 unfolding hex_text
 bytes-of [] h = refl
-bytes-of (b ∷ bs) h = ap bytes_of (hex_some b bs) ∙ two-digits b bs h
+bytes-of (b ∷ bs) h = ap bytes_of (hex-some b bs) ∙ two-digits b bs h
 
 pub bytes_back : (bytes : List ℕ) → IsBytes bytes → bytes_meant (hex_text bytes) ≡ bytes
 bytes_back bytes h = ap (λ o. unwrap_or o []) (bytes-of bytes h)
@@ -147,4 +147,4 @@ plain-hex (b ∷ bytes) h =
 pub plain_bytes : (bytes : List ℕ) → IsBytes bytes → IsPlain (hex_text bytes)
 unfolding hex_text
 plain_bytes [] h = record { each = refl }
-plain_bytes (b ∷ bytes) h = subst IsPlain (sym (hex_some b bytes)) (record { each = plain-hex (b ∷ bytes) h })
+plain_bytes (b ∷ bytes) h = subst IsPlain (sym (hex-some b bytes)) (record { each = plain-hex (b ∷ bytes) h })
