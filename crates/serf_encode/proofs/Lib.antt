@@ -1,3 +1,17 @@
 pub mod SlotLaws
 pub mod TextLaws
 pub mod EncodedLaws
+pub mod WordsBack
+pub mod LinesBack
+pub mod PacketBytes
+pub mod TakenLaws
+pub mod SharedLines
+pub mod EventBack
+pub mod ResponseBack
+pub mod ForeignBack
+pub mod RowsBack
+pub mod QueryBack
+pub mod StateLines
+pub mod StateMeant
+pub mod StateBack
+pub mod TextsTaken

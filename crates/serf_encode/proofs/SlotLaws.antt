@@ -4,7 +4,7 @@ use Rattle.std.proofs.lemmas.List.{map-append}
 use Rattle.serf_wire.specs.Slots.{SlotContent}
 use Rattle.serf_encode.specs.Meant.{on_last}
 
-last-on : (change : SlotContent → SlotContent) (slots : List SlotContent) (slot : SlotContent) → on_last change (slots ++ slot ∷ []) ≡ slots ++ change slot ∷ []
+pub last-on : (change : SlotContent → SlotContent) (slots : List SlotContent) (slot : SlotContent) → on_last change (slots ++ slot ∷ []) ≡ slots ++ change slot ∷ []
 last-on change [] slot = refl
 last-on change (s ∷ []) slot = refl
 last-on change (s ∷ n ∷ ss) slot = ap (λ k. s ∷ k) (last-on change (n ∷ ss) slot)

@@ -3,3 +3,4 @@ pub mod Meant
 pub mod States
 pub mod Encoded
 pub mod Blocks
+pub mod Taken

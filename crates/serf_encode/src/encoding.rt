@@ -89,7 +89,8 @@ fn encode_exactly(alloc: Global, text: &[u8]) -> Result<Vec<u8>, EncodeTextFault
 /// The canonical packet of the message that has this text, as [`serf_replay::decode_text`] writes it.
 ///
 /// A text that is no message's is a `BadLine`, and so is that of a message whose canonical packet has another text: a
-/// push/pull's slot of a time without events, which the canonical packet has as nil.
+/// push/pull's slot of a time without events, which the canonical packet has as nil. The text that a canonical packet is
+/// decoded to is taken ([`crate::know_texts_taken`]).
 #[tactic(auto, using(crate::proofs::EncodedLaws::decodes_to_text, crate::proofs::EncodedLaws::is_canonical))]
 pub fn encode_text(alloc: Global, text: &[u8]) -> Result<Vec<u8>, EncodeTextFault>
     // The packet, or the first line for which there is none, is that of the definition.

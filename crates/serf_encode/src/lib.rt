@@ -3,6 +3,7 @@
 
 mod blocks;
 mod encoding;
+mod laws;
 mod meant;
 mod packets;
 mod row;
@@ -10,3 +11,4 @@ mod slots;
 
 pub use blocks::{Blocks, NeverBad, encode_blocks};
 pub use encoding::{EncodeTextFault, encode_text};
+pub use laws::know_texts_taken;

@@ -1,0 +1,15 @@
+//! What holds of texts, whichever they are: the contract of a function that does nothing.
+
+ghost use Rattle.serf_encode.specs.Taken.{TextsAreTaken};
+
+use serf_wire::{canonical_packets, decoded_ranges, exact_decoding};
+
+/// The text of each message is taken. Does nothing.
+pub fn know_texts_taken()
+    // The text that the canonical packet of a message is decoded to is encoded to this packet.
+    ensures { TextsAreTaken }
+{
+    decoded_ranges();
+    exact_decoding();
+    canonical_packets();
+}
