@@ -6,4 +6,5 @@ pub mod JudgeLaws
 pub mod SeenLaws
 pub mod NoteLaws
 pub mod TextLaws
+pub mod KnownLaws
 pub mod TellLaws

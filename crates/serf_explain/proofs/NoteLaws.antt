@@ -1,22 +1,27 @@
 -- The events that were handed out, and the lines that did it.
-use Rattle.std.proofs.Common.{◌≡◌, ℕ, zero, suc, ◌+◌, ◌<◌, ◌≤◌, ◌++◌, ◌||◌, inl, inr, List, [], ◌∷◌, Bool, true, false, length, map, Option, Some, None, arith, refl, sym, ap, ◌∙◌, append_assoc, append-nil}
+use Rattle.std.proofs.Common.{◌≡◌, ℕ, zero, suc, ◌+◌, ◌<◌, ◌≤◌, ◌++◌, ◌==◌, ◌&&◌, ◌||◌, cond, inl, inr, List, [], ◌∷◌, Bool, true, false, length, map, Option, Some, None, arith, refl, sym, ap, ap₂, subst, eq-eqb, ◌∙◌, append_assoc, append-nil}
 use Rattle.std.proofs.lemmas.Bool.{cases_Bool}
 use Rattle.std.proofs.lemmas.Grind.{common_steps}
-use Rattle.std.proofs.lemmas.List.Elements.{All-cons, All-nil}
 use Rattle.std.proofs.lemmas.List.Folds.{list_any-append, list_any_none}
 use Rattle.std.proofs.lemmas.List.Quantifiers.{position-Some}
 use Rattle.std.proofs.lemmas.List.Sums.{fails_before_first}
 use Rattle.std.proofs.lemmas.Option.{slice_get-get_or, slice_get-map}
-use Rattle.std.specs.List.{list_any, position_or_len}
+use Rattle.std.specs.List.{filter, flat_map, list_any, position_or_len}
+use Rattle.std.specs.Str.{bytes_eq}
+use Rattle.std.proofs.Math.Bool.{or-true}
+use Rattle.std.proofs.lemmas.Slice.Eq.{bytes_eq-Decides}
 use Rattle.std.specs.Option.{option_map}
-use Rattle.std.specs.Prelude.{All, codes, decimal, position, slice_get, slice_index_or}
+use Rattle.std.specs.Prelude.{Contains, codes, decimal, position, slice_get, slice_index_or}
 use Rattle.serf_wire.specs.declared.texts.EventBody.{EventBody}
+use Rattle.serf_window.specs.Texts.{event_of, same_texts}
+use Rattle.serf_window.specs.Window.{TimedEntry}
 use Rattle.serf_model.specs.declared.action.Action.{Action}
 use Rattle.serf_model.specs.declared.line.EventLine.{EventLine}
 use Rattle.serf_model.specs.declared.line.Line.{Line}
+use Rattle.serf_model.specs.Trace.{Turn, event_in, events_to}
 use Rattle.serf_explain.specs.declared.hand_outs.HandOut.{HandOut}
-use Rattle.serf_explain.specs.HandOuts.{IsNoted, NamesNote, Note, NotedAt, OfNoted, at_number, is_note, note_in, note_of, noted_words, notes_from, notes_in}
-use Rattle.serf_explain.specs.Seen.{HandsOut, IsSeen, OfSeen, at_action, hands_out, is_hand_out, seen_words}
+use Rattle.serf_explain.specs.HandOuts.{NamesNote, Note, NotedAt, OfNoted, is_note, note_in, note_of, noted_words, notes_from, notes_in}
+use Rattle.serf_explain.specs.Seen.{HandsOut, IsSeen, OfSeen, is_hand_out, seen_words}
 use Rattle.serf_explain.specs.Words.{event_words, quoted}
 
 -- one more line
@@ -26,6 +31,9 @@ lines-push n (x ∷ xs) line =
     let later : n + 1 + length xs ≡ n + length (x ∷ xs) = omega arith in
     ap (λ (t : List Note). map (note_of n) x.events ++ t) (lines-push (n + 1) xs line ∙ ap (λ m. notes_from (n + 1) xs ++ map (note_of m) line.events) later)
     ∙ sym (append_assoc (map (note_of n) x.events) (notes_from (n + 1) xs) (map (note_of (n + length (x ∷ xs))) line.events))
+
+and-true-both : (x y : Bool) → x ≡ true → y ≡ true → (x && y) ≡ true
+and-true-both x y h k = rw h k
 
 -- the hand-out at a place
 pub noted-at : (outs : List HandOut) (place a time : ℕ) (what : EventBody) (h : HandOut) → slice_get outs place ≡ Some h → is_note a time what (note_in h) ≡ true → NotedAt (notes_in outs) h.action a time what
@@ -101,46 +109,62 @@ module _ (a time : ℕ) (what : EventBody) where
   any-of n [] = refl
   any-of n (e ∷ es) = ap (λ b. is_hand_out a time what e || b) (any-of n es)
 
-  or-left : (x y : Bool) → (x || y) ≡ false → x ≡ false
-  or-left false y h = refl
-  or-left true y h = h
-
-  or-right : (x y : Bool) → (x || y) ≡ false → y ≡ false
-  or-right false y h = h
-  or-right true y h = absurd (cc (h))
-
-  none-of : (n : ℕ) (lines : List Line) → list_any (is_note a time what) (notes_from n lines) ≡ false → All (λ (line : Line). hands_out a time what line ≡ false) lines
-  none-of n [] h = All-nil (λ (line : Line). hands_out a time what line ≡ false)
-  none-of n (line ∷ lines) h =
-      let both : (hands_out a time what line || list_any (is_note a time what) (notes_from (n + 1) lines)) ≡ false =
-      ap (λ b. b || list_any (is_note a time what) (notes_from (n + 1) lines)) (sym (any-of n line.events)) ∙ sym (list_any-append (is_note a time what) (map (note_of n) line.events) (notes_from (n + 1) lines)) ∙ h in
-      All-cons (λ (l : Line). hands_out a time what l ≡ false) line lines
-      (or-left (hands_out a time what line) (list_any (is_note a time what) (notes_from (n + 1) lines)) both)
-      (none-of (n + 1) lines (or-right (hands_out a time what line) (list_any (is_note a time what) (notes_from (n + 1) lines)) both))
-
-  words-of : (name : List ℕ) (n k : ℕ) → n ≡ 1 + k → noted_words name time what (Some n) ≡ seen_words name time what (Some k)
-  unfolding noted_words seen_words at_number at_action
+  words-of : (name : List ℕ) (n k : ℕ) → n ≡ 1 + k → noted_words name time what n ≡ seen_words name time what k
+  unfolding noted_words seen_words
   words-of name n k is =
       let one : n ≡ k + 1 = omega (arith, is) in
-      ap (λ m. quoted name ++ codes " was handed " ++ event_words time what ++ (codes " at action " ++ decimal m)) one
-
-  words-none : (name : List ℕ) → noted_words name time what None ≡ seen_words name time what None
-  unfolding noted_words seen_words at_number at_action
-  words-none name = refl
+      ap (λ m. quoted name ++ codes " was handed " ++ event_words time what ++ codes " at action " ++ decimal m) one
 
   is-seen : (lines : List Line) (reason : List ℕ) → NamesNote (notes_from 1 lines) a time what reason → IsSeen lines a time what reason
-  is-seen lines reason h = by h.number h.noted h.words
+  is-seen lines reason h =
+      let found = line-of 1 lines h.noted.place h.noted.note h.noted.at h.noted.hands in
+      record { name = h.name; action = found.k; hand_out = found.hands; words = h.words ∙ words-of h.name h.number found.k (sym h.noted.action_is ∙ found.action_is) }
+
+  -- what an agent was handed is among the notes
+  any-from : (n : ℕ) (turns : List Turn) → list_any (is_note a time what) (notes_from n (map (λ (t : Turn). t.line) turns)) ≡ list_any (is_hand_out a time what) (flat_map (λ (t : Turn). t.line.events) turns)
+  any-from n [] = refl
+  any-from n (turn ∷ turns) =
+      let es : List EventLine = turn.line.events in
+      let rest : List EventLine = flat_map (λ (t : Turn). t.line.events) turns in
+      list_any-append (is_note a time what) (map (note_of n) es) (notes_from (n + 1) (map (λ (t : Turn). t.line) turns))
+      ∙ ap₂ (λ (x y : Bool). x || y) (any-of n es) (any-from (n + 1) turns)
+      ∙ sym (list_any-append (is_hand_out a time what) es rest)
+
+  abbrev wanted : TimedEntry EventBody
+  wanted = record { time = time; key = what }
+
+  abbrev lines_mine : List EventLine → List EventLine
+  lines_mine es = filter (λ (e : EventLine). e.agent == a) es
+
+  abbrev events_mine : List EventLine → List (TimedEntry EventBody)
+  events_mine es = map event_in (lines_mine es)
+
+  handed-here : (e : EventLine) → (e.agent == a) ≡ true → event_in e ≡ wanted → is_hand_out a time what e ≡ true
+  handed-here e own same =
+      let key : EventBody = event_of e.name e.payload in
+      let texts : same_texts key key ≡ true = and-true-both (bytes_eq e.name e.name) (bytes_eq e.payload e.payload) ((bytes_eq-Decides e.name e.name).1 refl) ((bytes_eq-Decides e.payload e.payload).1 refl) in
+      subst (λ (x : TimedEntry EventBody). ((e.agent == a) && ((e.time == x.time) && same_texts key x.key)) ≡ true) same
+      (and-true-both (e.agent == a) ((e.time == e.time) && same_texts key key) own (and-true-both (e.time == e.time) (same_texts key key) (eq-eqb e.time e.time refl) texts))
+
+  handed-among : (es : List EventLine) → Contains (events_mine es) wanted → list_any (is_hand_out a time what) es ≡ true
+  handed-among [] h = absurd (omega (arith, h.1))
+  handed-among (e ∷ es) h = by (e.agent == a) refl h (handed-among es)
     where
-      by : (o : Option ℕ) → IsNoted (notes_from 1 lines) a time what o → reason ≡ noted_words h.name time what o → IsSeen lines a time what reason
-      by None noted words = record { name = h.name; action = None; hand_out = record { right = tt; none = λ q. none-of 1 lines (noted.none refl) }; words = words ∙ words-none h.name }
-      by (Some n) noted words =
-          let found = line-of 1 lines noted.right.place noted.right.note noted.right.at noted.right.hands in
-          record {
-            name = h.name;
-            action = Some found.k;
-            hand_out = record { right = found.hands; none = λ q. absurd (cc (q)) };
-            words = words ∙ words-of h.name n found.k (sym noted.right.action_is ∙ found.action_is);
-          }
+      later : list_any (is_hand_out a time what) es ≡ true → (is_hand_out a time what e || list_any (is_hand_out a time what) es) ≡ true
+      later any = ap (λ b. is_hand_out a time what e || b) any ∙ or-true (is_hand_out a time what e)
+
+      at : (k : ℕ) → (e.agent == a) ≡ true → k < suc (length (events_mine es)) → slice_index_or (event_in e ∷ events_mine es) k wanted ≡ wanted → (Contains (events_mine es) wanted → list_any (is_hand_out a time what) es ≡ true)
+          → (is_hand_out a time what e || list_any (is_hand_out a time what) es) ≡ true
+      at zero own inside is behind = ap (λ b. b || list_any (is_hand_out a time what) es) (handed-here e own is)
+      at (suc k) own inside is behind = later (behind (k, omega (arith, inside), is))
+
+      by : (b : Bool) → (e.agent == a) ≡ b → Contains (map event_in (cond b (e ∷ lines_mine es) (lines_mine es))) wanted → (Contains (events_mine es) wanted → list_any (is_hand_out a time what) es ≡ true)
+          → (is_hand_out a time what e || list_any (is_hand_out a time what) es) ≡ true
+      by true own k behind = at k.0 own k.1 k.2 behind
+      by false other k behind = later (behind k)
+
+  pub handed-noted : (n : ℕ) (turns : List Turn) → Contains (events_to a turns) wanted → list_any (is_note a time what) (notes_from n (map (λ (t : Turn). t.line) turns)) ≡ true
+  handed-noted n turns h = any-from n turns ∙ handed-among (flat_map (λ (t : Turn). t.line.events) turns) h
 
 -- what names an event that was handed out names a line
 pub of-seen : (lines : List Line) (sent : List (List ℕ)) (action : Action) (reasons : List (List ℕ)) → OfNoted (notes_from 1 lines) sent action reasons → OfSeen lines sent action reasons

@@ -1,16 +1,18 @@
 -- The text of a run's turns with their reasons, as one action after another is done.
-use Rattle.std.proofs.Common.{◌≡◌, ℕ, ◌+◌, List, [], ◌∷◌, ◌++◌, Option, Some, None, true, false, refl, subst, sym, ap, ◌∙◌, length, append_assoc, arith}
-use Rattle.std.specs.Prelude.{slice_get, map, zero, suc, if◌then◌else◌}
-use Rattle.std.specs.List.{flat_map}
+use Rattle.std.proofs.Common.{◌≡◌, ℕ, ◌+◌, List, [], ◌∷◌, ◌++◌, Option, Some, None, true, false, refl, subst, sym, ap, ◌∙◌, length, length-append, append_assoc, arith}
+use Rattle.std.specs.Prelude.{slice_get, map, if◌then◌else◌}
+use Rattle.std.specs.List.{flat_map, fold}
+use Rattle.std.proofs.lemmas.List.Sums.{fold-append}
 use Rattle.std.specs.Option.{option_map}
 use Rattle.std.proofs.lemmas.List.{append-nil, length-map, map-append}
 use Rattle.std.proofs.lemmas.List.Elements.{All-nil, All-push}
 use Rattle.serf_model.specs.declared.action.Action.{Action}
 use Rattle.serf_model.specs.declared.line.Line.{Line}
 use Rattle.serf_agent.specs.declared.config.Config.{Config}
-use Rattle.serf_model.specs.Cluster.{IdealNode, Cluster, Run, after, on_agent, run_of, start, step, step_by}
+use Rattle.serf_model.specs.Cluster.{Cluster, Run, after, run_of, start, step}
 use Rattle.serf_model.specs.Trace.{Turn, actor_of}
 use Rattle.serf_model.specs.Ready.{AreRepresentable}
+use Rattle.serf_model.specs.Runs.{AreConfigs}
 use Rattle.serf_world.specs.View.{IsViewed, TakesStep, WorldState}
 use Rattle.serf_replay.specs.Show.{action_text}
 use Rattle.serf_explain.specs.declared.range.Range.{Range}
@@ -21,23 +23,12 @@ use Rattle.serf_explain.specs.Because.{AddsSuch, because_line}
 use Rattle.serf_explain.specs.Carried.{AreMerged, OfMerge, TellsMerge, TellsMerged}
 use Rattle.serf_explain.specs.Seen.{event_delivered, event_given}
 use Rattle.serf_explain.specs.HandOuts.{Note, OfNoted, note_of, notes_from}
+use Rattle.serf_explain.proofs.KnownLaws.{acts, still-sent}
 use Rattle.serf_explain.proofs.NoteLaws.{lines-push, of-seen}
 use Rattle.serf_wire.specs.declared.texts.EventBody.{EventBody}
 use Rattle.serf_window.specs.Window.{TimedEntry}
 use Rattle.serf_explain.proofs.CarriedLaws.{merged_of, some-merged, told-merged}
-use Rattle.serf_explain.specs.Explained.{AddsTurn, Explained, IsReasoned, IsTold, NameHandOuts, NamesHandOut, TellsAll, TellsRun, clusters_before, turn_text, turns_text}
-
--- a turn is of the action that was done
-acts : (c : Cluster) (action : Action) → (step c action).turn.action ≡ action
-acts c action = by (actor_of action)
-  where
-    at : (a : ℕ) (m : Option IdealNode) → (on_agent c action a m).turn.action ≡ action
-    at a None = refl
-    at a (Some m) = refl
-
-    by : (o : Option ℕ) → (step_by c action o).turn.action ≡ action
-    by None = refl
-    by (Some a) = at a (slice_get c.nodes a)
+use Rattle.serf_explain.specs.Explained.{AddsTurn, Explained, HasTold, IsReasoned, IsTold, NameHandOuts, NamesHandOut, TellsAll, TellsRun, clusters_before, clusters_from, turn_text, turns_text}
 
 turns-push : (range : Range) (sent : List (List ℕ)) (n : ℕ) (es : List Explained) (e : Explained)
     → turns_text range sent n (es ++ e ∷ []) ≡ turns_text range sent n es ++ turn_text range sent (n + length es) e.turn.action e.turn.line e.reasons
@@ -65,12 +56,7 @@ of-merge c (actions.Close agent now) carried reasons h tells = tt
 of-merge c (actions.Save agent) carried reasons h tells = tt
 of-merge c (actions.Compact agent) carried reasons h tells = tt
 
--- a packet that was sent stays it
-still-sent : (xs ys : List (List ℕ)) (k : ℕ) (x : List ℕ) → slice_get xs k ≡ Some x → slice_get (xs ++ ys) k ≡ Some x
-still-sent [] ys k x h = absurd (cc (h))
-still-sent (y ∷ xs) ys zero x h = h
-still-sent (y ∷ xs) ys (suc k) x h = still-sent xs ys k x h
-
+-- what was delivered stays it
 still-delivered : (sent more : List (List ℕ)) (action : Action) (a : ℕ) (e : TimedEntry EventBody) → event_delivered sent action ≡ Some (a, e) → event_delivered (sent ++ more) action ≡ Some (a, e)
 still-delivered sent more (actions.Deliver to packet now) a e h = by (slice_get sent packet) refl h
   where
@@ -182,23 +168,49 @@ nothing-added carried past sent action n line a = record {
 }
 
 -- a run whose actions are all told
-pub told-whole : (range : Range) (configs : List Config) (actions : List Action) (r : Run) (clusters : List Cluster) (w : WorldState) (past : List Note) (text : List ℕ)
-    → r ≡ run_of configs actions → clusters ≡ clusters_before configs actions → IsTold range r clusters w past text → TellsRun range configs actions text
-told-whole range configs actions r clusters w past text e same h =
-    let k : IsTold range (run_of configs actions) (clusters_before configs actions) w past text = subst (λ q. IsTold range q (clusters_before configs actions) w past text) e (subst (λ (cs : List Cluster). IsTold range r cs w past text) same h) in
+pub told-whole : (range : Range) (configs : List Config) (actions done : List Action) (w : WorldState) (past : List Note) (text : List ℕ) → done ≡ actions → HasTold range configs done w past text → TellsRun range configs actions text
+told-whole range configs actions done w past text whole h =
+    let k : HasTold range configs actions w past text = subst (λ (all : List Action). HasTold range configs all w past text) whole h in
     record {
-      explained = k.explained;
-      whole = k.whole;
-      text_is = sym (k.told []) ∙ ap (λ s. turns_text range s 1 k.explained) (append-nil (run_of configs actions).cluster.sent);
+      explained = k.told.explained;
+      whole = k.told.whole;
+      text_is = sym (k.told.told []) ∙ ap (λ s. turns_text range s 1 k.told.explained) (append-nil (run_of configs actions).cluster.sent);
     }
 
+-- one more action of a run
+pub run-push : (configs : List Config) (done : List Action) (action : Action) → run_of configs (done ++ action ∷ []) ≡ after (run_of configs done) action
+run-push configs done action = fold-append after (start configs) done (action ∷ [])
+
+clusters-from : (r : Run) (done : List Action) (action : Action) → clusters_from r.cluster (done ++ action ∷ []) ≡ clusters_from r.cluster done ++ (fold after r done).cluster ∷ []
+clusters-from r [] action = refl
+clusters-from r (x ∷ xs) action = ap (λ (cs : List Cluster). r.cluster ∷ cs) (clusters-from (after r x) xs action)
+
+run-length : (r : Run) (done : List Action) → length (fold after r done).turns ≡ length r.turns + length done
+run-length r [] = omega arith
+run-length r (x ∷ xs) = run-length (after r x) xs ∙ (let one = length-append r.turns ((step r.cluster x).turn ∷ []) in let sum : length (after r x).turns + length xs ≡ length r.turns + length (x ∷ xs) = omega (arith, one) in sum)
+
+pub told-next : (range : Range) (configs : List Config) (done : List Action) (action : Action) (w : WorldState) (past : List Note) (text : List ℕ) → AreConfigs configs
+    → IsTold range (after (run_of configs done) action) (clusters_before configs done ++ (run_of configs done).cluster ∷ []) w past text → HasTold range configs (done ++ action ∷ []) w past text
+told-next range configs done action w past text settings h = record {
+  settings = settings;
+  told = subst (λ (r : Run). IsTold range r (clusters_before configs (done ++ action ∷ [])) w past text) (sym (run-push configs done action))
+      (subst (λ (cs : List Cluster). IsTold range (after (run_of configs done) action) cs w past text) (sym (clusters-from (start configs) done action)) h);
+}
+
+-- the number of the next action
+pub next-number : (configs : List Config) (done : List Action) (n : ℕ) → n ≡ length done + 1 → n ≡ length (run_of configs done).turns + 1
+next-number configs done n is = omega (arith, is, run-length (start configs) done)
+
 -- a run of no action
-pub told-first : (range : Range) (configs : List Config) (w : WorldState) (past : List Note) (text : List ℕ) → IsViewed (start configs).cluster w → AreRepresentable (start configs).cluster → past ≡ [] → text ≡ [] → IsTold range (start configs) [] w past text
-told-first range configs w past text view representable none empty = record {
-  view = view;
-  representable = representable;
-  notes_are = none;
-  explained = [];
-  whole = record { turns_are = refl; clusters_are = refl; reasons = All-nil (λ (e : Explained). IsReasoned e.before e.turn.action e.turn.line e.reasons); seen = tt };
-  told = λ more. sym empty;
+pub told-first : (range : Range) (configs : List Config) (w : WorldState) (past : List Note) (text : List ℕ) → AreConfigs configs → IsViewed (start configs).cluster w → AreRepresentable (start configs).cluster → past ≡ [] → text ≡ [] → HasTold range configs [] w past text
+told-first range configs w past text settings view representable none empty = record {
+  settings = settings;
+  told = record {
+    view = view;
+    representable = representable;
+    notes_are = none;
+    explained = [];
+    whole = record { turns_are = refl; clusters_are = refl; reasons = All-nil (λ (e : Explained). IsReasoned e.before e.turn.action e.turn.line e.reasons); seen = tt };
+    told = λ more. sym empty;
+  };
 }

@@ -8,6 +8,7 @@ use Rattle.serf_model.specs.declared.line.Line.{Line}
 use Rattle.serf_model.specs.declared.line.Answer.TheVariants as answers
 use Rattle.serf_model.specs.Cluster.{Cluster, Run, run_of, start, step, trace_of}
 use Rattle.serf_model.specs.Ready.{AreRepresentable}
+use Rattle.serf_model.specs.Runs.{AreConfigs}
 use Rattle.serf_model.specs.Trace.{Turn, actor_of}
 use Rattle.serf_world.specs.View.{IsViewed, WorldState}
 use Rattle.serf_replay.specs.Line.{Parsed}
@@ -97,6 +98,11 @@ pub record IsTold (range : Range) (r : Run) (clusters : List Cluster) (w : World
   pub explained : List Explained
   pub whole : IsExplained range r.turns clusters explained
   pub told : (more : List (List ℕ)) → turns_text range (r.cluster.sent ++ more) 1 explained ≡ text
+
+-- The world did these actions in a cluster of agents of these settings, and the text tells them.
+pub record HasTold (range : Range) (configs : List Config) (done : List Action) (w : WorldState) (notes : List Note) (text : List ℕ) : Type 0 where
+  pub settings : AreConfigs configs
+  pub told : IsTold range (run_of configs done) (clusters_before configs done) w notes text
 
 -- What is told of an action: of a merge what was told of its events; of an event that was seen which action handed it out.
 pub record TellsAll (shown : Bool) (carried : List (List ℕ)) (notes : List Note) (sent : List (List ℕ)) (action : Action) (line : Line) (reasons : List (List ℕ)) : Type 0 where

@@ -4,7 +4,9 @@ use Rattle.std.specs.List.{list_any}
 use Rattle.serf_wire.specs.declared.texts.EventBody.{EventBody}
 use Rattle.serf_window.specs.Texts.{event_of, same_texts}
 use Rattle.serf_window.specs.Window.{TimedEntry}
+use Rattle.serf_agent.specs.declared.outcome.Reason.TheVariants.{Seen}
 use Rattle.serf_model.specs.declared.action.Action.{Action}
+use Rattle.serf_model.specs.declared.line.Answer.TheVariants as answers
 use Rattle.serf_model.specs.declared.line.EventLine.{EventLine}
 use Rattle.serf_model.specs.declared.line.Line.{Line}
 use Rattle.serf_explain.specs.declared.hand_outs.HandOut.{HandOut}
@@ -50,19 +52,23 @@ pub record IsNoted (notes : List Note) (a time : ℕ) (what : EventBody) (number
   pub right : IfSome number (λ n. NotedAt notes n a time what)
   pub none : number ≡ None → list_any (is_note a time what) notes ≡ false
 
-unfoldable pub at_number : Option ℕ → List ℕ
-at_number None = codes " before"
-at_number (Some n) = codes " at action " ++ decimal n
+unfoldable pub noted_words : List ℕ → ℕ → EventBody → ℕ → List ℕ
+noted_words name time what number = quoted name ++ codes " was handed " ++ event_words time what ++ codes " at action " ++ decimal number
 
-unfoldable pub noted_words : List ℕ → ℕ → EventBody → Option ℕ → List ℕ
-noted_words name time what number = quoted name ++ codes " was handed " ++ event_words time what ++ at_number number
-
--- a reason says that this event was handed to this agent, and by which action
+-- a reason says which action handed this event to this agent
 pub record NamesNote (notes : List Note) (a time : ℕ) (what : EventBody) (reason : List ℕ) : Type 0 where
   pub name : List ℕ
-  pub number : Option ℕ
-  pub noted : IsNoted notes a time what number
+  pub number : ℕ
+  pub noted : NotedAt notes number a time what
   pub words : reason ≡ noted_words name time what number
+
+-- an event that an action delivers was handed to its agent
+abbrev pub IsKnown : List Note → List (List ℕ) → Action → Type 0
+IsKnown notes sent action = (a : ℕ) (e : TimedEntry EventBody) → event_delivered sent action ≡ Some (a, e) → list_any (is_note a e.time e.key) notes ≡ true
+
+-- so it is where the answer is that it was seen
+abbrev pub KnowsSeen : List Note → List (List ℕ) → Action → Line → Type 0
+KnowsSeen notes sent action line = line.answer ≡ answers.Ignored Seen → IsKnown notes sent action
 
 -- where an action delivers an event, its only reason says so
 abbrev pub OfNoted : List Note → List (List ℕ) → Action → List (List ℕ) → Type 0

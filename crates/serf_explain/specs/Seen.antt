@@ -1,5 +1,5 @@
 -- What is told of an event that was delivered, and ignored as seen.
-use Rattle.std.specs.Prelude.{◌≡◌, ℕ, ◌+◌, ◌==◌, ◌++◌, ◌&&◌, Bool, true, false, List, [], ◌∷◌, All, Option, Some, None, IfSome, Result, Ok, codes, decimal, slice_get}
+use Rattle.std.specs.Prelude.{◌≡◌, ℕ, ◌+◌, ◌==◌, ◌++◌, ◌&&◌, Bool, true, List, [], ◌∷◌, Option, Some, None, Result, Ok, codes, decimal, slice_get}
 use Rattle.std.specs.List.{list_any}
 use Rattle.std.specs.Option.{option_map}
 use Rattle.serf_wire.specs.declared.fault.WireFault.{WireFault}
@@ -28,24 +28,15 @@ pub record HandsOut (lines : List Line) (k a time : ℕ) (what : EventBody) : Ty
   pub at : slice_get lines k ≡ Some line
   pub hands : hands_out a time what line ≡ true
 
--- An action that hands this event to this agent, if there is one.
-pub record IsHandOut (lines : List Line) (a time : ℕ) (what : EventBody) (action : Option ℕ) : Type 0 where
-  pub right : IfSome action (λ k. HandsOut lines k a time what)
-  pub none : action ≡ None → All (λ line. hands_out a time what line ≡ false) lines
-
 -- the action is named by its number, which counts from 1
-unfoldable pub at_action : Option ℕ → List ℕ
-at_action None = codes " before"
-at_action (Some k) = codes " at action " ++ decimal (k + 1)
+unfoldable pub seen_words : List ℕ → ℕ → EventBody → ℕ → List ℕ
+seen_words name time what k = quoted name ++ codes " was handed " ++ event_words time what ++ codes " at action " ++ decimal (k + 1)
 
-unfoldable pub seen_words : List ℕ → ℕ → EventBody → Option ℕ → List ℕ
-seen_words name time what action = quoted name ++ codes " was handed " ++ event_words time what ++ at_action action
-
--- A reason says that an agent was handed an event by an earlier action, and which, if these are the earlier ones.
+-- A reason says which earlier action handed an event to an agent, if these are the earlier ones.
 pub record IsSeen (lines : List Line) (a time : ℕ) (what : EventBody) (reason : List ℕ) : Type 0 where
   pub name : List ℕ
-  pub action : Option ℕ
-  pub hand_out : IsHandOut lines a time what action
+  pub action : ℕ
+  pub hand_out : HandsOut lines action a time what
   pub words : reason ≡ seen_words name time what action
 
 -- the event that a message is

@@ -1,6 +1,7 @@
 //! The events that a run handed out so far.
 
-ghost use Rattle.std.specs.Prelude.{◌≡◌, ◌++◌, ◌∷◌, [], drop, map, position, slice_get, take, IfOk, IfSome, OnOk};
+ghost use Rattle.std.specs.Prelude.{◌≡◌, ◌++◌, ◌∷◌, [], drop, map, position, slice_get, take, true, IfOk, IfSome, OnOk};
+ghost use Rattle.std.specs.List.{list_any};
 ghost use Rattle.std.specs.Option.{option_copied};
 ghost use Rattle.serf_window.specs.Texts.{event_of};
 ghost use Rattle.serf_explain.specs.HandOuts.{IsNoted, NotedAt, is_note, note_in, note_of, notes_in};
@@ -202,13 +203,17 @@ impl HandOuts {
         }
     }
 
-    /// An action that handed this event to this agent, if there is one.
-    pub(crate) fn action_of(&self, agent: u64, event: &Event) -> Option<u64>
-        ensures { IsNoted (notes_in self.now.outs.items) agent event.now.time (event_of event.now.name.now event.now.payload.now) result }
+    /// An action that handed this event to this agent.
+    pub(crate) fn action_of(&self, agent: u64, event: &Event) -> u64
+        requires { list_any (is_note agent event.now.time (event_of event.now.name.now event.now.payload.now)) (notes_in self.now.outs.items) ≡ true }
+        ensures { NotedAt (notes_in self.now.outs.items) result agent event.now.time (event_of event.now.name.now event.now.payload.now) }
     {
         match self.last_of(agent, event) {
-            Some(action) => Some(action),
-            None => self.first_of(agent, event),
+            Some(action) => action,
+            None => match self.first_of(agent, event) {
+                Some(action) => action,
+                None => unreachable!(),
+            },
         }
     }
 }

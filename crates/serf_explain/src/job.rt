@@ -2,17 +2,19 @@
 
 ghost use Rattle.std.specs.Prelude.{◌≡◌, ◌<◌, ◌≤◌, ◌+◌, ◌++◌, ◌∷◌, [], List, ℕ, true, false, Err, length, OnOk, IfOk, IfErr, IfSome, IsErrOf};
 ghost use Rattle.std.specs.Io.KnownBytes.{Appends, Consumes};
-ghost use Rattle.serf_world.specs.Cluster.{Cluster, Run, after};
+ghost use Rattle.serf_agent.specs.declared.config.Config.{Config};
+ghost use Rattle.serf_model.specs.declared.action.Action.{Action};
 ghost use Rattle.serf_explain.specs.Judging.{reasons_in};
 ghost use Rattle.serf_replay.specs.Io.{AppendsFront};
 ghost use Rattle.serf_replay.specs.Output.{output_of};
-ghost use Rattle.serf_explain.specs.Explained.{AddsTurn, Explains, IsTold, TellsAll, TellsRun};
-ghost use Rattle.serf_explain.specs.HandOuts.{notes_in};
+ghost use Rattle.serf_explain.specs.Explained.{AddsTurn, Explains, HasTold, TellsAll, TellsRun};
+ghost use Rattle.serf_explain.specs.HandOuts.{KnowsSeen, notes_in};
 
 use crate::history::History;
 use crate::range::{Range, actor};
 use crate::reasons::{lines_before, put_reasons};
 use crate::told::Told;
+use serf_model::run_promises;
 use serf_replay::{
     Cause, InputFault, MAX_SCHEDULE_BYTES, ReplayFault, Schedule, ScheduleFault, Watch, lines_stay,
     parse_schedule, put_action, read_input, write_output,
@@ -23,6 +25,7 @@ use std::io::{Read, Write};
 
 /// Appends an action's lines and those of its reasons.
 fn put_shown(alloc: Global, out: &mut Vec<u8>, told: &Told) -> Result<(), AllocError>
+    requires { KnowsSeen (notes_in told.now.past.now.outs.items) told.now.world.now.sent told.now.action.now told.now.line.now }
     ensures { OnOk result (AddsTurn (TellsAll true (reasons_in told.now.carried.now) (notes_in told.now.past.now.outs.items) told.now.world.now.sent told.now.action.now told.now.line.now) true told.now.world.now.sent told.now.number told.now.line.now out.old.items out.new.items) }
 {
     put_action(out, told.world.sent(), told.number, told.line)?;
@@ -36,6 +39,7 @@ fn put_nothing(out: &mut Vec<u8>, told: &Told)
 
 /// Appends what is shown of an action: its lines and those of its reasons, or nothing.
 fn put_turn(alloc: Global, out: &mut Vec<u8>, is_shown: bool, told: &Told) -> Result<(), AllocError>
+    requires { KnowsSeen (notes_in told.now.past.now.outs.items) told.now.world.now.sent told.now.action.now told.now.line.now }
     ensures { OnOk result (AddsTurn (TellsAll is_shown (reasons_in told.now.carried.now) (notes_in told.now.past.now.outs.items) told.now.world.now.sent told.now.action.now told.now.line.now) is_shown told.now.world.now.sent told.now.number told.now.line.now out.old.items out.new.items) }
 {
     match is_shown {
@@ -57,9 +61,11 @@ fn add_turn(
     number: u64,
     action: &Action,
 ) -> Result<(), AllocError>
-    ensures { (r : Run) (clusters : List Cluster) → IsTold range.now r clusters world.old (notes_in history.old.hand_outs.outs.items) out.old.items → number ≡ length r.turns + 1 → OnOk result (IsTold range.now (after r action.now) (clusters ++ r.cluster ∷ []) world.new (notes_in history.new.hand_outs.outs.items) out.new.items) }
+    requires { (configs : List Config) × (done : List Action) × HasTold range.now configs done world.old (notes_in history.old.hand_outs.outs.items) out.old.items }
+    ensures { (configs : List Config) (done : List Action) → HasTold range.now configs done world.old (notes_in history.old.hand_outs.outs.items) out.old.items → number ≡ length done + 1 → OnOk result (HasTold range.now configs (done ++ action.now ∷ []) world.new (notes_in history.new.hand_outs.outs.items) out.new.items) }
 {
     lines_stay();
+    run_promises();
     let carried = lines_before(alloc, world, history, number, action)?;
     let Ok(line) = world.step(alloc, action) else {
         return Err(AllocError);
@@ -87,7 +93,8 @@ fn take_turn(
     number: u64,
     action: Action,
 ) -> Result<(), AllocError>
-    ensures { (r : Run) (clusters : List Cluster) → IsTold range.now r clusters world.old (notes_in history.old.hand_outs.outs.items) out.old.items → number ≡ length r.turns + 1 → OnOk result (IsTold range.now (after r action) (clusters ++ r.cluster ∷ []) world.new (notes_in history.new.hand_outs.outs.items) out.new.items) }
+    requires { (configs : List Config) × (done : List Action) × HasTold range.now configs done world.old (notes_in history.old.hand_outs.outs.items) out.old.items }
+    ensures { (configs : List Config) (done : List Action) → HasTold range.now configs done world.old (notes_in history.old.hand_outs.outs.items) out.old.items → number ≡ length done + 1 → OnOk result (HasTold range.now configs (done ++ action ∷ []) world.new (notes_in history.new.hand_outs.outs.items) out.new.items) }
 {
     add_turn(alloc, world, history, out, range, number, &action)
 }

@@ -15,7 +15,7 @@ ghost use Rattle.serf_world.specs.View.{IsViewed, agent_at};
 ghost use Rattle.serf_explain.specs.Because.{AddsReasons, AddsSome, AddsSuch, because_line};
 ghost use Rattle.serf_explain.specs.Carried.{AreCarried, TellsMerge, TellsMerged};
 ghost use Rattle.serf_explain.specs.Explained.{TellsAll};
-ghost use Rattle.serf_explain.specs.HandOuts.{notes_in};
+ghost use Rattle.serf_explain.specs.HandOuts.{KnowsSeen, notes_in};
 ghost use Rattle.serf_explain.specs.Judging.{reasons_in};
 
 use crate::answers::put_reason;
@@ -219,6 +219,7 @@ fn put_unmerged(alloc: Global, out: &mut Vec<u8>, told: &Told) -> Result<(), All
 
 /// Appends a line for each reason of an action: one at least.
 pub(crate) fn put_reasons(alloc: Global, out: &mut Vec<u8>, told: &Told) -> Result<(), AllocError>
+    requires { KnowsSeen (notes_in told.now.past.now.outs.items) told.now.world.now.sent told.now.action.now told.now.line.now }
     ensures { OnOk result (AddsSuch (TellsAll true (reasons_in told.now.carried.now) (notes_in told.now.past.now.outs.items) told.now.world.now.sent told.now.action.now told.now.line.now) told.now.number out.old.items out.new.items) }
 {
     match told.line.answer {

@@ -1,13 +1,14 @@
 //! What is told of an event that was delivered, and ignored as seen.
 
-ghost use Rattle.std.specs.Prelude.{◌≡◌, ◌++◌, ◌∷◌, [], ℕ, List, Ok, OnOk, IfOk};
+ghost use Rattle.std.specs.Prelude.{◌≡◌, ◌++◌, ◌∷◌, [], ℕ, List, true, Ok, OnOk, IfOk};
+ghost use Rattle.std.specs.List.{list_any};
 ghost use Rattle.std.specs.Option.{option_map};
 ghost use Rattle.serf_wire.specs.Decoded.{decoded};
 ghost use Rattle.serf_wire.specs.Message.{message_of};
 ghost use Rattle.serf_window.specs.Texts.{event_of};
 ghost use Rattle.serf_explain.specs.Because.{AddsSuch};
 ghost use Rattle.serf_explain.specs.Noted.{delivered_as, event_as};
-ghost use Rattle.serf_explain.specs.HandOuts.{NamesNote, OfNoted, at_number, noted_words, notes_in};
+ghost use Rattle.serf_explain.specs.HandOuts.{IsKnown, NamesNote, OfNoted, is_note, noted_words, notes_in};
 ghost use Rattle.serf_explain.specs.Seen.{event_delivered, event_read};
 
 use crate::because::put_because;
@@ -70,34 +71,21 @@ fn seen_event<'a>(told: &Told<'a>) -> Option<Delivered<'a>>
     Some(Delivered { to: *to, event })
 }
 
-/// Appends which action it was.
-#[tactic(auto, unfolding(crate::specs::HandOuts::at_number))]
-fn put_at_number(out: &mut Vec<u8>, number: Option<u64>) -> Result<(), AllocError>
-    ensures { OnOk result (out.new.items ≡ out.old.items ++ at_number number) }
-{
-    match number {
-        Some(number) => {
-            out.extend_from_slice(b" at action ")?;
-            put_number(out, number)
-        }
-        None => out.extend_from_slice(b" before"),
-    }
-}
-
 /// Appends which action handed an event to an agent of this name.
 #[tactic(auto, unfolding(crate::specs::HandOuts::noted_words))]
 fn put_noted_words(
     out: &mut Vec<u8>,
     name: &[u8],
     event: &Event,
-    number: Option<u64>,
+    number: u64,
 ) -> Result<(), AllocError>
     ensures { OnOk result (out.new.items ≡ out.old.items ++ noted_words name.now event.now.time (event_of event.now.name.now event.now.payload.now) number) }
 {
     put_quoted(out, name)?;
     out.extend_from_slice(b" was handed ")?;
     put_event(out, event.time, event.name, event.payload)?;
-    put_at_number(out, number)
+    out.extend_from_slice(b" at action ")?;
+    put_number(out, number)
 }
 
 /// The name of the agent of this number.
@@ -110,6 +98,7 @@ fn name_of<'a>(told: &Told<'a>, agent: u64) -> &'a [u8] {
 
 /// Which action handed this event to its agent before.
 fn seen_reason(alloc: Global, told: &Told, of: &Delivered) -> Result<Vec<u8>, AllocError>
+    requires { list_any (is_note of.now.to of.now.event.time (event_of of.now.event.name.now of.now.event.payload.now)) (notes_in told.now.past.now.outs.items) ≡ true }
     ensures { IfOk result (λ reason. NamesNote (notes_in told.now.past.now.outs.items) of.now.to of.now.event.time (event_of of.now.event.name.now of.now.event.payload.now) reason.items) }
 {
     let number = told.past.action_of(of.to, &of.event);
@@ -125,6 +114,7 @@ fn put_seen_event(
     told: &Told,
     of: &Delivered,
 ) -> Result<(), AllocError>
+    requires { list_any (is_note of.now.to of.now.event.time (event_of of.now.event.name.now of.now.event.payload.now)) (notes_in told.now.past.now.outs.items) ≡ true }
     ensures { OnOk result (AddsSuch (λ reasons. (reason : List ℕ) × (reasons ≡ reason ∷ []) × NamesNote (notes_in told.now.past.now.outs.items) of.now.to of.now.event.time (event_of of.now.event.name.now of.now.event.payload.now) reason) told.now.number out.old.items out.new.items) }
 {
     let reason = seen_reason(alloc, told, of)?;
@@ -133,6 +123,7 @@ fn put_seen_event(
 
 /// Appends the line of a delivery that was ignored as seen: of an event, which action handed it to its agent before.
 pub(crate) fn put_seen(alloc: Global, out: &mut Vec<u8>, told: &Told) -> Result<(), AllocError>
+    requires { IsKnown (notes_in told.now.past.now.outs.items) told.now.world.now.sent told.now.action.now }
     ensures { OnOk result (AddsSuch (OfNoted (notes_in told.now.past.now.outs.items) told.now.world.now.sent told.now.action.now) told.now.number out.old.items out.new.items) }
 {
     match seen_event(told) {
