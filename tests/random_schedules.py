@@ -30,7 +30,7 @@ ACTIONS = 120
 MAX_BYTES = 16_777_216
 MAX_SECONDS = 10
 
-# Of each kind the digest of the schedules of SEEDS, one behind another, at version 1.
+# Of each kind the digest of the schedules of SEEDS, one behind another, at version 2.
 DIGESTS = {
     "mixed": "fe4d08afed02bdbf",
     "tiny": "a499dd6e67b43ec4",
@@ -75,7 +75,7 @@ def wrong_seed(seed, kind, made, again):
         return f"status {made.returncode}: {made.stderr}"
     if made.stdout != again.stdout:
         return "it has other bytes the second time"
-    if made.stdout.split(b"\n")[0] != f"# random {seed} --kind {kind} --agents 0 --actions {ACTIONS} version 1".encode():
+    if made.stdout.split(b"\n")[0] != f"# random {seed} --kind {kind} --agents 0 --actions {ACTIONS} version 2".encode():
         return "its first line doesn't say what was asked for"
     if actions_in(made.stdout) != ACTIONS:
         return f"it has {actions_in(made.stdout)} actions"

@@ -209,7 +209,11 @@ impl Player {
         }
     }
 
+    /// A push/pull. Where packets go round, only one time in four: gossip is far more frequent there.
     fn exchange(&mut self) -> Action {
+        if self.kind == Kind::Gossip && !self.dice.one_in(4) {
+            return self.pass();
+        }
         self.next = Some(Next::Merge {
             to: self.agent(),
             join: self.dice.one_in(3),
