@@ -6,18 +6,18 @@ ghost use Rattle.std.specs.Option.{option_copied};
 ghost use Rattle.serf_model.specs.Trace.{actor_of, is_agent, packet_given};
 ghost use Rattle.serf_pipe.specs.CallText.{call_line};
 ghost use Rattle.serf_pipe.specs.Reply.{said_in};
-ghost use Rattle.serf_conform.specs.Rules.{has_no_tail, is_common_answer, is_common_reason, is_common_refusal, is_serf};
+ghost use Rattle.serf_conform.specs.Rules.{is_serf};
 ghost use Rattle.serf_conform.specs.Session.{IsAsked, IsTaken, asked_of, given_of, taken_of, turn_at};
 ghost use Rattle.serf_conform.specs.Wanted.{wanted_of};
 
+use crate::common::is_common_turn;
 use crate::judging::{Judgement, judge};
 use crate::replies::wanted;
 use crate::verdict::{ConformFault, Rules};
-use serf_agent::Reason;
 use serf_pipe::{ReadFault, Reply, put_call, read_reply_text};
 use serf_replay::write_output;
 use serf_wire::Bytes;
-use serf_world::{Action, Answer, Line, Refusal};
+use serf_world::{Action, Line};
 use std::alloc::{AllocError, Global};
 use std::io::{Read, Write};
 
@@ -124,46 +124,6 @@ pub fn given_packet<'a>(action: &Action, sent: &'a [Bytes]) -> Option<&'a [u8]>
     }
 }
 
-fn is_common_ignoring(reason: Reason) -> bool
-    ensures { result ≡ is_common_reason reason }
-{
-    !matches!(reason, Reason::Oversize | Reason::TimeFull)
-}
-
-fn is_common_refusing(refusal: Refusal) -> bool
-    ensures { result ≡ is_common_refusal refusal }
-{
-    match refusal {
-        Refusal::Stopped => false,
-        Refusal::Exhausted => false,
-        Refusal::RespondersFull => false,
-        Refusal::SinkFault => false,
-        Refusal::Wire(_) => false,
-        _ => true,
-    }
-}
-
-fn is_common_answering(answer: Answer) -> bool
-    ensures { result ≡ is_common_answer answer }
-{
-    match answer {
-        Answer::Ignored(reason) => is_common_ignoring(reason),
-        Answer::Refused(refusal) => is_common_refusing(refusal),
-        Answer::Broken => false,
-        Answer::Compacted => false,
-        _ => true,
-    }
-}
-
-fn is_without_tail(action: &Action) -> bool
-    ensures { result ≡ has_no_tail action.now }
-{
-    match action {
-        Action::Restart { tail, .. } => tail.as_slice().is_empty(),
-        _ => true,
-    }
-}
-
 fn call_text(alloc: Global, action: &Action, given: &[u8]) -> Result<Vec<u8>, AllocError>
     ensures { IfOk result (λ text. text.items ≡ call_line action.now given.now) }
 {
@@ -217,7 +177,7 @@ pub(crate) fn take_turn<R: Read, W: Write>(
     let Some(given) = given_packet(action, before) else {
         return Ok(Asked::Skipped);
     };
-    if rules.is_serf() && !(is_common_answering(line.answer) && is_without_tail(action)) {
+    if rules.is_serf() && !is_common_turn(action, line) {
         return Ok(Asked::OwnRule);
     }
     make_call(alloc, reader, writer, action, line, given, packets)

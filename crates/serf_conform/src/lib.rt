@@ -2,6 +2,7 @@
 #![tactic(auto)]
 
 mod asking;
+mod common;
 mod judging;
 mod laws;
 mod meaning;
@@ -10,6 +11,7 @@ mod session;
 mod verdict;
 
 pub use asking::{given_packet, is_of};
+pub use common::is_common_turn;
 pub use judging::{Judgement, judge};
 pub use laws::projection;
 pub use meaning::{line_means, reply_means};

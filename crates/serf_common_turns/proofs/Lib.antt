@@ -1,0 +1,2 @@
+pub mod CommentBack
+pub mod CutLemmas

@@ -1,0 +1,61 @@
+//! Actions whose turns aren't common, left out in rounds.
+
+ghost use Rattle.std.specs.Prelude.{◌+◌, ◌≤◌, IfOk, OnOk, length};
+
+use crate::agents::copy_of;
+use serf_conform::is_common_turn;
+use serf_world::{Action, Roster, World};
+use std::alloc::{AllocError, Global};
+
+/// How often actions are left out, at most: what is left runs otherwise, so that other turns may rest on a rule of our
+/// own then.
+const ROUNDS: u64 = 8;
+
+/// Does an action, and keeps it where its turn is common.
+fn keep_common(
+    alloc: Global,
+    world: &mut World,
+    kept: &mut Vec<Action>,
+    action: Action,
+) -> Result<(), AllocError>
+    ensures few { OnOk result (length kept.new.items ≤ length kept.old.items + 1) }
+{
+    let Ok(line) = world.step(alloc, &action) else {
+        return Err(AllocError);
+    };
+    if is_common_turn(&action, &line) {
+        kept.push(action)?;
+    }
+    Ok(())
+}
+
+/// The actions whose turns are common in the run of these.
+fn round(alloc: Global, agents: &Roster, actions: Vec<Action>) -> Result<Vec<Action>, AllocError>
+    ensures few { IfOk result (λ kept. length kept.items ≤ length actions.items) }
+{
+    let mut world = World::new(alloc, copy_of(alloc, agents)?)?;
+    let mut kept = Vec::new(alloc);
+    for action in actions {
+        keep_common(alloc, &mut world, &mut kept, action)?;
+    }
+    Ok(kept)
+}
+
+/// The actions that are left after some rounds, in each of which those are left out whose turns aren't common.
+pub(crate) fn in_rounds(
+    alloc: Global,
+    agents: &Roster,
+    actions: Vec<Action>,
+) -> Result<Vec<Action>, AllocError>
+    ensures few { IfOk result (λ kept. length kept.items ≤ length actions.items) }
+{
+    let mut kept = actions;
+    for _round in 0..ROUNDS {
+        let before = kept.len();
+        kept = round(alloc, agents, kept)?;
+        if kept.len() == before {
+            return Ok(kept);
+        }
+    }
+    Ok(kept)
+}
