@@ -306,6 +306,7 @@ def seeds(cases):
     for word in ("x", "3-1", "1-", "-1", "1-2-3", "0-18446744073709551615"):
         cases.run(f"seeds {word}", ["cat"], f"--random={word}", 2, ["--random"])
     cases.run("seeds of no kind", ["cat"], "--random", 2, ["--kind"], ["1-2", "--kind", "mixd"])
+    cases.run("one agent of seeds", ["cat"], "--random", 2, ["--agent"], ["1-2", "--agent", "0"])
     cases.run("seeds and a file", ["cat"], os.path.join(TOP, "examples", "deploy_gossiped_twice.schedule"), 2, ["--random"], ["--random", "1"])
     ran = subprocess.run([PROGRAM, "conform"], stdin=subprocess.DEVNULL, capture_output=True, timeout=LIMIT)
     cases.count.check("neither", (ran.returncode, ran.stdout) == (2, b""), ran)

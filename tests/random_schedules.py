@@ -2,7 +2,8 @@
 
 Of each seed the program writes the same bytes twice, which are those of this version (DIGESTS). `replay` takes them and
 answers each action, and there are as many actions as were asked for. The largest schedule ends below 16 MiB, and takes
-few processor seconds. Bad words of a command line are refused.
+few processor seconds. Bad words of a command line are refused. With `--rules serf` no turn of a trace rests on a rule of
+this project's own, and the median of the actions that are left is printed.
 
     tests/random_schedules.py [--digests]
 
@@ -11,7 +12,9 @@ few processor seconds. Bad words of a command line are refused.
 
 import hashlib
 import os
+import re
 import resource
+import statistics
 import subprocess
 import sys
 
@@ -46,6 +49,13 @@ DIGESTS = {
     "gossip": "7b7850745f40ef57",
 }
 
+# Of each kind the seeds whose schedules keep to Serf's rules here.
+COMMON_SEEDS = range(1, 21)
+
+# The answers that rest on a rule of this project's own (docs/DECISIONS.md), and a restart with a tail.
+OWN_ANSWER = re.compile(rb"^\d+ (?:ignored (?:Oversize|TimeFull)|refused (?:Wire|Exhausted|RespondersFull|Stopped|SinkFault)|broken|compacted)\b", re.M)
+TAIL = re.compile(rb"^restart \d+ [^-\n]", re.M)
+
 # Words that are refused, with their status.
 REFUSED = (
     (["random"], 2),
@@ -54,6 +64,7 @@ REFUSED = (
     (["random", "1", "--kind", "mixd"], 2),
     (["random", "1", "--actions", "-1"], 2),
     (["random", "1", "2"], 2),
+    (["random", "1", "--rules", "mine"], 2),
 )
 
 
@@ -84,6 +95,29 @@ def wrong_seed(seed, kind, made, again):
         return f"replay: status {replayed.returncode}: {replayed.stderr}"
     answered = {line.split(b" ")[0] for line in replayed.stdout.splitlines()}
     return None if len(answered) == ACTIONS else "replay answers fewer actions"
+
+
+def wrong_common(seed, kind, made):
+    """What is wrong with the schedule of a seed that keeps to Serf's rules, or None."""
+    if made.returncode or made.stderr:
+        return f"status {made.returncode}: {made.stderr}"
+    if made.stdout.split(b"\n")[0] != f"# random {seed} --kind {kind} --agents 0 --actions {ACTIONS} --rules serf version 2".encode():
+        return "its first line doesn't say what was asked for"
+    if actions_in(made.stdout) > ACTIONS:
+        return f"it has {actions_in(made.stdout)} actions"
+    replayed = ran(["replay"], made.stdout)
+    if replayed.returncode or replayed.stderr:
+        return f"replay: status {replayed.returncode}: {replayed.stderr}"
+    own = OWN_ANSWER.search(replayed.stdout) or TAIL.search(made.stdout)
+    return f"an own rule: {own[0]}" if own else None
+
+
+def common_schedules(kind):
+    """Of the seeds of a kind, what is wrong with the schedules that keep to Serf's rules."""
+    made = {seed: schedule_of(seed, kind, "--rules", "serf") for seed in COMMON_SEEDS}
+    left = statistics.median(actions_in(schedule.stdout) for schedule in made.values())
+    print(f"{kind}: {left:g} of {ACTIONS} actions keep to Serf's rules in the median")
+    return [(f"{kind} {seed}, Serf's rules", wrong_common(seed, kind, schedule)) for seed, schedule in made.items()]
 
 
 def processor_seconds():
@@ -121,6 +155,8 @@ def main():
             print(f'    "{kind}": "{digest.hexdigest()[:16]}",')
         said.append((f"{kind}, its bytes", None if DIGESTS.get(kind) == digest.hexdigest()[:16] else f"digest {digest.hexdigest()[:16]}"))
     said += [(f"{kind}, the largest", largest(kind)) for kind in KINDS]
+    for kind in KINDS:
+        said += common_schedules(kind)
     for words, status in REFUSED:
         got = ran(words)
         said.append((" ".join(words), None if (got.returncode, got.stdout) == (status, b"") else f"status {got.returncode}"))

@@ -5,14 +5,14 @@ use crate::draw_job::{Drawing, draw_command, drawing_of};
 use crate::encode_job::encode_command;
 use crate::explain_job::{Explanation, explain_command, explanation_of};
 use crate::hunt_job::{Search, search_of};
-use crate::random_job::{actions, agents, ask_of, kind, random_command};
+use crate::random_job::{
+    Making, actions, agents, kind, making_of, random_command, rules, rules_of,
+};
 use crate::shrink_job::{save_option, shrink_flag, shrinking_of};
 use crate::stream_job::stream_flag;
 use crate::summary_job::summary_flag;
 use crate::write_job::write_command;
 use clap::{Arg, ArgAction, ArgMatches, Command, Error};
-use serf_conform::Rules;
-use serf_random::Ask;
 use std::alloc::{AllocError, Global};
 
 /// What is to be done.
@@ -30,8 +30,8 @@ pub enum Job<'a> {
     Encode,
     /// Prints the clocks that the snapshot in a file keeps.
     Clocks(&'a str),
-    /// Writes a random schedule; `None` where the words name no kind.
-    Random(Option<Ask>),
+    /// Writes a random schedule.
+    Random(Making),
     /// Judges the log of a file, or of standard input, beside snapshots, each as `NODE=SNAPSHOT`.
     Judge(Option<&'a str>, Vec<&'a str>),
     /// Writes the trace of a schedule with its reasons.
@@ -119,14 +119,15 @@ fn conform_command<'a>(alloc: Global) -> Result<Command<'a>, AllocError> {
     let example =
         "Example: mkfifo f; ./my-agent <f | serf-replay conform examples/what_is_refused.schedule >f";
     let file = place(alloc, "FILE", help);
-    let agent = "The number of the only agent that is held; all of them where it is left out";
-    let rules =
+    let agent =
+        "The number of the only agent of a schedule that is held; all of them where it is left out";
+    let whose =
         "`serf` ends before the first turn that rests on a rule of this project's own; `own` (as when left out) \
                  compares all";
     let random = "Seeds as A-B: the random schedules of these are made, and their calls";
     job_command(alloc, "conform", about, example, file)?
         .arg(option(alloc, "agent", agent))?
-        .arg(option(alloc, "rules", rules))?
+        .arg(rules(alloc, whose))?
         .arg(option(alloc, "random", random))?
         .arg(kind(alloc))?
         .arg(agents(alloc))?
@@ -178,10 +179,8 @@ fn conform_of<'a>(matches: &ArgMatches<'a>) -> Option<Job<'a>> {
             Err(_) => return Some(Job::BadOption("agent")),
         },
     };
-    let rules = match matches.get_str("rules") {
-        None | Some("own") => Rules::Own,
-        Some("serf") => Rules::Serf,
-        Some(_) => return Some(Job::BadOption("rules")),
+    let Some(rules) = rules_of(matches) else {
+        return Some(Job::BadOption("rules"));
     };
     let Some(shrinking) = shrinking_of(matches) else {
         return Some(Job::BadOption("save"));
@@ -193,6 +192,7 @@ fn conform_of<'a>(matches: &ArgMatches<'a>) -> Option<Job<'a>> {
             rules,
             shrinking,
         })),
+        (None, Some(_)) if agent.is_some() => Some(Job::BadOption("agent")),
         (None, Some(word)) => Some(match search_of(word, matches, rules, shrinking) {
             Ok(search) => Job::Search(search),
             Err(name) => Job::BadOption(name),
@@ -220,7 +220,10 @@ fn job_of<'a>(alloc: Global, matches: &ArgMatches<'a>) -> Result<Option<Job<'a>>
         "decode" => Some(Job::Decode(inner.get_str("HEX"))),
         "encode" => Some(Job::Encode),
         "clocks" => inner.get_str("FILE").map(|file| Job::Clocks(file)),
-        "random" => Some(Job::Random(ask_of(inner))),
+        "random" => Some(match making_of(inner) {
+            Ok(making) => Job::Random(making),
+            Err(name) => Job::BadOption(name),
+        }),
         "conform" => conform_of(inner),
         "explain" => Some(Job::Explain(explanation_of(inner))),
         "draw" => Some(match drawing_of(alloc, inner)? {

@@ -9,14 +9,13 @@ use crate::explain_job::run_explain;
 use crate::hunt_job::run_hunt;
 use crate::judge_job::run_judge;
 use crate::progress::Progress;
-use crate::random_job::KINDS;
+use crate::random_job::{KINDS, run_random};
 use crate::stream_job::run_stream;
 use crate::summary_job::run_summary;
 use crate::write_job::run_write;
 use clap::Error;
 use clap::error::ErrorKind;
 use hex::FromHexError;
-use serf_random::{Ask, random_schedule};
 use serf_replay::{
     DecodeTextFault, InputFault, ReplayFault, clocks_text, decode_text, read_input, replay,
     write_output,
@@ -149,7 +148,7 @@ fn run_clocks<F: Files, R: Input + Print + Eprint + AllocGlobal>(
 /// What may stand behind an option.
 fn words_for(option: &str) -> &'static str {
     match option {
-        "agent" => "the number of an agent, counted from 0",
+        "agent" => "the number of an agent, counted from 0, where a schedule is given",
         "kind" => KINDS,
         "random" => "seeds as A-B, where no schedule is given, or a schedule without it",
         "rules" => "serf or own",
@@ -162,17 +161,6 @@ fn bad_option(rt: &impl Eprint, name: &str) -> u8 {
     let words = words_for(name);
     let _ = eprintln!(rt; "error: a bad word for --{name}: here may stand {words}");
     COMMAND_LINE
-}
-
-/// Writes a random schedule.
-fn run_random<R: Print + Eprint + AllocGlobal>(rt: &R, ask: Option<Ask>) -> u8 {
-    let Some(ask) = ask else {
-        return bad_option(rt, "kind");
-    };
-    match random_schedule(rt.alloc(), &ask) {
-        Ok(made) => finish(rt, &made.text),
-        Err(_) => no_memory(rt),
-    }
 }
 
 fn run_conform<F: Files, R: Input + Print + Eprint + AllocGlobal>(
@@ -223,7 +211,7 @@ pub fn run<F: Files, R: Clock + Input + Print + Eprint + AllocGlobal>(
         Ok(Some(Job::Decode(None))) => run_decode_lines(rt),
         Ok(Some(Job::Encode)) => run_encode(rt),
         Ok(Some(Job::Clocks(file))) => run_clocks(files, rt, file),
-        Ok(Some(Job::Random(ask))) => run_random(rt, ask),
+        Ok(Some(Job::Random(making))) => run_random(rt, &making),
         Ok(Some(Job::Write(file))) => run_write(files, rt, file),
         Ok(Some(Job::Judge(file, kept))) => run_judge(files, rt, file, &kept),
         Ok(Some(Job::Conform(asked))) => run_conform(files, rt, &asked),
