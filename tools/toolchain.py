@@ -1,10 +1,16 @@
-"""The toolchain's own library, loaded from where `rt` on PATH stands: its crates, its checks, and how it tries an edit."""
+"""The toolchain's own library, loaded from where `rt` on PATH stands: its crates, its checks, and how it tries an edit.
+
+    python3 tools/toolchain.py WORD..
+
+does what `rt WORD..` does, with sums made once.
+"""
 
 import importlib.machinery
 import importlib.util
 import os
 import shutil
 import sys
+import threading
 
 
 def load():
@@ -17,4 +23,34 @@ def load():
     module = importlib.util.module_from_spec(importlib.util.spec_from_loader("rt", loader))
     sys.modules["rt"] = module
     loader.exec_module(module)
+    sum_once(module.rtlib.Crate)
     return module
+
+
+def sum_once(kind):
+    """Has a crate's sum, which holds those of the libraries below it, take each of these once. The toolchain takes them
+    again on each way down, of which the program has more than 8,000."""
+    own, calls = kind.stamp, threading.local()
+
+    def stamp(crate):
+        sums = getattr(calls, "sums", None)
+        if sums is None:
+            # the outermost call: what it has read is forgotten behind it, since a source may change
+            calls.sums = {}
+            try:
+                return own(crate)
+            finally:
+                calls.sums = None
+        if crate.folder not in sums:
+            sums[crate.folder] = own(crate)
+        return sums[crate.folder]
+
+    kind.stamp = stamp
+
+
+if __name__ == "__main__":
+    rt = load()
+    if rt is None:
+        print("rt, the command of the Rattle toolchain, is not on PATH", file=sys.stderr)
+        sys.exit(3)
+    sys.exit(rt.main(sys.argv[1:]))
