@@ -35,18 +35,18 @@ MAX_SECONDS = 10
 
 # Of each kind the digest of the schedules of SEEDS, one behind another, at version 2.
 DIGESTS = {
-    "mixed": "fe4d08afed02bdbf",
-    "tiny": "a499dd6e67b43ec4",
-    "merges": "a9a5075843512a8a",
-    "restarts": "ec4c26b8fc87d9d0",
-    "devices": "de7fbfdff8a01e6a",
-    "injections": "731376d778fb2e7a",
-    "queries": "c84dac811d877b43",
-    "limits": "2c0e05ef4a919d01",
-    "exhaustion": "0012b4ffc263417b",
-    "per-time": "8feeea4e400b9541",
-    "compactions": "49c53bdf8b6e322a",
-    "gossip": "7b7850745f40ef57",
+    "mixed": "b9cd228fd85d35cb",
+    "tiny": "4eb4246ba44a8d15",
+    "merges": "44ed1e3aca2c174d",
+    "restarts": "b779bb902f567561",
+    "devices": "2976f978ba47070a",
+    "injections": "650d602e095bf565",
+    "queries": "b8da9c4e46cc326b",
+    "limits": "776d2258f6ac2953",
+    "exhaustion": "ee31bd2038c03e7f",
+    "per-time": "90e0b6c7d503c3a2",
+    "compactions": "efdfd2cf3b218aad",
+    "gossip": "7c76b8d8aab82291",
 }
 
 # Of each kind the seeds whose schedules keep to Serf's rules here.
