@@ -9,7 +9,6 @@ use Rattle.serf_pack.specs.Canonical.{int_bytes, map_head, raw_bytes, uint_bytes
 use Rattle.serf_wire.specs.Canonical.{canonical, entry, list_bytes}
 use Rattle.serf_wire.specs.Fields.{fits}
 use Rattle.serf_wire.specs.Message.{Query, query}
-use Rattle.serf_wire.specs.Laws.{DecodesInRange}
 use Rattle.serf_wire.specs.Ranges.{IsRangedQuery}
 use Rattle.serf_replay.specs.MessageText.{asker_lines, content_lines, handling_lines, identity_lines, limit_lines, message_text, query_head, relay_line}
 use Rattle.serf_replay.specs.TextParts.{hex_line, hex_text, number_line, signed_line}

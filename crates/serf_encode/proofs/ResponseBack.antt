@@ -4,7 +4,6 @@ use Rattle.hex.specs.Hex.{IsBytes}
 use Rattle.serf_pack.specs.Canonical.{map_head, raw_bytes, uint_bytes}
 use Rattle.serf_wire.specs.Canonical.{canonical, entry}
 use Rattle.serf_wire.specs.Message.{QueryResponse, query_response}
-use Rattle.serf_wire.specs.Laws.{DecodesInRange}
 use Rattle.serf_wire.specs.Ranges.{IsRangedResponse}
 use Rattle.serf_replay.specs.MessageText.{answer_lines, identity_lines, message_text, response_name}
 use Rattle.serf_replay.specs.TextParts.{hex_line, hex_text, number_line}

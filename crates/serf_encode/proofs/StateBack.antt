@@ -7,7 +7,6 @@ use Rattle.std.specs.Prelude.{nat_le, ◌||◌}
 use Rattle.serf_pack.specs.Canonical.{array_head, map_head, raw_bytes, uint_bytes}
 use Rattle.serf_wire.specs.declared.texts.EventBody.{EventBody}
 use Rattle.serf_wire.specs.Canonical.{canonical, entry, event_bytes, has_long, is_long, is_long_slot, list_bytes, slot_bytes, status_bytes, status_time_bytes}
-use Rattle.serf_wire.specs.Laws.{DecodesInRange}
 use Rattle.serf_wire.specs.Message.{PushPull, push_pull}
 use Rattle.serf_wire.specs.Ranges.{IsRangedPushPull, IsTimed}
 use Rattle.serf_wire.specs.Slots.{SlotContent, empty, held}
