@@ -5,7 +5,6 @@ use Rattle.hex.specs.Hex.{IsBytes}
 use Rattle.serf_pack.specs.Canonical.{flag_bytes, map_head, raw_bytes, uint_bytes}
 use Rattle.serf_wire.specs.Canonical.{canonical, entry}
 use Rattle.serf_wire.specs.Message.{UserEvent, user_event}
-use Rattle.serf_wire.specs.Laws.{DecodesInRange}
 use Rattle.serf_replay.specs.MessageText.{content_lines, message_text}
 use Rattle.serf_replay.specs.TextParts.{flag_line, flag_text, hex_text, number_line}
 use Rattle.serf_encode.specs.Meant.{event_meant, meant_by, message_meant}
@@ -13,7 +12,7 @@ use Rattle.serf_encode.specs.Rows.{RowText, rows_in}
 use Rattle.serf_encode.proofs.LinesBack.{at_end, flag_row, kind_row, no_row, number_row, row}
 use Rattle.serf_encode.proofs.SharedLines.{content_rows}
 use Rattle.serf_encode.proofs.PacketBytes.{AreBytes, field_bytes, parts_bytes}
-use Rattle.serf_encode.proofs.TakenLaws.{IsTaken, taken_as}
+use Rattle.serf_encode.proofs.TakenLaws.{ReadsBack}
 use Rattle.serf_encode.proofs.WordsBack.{bytes_back, number_back}
 
 abbrev event-rows : UserEvent → List RowText
@@ -53,10 +52,12 @@ event-bytes e h =
     let each = parts_bytes (3 ∷ [] ++ map_head 4) parts h in
     (field_bytes (codes "Name") e.name each.1.0, field_bytes (codes "Payload") e.payload each.1.1.0)
 
-pub event_taken : DecodesInRange → (e : UserEvent) → IsTaken (user_event e)
-event_taken ranged e bytes few spelled =
-    let time : e.time < 18446744073709551615 = ranged (canonical (user_event e)) (user_event e) spelled in
+pub event_back : (e : UserEvent) → ReadsBack (user_event e)
+event_back e time bytes few =
     let texts = event-bytes e (record { each = bytes }) in
-    taken_as (user_event e) (user_event e)
-    (ap message_meant (rows-back e (omega arith) texts.0.each texts.1.each) ∙ means-event e time texts.0.each texts.1.each)
-    few refl spelled
+    record {
+      back = user_event e;
+      meant = ap message_meant (rows-back e (omega arith) texts.0.each texts.1.each) ∙ means-event e time texts.0.each texts.1.each;
+      short = few;
+      same = refl;
+    }

@@ -8,7 +8,7 @@ use Rattle.serf_replay.specs.TextParts.{number_line}
 use Rattle.serf_encode.specs.Meant.{meant_by, message_meant}
 use Rattle.serf_encode.specs.Rows.{rows_in}
 use Rattle.serf_encode.proofs.LinesBack.{at_end, no_row, number_row, row}
-use Rattle.serf_encode.proofs.TakenLaws.{IsTaken, taken_as}
+use Rattle.serf_encode.proofs.TakenLaws.{ReadsBack}
 use Rattle.serf_encode.proofs.WordsBack.{number_back}
 
 -- a message's type is a byte
@@ -24,7 +24,7 @@ means-foreign : (kind : ℕ) → kind < 256 → message_meant (row (codes "forei
 unfolding meant_by
 means-foreign kind h = rw (number_back 255 kind (omega arith) (omega arith)) refl
 
-pub foreign_taken : (kind : ℕ) → IsTaken (foreign kind)
-foreign_taken kind bytes few spelled =
+pub foreign_back : (kind : ℕ) → ReadsBack (foreign kind)
+foreign_back kind fits bytes few =
     let small = type-byte kind bytes in
-    taken_as (foreign kind) (foreign kind) (ap message_meant (rows-back kind small) ∙ means-foreign kind small) few refl spelled
+    record { back = foreign kind; meant = ap message_meant (rows-back kind small) ∙ means-foreign kind small; short = few; same = refl }

@@ -9,7 +9,6 @@ use Rattle.serf_pack.specs.Canonical.{int_bytes, map_head, raw_bytes, uint_bytes
 use Rattle.serf_wire.specs.Canonical.{canonical, entry, list_bytes}
 use Rattle.serf_wire.specs.Fields.{fits}
 use Rattle.serf_wire.specs.Message.{Query, query}
-use Rattle.serf_wire.specs.Laws.{DecodesInRange}
 use Rattle.serf_wire.specs.Ranges.{IsRangedQuery}
 use Rattle.serf_replay.specs.MessageText.{asker_lines, content_lines, handling_lines, identity_lines, limit_lines, message_text, query_head, relay_line}
 use Rattle.serf_replay.specs.TextParts.{hex_line, hex_text, number_line, signed_line}
@@ -19,7 +18,7 @@ use Rattle.serf_encode.proofs.LinesBack.{hex_row, kind_row, no_row, number_row, 
 use Rattle.serf_encode.proofs.SharedLines.{content_rows, identity_rows}
 use Rattle.serf_encode.proofs.PacketBytes.{AreBytes, field_bytes, parts_bytes, texts_bytes}
 use Rattle.serf_encode.proofs.RowsBack.{text_row, texts_back, texts_rows, value_past}
-use Rattle.serf_encode.proofs.TakenLaws.{IsTaken, taken_as}
+use Rattle.serf_encode.proofs.TakenLaws.{ReadsBack}
 use Rattle.serf_encode.proofs.WordsBack.{bytes_back, number_back, signed_back}
 
 -- its texts, and its numbers
@@ -183,7 +182,7 @@ readable q ranged h =
       payload = field_bytes (codes "Payload") q.payload last.1.0;
     }
 
-pub query_taken : DecodesInRange → (q : Query) → IsTaken (query q)
-query_taken ranged q bytes few spelled =
-    let h = readable q (ranged (canonical (query q)) (query q) spelled) (record { each = bytes }) in
-    taken_as (query q) (query q) (ap message_meant (rows-back q h) ∙ means-query q h) few refl spelled
+pub query_back : (q : Query) → ReadsBack (query q)
+query_back q fits bytes few =
+    let h = readable q fits (record { each = bytes }) in
+    record { back = query q; meant = ap message_meant (rows-back q h) ∙ means-query q h; short = few; same = refl }

@@ -4,7 +4,6 @@ use Rattle.hex.specs.Hex.{IsBytes}
 use Rattle.serf_pack.specs.Canonical.{map_head, raw_bytes, uint_bytes}
 use Rattle.serf_wire.specs.Canonical.{canonical, entry}
 use Rattle.serf_wire.specs.Message.{QueryResponse, query_response}
-use Rattle.serf_wire.specs.Laws.{DecodesInRange}
 use Rattle.serf_wire.specs.Ranges.{IsRangedResponse}
 use Rattle.serf_replay.specs.MessageText.{answer_lines, identity_lines, message_text, response_name}
 use Rattle.serf_replay.specs.TextParts.{hex_line, hex_text, number_line}
@@ -13,7 +12,7 @@ use Rattle.serf_encode.specs.Rows.{RowText, rows_in}
 use Rattle.serf_encode.proofs.LinesBack.{at_end, hex_row, kind_row, no_row, number_row, row}
 use Rattle.serf_encode.proofs.SharedLines.{identity_rows}
 use Rattle.serf_encode.proofs.PacketBytes.{AreBytes, field_bytes, parts_bytes}
-use Rattle.serf_encode.proofs.TakenLaws.{IsTaken, taken_as}
+use Rattle.serf_encode.proofs.TakenLaws.{ReadsBack}
 use Rattle.serf_encode.proofs.WordsBack.{bytes_back, number_back}
 
 abbrev answer-rows : List ℕ → ℕ → List ℕ → List RowText
@@ -69,10 +68,12 @@ response-bytes r h =
     let each = parts_bytes (5 ∷ [] ++ map_head 5) parts h in
     (field_bytes (codes "From") r.from each.1.1.0, field_bytes (codes "Payload") r.payload each.1.1.1.1.0)
 
-pub response_taken : DecodesInRange → (r : QueryResponse) → IsTaken (query_response r)
-response_taken ranged r bytes few spelled =
-    let fits = ranged (canonical (query_response r)) (query_response r) spelled in
+pub response_back : (r : QueryResponse) → ReadsBack (query_response r)
+response_back r fits bytes few =
     let texts = response-bytes r (record { each = bytes }) in
-    taken_as (query_response r) (query_response r)
-    (ap message_meant (rows-back r fits texts.0.each texts.1.each) ∙ means-response r fits texts.0.each texts.1.each)
-    few refl spelled
+    record {
+      back = query_response r;
+      meant = ap message_meant (rows-back r fits texts.0.each texts.1.each) ∙ means-response r fits texts.0.each texts.1.each;
+      short = few;
+      same = refl;
+    }

@@ -7,7 +7,6 @@ use Rattle.std.specs.Prelude.{nat_le, ◌||◌}
 use Rattle.serf_pack.specs.Canonical.{array_head, map_head, raw_bytes, uint_bytes}
 use Rattle.serf_wire.specs.declared.texts.EventBody.{EventBody}
 use Rattle.serf_wire.specs.Canonical.{canonical, entry, event_bytes, has_long, is_long, is_long_slot, list_bytes, slot_bytes, status_bytes, status_time_bytes}
-use Rattle.serf_wire.specs.Laws.{DecodesInRange}
 use Rattle.serf_wire.specs.Message.{PushPull, push_pull}
 use Rattle.serf_wire.specs.Ranges.{IsRangedPushPull, IsTimed}
 use Rattle.serf_wire.specs.Slots.{SlotContent, empty, held}
@@ -15,7 +14,7 @@ use Rattle.serf_encode.specs.Meant.{message_meant}
 use Rattle.serf_encode.proofs.PacketBytes.{AreBytes, field_bytes, front, items_bytes, parts_bytes, raw_text, texts_bytes}
 use Rattle.serf_encode.proofs.StateLines.{IsSaidEvent, IsSaidMember, IsSaidSlot, IsSaidState, state_back}
 use Rattle.serf_encode.proofs.StateMeant.{means_state, refilled, refilled_state}
-use Rattle.serf_encode.proofs.TakenLaws.{IsTaken, taken_as}
+use Rattle.serf_encode.proofs.TakenLaws.{ReadsBack}
 
 -- The bytes of its texts
 
@@ -112,7 +111,12 @@ still-short : (m : PushPull) → has_long (push_pull (refilled_state m)) ≡ has
 unfolding has_long
 still-short m = rw (length-map m.slots refilled, same-lengths m.slots) refl
 
-pub push_pull_taken : DecodesInRange → (m : PushPull) → IsTaken (push_pull m)
-push_pull_taken ranged m bytes short spelled =
-    let h = said m (ranged (canonical (push_pull m)) (push_pull m) spelled) short (record { each = bytes }) in
-    taken_as (push_pull m) (push_pull (refilled_state m)) (ap message_meant (state_back m h) ∙ means_state m h) (still-short m ∙ short) (same-packet m) spelled
+pub push_pull_back : (m : PushPull) → ReadsBack (push_pull m)
+push_pull_back m fits bytes short =
+    let h = said m fits short (record { each = bytes }) in
+    record {
+      back = push_pull (refilled_state m);
+      meant = ap message_meant (state_back m h) ∙ means_state m h;
+      short = still-short m ∙ short;
+      same = same-packet m;
+    }

@@ -1,5 +1,5 @@
 -- The text that a canonical packet is decoded to is encoded to this packet.
-use Rattle.std.proofs.Common.{◌≡◌, ◌++◌, ◌∙◌, List, [], ◌∷◌, Ok, refl, sym, ap, subst, map}
+use Rattle.std.proofs.Common.{◌≡◌, ◌++◌, ◌∙◌, List, [], ◌∷◌, Ok, false, refl, sym, ap, subst, map}
 use Rattle.std.proofs.lemmas.List.{length-map}
 use Rattle.std.specs.List.{flat_map, list_any}
 use Rattle.std.specs.Prelude.{◌||◌}
@@ -11,20 +11,20 @@ use Rattle.serf_wire.specs.Message.{Message, foreign, push_pull, query, query_re
 use Rattle.serf_wire.specs.Slots.{SlotContent, empty, held}
 use Rattle.serf_replay.specs.MessageText.{message_text, text_or_fault}
 use Rattle.serf_encode.specs.Encoded.{encoded}
-use Rattle.serf_encode.specs.Taken.{TextsAreTaken}
-use Rattle.serf_encode.proofs.EventBack.{event_taken}
-use Rattle.serf_encode.proofs.ForeignBack.{foreign_taken}
-use Rattle.serf_encode.proofs.QueryBack.{query_taken}
-use Rattle.serf_encode.proofs.ResponseBack.{response_taken}
-use Rattle.serf_encode.proofs.StateBack.{push_pull_taken}
-use Rattle.serf_encode.proofs.TakenLaws.{IsTaken}
+use Rattle.serf_encode.specs.Taken.{TextsAreTaken, TextsTellApart}
+use Rattle.serf_encode.proofs.EventBack.{event_back}
+use Rattle.serf_encode.proofs.ForeignBack.{foreign_back}
+use Rattle.serf_encode.proofs.QueryBack.{query_back}
+use Rattle.serf_encode.proofs.ResponseBack.{response_back}
+use Rattle.serf_encode.proofs.StateBack.{push_pull_back}
+use Rattle.serf_encode.proofs.TakenLaws.{IsReadBack, ReadsBack, one_packet, taken_back}
 
-taken : DecodesInRange → (m : Message) → IsTaken m
-taken ranged (user_event e) = event_taken ranged e
-taken ranged (query q) = query_taken ranged q
-taken ranged (query_response r) = response_taken ranged r
-taken ranged (push_pull m) = push_pull_taken ranged m
-taken ranged (foreign kind) = foreign_taken kind
+back : (m : Message) → ReadsBack m
+back (user_event e) = event_back e
+back (query q) = query_back q
+back (query_response r) = response_back r
+back (push_pull m) = push_pull_back m
+back (foreign kind) = foreign_back kind
 
 -- Slots without events
 
@@ -62,11 +62,25 @@ same-lengths (query_response r) = refl
 same-lengths (push_pull m) = rw (length-map m.slots without_events, emptied-lengths m.slots) refl
 same-lengths (foreign kind) = refl
 
+-- what a canonical packet is decoded to is read back
+spelled-back : DecodesInRange → (m : Message) → decoded (canonical m) ≡ Ok (without_empty_slots m) → IsBytes (canonical m) → has_long m ≡ false
+    → (decoded (canonical (without_empty_slots m)) ≡ Ok (without_empty_slots m)) × IsReadBack (without_empty_slots m)
+spelled-back ranged m spelled bytes short =
+    let same = same-packet m in
+    let again : decoded (canonical (without_empty_slots m)) ≡ Ok (without_empty_slots m) = ap decoded same ∙ spelled in
+    (again, back (without_empty_slots m) (ranged (canonical (without_empty_slots m)) (without_empty_slots m) again) (subst IsBytes (sym same) bytes) (same-lengths m ∙ short))
+
 pub texts_taken : DecodesInRange → DecodesSpelled → CanonicalSpells → TextsAreTaken
 texts_taken ranged exact canonicals m text fits short bytes says =
     let same = same-packet m in
     let spelled : decoded (canonical m) ≡ Ok (without_empty_slots m) = (exact (canonical m) (without_empty_slots m)).1 (canonicals m fits short) in
     let said : message_text (without_empty_slots m) ≡ text = cc (ap text_or_fault spelled, says) in
+    let here = spelled-back ranged m spelled bytes short in
     ap encoded (sym said)
-    ∙ taken ranged (without_empty_slots m) (subst IsBytes (sym same) bytes) (same-lengths m ∙ short) (ap decoded same ∙ spelled)
+    ∙ taken_back (without_empty_slots m) here.1 here.0
     ∙ ap (λ packet. Ok packet) same
+
+pub texts_tell_apart : DecodesInRange → TextsTellApart
+texts_tell_apart ranged p q m n reads_p reads_q fits_m fits_n says =
+    let texts : message_text m ≡ message_text n = cc (ap text_or_fault reads_p, ap text_or_fault reads_q, says) in
+    one_packet m n (back m (ranged p m reads_p) fits_m.bytes fits_m.short) (back n (ranged q n reads_q) fits_n.bytes fits_n.short) texts

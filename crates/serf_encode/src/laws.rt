@@ -1,6 +1,6 @@
 //! What holds of texts, whichever they are: the contract of a function that does nothing.
 
-ghost use Rattle.serf_encode.specs.Taken.{TextsAreTaken};
+ghost use Rattle.serf_encode.specs.Taken.{TextsAreTaken, TextsTellApart};
 
 use serf_wire::{canonical_packets, decoded_ranges, exact_decoding};
 
@@ -12,4 +12,12 @@ pub fn know_texts_taken()
     decoded_ranges();
     exact_decoding();
     canonical_packets();
+}
+
+/// Texts tell messages apart: packets of one text are of one message. Does nothing.
+pub fn know_texts_tell_apart()
+    // What is decoded to one text has one canonical packet.
+    ensures { TextsTellApart }
+{
+    decoded_ranges();
 }

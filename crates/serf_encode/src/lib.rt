@@ -11,4 +11,4 @@ mod slots;
 
 pub use blocks::{Blocks, NeverBad, encode_blocks};
 pub use encoding::{EncodeTextFault, encode_text};
-pub use laws::know_texts_taken;
+pub use laws::{know_texts_taken, know_texts_tell_apart};
