@@ -10,7 +10,6 @@ import (
 	"io/ioutil"
 	"log"
 	"math"
-	"net"
 	"os"
 	"strconv"
 	"strings"
@@ -19,14 +18,10 @@ import (
 	"github.com/hashicorp/memberlist"
 )
 
-// A transport that keeps what is sent; nothing else of it is called.
+// A transport that keeps what is sent.
 type keptPackets struct {
 	memberlist.Transport
 	packets [][]byte
-}
-
-func (k *keptPackets) FinalAdvertiseAddr(string, int) (net.IP, int, error) {
-	return net.IPv4(127, 0, 0, 1), 7946, nil
 }
 
 func (k *keptPackets) WriteTo(b []byte, addr string) (time.Time, error) {
@@ -34,58 +29,54 @@ func (k *keptPackets) WriteTo(b []byte, addr string) (time.Time, error) {
 	return time.Now(), nil
 }
 
-func (k *keptPackets) PacketCh() <-chan *memberlist.Packet { return nil }
-func (k *keptPackets) StreamCh() <-chan net.Conn           { return nil }
-
-func must(err error) {
+// got is a value that came with no fault.
+func got[T any](value T, err error) T {
 	if err != nil {
 		panic(err)
 	}
+	return value
 }
+
+func must(err error) { got(0, err) }
 
 // PipeAgent is an agent that the calls drive.
 type PipeAgent struct {
-	NoteAll    bool // the snapshot sees all queries that enter
-	folder     string
-	kept       *keptPackets
-	members    *memberlist.Memberlist
-	serf       *Serf
-	snap       *Snapshotter
-	events     chan Event
-	config     *Config
-	ignoreOld  bool
-	responders int
-	perTime    int
-	handed     []*Query
-	deadlines  map[*Query]uint64
-	open       map[LamportTime]uint64
-	taken      map[LamportTime]int
+	NoteAll             bool // the snapshot sees all queries that enter
+	folder              string
+	kept                *keptPackets
+	members             *memberlist.Memberlist
+	serf                *Serf
+	snap                *Snapshotter
+	events              chan Event
+	config              *Config
+	ignoreOld           bool
+	responders, perTime int
+	handed              []*Query
+	deadlines           []uint64               // of the queries that were handed out
+	deadline            uint64                 // of the query that enters now
+	closing             map[LamportTime]uint64 // the deadlines of its own queries
+	taken               map[LamportTime]int
 }
 
 // NewPipeAgent makes an agent that is not open yet.
 func NewPipeAgent() *PipeAgent {
-	folder, err := ioutil.TempDir("", "serf")
-	must(err)
-	kept := &keptPackets{}
+	kept := &keptPackets{Transport: (&memberlist.MockNetwork{}).NewTransport("pipe")}
 	settings := memberlist.DefaultLANConfig()
 	settings.Name, settings.Transport, settings.EnableCompression, settings.LogOutput = "pipe", kept, false, ioutil.Discard
 	settings.ProbeInterval, settings.GossipInterval, settings.PushPullInterval = 0, 0, 0
-	members, err := memberlist.Create(settings)
-	must(err)
-	return &PipeAgent{folder: folder, kept: kept, members: members}
+	return &PipeAgent{folder: got(ioutil.TempDir("", "serf")), kept: kept, members: got(memberlist.Create(settings))}
 }
 
 // Close removes what it kept.
-func (a *PipeAgent) Close()       { os.RemoveAll(a.folder) }
-func (a *PipeAgent) path() string { return a.folder + "/snapshot" }
+func (a *PipeAgent) Close()          { os.RemoveAll(a.folder) }
+func (a *PipeAgent) path() string    { return a.folder + "/snapshot" }
+func (a *PipeAgent) told() *delegate { return &delegate{serf: a.serf} } // what memberlist hands packets to
 
 func unhexed(word string) []byte {
 	if word == "-" {
 		return nil
 	}
-	bytes, err := hex.DecodeString(word)
-	must(err)
-	return bytes
+	return got(hex.DecodeString(word))
 }
 
 func hexed(bytes []byte) string {
@@ -95,11 +86,7 @@ func hexed(bytes []byte) string {
 	return hex.EncodeToString(bytes)
 }
 
-func number(word string) uint64 {
-	n, err := strconv.ParseUint(word, 10, 64)
-	must(err)
-	return n
-}
+func number(word string) uint64 { return got(strconv.ParseUint(word, 10, 64)) }
 
 // later is a moment and a duration behind it, at most the greatest moment.
 func later(now uint64, timeout time.Duration) uint64 {
@@ -120,11 +107,15 @@ func moment(now, deadline uint64) time.Time {
 	return time.Now().Add(time.Hour)
 }
 
+// queue is one that gives each message once.
+func queue() *memberlist.TransmitLimitedQueue {
+	return &memberlist.TransmitLimitedQueue{NumNodes: func() int { return 1 }, RetransmitMult: 1}
+}
+
 // live opens an agent on its snapshot, as Create does.
 func (a *PipeAgent) live() {
 	logger := log.New(ioutil.Discard, "", 0)
-	file, err := os.OpenFile(a.path(), os.O_RDWR|os.O_APPEND|os.O_CREATE, 0644)
-	must(err)
+	file := got(os.OpenFile(a.path(), os.O_RDWR|os.O_APPEND|os.O_CREATE, 0644))
 	a.events = make(chan Event, 1<<16)
 	a.config.EventCh = a.events
 	s := &Serf{config: a.config, logger: logger, members: map[string]*memberState{}, queryResponse: map[LamportTime]*QueryResponse{},
@@ -134,20 +125,20 @@ func (a *PipeAgent) live() {
 		minCompactSize: 1 << 40, path: a.path(), shutdownCh: s.shutdownCh}
 	must(a.snap.replay())
 	s.eventMinTime, s.queryMinTime = a.snap.LastEventClock()+1, a.snap.LastQueryClock()+1
+	s.broadcasts, s.eventBroadcasts, s.queryBroadcasts = queue(), queue(), queue()
 	s.eventBuffer, s.queryBuffer = make([]*userEvents, a.config.EventBuffer), make([]*queries, a.config.QueryBuffer)
-	s.clock.Increment()
-	s.eventClock.Increment()
-	s.queryClock.Increment()
-	s.clock.Witness(a.snap.LastClock())
-	s.eventClock.Witness(a.snap.LastEventClock())
-	s.queryClock.Witness(a.snap.LastQueryClock())
+	last := map[*LamportClock]LamportTime{&s.clock: a.snap.LastClock(), &s.eventClock: a.snap.LastEventClock(), &s.queryClock: a.snap.LastQueryClock()}
+	for clock, time := range last {
+		clock.Increment()
+		clock.Witness(time)
+	}
 	a.taken = map[LamportTime]int{}
-	a.serf, a.handed, a.deadlines, a.open = s, nil, map[*Query]uint64{}, map[LamportTime]uint64{}
+	a.serf, a.handed, a.deadlines, a.closing = s, nil, nil, map[LamportTime]uint64{}
 }
 
 // did is what a call did: its packets, and what was handed out, which goes through the snapshot.
-func (a *PipeAgent) did(answer string, counted ...string) []string {
-	lines := append([]string{answer}, counted...)
+func (a *PipeAgent) did(answer string) string {
+	lines := []string{answer}
 	packets := append(a.serf.eventBroadcasts.GetBroadcasts(0, 1<<30), a.serf.queryBroadcasts.GetBroadcasts(0, 1<<30)...)
 	for _, packet := range append(packets, a.kept.packets...) {
 		lines = append(lines, "sent "+hexed(packet))
@@ -157,59 +148,40 @@ func (a *PipeAgent) did(answer string, counted ...string) []string {
 		case UserEvent:
 			a.snap.processUserEvent(e)
 			a.taken[e.LTime]++
-			coalesce := map[bool]int{true: 1}[e.Coalesce]
-			lines = append(lines, fmt.Sprintf("event %d %s %s %d", e.LTime, hexed([]byte(e.Name)), hexed(e.Payload), coalesce))
+			lines = append(lines, fmt.Sprintf("event %d %s %s %d", e.LTime, hexed([]byte(e.Name)), hexed(e.Payload), map[bool]int{true: 1}[e.Coalesce]))
 		case *Query:
 			a.snap.processQuery(e)
 			lines = append(lines, fmt.Sprintf("handed %d %d %d %s %s", len(a.handed), e.LTime, e.id, hexed([]byte(e.Name)), hexed(e.Payload)))
-			a.handed = append(a.handed, e)
+			a.handed, a.deadlines = append(a.handed, e), append(a.deadlines, a.deadline)
 		}
 	}
-	return lines
+	return strings.Join(lines, "\n")
 }
 
-func one(line string) []string { return []string{line} }
-
 // Reply does a call, and gives the lines that answer it. A call at which Serf's code panics is answered as unsupported.
-func (a *PipeAgent) Reply(line string) (lines []string) {
+func (a *PipeAgent) Reply(line string) (reply string) {
 	defer func() {
 		if fault := recover(); fault != nil {
 			fmt.Fprintf(os.Stderr, "%s: %v\n", line, fault)
-			lines = []string{"unsupported"}
+			reply = "unsupported"
 		}
 	}()
 	words := strings.Split(line, " ")
-	if words[0] == "open" {
-		return a.reopen(words[1:])
-	}
 	call, known := pipeCalls[words[0]]
-	if !known || a.serf == nil {
-		return one("unsupported")
-	}
-	for _, queue := range []**memberlist.TransmitLimitedQueue{&a.serf.broadcasts, &a.serf.eventBroadcasts, &a.serf.queryBroadcasts} {
-		*queue = &memberlist.TransmitLimitedQueue{NumNodes: func() int { return 1 }, RetransmitMult: 1}
+	if !known || a.serf == nil && words[0] != "open" {
+		return "unsupported"
 	}
 	a.kept.packets = nil
 	return call(a, words[1:])
 }
 
-var pipeCalls = map[string]func(a *PipeAgent, words []string) []string{
-	"fire":    (*PipeAgent).fire,
-	"deliver": (*PipeAgent).deliver,
-	"state": func(a *PipeAgent, words []string) []string {
-		return []string{"state", "sent " + hexed((&delegate{serf: a.serf}).LocalState(false))}
-	},
-	"merge":   (*PipeAgent).merge,
-	"query":   (*PipeAgent).query,
-	"respond": (*PipeAgent).respond,
-	"close":   (*PipeAgent).closeQueries,
-	"save":    func(a *PipeAgent, words []string) []string { a.snap.updateClock(); return one("saved") },
-	"restart": func(a *PipeAgent, words []string) []string {
-		return a.restartOn(append(a.text(), unhexed(words[0])...), "restarted")
-	},
+var pipeCalls = map[string]func(a *PipeAgent, words []string) string{
+	"open": (*PipeAgent).open, "save": (*PipeAgent).save, "restart": (*PipeAgent).restart,
+	"fire": (*PipeAgent).fire, "deliver": (*PipeAgent).deliver, "state": (*PipeAgent).state, "merge": (*PipeAgent).merge,
+	"query": (*PipeAgent).query, "respond": (*PipeAgent).respond, "close": (*PipeAgent).closeQueries,
 }
 
-func (a *PipeAgent) reopen(words []string) []string {
+func (a *PipeAgent) open(words []string) string {
 	config := DefaultConfig()
 	config.Init()
 	config.NodeName = string(unhexed(words[0]))
@@ -219,50 +191,48 @@ func (a *PipeAgent) reopen(words []string) []string {
 	return a.restartOn(unhexed(words[7]), "opened")
 }
 
-func (a *PipeAgent) restartOn(text []byte, answer string) []string {
+func (a *PipeAgent) restartOn(text []byte, answer string) string {
 	if a.snap != nil {
 		a.snap.fh.Close()
 	}
 	must(ioutil.WriteFile(a.path(), text, 0644))
 	a.live()
-	return one(answer + fmt.Sprintf(" %d %d %d", a.serf.clock.Time(), a.serf.eventClock.Time(), a.serf.queryClock.Time()))
+	return fmt.Sprintf("%s %d %d %d", answer, a.serf.clock.Time(), a.serf.eventClock.Time(), a.serf.queryClock.Time())
 }
 
-func (a *PipeAgent) text() []byte {
+func (a *PipeAgent) restart(words []string) string {
 	a.snap.buffered.Flush()
-	text, err := ioutil.ReadFile(a.path())
-	must(err)
-	return text
+	return a.restartOn(append(got(ioutil.ReadFile(a.path())), unhexed(words[0])...), "restarted")
 }
 
-func (a *PipeAgent) fire(words []string) []string {
+func (a *PipeAgent) save([]string) string  { a.snap.updateClock(); return "saved" }
+func (a *PipeAgent) state([]string) string { return "state\nsent " + hexed(a.told().LocalState(false)) }
+
+func (a *PipeAgent) fire(words []string) string {
 	time := a.serf.eventClock.Time()
 	if err := a.serf.UserEvent(string(unhexed(words[0])), unhexed(words[1]), words[2] == "1"); err != nil {
-		return one("refused TooLarge")
+		return "refused TooLarge"
 	}
 	return a.did(fmt.Sprintf("fired %d", time))
 }
 
-func (a *PipeAgent) merge(words []string) []string {
+func (a *PipeAgent) merge(words []string) string {
 	packet := unhexed(words[0])
 	if messageType(packet[0]) != messagePushPullType {
-		return one("refused NotPushPull")
+		return "refused NotPushPull"
 	}
-	(&delegate{serf: a.serf}).MergeRemoteState(packet, words[1] == "join")
+	a.told().MergeRemoteState(packet, words[1] == "join")
 	lines := a.did("merged")
 	for _, count := range a.taken {
 		if count > a.perTime {
-			return one("unsupported") // Serf takes any number of one time
+			return "unsupported" // Serf takes any number of one time
 		}
 	}
 	return lines
 }
 
-// old is why a time isn't taken, or nothing: Serf's two tests, with the clock that has observed it.
+// old is why Serf doesn't take a time: its two tests, and what is left.
 func old(time, minimum, clock LamportTime, slots int) string {
-	if time >= clock {
-		clock = time + 1
-	}
 	if time < minimum {
 		return "BelowMinimum"
 	}
@@ -272,7 +242,7 @@ func old(time, minimum, clock LamportTime, slots int) string {
 	return "Seen"
 }
 
-func (a *PipeAgent) deliver(words []string) []string {
+func (a *PipeAgent) deliver(words []string) string {
 	packet, now := unhexed(words[0]), number(words[1])
 	switch messageType(packet[0]) {
 	case messageUserEventType:
@@ -282,32 +252,31 @@ func (a *PipeAgent) deliver(words []string) []string {
 	case messageQueryResponseType:
 		return a.deliverResponse(packet, now)
 	case messagePushPullType:
-		return one("push-pull")
+		return "push-pull"
 	}
-	return []string{fmt.Sprintf("foreign %d", packet[0])}
+	return fmt.Sprintf("foreign %d", packet[0])
 }
 
-func (a *PipeAgent) deliverEvent(packet []byte) []string {
+func (a *PipeAgent) deliverEvent(packet []byte) string {
 	var event messageUserEvent
 	must(decodeMessage(packet[1:], &event))
-	s := a.serf
-	why := old(event.LTime, s.eventMinTime, s.eventClock.Time(), len(s.eventBuffer))
-	if (&delegate{serf: s}).NotifyMsg(packet); len(a.events) == 0 {
-		return one("ignored " + why)
+	why := old(event.LTime, a.serf.eventMinTime, a.serf.eventClock.Time(), len(a.serf.eventBuffer))
+	if a.told().NotifyMsg(packet); len(a.events) == 0 {
+		return "ignored " + why
 	}
 	return a.did("new")
 }
 
-func (a *PipeAgent) deliverQuery(packet []byte, now uint64) []string {
+func (a *PipeAgent) deliverQuery(packet []byte, now uint64) string {
 	var query messageQuery
 	must(decodeMessage(packet[1:], &query))
 	s := a.serf
 	if isForeign(query.Filters) {
-		return one("unsupported")
+		return "unsupported"
 	}
 	why, before := old(query.LTime, s.queryMinTime, s.queryClock.Time(), len(s.queryBuffer)), a.idsAt(query.LTime)
-	if (&delegate{serf: s}).NotifyMsg(packet); a.idsAt(query.LTime) == before {
-		return one("ignored " + why)
+	if a.told().NotifyMsg(packet); a.idsAt(query.LTime) == before {
+		return "ignored " + why
 	}
 	return a.entered("query", query.LTime, later(now, query.Timeout))
 }
@@ -334,52 +303,48 @@ func (a *PipeAgent) idsAt(time LamportTime) int {
 
 // entered is what the call did by which a query entered, which is answered up to this deadline. Serf's snapshot sees only
 // a query that is handed out; with NoteAll it sees all.
-func (a *PipeAgent) entered(answer string, time LamportTime, deadline uint64) []string {
+func (a *PipeAgent) entered(answer string, time LamportTime, deadline uint64) string {
 	if a.NoteAll {
 		a.snap.processQuery(&Query{LTime: time})
 	}
-	handed := len(a.handed)
-	lines := a.did(answer)
-	if len(a.handed) > handed {
-		a.deadlines[a.handed[handed]] = deadline
-	}
-	return lines
+	a.deadline = deadline
+	return a.did(answer)
 }
 
-func (a *PipeAgent) deliverResponse(packet []byte, now uint64) []string {
+func (a *PipeAgent) deliverResponse(packet []byte, now uint64) string {
 	var r messageQueryResponse
 	must(decodeMessage(packet[1:], &r))
 	open, known := a.serf.queryResponse[r.LTime]
 	if !known {
-		return one("ignored NotOpen")
+		return "ignored NotOpen"
 	}
-	open.deadline = moment(now, a.open[r.LTime])
+	open.deadline = moment(now, a.closing[r.LTime])
 	acks, responses := len(open.acks), len(open.responses)
-	(&delegate{serf: a.serf}).NotifyMsg(packet)
+	a.told().NotifyMsg(packet)
 	from := fmt.Sprintf("%d %d %s", r.LTime, r.ID, hexed([]byte(r.From)))
 	_, acked := open.acks[r.From]
 	_, answered := open.responses[r.From]
 	switch {
 	case len(open.acks) > acks:
-		return []string{"ack", "counted ack " + from}
+		return "ack\ncounted ack " + from
 	case len(open.responses) > responses:
-		return []string{"response", "counted response " + from + " " + hexed(r.Payload)}
+		return "response\ncounted response " + from + " " + hexed(r.Payload)
 	case open.id != r.ID:
-		return one("ignored OtherId")
+		return "ignored OtherId"
 	case open.Finished():
-		return one("ignored Closed")
+		return "ignored Closed"
 	case r.Ack() && open.ackCh == nil:
-		return one("ignored AckNotAsked")
+		return "ignored AckNotAsked"
 	case r.Ack() && acked:
-		return one("ignored AckTwice")
+		return "ignored AckTwice"
 	case !r.Ack() && answered:
-		return one("ignored ResponseTwice")
+		return "ignored ResponseTwice"
 	}
-	return one("refused RespondersFull")
+	return "refused RespondersFull"
 }
 
 // query is Serf's Query, with this ID, these flags and these filters.
-func (a *PipeAgent) query(words []string) []string {
+func (a *PipeAgent) query(words []string) string {
 	now, flags := number(words[0]), uint32(number(words[5]))
 	s := a.serf
 	q := messageQuery{LTime: s.queryClock.Time(), ID: uint32(number(words[1])), SourceNode: s.config.NodeName, Flags: flags,
@@ -388,50 +353,48 @@ func (a *PipeAgent) query(words []string) []string {
 		q.Filters = append(q.Filters, unhexed(filter))
 	}
 	if isForeign(q.Filters) {
-		return one("unsupported")
+		return "unsupported"
 	}
-	raw, err := encodeMessage(messageQueryType, &q)
-	must(err)
+	raw := got(encodeMessage(messageQueryType, &q))
 	if len(raw) > s.config.QuerySizeLimit {
-		return one("refused TooLarge")
+		return "refused TooLarge"
 	}
 	if q.Timeout == 0 { // Serf takes its default in its place
-		return one("refused ZeroTimeout")
+		return "refused ZeroTimeout"
 	}
 	response := newQueryResponse(a.responders, &q)
 	s.queryResponse[response.lTime] = response
-	a.open[response.lTime] = later(now, q.Timeout)
+	a.closing[response.lTime] = later(now, q.Timeout)
 	s.handleQuery(&q)
 	s.queryBroadcasts.QueueBroadcast(&broadcast{msg: raw})
 	return a.entered(fmt.Sprintf("queried %d", q.LTime), q.LTime, later(now, q.Timeout))
 }
 
-func (a *PipeAgent) respond(words []string) []string {
+func (a *PipeAgent) respond(words []string) string {
 	h, now := number(words[0]), number(words[1])
 	if h >= uint64(len(a.handed)) || a.handed[h].deadline.IsZero() {
-		return one("refused NoQuery")
+		return "refused NoQuery"
 	}
 	query := a.handed[h]
-	query.serf, query.deadline = a.serf, moment(now, a.deadlines[query])
-	err := query.Respond(unhexed(words[2]))
-	switch {
-	case err == nil:
+	query.serf, query.deadline = a.serf, moment(now, a.deadlines[h])
+	if query.Respond(unhexed(words[2])) == nil {
 		return a.did("replied")
-	case now > a.deadlines[query]:
-		return one("refused PastDeadline")
 	}
-	return one("refused TooLarge")
+	if now > a.deadlines[h] {
+		return "refused PastDeadline"
+	}
+	return "refused TooLarge"
 }
 
 // closeQueries closes those whose deadline has passed, as Serf's timers do.
-func (a *PipeAgent) closeQueries(words []string) []string {
+func (a *PipeAgent) closeQueries(words []string) string {
 	now, count := number(words[0]), 0
 	for lTime, open := range a.serf.queryResponse {
-		if a.open[lTime] < now {
+		if a.closing[lTime] < now {
 			delete(a.serf.queryResponse, lTime)
 			open.Close()
 			count++
 		}
 	}
-	return []string{fmt.Sprintf("closed %d", count)}
+	return fmt.Sprintf("closed %d", count)
 }

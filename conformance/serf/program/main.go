@@ -5,7 +5,6 @@ package main
 import (
 	"bufio"
 	"os"
-	"strings"
 
 	"github.com/hashicorp/serf/serf"
 )
@@ -20,7 +19,7 @@ func main() {
 		if err != nil {
 			return
 		}
-		replies.WriteString(strings.Join(agent.Reply(line[:len(line)-1]), "\n") + "\n\n")
+		replies.WriteString(agent.Reply(line[:len(line)-1]) + "\n\n")
 		if replies.Flush() != nil {
 			return
 		}
