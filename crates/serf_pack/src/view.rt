@@ -127,6 +127,7 @@ impl<'a> View<'a> {
     ///
     /// Source: MessagePack specification, "array format family".
     #[tactic(auto, unfolding(crate::specs::Reading::items_at))]
+    #[inline(always)]
     pub fn items(&self) -> Items<'a>
         ensures left { items_left result ≡ items_of (tree_of self.now) }
         ensures few { length (items_of (tree_of self.now)) < 2 ^ 64 }
@@ -145,6 +146,7 @@ impl<'a> View<'a> {
     ///
     /// Source: MessagePack specification, "map format family".
     #[tactic(auto, unfolding(crate::specs::Reading::pairs_at))]
+    #[inline(always)]
     pub fn pairs(&self) -> Pairs<'a>
         ensures left { pairs_left result ≡ pairs_of (tree_of self.now) }
         ensures few { length (pairs_of (tree_of self.now)) < 2 ^ 64 }

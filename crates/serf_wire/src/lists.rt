@@ -63,6 +63,7 @@ impl<'a> Texts<'a> {
     ghost use Rattle.serf_wire.specs.Lists.{texts_left};
 
     /// The texts of a list, where each item is one.
+    #[inline(always)]
     pub(crate) fn of(list: Option<View<'a>>) -> Texts<'a>
         ensures { texts_left result ≡ list_in text_in (tree_or_nil (option_map tree_of list.entry)) }
     {
@@ -83,6 +84,7 @@ impl<'a> StatusTimes<'a> {
     ghost use Rattle.serf_wire.specs.Lists.{status_left};
 
     /// The names and times of a map, where each pair is such.
+    #[inline(always)]
     pub(crate) fn of(map: Option<View<'a>>) -> StatusTimes<'a>
         ensures { status_left result ≡ status_in (tree_or_nil (option_map tree_of map.entry)) }
     {
@@ -103,6 +105,7 @@ impl<'a> EventViews<'a> {
     ghost use Rattle.serf_wire.specs.Lists.{events_left};
 
     /// The events of a list, where each item is one.
+    #[inline(always)]
     pub(crate) fn of(list: Option<View<'a>>) -> EventViews<'a>
         ensures { events_left result ≡ list_in event_body_in (tree_or_nil (option_map tree_of list.entry)) }
     {
@@ -123,6 +126,7 @@ impl<'a> SlotViews<'a> {
     ghost use Rattle.serf_wire.specs.Lists.{slots_left};
 
     /// The slots of a list, where each item is one.
+    #[inline(always)]
     pub(crate) fn of(list: Option<View<'a>>) -> SlotViews<'a>
         ensures { slots_left result ≡ list_in slot_in (tree_or_nil (option_map tree_of list.entry)) }
     {
