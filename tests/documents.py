@@ -146,9 +146,24 @@ def jobs_of_program():
     return set(re.findall(r"^\s+\"([a-z-]+)\" => .*Job::", text, re.M)) | {"--help", "--version", "help"}
 
 
+# Where the version of what is built next stands, beside the program's own.
+VERSIONS = {os.path.join("bindings", "rust", "Cargo.toml"): r'^version = "([0-9.]+)"$', "CHANGELOG.md": r"^## ([0-9][0-9.]*)$"}
+
+
+def other_versions():
+    """Each file that tells the version, and what is wrong with it, or None: all tell the program's."""
+    (own,) = re.findall(r'\.version\("([0-9.]+)"\)', "\n".join(sources("src")))
+    for path, form in VERSIONS.items():
+        told = re.findall(form, read(path), re.M)[:1]
+        yield "version", None if told == [own] else f"is {told}, and the program's is {own}", path
+
+
 def main():
     tree, jobs = Tree(), jobs_of_program()
     passed, wrong = 0, []
+    for what, fault, path in other_versions():
+        passed += fault is None
+        wrong += [(path, what, fault)] if fault else []
     for document in documents():
         page = read(document)
         checks = [(span, wrong_span(tree, document, span)) for span in sorted(set(SPAN.findall(page)))]
