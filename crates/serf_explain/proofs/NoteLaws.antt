@@ -18,10 +18,12 @@ use Rattle.serf_window.specs.Window.{TimedEntry}
 use Rattle.serf_model.specs.declared.action.Action.{Action}
 use Rattle.serf_model.specs.declared.line.EventLine.{EventLine}
 use Rattle.serf_model.specs.declared.line.Line.{Line}
+use Rattle.serf_model.specs.Cluster.{Cluster, IdealNode}
 use Rattle.serf_model.specs.Trace.{Turn, event_in, events_to}
+use Rattle.serf_world.specs.View.{IsViewed, NodeState, WorldState, node_of}
 use Rattle.serf_explain.specs.declared.hand_outs.HandOut.{HandOut}
-use Rattle.serf_explain.specs.HandOuts.{NamesNote, Note, NotedAt, OfNoted, is_note, note_in, note_of, noted_words, notes_from, notes_in}
-use Rattle.serf_explain.specs.Seen.{HandsOut, IsSeen, OfSeen, is_hand_out, seen_words}
+use Rattle.serf_explain.specs.HandOuts.{NamesNote, Note, NotedAt, OfNoted, is_note, name_at, name_stored, note_in, note_of, noted_words, notes_from, notes_in}
+use Rattle.serf_explain.specs.Seen.{HandsOut, IsSeen, OfSeen, is_hand_out, name_in, name_or_empty, seen_words}
 use Rattle.serf_explain.specs.Words.{event_words, quoted}
 
 -- one more line
@@ -115,10 +117,10 @@ module _ (a time : ℕ) (what : EventBody) where
       let one : n ≡ k + 1 = omega (arith, is) in
       ap (λ m. quoted name ++ codes " was handed " ++ event_words time what ++ codes " at action " ++ decimal m) one
 
-  is-seen : (lines : List Line) (reason : List ℕ) → NamesNote (notes_from 1 lines) a time what reason → IsSeen lines a time what reason
-  is-seen lines reason h =
+  is-seen : (lines : List Line) (name reason : List ℕ) → NamesNote (notes_from 1 lines) name a time what reason → IsSeen lines name a time what reason
+  is-seen lines name reason h =
       let found = line-of 1 lines h.noted.place h.noted.note h.noted.at h.noted.hands in
-      record { name = h.name; action = found.k; hand_out = found.hands; words = h.words ∙ words-of h.name h.number found.k (sym h.noted.action_is ∙ found.action_is) }
+      record { action = found.k; hand_out = found.hands; words = h.words ∙ words-of name h.number found.k (sym h.noted.action_is ∙ found.action_is) }
 
   -- what an agent was handed is among the notes
   any-from : (n : ℕ) (turns : List Turn) → list_any (is_note a time what) (notes_from n (map (λ (t : Turn). t.line) turns)) ≡ list_any (is_hand_out a time what) (flat_map (λ (t : Turn). t.line.events) turns)
@@ -166,6 +168,20 @@ module _ (a time : ℕ) (what : EventBody) where
   pub handed-noted : (n : ℕ) (turns : List Turn) → Contains (events_to a turns) wanted → list_any (is_note a time what) (notes_from n (map (λ (t : Turn). t.line) turns)) ≡ true
   handed-noted n turns h = any-from n turns ∙ handed-among (flat_map (λ (t : Turn). t.line.events) turns) h
 
+-- the name that a world stores of an agent is that of the cluster's
+name-same : (node : Option IdealNode) → name_stored (option_map (λ (s : NodeState). s.concrete) (option_map node_of node)) ≡ name_or_empty node
+name-same None = refl
+name-same (Some node) = refl
+
+names-same : (c : Cluster) (w : WorldState) (a : ℕ) → IsViewed c w → name_at w a ≡ name_in c a
+names-same c w a h =
+    ap (λ (ns : List NodeState). name_stored (option_map (λ (s : NodeState). s.concrete) (slice_get ns a))) (sym h.nodes)
+    ∙ ap (λ (o : Option NodeState). name_stored (option_map (λ (s : NodeState). s.concrete) o)) (slice_get-map node_of c.nodes a)
+    ∙ name-same (slice_get c.nodes a)
+
 -- what names an event that was handed out names a line
-pub of-seen : (lines : List Line) (sent : List (List ℕ)) (action : Action) (reasons : List (List ℕ)) → OfNoted (notes_from 1 lines) sent action reasons → OfSeen lines sent action reasons
-of-seen lines sent action reasons h = λ a e is. let k = h a e is in (k.0, k.1, is-seen a e.time e.key lines k.0 k.2)
+pub of-seen : (lines : List Line) (c : Cluster) (w : WorldState) (action : Action) (reasons : List (List ℕ)) → IsViewed c w → OfNoted (notes_from 1 lines) w action reasons → OfSeen lines w.sent c action reasons
+of-seen lines c w action reasons view h = λ a e is.
+    let k = h a e is in
+    let named = subst (λ (name : List ℕ). NamesNote (notes_from 1 lines) name a e.time e.key k.0) (names-same c w a view) k.2 in
+    (k.0, k.1, is-seen a e.time e.key lines (name_in c a) k.0 named)

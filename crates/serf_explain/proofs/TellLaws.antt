@@ -28,7 +28,7 @@ use Rattle.serf_explain.proofs.NoteLaws.{lines-push, of-seen}
 use Rattle.serf_wire.specs.declared.texts.EventBody.{EventBody}
 use Rattle.serf_window.specs.Window.{TimedEntry}
 use Rattle.serf_explain.proofs.CarriedLaws.{merged_of, some-merged, told-merged}
-use Rattle.serf_explain.specs.Explained.{AddsTurn, Explained, HasTold, IsReasoned, IsTold, NameHandOuts, NamesHandOut, TellsAll, TellsRun, clusters_before, clusters_from, turn_text, turns_text}
+use Rattle.serf_explain.specs.Explained.{AddsTurn, Explained, HasTold, IsReasoned, IsTold, NameHandOuts, NamesHandOut, TellsAll, TellsRun, cluster_behind, clusters_before, clusters_from, turn_text, turns_text}
 
 turns-push : (range : Range) (sent : List (List ℕ)) (n : ℕ) (es : List Explained) (e : Explained)
     → turns_text range sent n (es ++ e ∷ []) ≡ turns_text range sent n es ++ turn_text range sent (n + length es) e.turn.action e.turn.line e.reasons
@@ -93,7 +93,7 @@ pub told-after : (range : Range) (r : Run) (clusters : List Cluster) (action : A
     → ((step r.cluster action).cluster.sent ≡ r.cluster.sent ++ (step r.cluster action).turn.packets)
     → ((more : List (List ℕ)) → action_text ((step r.cluster action).cluster.sent ++ more) n (step r.cluster action).turn.line ≡ action_text (step r.cluster action).cluster.sent n (step r.cluster action).turn.line)
     → IsTold range r clusters w past text → n ≡ length r.turns + 1 → TellsMerge r.cluster action carried → TakesStep (step r.cluster action) new line
-    → AddsTurn (TellsAll (is_shown range n (actor_of action)) carried past new.sent action line) (is_shown range n (actor_of action)) new.sent n line text added
+    → AddsTurn (TellsAll (is_shown range n (actor_of action)) carried past new action line) (is_shown range n (actor_of action)) new.sent n line text added
     → noted ≡ past ++ map (note_of n) line.events
     → IsTold range (after r action) (clusters ++ r.cluster ∷ []) new noted added
 told-after range r clusters action w new line carried past noted text added n sends stays h count told takes adds grows =
@@ -111,11 +111,12 @@ told-after range r clusters action w new line carried past noted text added n se
     sym (lines-of h.explained) ∙ ap (λ (ts : List Turn). map (λ (t : Turn). t.line) ts) h.whole.turns_are in
     let behind : length lines + 1 ≡ n = omega (arith, length-map r.turns (λ (t : Turn). t.line), count) in
     let number : n ≡ 1 + length lines = omega (arith, behind) in
+    let viewed : IsViewed (cluster_behind one) new = subst (λ (b : Action). IsViewed (step r.cluster b).cluster new) (sym (acts r.cluster action)) takes.view in
     let names : NamesHandOut range lines one = λ shown answers.
-    let noted : OfNoted past new.sent action adds.reasons = adds.such.seen (ap (λ m. is_shown range m (actor_of action)) (sym behind) ∙ ap (λ (b : Action). is_shown range (length lines + 1) (actor_of b)) (sym (acts r.cluster action)) ∙ shown)
+    let noted : OfNoted past new action adds.reasons = adds.such.seen (ap (λ m. is_shown range m (actor_of action)) (sym behind) ∙ ap (λ (b : Action). is_shown range (length lines + 1) (actor_of b)) (sym (acts r.cluster action)) ∙ shown)
     (ap (λ (l : Line). l.answer) takes.line_is ∙ answers) in
     λ a e is.
-    of-seen lines new.sent action adds.reasons (subst (λ (ns : List Note). OfNoted ns new.sent action adds.reasons) h.notes_are noted) a e
+    of-seen lines (cluster_behind one) new action adds.reasons viewed (subst (λ (ns : List Note). OfNoted ns new action adds.reasons) h.notes_are noted) a e
     (ap (λ s. event_delivered s action) (sym takes.view.sent ∙ sends)
     ∙ still-delivered r.cluster.sent turn.packets action a e (ap (λ (b : Action). event_delivered r.cluster.sent b) (sym (acts r.cluster action)) ∙ is)) in
     let place : 1 + length h.explained ≡ n = omega (arith, many, count) in
@@ -159,8 +160,8 @@ lines-added P sent n line a b d is h = record {
 }
 
 -- an action that isn't shown
-pub nothing-added : (carried : List (List ℕ)) (past : List Note) (sent : List (List ℕ)) (action : Action) (n : ℕ) (line : Line) (a : List ℕ) → AddsTurn (TellsAll false carried past sent action line) false sent n line a a
-nothing-added carried past sent action n line a = record {
+pub nothing-added : (carried : List (List ℕ)) (past : List Note) (w : WorldState) (action : Action) (n : ℕ) (line : Line) (a : List ℕ) → AddsTurn (TellsAll false carried past w action line) false w.sent n line a a
+nothing-added carried past w action n line a = record {
   reasons = merged_of carried;
   some = some-merged carried;
   such = record { merged = λ answers. told-merged carried; seen = λ shown. absurd (cc (shown)) };

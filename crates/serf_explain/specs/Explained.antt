@@ -55,11 +55,15 @@ clusters_from c (action ∷ rest) = c ∷ clusters_from (step c action).cluster 
 abbrev pub clusters_before : List Config → List Action → List Cluster
 clusters_before configs actions = clusters_from (start configs).cluster actions
 
+-- the cluster behind a turn
+abbrev pub cluster_behind : Explained → Cluster
+cluster_behind e = (step e.before e.turn.action).cluster
+
 -- Where a turn that is shown answers that a delivered event was seen, and these are the lines before it, its reason names
--- one of these that handed the event to the agent.
+-- the agent, and one of these that handed the event to it.
 abbrev pub NamesHandOut : Range → List Line → Explained → Type 0
 NamesHandOut range lines e = is_shown range (length lines + 1) (actor_of e.turn.action) ≡ true → e.turn.line.answer ≡ answers.Ignored Seen
-    → OfSeen lines e.before.sent e.turn.action e.reasons
+    → OfSeen lines e.before.sent (cluster_behind e) e.turn.action e.reasons
 
 -- and so each turn, one after another
 abbrev pub NameHandOuts : Range → List Line → List Explained → Type 0
@@ -105,9 +109,9 @@ pub record HasTold (range : Range) (configs : List Config) (done : List Action) 
   pub told : IsTold range (run_of configs done) (clusters_before configs done) w notes text
 
 -- What is told of an action: of a merge what was told of its events; of an event that was seen which action handed it out.
-pub record TellsAll (shown : Bool) (carried : List (List ℕ)) (notes : List Note) (sent : List (List ℕ)) (action : Action) (line : Line) (reasons : List (List ℕ)) : Type 0 where
+pub record TellsAll (shown : Bool) (carried : List (List ℕ)) (notes : List Note) (w : WorldState) (action : Action) (line : Line) (reasons : List (List ℕ)) : Type 0 where
   pub merged : line.answer ≡ answers.Merged → TellsMerged carried reasons
-  pub seen : shown ≡ true → line.answer ≡ answers.Ignored Seen → OfNoted notes sent action reasons
+  pub seen : shown ≡ true → line.answer ≡ answers.Ignored Seen → OfNoted notes w action reasons
 
 -- a text grew by an action's lines and its reasons, of which there are some, or by nothing where it isn't shown
 pub record AddsTurn (P : List (List ℕ) → Type 0) (is_shown : Bool) (sent : List (List ℕ)) (n : ℕ) (line : Line) (old new : List ℕ) : Type 0 where

@@ -5,10 +5,12 @@ use Rattle.serf_wire.specs.declared.texts.EventBody.{EventBody}
 use Rattle.serf_window.specs.Texts.{event_of, same_texts}
 use Rattle.serf_window.specs.Window.{TimedEntry}
 use Rattle.serf_agent.specs.declared.outcome.Reason.TheVariants.{Seen}
+use Rattle.serf_agent.specs.View.{ConcreteState}
 use Rattle.serf_model.specs.declared.action.Action.{Action}
 use Rattle.serf_model.specs.declared.line.Answer.TheVariants as answers
 use Rattle.serf_model.specs.declared.line.EventLine.{EventLine}
 use Rattle.serf_model.specs.declared.line.Line.{Line}
+use Rattle.serf_world.specs.View.{WorldState, agent_at}
 use Rattle.serf_explain.specs.declared.hand_outs.HandOut.{HandOut}
 use Rattle.serf_explain.specs.Seen.{event_delivered}
 use Rattle.serf_explain.specs.Words.{event_words, quoted}
@@ -55,9 +57,16 @@ pub record IsNoted (notes : List Note) (a time : ℕ) (what : EventBody) (number
 unfoldable pub noted_words : List ℕ → ℕ → EventBody → ℕ → List ℕ
 noted_words name time what number = quoted name ++ codes " was handed " ++ event_words time what ++ codes " at action " ++ decimal number
 
--- a reason says which action handed this event to this agent
-pub record NamesNote (notes : List Note) (a time : ℕ) (what : EventBody) (reason : List ℕ) : Type 0 where
-  pub name : List ℕ
+-- the name of the agent of this number that a world stores, and nothing where there is none
+abbrev pub name_stored : Option ConcreteState → List ℕ
+name_stored None = []
+name_stored (Some state) = state.config.name
+
+abbrev pub name_at : WorldState → ℕ → List ℕ
+name_at w a = name_stored (agent_at w a)
+
+-- a reason says which action handed this event to this agent, which has this name
+pub record NamesNote (notes : List Note) (name : List ℕ) (a time : ℕ) (what : EventBody) (reason : List ℕ) : Type 0 where
   pub number : ℕ
   pub noted : NotedAt notes number a time what
   pub words : reason ≡ noted_words name time what number
@@ -71,6 +80,6 @@ abbrev pub KnowsSeen : List Note → List (List ℕ) → Action → Line → Typ
 KnowsSeen notes sent action line = line.answer ≡ answers.Ignored Seen → IsKnown notes sent action
 
 -- where an action delivers an event, its only reason says so
-abbrev pub OfNoted : List Note → List (List ℕ) → Action → List (List ℕ) → Type 0
-OfNoted notes sent action reasons = (a : ℕ) (e : TimedEntry EventBody) → event_delivered sent action ≡ Some (a, e)
-    → (reason : List ℕ) × (reasons ≡ reason ∷ []) × NamesNote notes a e.time e.key reason
+abbrev pub OfNoted : List Note → WorldState → Action → List (List ℕ) → Type 0
+OfNoted notes w action reasons = (a : ℕ) (e : TimedEntry EventBody) → event_delivered w.sent action ≡ Some (a, e)
+    → (reason : List ℕ) × (reasons ≡ reason ∷ []) × NamesNote notes (name_at w a) a e.time e.key reason

@@ -10,6 +10,7 @@ use Rattle.serf_window.specs.Texts.{event_of, same_texts}
 use Rattle.serf_window.specs.Window.{TimedEntry}
 use Rattle.serf_model.specs.declared.action.Action.{Action}
 use Rattle.serf_model.specs.declared.action.Action.TheVariants as actions
+use Rattle.serf_model.specs.Cluster.{Cluster, IdealNode}
 use Rattle.serf_model.specs.declared.line.EventLine.{EventLine}
 use Rattle.serf_model.specs.declared.line.Line.{Line}
 use Rattle.serf_explain.specs.Words.{event_words, quoted}
@@ -32,9 +33,16 @@ pub record HandsOut (lines : List Line) (k a time : ℕ) (what : EventBody) : Ty
 unfoldable pub seen_words : List ℕ → ℕ → EventBody → ℕ → List ℕ
 seen_words name time what k = quoted name ++ codes " was handed " ++ event_words time what ++ codes " at action " ++ decimal (k + 1)
 
--- A reason says which earlier action handed an event to an agent, if these are the earlier ones.
-pub record IsSeen (lines : List Line) (a time : ℕ) (what : EventBody) (reason : List ℕ) : Type 0 where
-  pub name : List ℕ
+-- the name of the agent of this number, and nothing where there is none
+abbrev pub name_or_empty : Option IdealNode → List ℕ
+name_or_empty None = []
+name_or_empty (Some node) = node.agent.config.name
+
+abbrev pub name_in : Cluster → ℕ → List ℕ
+name_in c a = name_or_empty (slice_get c.nodes a)
+
+-- A reason says which earlier action handed an event to an agent of this name, if these are the earlier ones.
+pub record IsSeen (lines : List Line) (name : List ℕ) (a time : ℕ) (what : EventBody) (reason : List ℕ) : Type 0 where
   pub action : ℕ
   pub hand_out : HandsOut lines action a time what
   pub words : reason ≡ seen_words name time what action
@@ -53,7 +61,7 @@ abbrev pub event_delivered : List (List ℕ) → Action → Option (ℕ × Timed
 event_delivered sent (actions.Deliver to packet now) = option_map (λ e. (to, e)) (event_given (slice_get sent packet))
 event_delivered sent _ = None
 
--- where an action delivers an event, its only reason says so
-abbrev pub OfSeen : List Line → List (List ℕ) → Action → List (List ℕ) → Type 0
-OfSeen lines sent action reasons = (a : ℕ) (e : TimedEntry EventBody) → event_delivered sent action ≡ Some (a, e)
-    → (reason : List ℕ) × (reasons ≡ reason ∷ []) × IsSeen lines a e.time e.key reason
+-- where an action delivers an event to an agent of this cluster, its only reason says so
+abbrev pub OfSeen : List Line → List (List ℕ) → Cluster → Action → List (List ℕ) → Type 0
+OfSeen lines sent c action reasons = (a : ℕ) (e : TimedEntry EventBody) → event_delivered sent action ≡ Some (a, e)
+    → (reason : List ℕ) × (reasons ≡ reason ∷ []) × IsSeen lines (name_in c a) a e.time e.key reason

@@ -26,7 +26,7 @@ use std::io::{Read, Write};
 /// Appends an action's lines and those of its reasons.
 fn put_shown(alloc: Global, out: &mut Vec<u8>, told: &Told) -> Result<(), AllocError>
     requires { KnowsSeen (notes_in told.now.past.now.outs.items) told.now.world.now.sent told.now.action.now told.now.line.now }
-    ensures { OnOk result (AddsTurn (TellsAll true (reasons_in told.now.carried.now) (notes_in told.now.past.now.outs.items) told.now.world.now.sent told.now.action.now told.now.line.now) true told.now.world.now.sent told.now.number told.now.line.now out.old.items out.new.items) }
+    ensures { OnOk result (AddsTurn (TellsAll true (reasons_in told.now.carried.now) (notes_in told.now.past.now.outs.items) told.now.world.now told.now.action.now told.now.line.now) true told.now.world.now.sent told.now.number told.now.line.now out.old.items out.new.items) }
 {
     put_action(out, told.world.sent(), told.number, told.line)?;
     put_reasons(alloc, out, told)
@@ -34,13 +34,13 @@ fn put_shown(alloc: Global, out: &mut Vec<u8>, told: &Told) -> Result<(), AllocE
 
 /// Appends nothing.
 fn put_nothing(out: &mut Vec<u8>, told: &Told)
-    ensures { AddsTurn (TellsAll false (reasons_in told.now.carried.now) (notes_in told.now.past.now.outs.items) told.now.world.now.sent told.now.action.now told.now.line.now) false told.now.world.now.sent told.now.number told.now.line.now out.old.items out.new.items }
+    ensures { AddsTurn (TellsAll false (reasons_in told.now.carried.now) (notes_in told.now.past.now.outs.items) told.now.world.now told.now.action.now told.now.line.now) false told.now.world.now.sent told.now.number told.now.line.now out.old.items out.new.items }
 {}
 
 /// Appends what is shown of an action: its lines and those of its reasons, or nothing.
 fn put_turn(alloc: Global, out: &mut Vec<u8>, is_shown: bool, told: &Told) -> Result<(), AllocError>
     requires { KnowsSeen (notes_in told.now.past.now.outs.items) told.now.world.now.sent told.now.action.now told.now.line.now }
-    ensures { OnOk result (AddsTurn (TellsAll is_shown (reasons_in told.now.carried.now) (notes_in told.now.past.now.outs.items) told.now.world.now.sent told.now.action.now told.now.line.now) is_shown told.now.world.now.sent told.now.number told.now.line.now out.old.items out.new.items) }
+    ensures { OnOk result (AddsTurn (TellsAll is_shown (reasons_in told.now.carried.now) (notes_in told.now.past.now.outs.items) told.now.world.now told.now.action.now told.now.line.now) is_shown told.now.world.now.sent told.now.number told.now.line.now out.old.items out.new.items) }
 {
     match is_shown {
         true => put_shown(alloc, out, told),
@@ -155,9 +155,9 @@ fn output_text<T: Watch>(
 /// answer is how many actions the schedule has.
 ///
 /// At most 16,777,217 bytes are read, and nothing is written before all is read, parsed and run. The reasons of a merge
-/// say the verdict on each event, and that of a delivered event which was seen names an earlier action that handed it
-/// out. What else a reason says is tested, and no contract says it; but no byte of it is a control byte, or is not
-/// ASCII. The faults are those of `replay`, and come where they come there. The watch is told of each action of the run
+/// say the verdict on each event, and that of a delivered event which was seen names its agent, and an earlier action
+/// that handed it out there. What else a reason says is tested, and no contract says it; but no byte of it is a control
+/// byte, or is not ASCII. The faults are those of `replay`, and come where they come there. The watch is told of each action of the run
 /// that is done.
 pub fn explain<R: Read, W: Write, T: Watch>(
     alloc: Global,

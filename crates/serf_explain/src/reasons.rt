@@ -220,7 +220,7 @@ fn put_unmerged(alloc: Global, out: &mut Vec<u8>, told: &Told) -> Result<(), All
 /// Appends a line for each reason of an action: one at least.
 pub(crate) fn put_reasons(alloc: Global, out: &mut Vec<u8>, told: &Told) -> Result<(), AllocError>
     requires { KnowsSeen (notes_in told.now.past.now.outs.items) told.now.world.now.sent told.now.action.now told.now.line.now }
-    ensures { OnOk result (AddsSuch (TellsAll true (reasons_in told.now.carried.now) (notes_in told.now.past.now.outs.items) told.now.world.now.sent told.now.action.now told.now.line.now) told.now.number out.old.items out.new.items) }
+    ensures { OnOk result (AddsSuch (TellsAll true (reasons_in told.now.carried.now) (notes_in told.now.past.now.outs.items) told.now.world.now told.now.action.now told.now.line.now) told.now.number out.old.items out.new.items) }
 {
     match told.line.answer {
         Answer::Merged => put_merged(out, told.number, told.carried),

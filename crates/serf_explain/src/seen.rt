@@ -8,7 +8,7 @@ ghost use Rattle.serf_wire.specs.Message.{message_of};
 ghost use Rattle.serf_window.specs.Texts.{event_of};
 ghost use Rattle.serf_explain.specs.Because.{AddsSuch};
 ghost use Rattle.serf_explain.specs.Noted.{delivered_as, event_as};
-ghost use Rattle.serf_explain.specs.HandOuts.{IsKnown, NamesNote, OfNoted, is_note, noted_words, notes_in};
+ghost use Rattle.serf_explain.specs.HandOuts.{IsKnown, NamesNote, OfNoted, is_note, name_at, noted_words, notes_in};
 ghost use Rattle.serf_explain.specs.Seen.{event_delivered, event_read};
 
 use crate::because::put_because;
@@ -89,7 +89,9 @@ fn put_noted_words(
 }
 
 /// The name of the agent of this number.
-fn name_of<'a>(told: &Told<'a>, agent: u64) -> &'a [u8] {
+fn name_of<'a>(told: &Told<'a>, agent: u64) -> &'a [u8]
+    ensures { result.now ≡ name_at told.now.world.now agent }
+{
     match told.world.agent(agent) {
         Some(agent) => agent.config().name.as_slice(),
         None => b"",
@@ -99,7 +101,7 @@ fn name_of<'a>(told: &Told<'a>, agent: u64) -> &'a [u8] {
 /// Which action handed this event to its agent before.
 fn seen_reason(alloc: Global, told: &Told, of: &Delivered) -> Result<Vec<u8>, AllocError>
     requires { list_any (is_note of.now.to of.now.event.time (event_of of.now.event.name.now of.now.event.payload.now)) (notes_in told.now.past.now.outs.items) ≡ true }
-    ensures { IfOk result (λ reason. NamesNote (notes_in told.now.past.now.outs.items) of.now.to of.now.event.time (event_of of.now.event.name.now of.now.event.payload.now) reason.items) }
+    ensures { IfOk result (λ reason. NamesNote (notes_in told.now.past.now.outs.items) (name_at told.now.world.now of.now.to) of.now.to of.now.event.time (event_of of.now.event.name.now of.now.event.payload.now) reason.items) }
 {
     let number = told.past.action_of(of.to, &of.event);
     let mut reason = Vec::with_capacity(alloc, USUAL_BYTES)?;
@@ -115,7 +117,7 @@ fn put_seen_event(
     of: &Delivered,
 ) -> Result<(), AllocError>
     requires { list_any (is_note of.now.to of.now.event.time (event_of of.now.event.name.now of.now.event.payload.now)) (notes_in told.now.past.now.outs.items) ≡ true }
-    ensures { OnOk result (AddsSuch (λ reasons. (reason : List ℕ) × (reasons ≡ reason ∷ []) × NamesNote (notes_in told.now.past.now.outs.items) of.now.to of.now.event.time (event_of of.now.event.name.now of.now.event.payload.now) reason) told.now.number out.old.items out.new.items) }
+    ensures { OnOk result (AddsSuch (λ reasons. (reason : List ℕ) × (reasons ≡ reason ∷ []) × NamesNote (notes_in told.now.past.now.outs.items) (name_at told.now.world.now of.now.to) of.now.to of.now.event.time (event_of of.now.event.name.now of.now.event.payload.now) reason) told.now.number out.old.items out.new.items) }
 {
     let reason = seen_reason(alloc, told, of)?;
     put_because(out, told.number, &reason)
@@ -124,7 +126,7 @@ fn put_seen_event(
 /// Appends the line of a delivery that was ignored as seen: of an event, which action handed it to its agent before.
 pub(crate) fn put_seen(alloc: Global, out: &mut Vec<u8>, told: &Told) -> Result<(), AllocError>
     requires { IsKnown (notes_in told.now.past.now.outs.items) told.now.world.now.sent told.now.action.now }
-    ensures { OnOk result (AddsSuch (OfNoted (notes_in told.now.past.now.outs.items) told.now.world.now.sent told.now.action.now) told.now.number out.old.items out.new.items) }
+    ensures { OnOk result (AddsSuch (OfNoted (notes_in told.now.past.now.outs.items) told.now.world.now told.now.action.now) told.now.number out.old.items out.new.items) }
 {
     match seen_event(told) {
         Some(of) => put_seen_event(alloc, out, told, &of),

@@ -27,7 +27,7 @@ returns c = λ configs done has number.
     (told-after c.args.range.now r (clusters_before configs done) c.args.action.now c.args.world.now c.step.new.self line carried past (notes_in c.note.new.self.hand_outs.outs.items) c.args.out.now.items c.put_turn.new.out.items c.args.number
     (c.lines_stay.ensures.sent r.cluster c.args.action.now) (λ more. c.lines_stay.ensures.lines r.cluster c.args.action.now c.args.number more)
     h count (subst (λ (ls : List Carried). TellsMerge r.cluster c.args.action.now (reasons_in ls)) (sym c.deref.ensures.value) (c.in_ok-carried.ensures r.cluster h.view h.representable)) (c.in-Ok.ensures.step r.cluster h.view h.representable)
-    (subst (λ b. AddsTurn (TellsAll b carried past c.step.new.self.sent c.args.action.now line) b c.step.new.self.sent c.args.number line c.args.out.now.items c.put_turn.new.out.items) shown c.in_ok-put_turn.ensures)
+    (subst (λ b. AddsTurn (TellsAll b carried past c.step.new.self c.args.action.now line) b c.step.new.self.sent c.args.number line c.args.out.now.items c.put_turn.new.out.items) shown c.in_ok-put_turn.ensures)
     is))
     c.note.ensures
 

@@ -4,4 +4,4 @@ use Rattle.serf_explain.proofs.TellLaws.{nothing-added}
 use Rattle.serf_explain.proofs.job.put_nothing.Goals as goal
 
 pub returns : goal.returns
-returns c = nothing-added (reasons_in c.args.told.now.carried.now) (notes_in c.args.told.now.past.now.outs.items) c.args.told.now.world.now.sent c.args.told.now.action.now c.args.told.now.number c.args.told.now.line.now c.args.out.now.items
+returns c = nothing-added (reasons_in c.args.told.now.carried.now) (notes_in c.args.told.now.past.now.outs.items) c.args.told.now.world.now c.args.told.now.action.now c.args.told.now.number c.args.told.now.line.now c.args.out.now.items
