@@ -154,6 +154,10 @@ def refused(count, clone):
     clone.order("unproved")
     status, _, err = clone.run("prove")
     count.check("a failed proof", status == 3 and "low: not proved" in err and "low is not proved" in err, (status, err))
+    clone.order("false")
+    status, _, err = clone.run("prove")
+    count.check("a failed proof of the program", status == 3 and "main: not proved" in err and "serf_replay_program was not built" in err, (status, err))
+    count.check("nothing is built of it", clone.is_unproved("five"), clone.run("serf-replay", "x"))
     clone.order()
     for name in ("serf-replay", "prove", "test"):
         status, out, err = clone.run(name, has_rt=False)

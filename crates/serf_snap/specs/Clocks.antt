@@ -94,6 +94,7 @@ abbrev pub line_above_zero : ClockKind → ℕ → List ℕ
 line_above_zero kind time = if time == 0 then [] else clock_line kind time
 
 -- The text that a compaction leaves: the last line of each kind of clock, where there is one, and nothing else. (Serf's
--- `snapshot.go`, `compact`, writes a line for each alive member before them; an agent here keeps no members.)
+-- `snapshot.go`, `compact`, writes a line for each alive member before them, and a clock of 0 too; an agent here keeps no
+-- members.)
 abbrev pub compacted_text : ℕ → ℕ → ℕ → List ℕ
 compacted_text member_clock event_clock query_clock = line_above_zero Member member_clock ++ line_above_zero Event event_clock ++ line_above_zero Query query_clock
