@@ -193,14 +193,14 @@ def in_capitals(name):
 def compare_rust(count, header, layout):
     """What the Rust binding declares: functions and structs, and the order of its codes and reasons."""
     texts = {}
-    for name in ("raw", "agent"):
+    for name in ("raw", "error", "outcome"):
         with open(os.path.join(RUST, name + ".rs"), encoding="utf-8") as file:
             texts[name] = file.read()
     raw = re.sub(r"/// What a call for memory answers.*", "", texts["raw"], flags=re.S)
     compare_declared(count, "Rust", Declared([raw]), header, layout)
     compare_limit(count, "Rust", header, os.path.join(RUST, "agent", "closing.rs"))
-    for listed, kind in (("CODES", "Code"), ("REASONS", "Reason")):
-        body = re.search(rf"const {listed}: .*? = \[(.*?)\];", texts["agent"], re.S)[1]
+    for listed, kind, place in (("CODES", "Code", "error"), ("REASONS", "Reason", "outcome")):
+        body = re.search(rf"const {listed}: .*? = \[(.*?)\];", texts[place], re.S)[1]
         numbers = {in_capitals(name): number for number, name in enumerate(re.findall(rf"{kind}::(\w+)", body), 1)}
         compare_numbers(count, "Rust", numbers, header, "SERF_AGENT_")
 

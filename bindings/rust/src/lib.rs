@@ -7,11 +7,14 @@
 //! The library is proved; this crate is tested.
 
 mod agent;
+mod error;
+mod outcome;
 mod raw;
+mod settings;
 mod store;
 
-pub use agent::{
-    Agent, Answer, Asked, Clocks, Closed, Code, Error, Event, Fired, Handed, Outcome, QueryParams, Reason, Received, Settings,
-    DEFAULT_SNAPSHOT_LIMIT,
-};
+pub use agent::{Agent, Closed, DEFAULT_SNAPSHOT_LIMIT};
+pub use error::{Code, Error};
+pub use outcome::{Answer, Asked, Clocks, Event, Fired, Handed, Outcome, Reason, Received};
+pub use settings::{QueryParams, Settings};
 pub use store::{Store, StoreError};

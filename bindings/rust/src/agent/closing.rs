@@ -1,6 +1,8 @@
 //! The queries that an agent closed, with their answers, and when its file is worth a compaction.
 
-use super::{answered, Agent, Answer, Error};
+use super::Agent;
+use crate::error::{answered, Error};
+use crate::outcome::Answer;
 use crate::raw;
 
 /// A query of this agent's own that was closed: the names of the nodes that acked it and the responses, in order of arrival.

@@ -1,0 +1,52 @@
+package serfagent
+
+// #include "serf_agent.h"
+import "C"
+
+import "fmt"
+
+// Code says why the library refused a call.
+type Code uint32
+
+// What include/serf_agent.h says of each stands there.
+const (
+	Empty          Code = C.SERF_AGENT_EMPTY
+	InUse          Code = C.SERF_AGENT_IN_USE
+	Unwritten      Code = C.SERF_AGENT_UNWRITTEN
+	Nothing        Code = C.SERF_AGENT_NOTHING
+	OutOfMemory    Code = C.SERF_AGENT_OUT_OF_MEMORY
+	BadConfig      Code = C.SERF_AGENT_BAD_CONFIG
+	SinkFault      Code = C.SERF_AGENT_SINK_FAULT
+	Stopped        Code = C.SERF_AGENT_STOPPED
+	TooLarge       Code = C.SERF_AGENT_TOO_LARGE
+	Exhausted      Code = C.SERF_AGENT_EXHAUSTED
+	NoMessage      Code = C.SERF_AGENT_NO_MESSAGE
+	RespondersFull Code = C.SERF_AGENT_RESPONDERS_FULL
+	NotPushPull    Code = C.SERF_AGENT_NOT_PUSH_PULL
+	TooLong        Code = C.SERF_AGENT_TOO_LONG
+	NoTime         Code = C.SERF_AGENT_NO_TIME
+	PastDeadline   Code = C.SERF_AGENT_PAST_DEADLINE
+	NotHanded      Code = C.SERF_AGENT_NOT_HANDED
+)
+
+var words = []string{
+	"ok", "the agent is closed", "the handle has an agent", "bytes for the file aren't written", "there is no such thing",
+	"out of memory", "the settings are out of bounds", "the sink failed", "the agent is stopped",
+	"the event, query or response is too large", "the clock is exhausted", "the packet is no message",
+	"the query has as many answers as it takes", "the packet is no push/pull", "a text or a list is too long",
+	"the query has no time", "the query takes no more answers", "no query of this number waits for an answer",
+}
+
+func (c Code) Error() string {
+	if int(c) < len(words) {
+		return words[c]
+	}
+	return fmt.Sprintf("code %d", uint32(c))
+}
+
+func refused(code C.uint32_t) error {
+	if code == C.SERF_AGENT_OK {
+		return nil
+	}
+	return Code(code)
+}

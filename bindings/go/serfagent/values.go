@@ -1,0 +1,106 @@
+package serfagent
+
+// #include "serf_agent.h"
+import "C"
+
+// Settings of an agent; DefaultSettings has Serf's.
+type Settings struct {
+	// How many times of events, and of queries, are kept: 1 to 65,536.
+	EventBuffer, QueryBuffer uint64
+	// The greatest size of a fired event in bytes, 9,216 at most.
+	EventLimit uint64
+	// How many names are counted of a query's acks, and of its responses, and how much is taken of one time: 1 to 65,536.
+	Responders, PerTime uint64
+	// Whether events from before a join are ignored.
+	IgnoreOld bool
+}
+
+// DefaultSettings are Serf's.
+func DefaultSettings() Settings {
+	return Settings{EventBuffer: 512, QueryBuffer: 512, EventLimit: 512, Responders: 1024, PerTime: 1024}
+}
+
+// Event is handed out: run its handler.
+type Event struct {
+	Time          uint64
+	Name, Payload []byte
+	Coalesce      bool
+}
+
+// Handed is a query that is handed out: run its handler, and answer by Respond with its number.
+type Handed struct {
+	Number, Time  uint64
+	ID            uint32
+	Name, Payload []byte
+	// The node that asks, and where a response is to be sent.
+	Source, Addr []byte
+	Port         uint16
+	RelayFactor  uint8
+	// The last moment at which it can be answered.
+	Deadline uint64
+}
+
+// Kind says what came of a packet.
+type Kind uint32
+
+// What a packet can bring.
+const (
+	NewEvent Kind = C.SERF_AGENT_GAVE_EVENT
+	NewQuery Kind = C.SERF_AGENT_GAVE_QUERY
+	Ack      Kind = C.SERF_AGENT_GAVE_ACK
+	Response Kind = C.SERF_AGENT_GAVE_RESPONSE
+	Ignored  Kind = C.SERF_AGENT_GAVE_IGNORED
+	Foreign  Kind = C.SERF_AGENT_GAVE_FOREIGN
+	PushPull Kind = C.SERF_AGENT_GAVE_PUSH_PULL
+)
+
+// Reason says why a packet was ignored.
+type Reason uint32
+
+// The reasons that an example asks for; include/serf_agent.h has them all.
+const (
+	BelowMinimum Reason = C.SERF_AGENT_BELOW_MINIMUM
+	TooOld       Reason = C.SERF_AGENT_TOO_OLD
+	Seen         Reason = C.SERF_AGENT_SEEN
+)
+
+// Answer is an answer that was counted, of the query of this time and ID: who sent it, and what a response says.
+type Answer struct {
+	Time          uint64
+	ID            uint32
+	From, Payload []byte
+}
+
+// Received is what came of a packet. Where Rebroadcast says so, it is to be sent on unchanged.
+type Received struct {
+	Kind        Kind
+	Reason      Reason
+	Event       *Event
+	Query       *Handed
+	Ack         []byte
+	Answer      *Answer
+	Rebroadcast bool
+	Foreign     uint8
+}
+
+// QueryParams say how a query is fired. Timeout is in nanoseconds; Addr and Port are where answers are to be sent.
+type QueryParams struct {
+	Timeout              int64
+	Addr                 []byte
+	Port                 uint16
+	RelayFactor          uint8
+	WantAck, NoBroadcast bool
+	Filters              [][]byte
+}
+
+// Asked is a query's packet to send, and what this node is handed out and sends as its own ack.
+type Asked struct {
+	Packet []byte
+	Query  *Handed
+	Ack    []byte
+}
+
+// Clocks of an agent, and the least times that it takes.
+type Clocks struct {
+	Member, Event, Query, EventMinimum, QueryMinimum uint64
+}

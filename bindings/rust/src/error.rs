@@ -1,0 +1,90 @@
+//! Why a call isn't done.
+
+use crate::store::StoreError;
+
+/// Why the library refused a call.
+#[derive(Clone, Copy, Debug, PartialEq, Eq)]
+#[non_exhaustive]
+pub enum Code {
+    /// The agent was closed, since its file failed.
+    Empty,
+    InUse,
+    Unwritten,
+    Nothing,
+    OutOfMemory,
+    BadConfig,
+    SinkFault,
+    Stopped,
+    TooLarge,
+    Exhausted,
+    NoMessage,
+    RespondersFull,
+    NotPushPull,
+    TooLong,
+    NoTime,
+    PastDeadline,
+    NotHanded,
+    /// A code that this crate doesn't know.
+    Other(u32),
+}
+
+const CODES: [Code; 17] = [
+    Code::Empty,
+    Code::InUse,
+    Code::Unwritten,
+    Code::Nothing,
+    Code::OutOfMemory,
+    Code::BadConfig,
+    Code::SinkFault,
+    Code::Stopped,
+    Code::TooLarge,
+    Code::Exhausted,
+    Code::NoMessage,
+    Code::RespondersFull,
+    Code::NotPushPull,
+    Code::TooLong,
+    Code::NoTime,
+    Code::PastDeadline,
+    Code::NotHanded,
+];
+
+/// Why a call isn't done.
+#[derive(Debug)]
+pub enum Error {
+    /// The library refused it.
+    Refused(Code),
+    /// The file failed, and the agent is closed.
+    Store(StoreError),
+}
+
+impl std::fmt::Display for Error {
+    fn fmt(&self, to: &mut std::fmt::Formatter<'_>) -> std::fmt::Result {
+        match self {
+            Error::Refused(code) => write!(to, "the agent refused the call: {code:?}"),
+            Error::Store(_) => write!(to, "the agent's file failed"),
+        }
+    }
+}
+
+impl std::error::Error for Error {
+    fn source(&self) -> Option<&(dyn std::error::Error + 'static)> {
+        match self {
+            Error::Refused(_) => None,
+            Error::Store(error) => Some(error),
+        }
+    }
+}
+
+impl From<StoreError> for Error {
+    fn from(error: StoreError) -> Self {
+        Error::Store(error)
+    }
+}
+
+/// What a code of the library answers.
+pub(crate) fn answered(code: u32) -> Result<(), Error> {
+    match code {
+        0 => Ok(()),
+        other => Err(Error::Refused(CODES.get(other as usize - 1).copied().unwrap_or(Code::Other(other)))),
+    }
+}
