@@ -101,6 +101,8 @@ def unpacked(count, root):
         count.check(f"it has {path}", os.path.isfile(os.path.join(top, path)))
     ran = subprocess.run([os.path.join(top, "bin", "serf-replay"), "--version"], capture_output=True, text=True)
     count.check("the program runs", ran.stdout == "serf-replay 9.8.7\n", ran)
+    made = subprocess.run(["make", "-n", "-C", os.path.join(top, "bindings", "c")], capture_output=True, text=True)
+    count.check("the binding in C takes its library", made.returncode == 0 and "../../lib/libserf_agent_c.a" in made.stdout, made)
 
 
 def main():

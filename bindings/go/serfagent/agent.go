@@ -4,13 +4,13 @@
 // agent is closed: open it again on the file. One call at a time is let through, from whichever goroutine. Moments are
 // nanoseconds of one clock that never goes back.
 //
-// The library is proved; this package is tested. It links bindings/c/serf_agent_heap.c and the static library of
-// crates/serf_agent_c/out; CGO_LDFLAGS may name another one in front.
+// The library is proved; this package is tested. It links bindings/c/serf_agent_heap.c and the static library of a
+// release's lib, or of crates/serf_agent_c/out; CGO_LDFLAGS may name another one in front.
 package serfagent
 
 /*
 #cgo CFLAGS: -I${SRCDIR}/../../../include
-#cgo LDFLAGS: -L${SRCDIR}/../../../crates/serf_agent_c/out -lserf_agent_c
+#cgo LDFLAGS: -L${SRCDIR}/../../../lib -L${SRCDIR}/../../../crates/serf_agent_c/out -lserf_agent_c
 #include "serf_agent.h"
 #include <stdlib.h>
 */
