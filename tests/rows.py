@@ -1,5 +1,9 @@
 """The worked rows: each schedule of tests/rows, run by the built program.
 
+    tests/rows.py [NAME..]
+
+With names, those rows alone are run, as ./serf-replay runs them, proved or not.
+
 NAME.trace is the whole trace that is wanted; NAME.fault the line on standard error of a schedule that is
 refused; NAME.lines facts about the trace: `N WORDS` is a line of it, `!N WORD` says that action N has no line
 with this second word, and `=N COUNT` that action N has so many lines. A row has one of the three.
@@ -24,6 +28,9 @@ ROWS = os.path.join(TOP, "tests", "rows")
 EXAMPLES = os.path.join(TOP, "examples")
 
 ENDINGS = ("trace", "fault", "lines")
+
+# How the line begins that ./serf-replay says where the program isn't built.
+UNPROVED = "serf-replay: this run is compiled without its proofs"
 
 # What a fact may be, and the second words that `!` may have.
 FACT = re.compile(r"(?P<line>\d+) .+|!(?P<absent>\d+) (?P<word>\S+)|=(?P<counted>\d+) \d+")
@@ -87,7 +94,7 @@ def wrong(name):
     with open(path + ".schedule", "rb") as schedule:
         ran = subprocess.run([PROGRAM, "replay"], stdin=schedule, capture_output=True, timeout=600)
     out = ran.stdout.decode("ascii", "replace")
-    err = ran.stderr.decode("ascii", "replace")
+    err = "".join(line for line in ran.stderr.decode("ascii", "replace").splitlines(True) if not line.startswith(UNPROVED))
     if wanted == ["fault"]:
         refused = (1, "", text_of(path + ".fault"))
         return None if (ran.returncode, out, err) == refused else f"wanted {refused}, got {(ran.returncode, out[:200], err)}"
@@ -108,7 +115,19 @@ def repeats(folder, name):
     return None if got == (0, wanted, "") else f"wanted {wanted!r}, got {got}"
 
 
-def main():
+def report(said):
+    """Prints which rows are wrong, and how many were held, and gives the status."""
+    failed = [(name, differs) for name, differs in said if differs]
+    for name, differs in failed:
+        print(f"FAILED {name}: {differs}")
+    print(f"{len(said) - len(failed)} passed, {len(failed)} failed")
+    return 1 if failed else 0
+
+
+def main(names):
+    if names:
+        rows = names_in(ROWS)
+        return report([(name, wrong(name) if name in rows else "there is no such row") for name in names])
     fault = programs.fault_of_build("serf_replay_program", "serf_repeats_program")
     rows, examples = names_in(ROWS), names_in(EXAMPLES)
     if fault or not rows or not examples:
@@ -118,11 +137,7 @@ def main():
     said = [(name, wrong(name)) for name in rows]
     said.append(("files without a schedule", ", ".join(name for name in os.listdir(ROWS) if name.rpartition(".")[0] not in rows)))
     said += [(f"{name}, and repeats", repeats(folder, name)) for folder, names in ((ROWS, rows), (EXAMPLES, examples)) for name in names]
-    failed = [(name, differs) for name, differs in said if differs]
-    for name, differs in failed:
-        print(f"FAILED {name}: {differs}")
-    print(f"{len(said) - len(failed)} passed, {len(failed)} failed")
-    return 1 if failed else 0
+    return report(said)
 
 
-sys.exit(main())
+sys.exit(main(sys.argv[1:]))
