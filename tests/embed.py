@@ -160,6 +160,8 @@ def in_rust(count, places):
     if status == 0:
         stores.try_store(count, "Rust", places, [os.path.join(target, "debug", "examples", "store_driver")])
         example(count, "Rust", places, [os.path.join(target, "debug", "examples", "two_agents")])
+        status, said = c_library.ran(["cargo", "test", "--offline", "--test", "faults"], **more)
+        count.check("Rust: its tests", status == 0 and "warning" not in said, said[-2000:])
 
 
 def in_go(count, places):
@@ -175,6 +177,8 @@ def in_go(count, places):
             return
     stores.try_store(count, "Go", places, [places.of("go_store_driver")])
     example(count, "Go", places, [places.of("go_example")])
+    status, said = c_library.ran(["go", "test", "-count=1", "./serfagent"], **more)
+    count.check("Go: its tests", status == 0, said[-2000:])
 
 
 def in_conform(count, places, program):

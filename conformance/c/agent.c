@@ -1,7 +1,6 @@
 /* The agent of the C library behind the pipe of docs/PIPE.md: calls on standard input, replies on standard output.
  *
- * Its snapshot is in memory. `break` is unsupported, since the library has no disk, and so is a packet that is no message,
- * since the library's code doesn't say why it is none. */
+ * Its snapshot is in memory. `break` is unsupported, since the library has no disk. */
 #define _GNU_SOURCE
 #include "pipe.h"
 
@@ -141,6 +140,10 @@ static void reply_to_call(const char *call) {
     serf_agent_clocks(&agent, &before);
     uint32_t code = called(call, &answer, &one);
     settle();
+    if (code == SERF_AGENT_NO_MESSAGE) {
+        put_packet_fault(one);
+        return;
+    }
     if (code != SERF_AGENT_OK) {
         const char *fault = code <= SERF_AGENT_NOT_HANDED ? faults[code] : NULL;
         printf("%s%s\n", fault != NULL ? "refused " : "unsupported", fault != NULL ? fault : "");

@@ -26,6 +26,9 @@ static const char *const reasons[] = {"",          "Oversize", "BelowMinimum", "
                                       "NotOpen",   "OtherId",  "Closed",       "AckNotAsked", "AckTwice", "ResponseTwice"};
 static const char *const kinds[] = {"", "new", "query", "ack", "response", "ignored ", "foreign ", "push-pull"};
 
+static const char *const packet_faults[] = {"",        "Empty",  "UnknownType", "Truncated", "Unsupported", "TooDeep",   "Trailing",
+                                            "NotAMap", "BadKey", "Twice",       "WrongKind", "OutOfRange",  "GreatestTime"};
+
 static int digit(int of) {
     return of <= '9' ? of - '0' : (of | 32) - 'a' + 10;
 }
@@ -58,6 +61,21 @@ static void put(const uint8_t *bytes, size_t len, const char *end) {
 static void put_line(const char *word, struct bytes bytes) {
     fputs(word, stdout);
     put(bytes.at, bytes.len, "\n");
+}
+
+/* The line of a packet that is no message: its fault, with the byte and the place that it names. */
+static void put_packet_fault(struct bytes packet) {
+    struct serf_agent_packet_fault fault = {0};
+    serf_agent_packet_fault(packet.at, packet.len, &fault);
+    printf("refused Wire %s", packet_faults[fault.kind]);
+    if (fault.kind == SERF_AGENT_FAULT_UNKNOWN_TYPE || fault.kind == SERF_AGENT_FAULT_UNSUPPORTED) {
+        printf(" %u", fault.byte);
+    }
+    /* a place is never the type's own */
+    if (fault.offset != 0) {
+        printf(" %zu", fault.offset);
+    }
+    putchar('\n');
 }
 
 /* The line of an answer that was counted: what its packet says. */

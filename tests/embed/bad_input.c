@@ -201,6 +201,84 @@ static void answers(void) {
     is("close", serf_agent_close(&agent), SERF_AGENT_OK);
 }
 
+/* A packet that is no message, with this fault. */
+static void has_fault(const char *what, const void *packet, size_t len, uint32_t kind, size_t offset, uint8_t byte) {
+    struct serf_agent_packet_fault fault = {77, 78, 79};
+    is(what, serf_agent_packet_fault(packet, len, &fault), SERF_AGENT_OK);
+    is(what, fault.kind, kind);
+    is("its offset", (uint32_t)fault.offset, (uint32_t)offset);
+    is("its byte", fault.byte, byte);
+}
+
+/* A packet that is a message: nothing is said of it, and nothing written. */
+static void has_none(const char *what, const void *packet, size_t len) {
+    struct serf_agent_packet_fault fault = {77, 78, 79};
+    is(what, serf_agent_packet_fault(packet, len, &fault), SERF_AGENT_NOTHING);
+    is("what stood there stays", (uint32_t)(fault.offset == 77 && fault.kind == 78 && fault.byte == 79), 1);
+}
+
+#define BYTES(literal) literal, sizeof(literal) - 1
+
+/* Each fault, in a packet of an event or of a response. */
+static void faults(void) {
+    has_fault("nothing", NULL, 0, SERF_AGENT_FAULT_EMPTY, 0, 0);
+    has_fault("a type that no message has", BYTES("\x63"), SERF_AGENT_FAULT_UNKNOWN_TYPE, 0, 99);
+    has_fault("that type, and bytes", BYTES("\xff\x80\x00"), SERF_AGENT_FAULT_UNKNOWN_TYPE, 0, 255);
+    has_fault("a type alone", BYTES("\x03"), SERF_AGENT_FAULT_TRUNCATED, 1, 0);
+    has_fault("a map without its entry", BYTES("\x03\x81"), SERF_AGENT_FAULT_TRUNCATED, 2, 0);
+    has_fault("a cut text", BYTES("\x03\x81\xa5LTim"), SERF_AGENT_FAULT_TRUNCATED, 2, 0);
+    has_fault("c1", BYTES("\x03\xc1"), SERF_AGENT_FAULT_UNSUPPORTED, 1, 0xc1);
+    has_fault("a float", BYTES("\x03\x81\xa5LTime\xca\0\0\0\0"), SERF_AGENT_FAULT_UNSUPPORTED, 8, 0xca);
+    has_fault("nine arrays", BYTES("\x03\x91\x91\x91\x91\x91\x91\x91\x91\x91\xc0"), SERF_AGENT_FAULT_TOO_DEEP, 9, 0);
+    has_fault("a byte behind the value", BYTES("\x03\x80\x00"), SERF_AGENT_FAULT_TRAILING, 2, 0);
+    has_fault("a number", BYTES("\x03\x07"), SERF_AGENT_FAULT_NOT_A_MAP, 0, 0);
+    has_fault("nil", BYTES("\x03\xc0"), SERF_AGENT_FAULT_NOT_A_MAP, 0, 0);
+    has_fault("a number as a key", BYTES("\x03\x81\x01\x01"), SERF_AGENT_FAULT_BAD_KEY, 2, 0);
+    has_fault("a key twice", BYTES("\x03\x82\xa5LTime\x01\xa5LTime\x01"), SERF_AGENT_FAULT_TWICE, 9, 0);
+    has_fault("a text as a time", BYTES("\x03\x81\xa5LTime\xa1x"), SERF_AGENT_FAULT_WRONG_KIND, 8, 0);
+    has_fault("an ID of 33 bits", BYTES("\x05\x81\xa2ID\xcf\0\0\0\1\0\0\0\0"), SERF_AGENT_FAULT_OUT_OF_RANGE, 5, 0);
+    has_fault("2^64 - 1 as a time", BYTES("\x03\x81\xa5LTime\xcf\xff\xff\xff\xff\xff\xff\xff\xff"), SERF_AGENT_FAULT_GREATEST_TIME, 8, 0);
+}
+
+/* Messages, in spellings that the library itself doesn't write. */
+static void spellings(void) {
+    has_none("all fields absent", BYTES("\x03\x80"));
+    has_none("a time", BYTES("\x03\x81\xa5LTime\x07"));
+    has_none("nil as a time", BYTES("\x03\x81\xa5LTime\xc0"));
+    has_none("a time of eight bytes", BYTES("\x03\x81\xa5LTime\xcf\0\0\0\0\0\0\0\7"));
+    has_none("a signed time", BYTES("\x03\x81\xa5LTime\xd0\x07"));
+    has_none("a map of 16 bits, and a key of 8", BYTES("\x03\xde\0\1\xd9\5LTime\x07"));
+    has_none("a map of 32 bits, and a key of 16", BYTES("\x03\xdf\0\0\0\1\xda\0\5LTime\x07"));
+    has_none("a key that no field has", BYTES("\x03\x81\xa1x\x90"));
+    has_none("a state", BYTES("\x02\x81\xa5LTime\x07"));
+    has_none("a query", BYTES("\x04\x81\xa7Timeout\xff"));
+    has_none("a foreign type alone", BYTES("\x00"));
+    has_none("a foreign type, and any bytes", BYTES("\x09\xc1\xc1"));
+}
+
+/* The library's own packets: none of them has a fault, and each has one where it is cut. */
+static void own_packets(void) {
+    struct serf_agent agent = {0};
+    size_t len = 0;
+    is("open", opened(&agent, "a", ""), SERF_AGENT_OK);
+    is("fire", fired(&agent, "x"), SERF_AGENT_OK);
+    written(&agent);
+    is("its packet", serf_agent_packet(&agent, &len, room, sizeof room), SERF_AGENT_OK);
+    has_none("an event", room, len);
+    has_fault("an event and a byte", room, len + 1, SERF_AGENT_FAULT_TRAILING, len, 0);
+    is("the state", serf_agent_local_state(&agent), SERF_AGENT_OK);
+    is("its packet", serf_agent_packet(&agent, &len, room, sizeof room), SERF_AGENT_OK);
+    has_none("a state", room, len);
+    is("query", asked(&agent, 1000), SERF_AGENT_OK);
+    written(&agent);
+    is("its packet", serf_agent_packet(&agent, &len, room, sizeof room), SERF_AGENT_OK);
+    has_none("a query", room, len);
+    is("its own ack", serf_agent_ack(&agent, &len, room, sizeof room), SERF_AGENT_OK);
+    has_none("an ack", room, len);
+    has_fault("a cut ack", room, len - 1, SERF_AGENT_FAULT_TRUNCATED, len - 1, 0);
+    is("close", serf_agent_close(&agent), SERF_AGENT_OK);
+}
+
 /* A query of this agent's own that another node acked, answered with "yes", and that is closed. */
 static void asked_and_closed(struct serf_agent *agent) {
     struct serf_agent other = {0};
@@ -328,24 +406,28 @@ static void any_bytes(int count) {
     struct serf_agent_gave gave;
     struct serf_agent_handed handed;
     static uint8_t sound[4096], any[4096];
-    int unknown = 0;
+    int unknown = 0, faulty = 0;
     is("open", opened(&agent, "a", ""), SERF_AGENT_OK);
     for (int i = 0; i < count; i++) {
         size_t len = any_packet(any, sound, sound_packet(sound, sizeof sound));
         uint8_t *own = malloc(len);
         memcpy(own, any, len);
         struct serf_agent_answer said;
+        struct serf_agent_packet_fault fault = {0};
         serf_agent_answer(own, len, &said, room, 8, room, 8);
+        bool has_one = serf_agent_packet_fault(own, len, &fault) == SERF_AGENT_OK;
         uint32_t code = drawn() % 4 ? serf_agent_receive(&agent, drawn() % 4, own, len) : serf_agent_merge(&agent, own, len, drawn() % 2);
         free(own);
         written(&agent);
         unknown += code > SERF_AGENT_NOT_HANDED || serf_agent_gave(&agent, &gave) != SERF_AGENT_OK;
+        faulty += has_one != (code == SERF_AGENT_NO_MESSAGE) || has_one != (fault.kind != 0) || fault.offset > len;
         if (gave.handed != 0) {
             serf_agent_handed(&agent, gave.handed, &handed, room, 8, room, 8, room, 8, room, 8);
             serf_agent_respond(&agent, drawn() % 4, gave.handed, room, drawn() % 1100);
         }
     }
     is("no unknown code", (uint32_t)unknown, 0);
+    is("a fault just where there is no message", (uint32_t)faulty, 0);
     is("close", serf_agent_close(&agent), SERF_AGENT_OK);
 }
 
@@ -356,6 +438,9 @@ int main(int count, char **words) {
     numbers_of_queries();
     packets();
     answers();
+    faults();
+    spellings();
+    own_packets();
     closings();
     limits();
     any_bytes(count > 1 ? atoi(words[1]) : 20000);

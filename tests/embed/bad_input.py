@@ -7,7 +7,7 @@ import os
 import sys
 
 sys.path.insert(0, os.path.join(os.path.dirname(os.path.abspath(__file__)), "..", "..", "bindings", "python"))
-from serf_agent import Agent, AgentError, Answer, Closed, Code, Kind, Locked, MissingFolder, NotAFile, Reason, Settings
+from serf_agent import Agent, AgentError, Answer, Closed, Code, Fault, Kind, Locked, MissingFolder, NotAFile, packet_fault, PacketFault, Reason, Settings
 
 FOLDER = sys.argv[1]
 passed = failed = 0
@@ -107,7 +107,39 @@ def compactions():
         check("the next life", (clocks.member, clocks.event, clocks.query, clocks.event_minimum) == (7, 4, 1, 4), clocks)
 
 
-for part in (openings, events, queries, compactions):
+# Packets that are no messages: the fault, its place, its byte, and what is said of it.
+FAULTY = [
+    (b"", Fault.EMPTY, 0, 0, "the packet is empty"),
+    (b"\x63\x80", Fault.UNKNOWN_TYPE, 0, 99, "no message has the type 99"),
+    (b"\x03", Fault.TRUNCATED, 1, 0, "the packet ends inside the value at 1"),
+    (b"\x03\xc1", Fault.UNSUPPORTED, 1, 0xC1, "the byte 0xc1 at 1 begins no value that is read"),
+    (b"\x03" + b"\x91" * 9 + b"\xc0", Fault.TOO_DEEP, 9, 0, "the array or map at 9 stands inside eight others"),
+    (b"\x03\x80\x00", Fault.TRAILING, 2, 0, "the value ends before 2, and more bytes follow"),
+    (b"\x03\x07", Fault.NOT_A_MAP, 0, 0, "the value is no map"),
+    (b"\x03\x81\x01\x01", Fault.BAD_KEY, 2, 0, "the key at 2 is not raw"),
+    (b"\x03\x82\xa5LTime\x01\xa5LTime\x01", Fault.TWICE, 9, 0, "the key at 9 stands for the second time"),
+    (b"\x03\x81\xa5LTime\xa1x", Fault.WRONG_KIND, 8, 0, "the value at 8 is of another kind"),
+    (b"\x05\x81\xa2ID\xcf\0\0\0\1\0\0\0\0", Fault.OUT_OF_RANGE, 5, 0, "the integer at 5 is out of range"),
+    (b"\x03\x81\xa5LTime\xcf" + b"\xff" * 8, Fault.GREATEST_TIME, 8, 0, "the number at 8 is no time"),
+]
+
+
+def faults():
+    for packet, kind, offset, byte, words in FAULTY:
+        found = packet_fault(packet)
+        check(f"the fault of {packet}", found == PacketFault(kind, offset, byte) and str(found) == words, repr(found))
+    check("each kind", [kind for _, kind, *_ in FAULTY] == list(Fault))
+    with Agent(b"a", path("g")) as agent:
+        for packet, *_ in FAULTY:
+            refused(f"the packet {packet}", Code.NO_MESSAGE, agent.receive, 1, packet)
+        asked = agent.query(1, 7, b"q", timeout=1000, want_ack=True)
+        for packet in (agent.fire(b"x").packet, agent.local_state(), asked.packet, asked.ack, b"\x00", b"\x09\xc1", b"\x03\x80"):
+            check(f"no fault of {packet}", packet_fault(packet) is None)
+        cut = len(asked.ack) - 1
+        check("a cut ack", packet_fault(asked.ack[:cut]) == PacketFault(Fault.TRUNCATED, cut, 0))
+
+
+for part in (openings, events, queries, compactions, faults):
     part()
 print(f"{passed} passed, {failed} failed")
 sys.exit(1 if failed else 0)

@@ -173,6 +173,7 @@ def compare_python(count, header, layout):
         count.check(f"Python: the layout of {name}", said == wanted, f"{said}, and the compiler has {wanted}")
     numbers = {f"SERF_AGENT_{one.name}": one.value for kind in (binding.Code, binding.Reason) for one in kind}
     numbers |= {f"SERF_AGENT_GAVE_{one.name}": one.value for one in binding.Kind}
+    numbers |= {f"SERF_AGENT_FAULT_{one.name}": one.value for one in binding.Fault}
     numbers["SERF_AGENT_DEFAULT_SNAPSHOT_LIMIT"] = binding.DEFAULT_SNAPSHOT_LIMIT
     compare_numbers(count, "Python", numbers, header)
     count.check("Python: all numbers", set(numbers) == set(header.numbers), sorted(set(numbers) ^ set(header.numbers)))
@@ -186,14 +187,21 @@ def compare_limit(count, language, header, path):
 
 
 def in_capitals(name):
-    """A variant's name as a number's in C: PastDeadline is PAST_DEADLINE."""
-    return re.sub(r"(?<=[a-z])(?=[A-Z])", "_", name).upper()
+    """A variant's name as a number's in C: PastDeadline is PAST_DEADLINE, and NotAMap is NOT_A_MAP."""
+    return re.sub(r"(?<=[a-z])(?=[A-Z])|(?<=[A-Z])(?=[A-Z][a-z])", "_", name).upper()
+
+
+def compare_faults(count, language, faults, header):
+    """A language's numbers of the faults of a packet: all of the header's."""
+    compare_numbers(count, language, faults, header, "SERF_AGENT_FAULT_")
+    wanted = {name for name in header.numbers if name.startswith("SERF_AGENT_FAULT_")}
+    count.check(f"{language}: all faults", len(wanted) == 12 == len(faults), faults)
 
 
 def compare_rust(count, header, layout):
-    """What the Rust binding declares: functions and structs, and the order of its codes and reasons."""
+    """What the Rust binding declares: functions and structs, the order of its codes and reasons, and the faults' numbers."""
     texts = {}
-    for name in ("raw", "error", "outcome"):
+    for name in ("raw", "error", "outcome", "fault"):
         with open(os.path.join(RUST, name + ".rs"), encoding="utf-8") as file:
             texts[name] = file.read()
     raw = re.sub(r"/// What a call for memory answers.*", "", texts["raw"], flags=re.S)
@@ -203,10 +211,12 @@ def compare_rust(count, header, layout):
         body = re.search(rf"const {listed}: .*? = \[(.*?)\];", texts[place], re.S)[1]
         numbers = {in_capitals(name): number for number, name in enumerate(re.findall(rf"{kind}::(\w+)", body), 1)}
         compare_numbers(count, "Rust", numbers, header, "SERF_AGENT_")
+    faults = {in_capitals(name): int(value) for value, name in re.findall(r"(\d+) => PacketFault::(\w+)", texts["fault"])}
+    compare_faults(count, "Rust", faults, header)
 
 
 def compare_rattle(count, crate, header, layout):
-    """What the library's own sources declare, and the numbers of its codes."""
+    """What the library's own sources declare, and the numbers of its codes and of a packet's faults."""
     texts = []
     for folder, _, files in sorted(os.walk(os.path.join(crate, "src"))):
         for name in sorted(files):
@@ -215,6 +225,9 @@ def compare_rattle(count, crate, header, layout):
     compare_declared(count, "Rattle", Declared(texts), header, layout)
     codes = {in_capitals(name): int(value) for name, value in re.findall(r"Code::(\w+) => (\d+),", "\n".join(texts))}
     codes = {"OK" if name == "DONE" else name: value for name, value in codes.items()}
+    faults = re.findall(r"(?:WireFault|PackFault)::(\w+)(?:\([^()]*\))?\)? => (\d+),", "\n".join(texts))
+    faults = {in_capitals(name): int(value) for name, value in faults}
+    compare_faults(count, "Rattle", faults, header)
     wanted = {name: value for name, value in header.numbers.items() if name[len("SERF_AGENT_") :] in codes}
     compare_numbers(count, "Rattle", codes, header, "SERF_AGENT_")
     compare_limit(count, "Rattle", header, os.path.join(os.path.dirname(crate), "serf_agent", "src", "defaults.rt"))

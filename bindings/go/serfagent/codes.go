@@ -8,7 +8,7 @@ import "fmt"
 // Code says why the library refused a call.
 type Code uint32
 
-// What include/serf_agent.h says of each stands there.
+// What include/serf_agent.h says of each stands there. Of a packet with NoMessage, PacketFaultOf says why.
 const (
 	Empty          Code = C.SERF_AGENT_EMPTY
 	InUse          Code = C.SERF_AGENT_IN_USE

@@ -1,7 +1,8 @@
 """The proved Serf agent, by ctypes: ``Agent`` over a snapshot's file. docs/EMBEDDING.md says what to call when."""
 
 from .agent import Agent, AgentError, Answer, Asked, Clocks, Closed, Event, Fired, Handed, Received, Settings
-from .library import Code, DEFAULT_SNAPSHOT_LIMIT, Kind, Library, Reason
+from .fault import PacketFault, packet_fault
+from .library import Code, DEFAULT_SNAPSHOT_LIMIT, Fault, Kind, Library, Reason
 from .store import Broken, Full, Locked, MissingFolder, NotAFile, ReadOnly, Store, StoreError
 
 __all__ = [
@@ -15,6 +16,7 @@ __all__ = [
     "Code",
     "DEFAULT_SNAPSHOT_LIMIT",
     "Event",
+    "Fault",
     "Fired",
     "Full",
     "Handed",
@@ -23,10 +25,12 @@ __all__ = [
     "Locked",
     "MissingFolder",
     "NotAFile",
+    "PacketFault",
     "ReadOnly",
     "Reason",
     "Received",
     "Settings",
     "Store",
     "StoreError",
+    "packet_fault",
 ]

@@ -10,7 +10,10 @@ from .store import Store
 
 
 class AgentError(Exception):
-    """A call was refused, with this code. It has changed nothing, but that a merge without memory keeps what it took."""
+    """A call was refused, with this code. It has changed nothing, but that a merge without memory keeps what it took.
+
+    Of a packet with ``Code.NO_MESSAGE``, ``packet_fault`` says why.
+    """
 
     def __init__(self, code):
         super().__init__(Code(code).name)

@@ -68,6 +68,23 @@ class Reason(enum.IntEnum):
     RESPONSE_TWICE = 11
 
 
+class Fault(enum.IntEnum):
+    """Why a packet is no message."""
+
+    EMPTY = 1
+    UNKNOWN_TYPE = 2
+    TRUNCATED = 3
+    UNSUPPORTED = 4
+    TOO_DEEP = 5
+    TRAILING = 6
+    NOT_A_MAP = 7
+    BAD_KEY = 8
+    TWICE = 9
+    WRONG_KIND = 10
+    OUT_OF_RANGE = 11
+    GREATEST_TIME = 12
+
+
 # How many bytes a file may have before it is worth a compaction: Serf's own number.
 DEFAULT_SNAPSHOT_LIMIT = 131072
 
@@ -112,6 +129,10 @@ class CAnswer(Structure):
     _fields_ = [("time", c_uint64), ("from_len", c_size_t), ("payload_len", c_size_t), ("id", c_uint32), ("is_ack", c_bool)]
 
 
+class CPacketFault(Structure):
+    _fields_ = [("offset", c_size_t), ("kind", c_uint32), ("byte", c_uint8)]
+
+
 class CClosed(Structure):
     _fields_ = [("time", c_uint64), ("deadline", c_uint64), ("acks", c_size_t), ("responses", c_size_t), ("id", c_uint32)]
 
@@ -134,6 +155,7 @@ STRUCTS = {
     "serf_agent_params": CParams,
     "serf_agent_handed": CHanded,
     "serf_agent_answer": CAnswer,
+    "serf_agent_packet_fault": CPacketFault,
     "serf_agent_closed": CClosed,
     "serf_agent_response": CResponse,
     "serf_agent_clocks": CClocks,
@@ -165,6 +187,7 @@ FUNCTIONS = {
     "gave": [HANDLE, POINTER(CGave)],
     "event": [HANDLE, c_size_t, POINTER(CEvent), *TEXT, *TEXT],
     "answer": [*TEXT, POINTER(CAnswer), *TEXT, *TEXT],
+    "packet_fault": [*TEXT, POINTER(CPacketFault)],
     "packet": [HANDLE, POINTER(c_size_t), *TEXT],
     "ack": [HANDLE, POINTER(c_size_t), *TEXT],
     "handed": [HANDLE, c_uint64, POINTER(CHanded), *TEXT, *TEXT, *TEXT, *TEXT],

@@ -17,6 +17,7 @@ pub enum Code {
     Stopped,
     TooLarge,
     Exhausted,
+    /// The packet is no message: [`crate::packet_fault`] says why.
     NoMessage,
     RespondersFull,
     NotPushPull,

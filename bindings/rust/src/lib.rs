@@ -8,6 +8,7 @@
 
 mod agent;
 mod error;
+mod fault;
 mod outcome;
 mod raw;
 mod settings;
@@ -15,6 +16,7 @@ mod store;
 
 pub use agent::{Agent, Closed, DEFAULT_SNAPSHOT_LIMIT};
 pub use error::{Code, Error};
+pub use fault::{packet_fault, PacketFault};
 pub use outcome::{Answer, Asked, Clocks, Event, Fired, Handed, Outcome, Reason, Received};
 pub use settings::{QueryParams, Settings};
 pub use store::{Store, StoreError};

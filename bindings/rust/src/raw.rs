@@ -85,6 +85,14 @@ pub struct Answer {
 
 #[repr(C)]
 #[derive(Default)]
+pub struct PacketFault {
+    pub offset: usize,
+    pub kind: u32,
+    pub byte: u8,
+}
+
+#[repr(C)]
+#[derive(Default)]
 pub struct Closed {
     pub time: u64,
     pub deadline: u64,
@@ -171,6 +179,7 @@ extern "C" {
         payload: *mut u8,
         payload_room: usize,
     ) -> u32;
+    pub fn serf_agent_packet_fault(packet: *const u8, packet_len: usize, fault: *mut PacketFault) -> u32;
     pub fn serf_agent_packet(handle: *mut Handle, len: *mut usize, to: *mut u8, room: usize) -> u32;
     pub fn serf_agent_ack(handle: *mut Handle, len: *mut usize, to: *mut u8, room: usize) -> u32;
     pub fn serf_agent_handed(

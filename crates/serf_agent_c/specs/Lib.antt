@@ -12,3 +12,4 @@ pub mod Closings
 pub mod Exports
 pub mod Held
 pub mod Answers
+pub mod Faults

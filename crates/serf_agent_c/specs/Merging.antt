@@ -29,7 +29,7 @@ fault_of _ = None
 -- A packet that isn't merged changes nothing, and its fault is the code.
 abbrev pub IsUnmerged : List ℕ → Session → Session → Code → Type 0
 IsUnmerged packet s t code =
-    is_ready s ≡ true → code ≢ OutOfMemory → (f : MergeFault) → merge_refusal s.agent.concrete (decoded packet) ≡ Some f
+    is_ready s ≡ true → code ≢ OutOfMemory → (f : MergeFault) → merge_refusal s.agent.concrete.snapshot (decoded packet) ≡ Some f
     → (code ≡ merge_code f) × (events_in t.gave ≡ []) × (t.agent ≡ s.agent)
 
 -- A sound agent merges the packet, and the events that are handed out are those that C reads.

@@ -2,12 +2,14 @@
 
 ghost use Rattle.std.specs.Prelude.{◌-◌, ◌^◌, min, true, ◌≡◌, ◌+◌, if◌then◌else◌, Some, false, length, slice_get};
 ghost use Rattle.std.specs.Option.{is_some};
+ghost use Rattle.serf_wire.specs.Decoded.{decoded};
 ghost use Rattle.serf_agent.specs.Answers.{answer_in};
 ghost use Rattle.serf_agent_c.specs.Answers.{ReadsAnswer, answer_head};
 ghost use Rattle.serf_agent_c.specs.Asking.{waiting_at};
 ghost use Rattle.serf_agent_c.specs.Closings.{TellsCompaction, ack_of, closed_head, response_head, response_of};
 ghost use Rattle.serf_agent_c.specs.Codes.{number_of};
 ghost use Rattle.serf_agent_c.specs.Exports.{Reads};
+ghost use Rattle.serf_agent_c.specs.Faults.{ReadsFault};
 ghost use Rattle.serf_agent_c.specs.Gaves.{ack_in, closed_in, events_in, handed_in, packet_in};
 ghost use Rattle.serf_agent_c.specs.Reads.{ReadsAs, ReadsQuery, TellsDeadline, clocks_head, event_head, foreign_of, handed_head, kind_of, reason_of, rebroadcast_of};
 ghost use Rattle.serf_agent_c.specs.Sessions.{is_ready, settled};
@@ -15,9 +17,10 @@ ghost use Rattle.serf_agent_c.specs.Texts.{copied};
 
 use crate::answers::read_answer;
 use crate::code::Code;
+use crate::faults::read_fault;
 use crate::handle::Handle;
 use crate::heads::{
-    AnswerHead, ClocksHead, ClosedHead, EventHead, GaveHead, HandedHead, ResponseHead,
+    AnswerHead, ClocksHead, ClosedHead, EventHead, FaultHead, GaveHead, HandedHead, ResponseHead,
 };
 use std::alloc::Global;
 
@@ -65,6 +68,15 @@ pub extern "C" fn serf_agent_answer(
     ensures { (code : Code) × (result ≡ number_of code) × ReadsAnswer (answer_in packet.now) (λ r. (answer.new ≡ answer_head r) × (from.new ≡ copied r.from from.old) × (payload.new ≡ copied r.payload payload.old)) code }
 {
     read_answer(packet, answer, from, payload).number()
+}
+
+/// Why a packet is no message: its first fault, where `serf_agent_receive` and `serf_agent_merge` say `NO_MESSAGE`. Of a
+/// message it says `NOTHING`, and the fault stays as it was.
+#[unsafe(no_mangle)]
+pub extern "C" fn serf_agent_packet_fault(packet: &[u8], fault: &mut FaultHead) -> u32
+    ensures { (code : Code) × (result ≡ number_of code) × ReadsFault (decoded packet.now) fault.old fault.new code }
+{
+    read_fault(packet, fault).number()
 }
 
 /// The packet that the last call gave to send: its length, and as much of it as fits.

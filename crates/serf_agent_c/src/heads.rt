@@ -90,6 +90,15 @@ pub struct AnswerHead {
     pub is_ack: bool,
 }
 
+/// Why a packet is no message.
+#[repr(C)]
+#[derive(Clone, Copy)]
+pub struct FaultHead {
+    pub offset: usize,
+    pub kind: u32,
+    pub byte: u8,
+}
+
 /// A query of the agent's own that the last call closed.
 #[repr(C)]
 #[derive(Clone, Copy)]

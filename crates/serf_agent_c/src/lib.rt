@@ -34,6 +34,7 @@ mod calls;
 mod closings;
 mod code;
 mod copies;
+mod faults;
 mod gave;
 mod getters;
 mod handle;
@@ -50,13 +51,13 @@ use gave::Gave;
 pub use getters::{
     serf_agent_ack, serf_agent_answer, serf_agent_clocks, serf_agent_closed, serf_agent_closed_ack,
     serf_agent_closed_response, serf_agent_event, serf_agent_gave, serf_agent_handed,
-    serf_agent_next_deadline, serf_agent_open_queries, serf_agent_packet,
+    serf_agent_next_deadline, serf_agent_open_queries, serf_agent_packet, serf_agent_packet_fault,
     serf_agent_should_compact,
 };
 pub use handle::Handle;
 pub use heads::{
-    AnswerHead, BytesHead, ClocksHead, ClosedHead, EventHead, GaveHead, HandedHead, Params,
-    ResponseHead, Settings,
+    AnswerHead, BytesHead, ClocksHead, ClosedHead, EventHead, FaultHead, GaveHead, HandedHead,
+    Params, ResponseHead, Settings,
 };
 use session::Session;
 use std::alloc::Global;

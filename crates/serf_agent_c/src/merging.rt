@@ -59,7 +59,7 @@ fn merge_into(
     is_join: bool,
     events: &mut Vec<EventOut>,
 ) -> Option<MergeFault>
-    ensures refused { (f : MergeFault) → merge_refusal agent.old.concrete (decoded packet.now) ≡ Some f → (result ≡ Some f) × (events.new.items ≡ events.old.items) × (agent.new ≡ agent.old) }
+    ensures refused { (f : MergeFault) → merge_refusal agent.old.concrete.snapshot (decoded packet.now) ≡ Some f → (result ≡ Some f) × (events.new.items ≡ events.old.items) × (agent.new ≡ agent.old) }
     ensures merged { (i : IdealAgent) (m : PushPull) → IsSound i → agent.old.concrete ≡ view_of i → i.snapshot.stopped ≡ false → decoded packet.now ≡ Ok (push_pull m)
         → Merges i m is_join events.old.items events.new.items agent.old.device agent.new result }
 {

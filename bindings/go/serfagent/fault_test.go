@@ -1,0 +1,59 @@
+package serfagent
+
+import (
+	"strings"
+	"testing"
+)
+
+var faulty = []struct {
+	packet string
+	fault  PacketFault
+	words  string
+}{
+	{"", PacketFault{FaultEmpty, 0, 0}, "the packet is empty"},
+	{"\x63\x80", PacketFault{FaultUnknownType, 0, 99}, "no message has the type 99"},
+	{"\x03", PacketFault{FaultTruncated, 1, 0}, "the packet ends inside the value at 1"},
+	{"\x03\xc1", PacketFault{FaultUnsupported, 1, 0xc1}, "the byte 0xc1 at 1 begins no value that is read"},
+	{
+		"\x03" + strings.Repeat("\x91", 9) + "\xc0",
+		PacketFault{FaultTooDeep, 9, 0},
+		"the array or map at 9 stands inside eight others",
+	},
+	{"\x03\x80\x00", PacketFault{FaultTrailing, 2, 0}, "the value ends before 2, and more bytes follow"},
+	{"\x03\x07", PacketFault{FaultNotAMap, 0, 0}, "the value is no map"},
+	{"\x03\x81\x01\x01", PacketFault{FaultBadKey, 2, 0}, "the key at 2 is not raw"},
+	{
+		"\x03\x82\xa5LTime\x01\xa5LTime\x01",
+		PacketFault{FaultTwice, 9, 0},
+		"the key at 9 stands for the second time",
+	},
+	{"\x03\x81\xa5LTime\xa1x", PacketFault{FaultWrongKind, 8, 0}, "the value at 8 is of another kind"},
+	{
+		"\x05\x81\xa2ID\xcf\x00\x00\x00\x01\x00\x00\x00\x00",
+		PacketFault{FaultOutOfRange, 5, 0},
+		"the integer at 5 is out of range",
+	},
+	{
+		"\x03\x81\xa5LTime\xcf" + strings.Repeat("\xff", 8),
+		PacketFault{FaultGreatestTime, 8, 0},
+		"the number at 8 is no time",
+	},
+}
+
+func TestPacketsWithAFault(t *testing.T) {
+	for _, one := range faulty {
+		found, has := PacketFaultOf([]byte(one.packet))
+		if !has || found != one.fault || found.Error() != one.words {
+			t.Errorf("%x: %v %v", one.packet, has, found)
+		}
+	}
+}
+
+func TestMessages(t *testing.T) {
+	sound := []string{"\x03\x80", "\x02\x81\xa5LTime\x07", "\x03\xde\x00\x01\xd9\x05LTime\xd0\x07", "\x00", "\x09\xc1"}
+	for _, packet := range sound {
+		if found, has := PacketFaultOf([]byte(packet)); has {
+			t.Errorf("%x: %v", packet, found)
+		}
+	}
+}

@@ -1,0 +1,42 @@
+"""Why a packet is no message."""
+
+from dataclasses import dataclass
+
+from .library import Code, CPacketFault, Fault, Library
+
+WORDS = {
+    Fault.EMPTY: "the packet is empty",
+    Fault.UNKNOWN_TYPE: "no message has the type {byte}",
+    Fault.TRUNCATED: "the packet ends inside the value at {offset}",
+    Fault.UNSUPPORTED: "the byte {byte:#x} at {offset} begins no value that is read",
+    Fault.TOO_DEEP: "the array or map at {offset} stands inside eight others",
+    Fault.TRAILING: "the value ends before {offset}, and more bytes follow",
+    Fault.NOT_A_MAP: "the value is no map",
+    Fault.BAD_KEY: "the key at {offset} is not raw",
+    Fault.TWICE: "the key at {offset} stands for the second time",
+    Fault.WRONG_KIND: "the value at {offset} is of another kind",
+    Fault.OUT_OF_RANGE: "the integer at {offset} is out of range",
+    Fault.GREATEST_TIME: "the number at {offset} is no time",
+}
+
+
+@dataclass(frozen=True)
+class PacketFault:
+    """A packet's first fault. ``offset`` is in bytes from the packet's first byte, its type.
+
+    ``offset`` is 0 where the fault names no place, and ``byte`` where it names no byte.
+    """
+
+    kind: Fault
+    offset: int
+    byte: int
+
+    def __str__(self):
+        return WORDS[self.kind].format(offset=self.offset, byte=self.byte)
+
+
+def packet_fault(packet, library=None):
+    """Why a packet is no message: ``PacketFault``, or None where it is one. It needs no agent."""
+    found = CPacketFault()
+    code = (library or Library()).packet_fault(bytes(packet), len(packet), found)
+    return PacketFault(Fault(found.kind), found.offset, found.byte) if code == Code.OK else None

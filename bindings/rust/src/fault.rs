@@ -1,0 +1,81 @@
+//! Why a packet is no message.
+
+use crate::error::answered;
+use crate::raw;
+
+/// Why a packet is no message: its first fault. A place is in bytes from the packet's first byte, its type.
+#[derive(Clone, Copy, Debug, PartialEq, Eq)]
+#[non_exhaustive]
+pub enum PacketFault {
+    /// The packet has no byte.
+    Empty,
+    /// No message has this type.
+    UnknownType(u8),
+    /// The packet ends inside the value that begins here.
+    Truncated(usize),
+    /// This byte, at this place, begins no value that is read: c1, a float or an ext.
+    Unsupported(u8, usize),
+    /// The array or map that begins here stands inside eight others.
+    TooDeep(usize),
+    /// The value is over, and bytes follow from here.
+    Trailing(usize),
+    /// The value is no map.
+    NotAMap,
+    /// The key here is not raw.
+    BadKey(usize),
+    /// The known key here stands in its map for the second time.
+    Twice(usize),
+    /// The value here is not of its field's kind.
+    WrongKind(usize),
+    /// The integer here is not in its field's range.
+    OutOfRange(usize),
+    /// Here is 2^64 - 1, which is no time.
+    GreatestTime(usize),
+    /// A fault that this crate doesn't know.
+    Other(u32),
+}
+
+impl std::fmt::Display for PacketFault {
+    fn fmt(&self, to: &mut std::fmt::Formatter<'_>) -> std::fmt::Result {
+        match self {
+            PacketFault::Empty => write!(to, "the packet is empty"),
+            PacketFault::UnknownType(kind) => write!(to, "no message has the type {kind}"),
+            PacketFault::Truncated(at) => write!(to, "the packet ends inside the value at {at}"),
+            PacketFault::Unsupported(byte, at) => write!(to, "the byte {byte:#x} at {at} begins no value that is read"),
+            PacketFault::TooDeep(at) => write!(to, "the array or map at {at} stands inside eight others"),
+            PacketFault::Trailing(at) => write!(to, "the value ends before {at}, and more bytes follow"),
+            PacketFault::NotAMap => write!(to, "the value is no map"),
+            PacketFault::BadKey(at) => write!(to, "the key at {at} is not raw"),
+            PacketFault::Twice(at) => write!(to, "the key at {at} stands for the second time"),
+            PacketFault::WrongKind(at) => write!(to, "the value at {at} is of another kind"),
+            PacketFault::OutOfRange(at) => write!(to, "the integer at {at} is out of range"),
+            PacketFault::GreatestTime(at) => write!(to, "the number at {at} is no time"),
+            PacketFault::Other(kind) => write!(to, "the packet has the fault {kind}"),
+        }
+    }
+}
+
+impl std::error::Error for PacketFault {}
+
+/// Why a packet is no message, or `None` where it is one. It needs no agent.
+pub fn packet_fault(packet: &[u8]) -> Option<PacketFault> {
+    let mut found = raw::PacketFault::default();
+    // SAFETY: the pointer comes with its length, and `found` is of the type that the library writes.
+    answered(unsafe { raw::serf_agent_packet_fault(packet.as_ptr(), packet.len(), &mut found) }).ok()?;
+    let raw::PacketFault { offset, kind, byte } = found;
+    Some(match kind {
+        1 => PacketFault::Empty,
+        2 => PacketFault::UnknownType(byte),
+        3 => PacketFault::Truncated(offset),
+        4 => PacketFault::Unsupported(byte, offset),
+        5 => PacketFault::TooDeep(offset),
+        6 => PacketFault::Trailing(offset),
+        7 => PacketFault::NotAMap,
+        8 => PacketFault::BadKey(offset),
+        9 => PacketFault::Twice(offset),
+        10 => PacketFault::WrongKind(offset),
+        11 => PacketFault::OutOfRange(offset),
+        12 => PacketFault::GreatestTime(offset),
+        other => PacketFault::Other(other),
+    })
+}
