@@ -1,7 +1,8 @@
 """Pictures of runs: each example beside its stored picture, any bytes in names and payloads, ranges, and that no labels overlap.
 
-A label's box is an estimate: 45 units a character, which is 0.6 of the size of the font. Mermaid itself is not run: its text
-is held against the part of its grammar of sequence diagrams that is used, as Mermaid's documents have it.
+A label's box is an estimate: 45 units a character, which is 0.6 of the size of the font. Mermaid itself is not run here: its
+text is held against the part of its grammar of sequence diagrams that is used, as Mermaid's documents have it.
+`tests/by_hand/mermaid.py` gives such texts to Mermaid's own parser.
 """
 
 import os
