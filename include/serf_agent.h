@@ -41,7 +41,7 @@ enum serf_agent_code {
     SERF_AGENT_STOPPED = 8,          /* the agent's sink failed before; not with this library's own sink */
     SERF_AGENT_TOO_LARGE = 9,        /* fire, query, respond: the event, query or response is too large */
     SERF_AGENT_EXHAUSTED = 10,       /* fire, query: the clock stands at 2^64 - 1 */
-    SERF_AGENT_NO_MESSAGE = 11,      /* receive, merge: the packet is no message */
+    SERF_AGENT_NO_MESSAGE = 11,      /* receive, merge: the packet is no message; serf_agent_packet_fault says why */
     SERF_AGENT_RESPONDERS_FULL = 12, /* receive: the query has as many answers as it takes */
     SERF_AGENT_NOT_PUSH_PULL = 13,   /* merge: a message of another kind */
     SERF_AGENT_TOO_LONG = 14,        /* local_state: a text or a list is longer than 4,294,967,295 */
@@ -82,6 +82,22 @@ enum serf_agent_reason {
     SERF_AGENT_ACK_NOT_ASKED = 9, /* an ack, though none was asked for */
     SERF_AGENT_ACK_TWICE = 10,    /* a second ack of one node */
     SERF_AGENT_RESPONSE_TWICE = 11 /* a second response of one node */
+};
+
+/* Why a packet is no message: serf_agent_packet_fault's kind. */
+enum serf_agent_fault {
+    SERF_AGENT_FAULT_EMPTY = 1,         /* the packet has no byte */
+    SERF_AGENT_FAULT_UNKNOWN_TYPE = 2,  /* no message has the type that its first byte says */
+    SERF_AGENT_FAULT_TRUNCATED = 3,     /* the packet ends inside the value that begins at the offset */
+    SERF_AGENT_FAULT_UNSUPPORTED = 4,   /* the byte at the offset begins no value that is read: c1, a float or an ext */
+    SERF_AGENT_FAULT_TOO_DEEP = 5,      /* the array or map at the offset stands inside eight others */
+    SERF_AGENT_FAULT_TRAILING = 6,      /* the value is over, and bytes follow from the offset on */
+    SERF_AGENT_FAULT_NOT_A_MAP = 7,     /* the value is no map */
+    SERF_AGENT_FAULT_BAD_KEY = 8,       /* the key at the offset is not raw */
+    SERF_AGENT_FAULT_TWICE = 9,         /* the known key at the offset stands in its map for the second time */
+    SERF_AGENT_FAULT_WRONG_KIND = 10,   /* the value at the offset is not of its field's kind */
+    SERF_AGENT_FAULT_OUT_OF_RANGE = 11, /* the integer at the offset is not in its field's range */
+    SERF_AGENT_FAULT_GREATEST_TIME = 12 /* at the offset is 2^64 - 1, which is no time */
 };
 
 /* Numbers of Serf's own. */
@@ -162,6 +178,13 @@ struct serf_agent_answer {
     bool is_ack;
 };
 
+/* Why a packet is no message: its first fault. */
+struct serf_agent_packet_fault {
+    size_t offset; /* where it is, in bytes from the packet's first byte, its type; 0 where the fault names no place */
+    uint32_t kind; /* enum serf_agent_fault */
+    uint8_t byte;  /* UNKNOWN_TYPE and UNSUPPORTED: the byte; else 0 */
+};
+
 /* A query of this agent's own that close_due closed. */
 struct serf_agent_closed {
     uint64_t time;
@@ -239,6 +262,9 @@ uint32_t serf_agent_event(struct serf_agent *handle, size_t index, struct serf_a
    Where serf_agent_receive gave ACK or RESPONSE it is what was counted. It needs no handle. */
 uint32_t serf_agent_answer(const uint8_t *packet, size_t packet_len, struct serf_agent_answer *answer, uint8_t *from,
                            size_t from_room, uint8_t *payload, size_t payload_room);
+/* Why a packet is no message. It needs no handle and takes no memory. Where the packet is a message, also one of a type
+   that isn't read, it answers SERF_AGENT_NOTHING and leaves the fault as it was. */
+uint32_t serf_agent_packet_fault(const uint8_t *packet, size_t packet_len, struct serf_agent_packet_fault *fault);
 /* The packet that the last call gave to send (fire, query, local_state, respond): its length, and as much of it as fits. */
 uint32_t serf_agent_packet(struct serf_agent *handle, size_t *len, uint8_t *to, size_t room);
 /* The ack to send to the query's address and port, of a query that is handed out here (receive, query). */

@@ -15,7 +15,7 @@ use Rattle.serf_agent.specs.States.{joined}
 use Rattle.serf_agent.specs.Tracks.{track_reason, was_ever_entered, IsTrackSound}
 use Rattle.serf_agent.proofs.TrackLaws.{track-entered, track-observed, track-raised, track-reopened, track-noted, unknown-fresh, later-fresh, no-reason, none-from}
 use Rattle.serf_agent.specs.declared.outcome.Reason.{Reason}
-use Rattle.serf_agent.specs.declared.outcome.Reason.TheVariants.{Oversize, OtherId, Closed, AckNotAsked, AckTwice, ResponseTwice}
+use Rattle.serf_agent.specs.declared.outcome.Reason.TheVariants.{OtherId, Closed, AckNotAsked, AckTwice, ResponseTwice}
 use Rattle.serf_agent.specs.declared.lists.Response.{Response as ResponseText}
 use Rattle.serf_agent.proofs.OpenQueries.{set_value-keys, set_value-values, set_value-distinct, lookup-each, unlike-each}
 
@@ -92,7 +92,7 @@ same_texts-refl x = and_from _ _ ((bytes_eq-Decides x.name x.name).1 refl) ((byt
 -- what an agent admits has short texts and was never entered
 pub admission-new : (i : IdealAgent) (t : ℕ) (what : EventBody) → admission i t what ≡ None → (texts_len what ≤ 9216) × All (λ p. p.entry ≢ record { time = t; key = what }) i.events.history
 admission-new i t what new =
-    let parts = none-from (nat_lt 9216 (texts_len what)) Oversize (track_reason same_texts i.config.event_buffer i.config.per_time i.life i.events t what) new in
+    let parts = none-from (nat_lt 9216 (texts_len what)) _ (track_reason same_texts i.config.event_buffer i.config.per_time i.life i.events t what) new in
     (ltb-false _ _ parts.0, unknown-fresh same_texts same_texts-refl i.events.history t what (no-reason same_texts i.config.event_buffer i.config.per_time i.life i.events t what parts.1))
 
 pub sound-event_entered : SnapshotLaws → (t : ℕ) (what : EventBody) (i : IdealAgent) → IsSound i → i.snapshot.stopped ≡ false → t < 2 ^ 64 - 1 → texts_len what ≤ 9216 → All (λ p. p.entry ≢ record { time = t; key = what }) i.events.history

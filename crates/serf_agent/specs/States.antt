@@ -11,7 +11,7 @@ use Rattle.serf_snap.specs.declared.kind.ClockKind.TheVariants as kinds
 use Rattle.serf_snap.specs.declared.snapshot.NoteFault.{NoteFault}
 use Rattle.serf_snap.specs.declared.snapshot.NoteFault.TheVariants as notes
 use Rattle.serf_snap.specs.Device.{Device}
-use Rattle.serf_snap.specs.Notes.{Kept}
+use Rattle.serf_snap.specs.Notes.{SnapshotView, Kept}
 use Rattle.serf_agent.specs.declared.outcome.EventOut.{EventOut}
 use Rattle.serf_agent.specs.declared.outcome.Outcome.{Outcome}
 use Rattle.serf_agent.specs.declared.outcome.Outcome.TheVariants.{Event}
@@ -120,10 +120,10 @@ fault_in (Ok x) = None
 fault_in (Err e) = Some e
 
 -- why a packet isn't merged: the first that holds
-abbrev pub merge_refusal : ConcreteState → Result Message WireFault → Option MergeFault
-merge_refusal a (Err f) = if a.snapshot.stopped then Some merges.Stopped else Some (merges.Wire f)
-merge_refusal a (Ok (push_pull m)) = if a.snapshot.stopped then Some merges.Stopped else None
-merge_refusal a (Ok m) = if a.snapshot.stopped then Some merges.Stopped else Some merges.NotPushPull
+abbrev pub merge_refusal : SnapshotView → Result Message WireFault → Option MergeFault
+merge_refusal s (Err f) = if s.stopped then Some merges.Stopped else Some (merges.Wire f)
+merge_refusal s (Ok (push_pull m)) = if s.stopped then Some merges.Stopped else None
+merge_refusal s (Ok m) = if s.stopped then Some merges.Stopped else Some merges.NotPushPull
 
 -- The member clock's line, and a compaction
 

@@ -1,9 +1,10 @@
 //! An agent's settings.
 
-ghost use Rattle.std.specs.Prelude.{◌≡◌};
+ghost use Rattle.std.specs.Prelude.{◌≡◌, IfOk};
 ghost use Rattle.serf_agent.specs.Config.{is_sound};
 
 use serf_wire::Bytes;
+use std::alloc::{AllocError, Global};
 
 /// What an agent is set to (Serf's `config.go`). The bounds are this project's own; settings outside them are refused
 /// when an agent is opened.
@@ -42,5 +43,20 @@ impl Config {
             && self.responders <= 65536
             && self.per_time >= 1
             && self.per_time <= 65536
+    }
+
+    /// A copy of the settings. It is an `AllocError` only where there is no memory for it.
+    pub fn try_clone(&self, alloc: Global) -> Result<Config, AllocError>
+        ensures { IfOk result (λ copy. copy ≡ self.now) }
+    {
+        Ok(Config {
+            name: Bytes::copy_of(alloc, self.name.as_slice())?,
+            event_buffer: self.event_buffer,
+            query_buffer: self.query_buffer,
+            event_limit: self.event_limit,
+            responders: self.responders,
+            per_time: self.per_time,
+            ignore_old: self.ignore_old,
+        })
     }
 }

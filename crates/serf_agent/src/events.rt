@@ -236,7 +236,8 @@ impl<S: Sink> Agent<S> {
         match self.snapshot.note(alloc, ClockKind::Event, time) {
             Ok(()) => {}
             Err(NoteFault::SinkFault) => return Err(LineFault::SinkFault),
-            Err(_) => return Err(LineFault::OutOfMemory),
+            Err(NoteFault::OutOfMemory) => return Err(LineFault::OutOfMemory),
+            Err(NoteFault::Stopped) => unreachable!(),
         }
         self.events.enter(time, entry);
         Ok(())

@@ -52,7 +52,7 @@ pub use defaults::{
 pub use handed::HandedQuery;
 pub use laws::{life_promises, short_packets, sound_steps};
 pub use lent_queries::LentQueries;
-pub use lists::{BytesList, Response, Responses};
+pub use lists::{BytesList, List, Response, Responses};
 pub use open_query::OpenQuery;
 pub use outcome::{
     EventOut, FireFault, Fired, FiredQuery, MergeFault, NotOpened, OpenFault, Outcome,

@@ -6,61 +6,66 @@ use serf_wire::Bytes;
 use std::alloc::{AllocError, Global};
 use std::marker::Model;
 
-/// Byte lists in order: the names that acked a query, or a query's filters.
+/// Items in order.
 ///
 /// Contracts see the list of them. It is made from a `Vec` and gives it back without memory.
 #[derive(Debug, Drop)]
-pub struct BytesList {
-    items: Vec<Bytes>,
+pub struct List<T> {
+    items: Vec<T>,
 }
 
-impl Model for BytesList {
-    ghost use Rattle.std.specs.Prelude.{List, ℕ};
+impl<T> Model for List<T> {
+    ghost use Rattle.std.specs.Prelude.{List};
 
-    ghost Value = { List (List ℕ) };
+    ghost Value = { List T };
 
-    ghost view = { λ b. b.items.items };
+    ghost view = { λ l. l.items.items };
 }
 
-impl BytesList {
-    /// No byte lists. Takes no memory.
-    pub fn new(alloc: Global) -> BytesList
+impl<T> List<T> {
+    /// No items. Takes no memory.
+    pub fn new(alloc: Global) -> List<T>
         ensures { result ≡ [] }
     {
-        BytesList::from_vec(Vec::new(alloc))
+        List::from_vec(Vec::new(alloc))
     }
 
-    /// The byte lists of a vector. Takes no memory.
-    pub fn from_vec(items: Vec<Bytes>) -> BytesList
+    /// The items of a vector. Takes no memory.
+    pub fn from_vec(items: Vec<T>) -> List<T>
         ensures { result ≡ items.items }
     {
-        BytesList { items }
+        List { items }
     }
 
-    /// The byte lists. Takes no memory.
-    pub fn as_slice(&self) -> &[Bytes]
+    /// The items. Takes no memory.
+    pub fn as_slice(&self) -> &[T]
         ensures { result.now ≡ self.now }
     {
         self.items.as_slice()
     }
 
-    /// The vector of the byte lists. Takes no memory.
-    pub fn into_vec(self) -> Vec<Bytes>
+    /// The vector of the items. Takes no memory.
+    pub fn into_vec(self) -> Vec<T>
         ensures { result.items ≡ self }
     {
-        let BytesList { items } = self;
+        let List { items } = self;
         items
     }
+}
 
+impl<T: Drop> List<T> {
     /// Adds one, or changes nothing where there is no memory for it.
-    pub fn push(&mut self, bytes: Bytes) -> Result<(), AllocError>
-        ensures ok { OnOk result (self.new ≡ self.old ++ bytes ∷ []) }
+    pub fn push(&mut self, item: T) -> Result<(), AllocError>
+        ensures ok { OnOk result (self.new ≡ self.old ++ item ∷ []) }
         ensures err { OnErr result (self.new ≡ self.old) }
     {
-        self.items.push(bytes)?;
+        self.items.push(item)?;
         Ok(())
     }
 }
+
+/// Byte lists in order: the names that acked a query, or a query's filters.
+pub type BytesList = List<Bytes>;
 
 /// What a node answered to a query.
 #[derive(Debug, Drop)]
@@ -71,45 +76,4 @@ pub struct Response {
 }
 
 /// Responses in order of arrival.
-///
-/// Contracts see the list of them.
-#[derive(Debug, Drop)]
-pub struct Responses {
-    responses: Vec<Response>,
-}
-
-impl Model for Responses {
-    ghost use Rattle.std.specs.Prelude.{List};
-    ghost use Rattle.serf_agent.specs.declared.lists.Response.{Response};
-
-    ghost Value = { List Response };
-
-    ghost view = { λ r. r.responses.items };
-}
-
-impl Responses {
-    /// No responses. Takes no memory.
-    pub fn new(alloc: Global) -> Responses
-        ensures { result ≡ [] }
-    {
-        Responses {
-            responses: Vec::new(alloc),
-        }
-    }
-
-    /// The responses. Takes no memory.
-    pub fn as_slice(&self) -> &[Response]
-        ensures { result.now ≡ self.now }
-    {
-        self.responses.as_slice()
-    }
-
-    /// Adds one, or changes nothing where there is no memory for it.
-    pub fn push(&mut self, response: Response) -> Result<(), AllocError>
-        ensures ok { OnOk result (self.new ≡ self.old ++ response ∷ []) }
-        ensures err { OnErr result (self.new ≡ self.old) }
-    {
-        self.responses.push(response)?;
-        Ok(())
-    }
-}
+pub type Responses = List<Response>;

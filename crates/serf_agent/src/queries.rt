@@ -201,7 +201,8 @@ impl<S: Sink> Agent<S> {
         match self.snapshot.note(alloc, ClockKind::Query, time) {
             Ok(()) => {}
             Err(NoteFault::SinkFault) => return Err(LineFault::SinkFault),
-            Err(_) => return Err(LineFault::OutOfMemory),
+            Err(NoteFault::OutOfMemory) => return Err(LineFault::OutOfMemory),
+            Err(NoteFault::Stopped) => unreachable!(),
         }
         self.queries.enter(time, entry);
         Ok(())

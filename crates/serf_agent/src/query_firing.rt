@@ -118,10 +118,11 @@ fn note_asked<S: Sink>(
             asked.pop();
             Err(LineFault::SinkFault)
         }
-        Err(_) => {
+        Err(NoteFault::OutOfMemory) => {
             asked.pop();
             Err(LineFault::OutOfMemory)
         }
+        Err(NoteFault::Stopped) => unreachable!(),
     }
 }
 

@@ -3,7 +3,7 @@
 ghost use Rattle.std.specs.Prelude.{◌≡◌, ◌≢◌, ◌<◌, ◌≤◌, ◌-◌, ◌^◌, ◌⊎◌, false, List, [], ◌∷◌, ◌++◌, None, Some, map, Ok, Err, OnOk, OnErr, IfOk, IfSome, IsErrOf, IsOk, vec_len, vec_capacity};
 ghost use Rattle.serf_wire.specs.declared.texts.EventBody.{EventBody};
 ghost use Rattle.serf_wire.specs.Decoded.{decoded};
-ghost use Rattle.serf_wire.specs.Lists.{event_of as text_of, events_left, slot_of, slots_left, status_of};
+ghost use Rattle.serf_wire.specs.Lists.{event_of_view, events_left, slot_of_view, slots_left, status_of};
 ghost use Rattle.serf_wire.specs.Message.{PushPull as State, message_of, push_pull};
 ghost use Rattle.serf_window.specs.Window.{TimedEntry, count_in, time_in};
 ghost use Rattle.serf_snap.specs.Clocks.{clock_line};
@@ -165,7 +165,7 @@ impl<S: Sink> Agent<S> {
         is_join: bool,
         out: &mut Vec<EventOut>,
     ) -> Result<PushPull<'a>, MergeFault>
-        ensures refused { (fault : Fault) → merge_refusal self.old.concrete (decoded packet.now) ≡ Some fault
+        ensures refused { (fault : Fault) → merge_refusal self.old.concrete.snapshot (decoded packet.now) ≡ Some fault
             → (result ≡ Err fault) × (out.new.items ≡ out.old.items) × (self.new ≡ self.old) }
         ensures merged { (i : IdealAgent) (m : State) → IsSound i → self.old.concrete ≡ view_of i → i.snapshot.stopped ≡ false → decoded packet.now ≡ Ok (push_pull m)
             → Merges i m is_join out.old.items out.new.items self.old.device self.new (fault_in result) }
@@ -234,7 +234,7 @@ impl<S: Sink> Agent<S> {
         out: &mut Vec<EventOut>,
     ) -> Result<(), MergeFault>
         requires { self.old.concrete.snapshot.stopped ≡ false }
-        ensures received { (i : IdealAgent) → IsSound i → self.old.concrete ≡ view_of i → Received i (events_of_slot (slot_of slot.now)) out.old.items out.new.items self.old.device self.new result }
+        ensures received { (i : IdealAgent) → IsSound i → self.old.concrete ≡ view_of i → Received i (events_of_slot (slot_of_view slot.now)) out.old.items out.new.items self.old.device self.new result }
         ensures runs { OnOk result (self.new.concrete.snapshot.stopped ≡ false) }
         ensures calm { OnOk result (self.new.device.failures ≡ self.old.device.failures) }
         ensures cause { IsErrOf result MergeFault.SinkFault → HasFailed self.old.device.failures self.new.device.failures }
@@ -278,7 +278,7 @@ impl<S: Sink> Agent<S> {
     ) -> Result<(), MergeFault>
         requires { self.old.concrete.snapshot.stopped ≡ false }
         ensures received { (i : IdealAgent) → IsSound i → self.old.concrete ≡ view_of i
-            → Received i (record { time = time; key = text_of event.now } ∷ []) out.old.items out.new.items self.old.device self.new result }
+            → Received i (record { time = time; key = event_of_view event.now } ∷ []) out.old.items out.new.items self.old.device self.new result }
         ensures runs { OnOk result (self.new.concrete.snapshot.stopped ≡ false) }
         ensures calm { OnOk result (self.new.device.failures ≡ self.old.device.failures) }
         ensures cause { IsErrOf result MergeFault.SinkFault → HasFailed self.old.device.failures self.new.device.failures }
@@ -304,8 +304,8 @@ impl<S: Sink> Agent<S> {
         requires not_later { time_in self.old.concrete.events.slots time ≤ time }
         requires not_full { count_in self.old.concrete.events.slots time < self.old.concrete.config.per_time }
         requires small { time < 2 ^ 64 - 1 }
-        ensures received { (i : IdealAgent) → IsSound i → self.old.concrete ≡ view_of i → admission i time (text_of event.now) ≡ None
-            → Received i (record { time = time; key = text_of event.now } ∷ []) out.old.items out.new.items self.old.device self.new result }
+        ensures received { (i : IdealAgent) → IsSound i → self.old.concrete ≡ view_of i → admission i time (event_of_view event.now) ≡ None
+            → Received i (record { time = time; key = event_of_view event.now } ∷ []) out.old.items out.new.items self.old.device self.new result }
         ensures runs { OnOk result (self.new.concrete.snapshot.stopped ≡ false) }
         ensures calm { OnOk result (self.new.device.failures ≡ self.old.device.failures) }
         ensures cause { IsErrOf result MergeFault.SinkFault → HasFailed self.old.device.failures self.new.device.failures }

@@ -104,6 +104,8 @@ fn is_walked(packet: &[u8]) -> bool {
 #[derive(Clone, Copy)]
 enum Kind {
     Event,
+    /// A user event whose first key is a bin, which `decode` reads the general way.
+    EventWithBinKey,
     Query,
     Response,
     State,
@@ -152,10 +154,21 @@ fn state_of<'a>(number: u64, parts: &'a Parts) -> PushPullParts<'a> {
     }
 }
 
+/// A user event's packet whose first key, `LTime`, is a bin of five bytes.
+fn encode_with_bin_key(alloc: Global, number: u64) -> Result<Vec<u8>, EncodeFault> {
+    let packet = encode_user_event(alloc, time_of(number), NAME, b"v1", false)?;
+    let mut spelled = Vec::from_slice(alloc, &[3, 0x84, 0xc4, 5])?;
+    if let Some((_head, rest)) = packet.as_slice().split_at_checked(3) {
+        spelled.extend_from_slice(rest)?;
+    }
+    Ok(spelled)
+}
+
 /// The packet of the message of this number, from 1 on.
 fn encode(alloc: Global, kind: Kind, number: u64, parts: &Parts) -> Result<Vec<u8>, EncodeFault> {
     match kind {
         Kind::Event => encode_user_event(alloc, time_of(number), NAME, b"v1", false),
+        Kind::EventWithBinKey => encode_with_bin_key(alloc, number),
         Kind::Query => encode_query(alloc, &query_of(number, parts)),
         Kind::Response => encode_response(alloc, number, 7, b"b", 0, b"ok"),
         Kind::State => encode_push_pull(alloc, &state_of(number, parts)),
@@ -215,6 +228,8 @@ fn bench_call(rt: &HostRuntime, name: &str, kind: Kind, call: Call, calls: u64) 
 /// Prints the times of all of them.
 pub fn bench(rt: &HostRuntime) -> io::Result<()> {
     bench_call(rt, "decode a user event", Kind::Event, Call::Decode, CALLS)?;
+    let name = "decode a user event with one key as bin";
+    bench_call(rt, name, Kind::EventWithBinKey, Call::Decode, CALLS)?;
     bench_call(rt, "decode a query", Kind::Query, Call::Decode, CALLS)?;
     bench_call(rt, "decode a response", Kind::Response, Call::Decode, CALLS)?;
     let name = "decode a state of 512 slots";

@@ -6,25 +6,10 @@ ghost use Rattle.serf_random.specs.Draft.{IsShort};
 ghost use Rattle.serf_schedule_text.specs.ScheduleText.{agent_text};
 
 use serf_agent::Config;
-use serf_hunt::copy_config;
 use serf_replay::MAX_SCHEDULE_BYTES;
 use serf_schedule_text::put_agent;
 use serf_world::Roster;
 use std::alloc::{AllocError, Global};
-
-/// The same agents once more.
-pub(crate) fn copy_of(alloc: Global, roster: &Roster) -> Result<Roster, AllocError>
-    ensures { IfOk result (λ copy. copy ≡ roster.now) }
-{
-    let mut copies = Vec::new(alloc);
-    for config in roster.as_slice() {
-        copies.push(copy_config(alloc, config)?)?;
-    }
-    match Roster::from_vec(alloc, copies) {
-        Ok(copy) => Ok(copy),
-        Err(_) => Err(AllocError),
-    }
-}
 
 fn put_agents(text: &mut Vec<u8>, agents: &[Config]) -> Result<(), AllocError>
     ensures { OnOk result (text.new.items ≡ text.old.items ++ flat_map agent_text agents.now) }

@@ -5,7 +5,7 @@ ghost use Rattle.serf_replay.specs.Schedule.{parsed_of, schedule_of};
 ghost use Rattle.serf_schedule_text.specs.ScheduleText.{schedule_text};
 ghost use Rattle.serf_common_turns.specs.Common.{AreCommon, comment_text};
 
-use crate::agents::{add_agents, copy_of};
+use crate::agents::add_agents;
 use crate::comment::{know_numbers, put_comment};
 use crate::cut::add_common;
 use crate::rounds::in_rounds;
@@ -35,7 +35,7 @@ pub fn common_schedule(alloc: Global, ask: &Ask) -> Result<Made, AllocError>
     put_comment(&mut text, ask)?;
     let agents = add_agents(alloc, &mut text, agents)?;
     let left = in_rounds(alloc, &agents, actions)?;
-    let kept = add_common(alloc, copy_of(alloc, &agents)?, left, &mut text)?;
+    let kept = add_common(alloc, agents.try_clone(alloc)?, left, &mut text)?;
     let schedule = Schedule {
         agents,
         actions: kept,

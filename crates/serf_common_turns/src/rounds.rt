@@ -2,7 +2,6 @@
 
 ghost use Rattle.std.specs.Prelude.{◌+◌, ◌≤◌, IfOk, OnOk, length};
 
-use crate::agents::copy_of;
 use serf_conform::is_common_turn;
 use serf_world::{Action, Roster, World};
 use std::alloc::{AllocError, Global};
@@ -33,7 +32,7 @@ fn keep_common(
 fn round(alloc: Global, agents: &Roster, actions: Vec<Action>) -> Result<Vec<Action>, AllocError>
     ensures few { IfOk result (λ kept. length kept.items ≤ length actions.items) }
 {
-    let mut world = World::new(alloc, copy_of(alloc, agents)?)?;
+    let mut world = World::new(alloc, agents.try_clone(alloc)?)?;
     let mut kept = Vec::new(alloc);
     for action in actions {
         keep_common(alloc, &mut world, &mut kept, action)?;

@@ -1,6 +1,6 @@
 //! One call of an agent, and one turn.
 
-ghost use Rattle.std.specs.Prelude.{◌≡◌, ◌+◌, ◌≤◌, IfOk, IfSome, OnOk, Some, length, slice_get};
+ghost use Rattle.std.specs.Prelude.{◌≡◌, ◌+◌, ◌≤◌, IfOk, IfSome, OnOk, Some, length};
 ghost use Rattle.std.specs.Io.KnownBytes.{Appends};
 ghost use Rattle.std.specs.Option.{option_copied};
 ghost use Rattle.serf_model.specs.Trace.{actor_of, is_agent, packet_given};
@@ -87,28 +87,9 @@ pub(crate) fn ask<R: Read, W: Write>(
 pub fn is_of(action: &Action, agent: u64) -> bool
     ensures { result ≡ is_agent agent (actor_of action.now) }
 {
-    match action {
-        Action::Fire { agent: actor, .. } => *actor == agent,
-        Action::Deliver { to, .. } => *to == agent,
-        Action::State { agent: actor } => *actor == agent,
-        Action::Merge { to, .. } => *to == agent,
-        Action::Query { agent: actor, .. } => *actor == agent,
-        Action::Respond { agent: actor, .. } => *actor == agent,
-        Action::Restart { agent: actor, .. } => *actor == agent,
-        Action::Break { agent: actor, .. } => *actor == agent,
-        Action::Inject { .. } => false,
-        Action::Close { agent: actor, .. } => *actor == agent,
-        Action::Save { agent: actor } => *actor == agent,
-        Action::Compact { agent: actor } => *actor == agent,
-    }
-}
-
-fn packet_at(sent: &[Bytes], number: u64) -> Option<&[u8]>
-    ensures { option_copied result ≡ slice_get sent.now number }
-{
-    match sent.get(number as usize) {
-        Some(packet) => Some(packet.as_slice()),
-        None => None,
+    match action.actor() {
+        Some(actor) => actor == agent,
+        None => false,
     }
 }
 
@@ -118,8 +99,7 @@ pub fn given_packet<'a>(action: &Action, sent: &'a [Bytes]) -> Option<&'a [u8]>
     ensures { option_copied result ≡ given_of action.now (packet_given sent.now action.now) }
 {
     match action {
-        Action::Deliver { packet, .. } => packet_at(sent, *packet),
-        Action::Merge { packet, .. } => packet_at(sent, *packet),
+        Action::Deliver { .. } | Action::Merge { .. } => action.given(sent),
         _ => Some(&[]),
     }
 }

@@ -5,7 +5,7 @@ ghost use Rattle.std.specs.List.{flat_map};
 ghost use Rattle.std.specs.Option.{option_copied, option_map};
 ghost use Rattle.std.specs.Str.{bytes_eq};
 ghost use Rattle.serf_wire.specs.Decoded.{decoded};
-ghost use Rattle.serf_wire.specs.Lists.{slot_of, slots_left, status_left, texts_left};
+ghost use Rattle.serf_wire.specs.Lists.{slot_of_view, slots_left, status_left, texts_left};
 ghost use Rattle.serf_wire.specs.Message.{message_of};
 ghost use Rattle.serf_pipe.specs.Reply.{said_in};
 ghost use Rattle.serf_pipe.specs.ReplyText.{line_text as text_of};
@@ -18,7 +18,7 @@ use std::alloc::{AllocError, Global};
 
 /// Appends a slot without its number, or nothing where it is empty.
 fn put_held(out: &mut Vec<u8>, slot: &SlotView) -> Result<(), AllocError>
-    ensures { OnOk result (out.new.items ≡ out.old.items ++ held_lines (slot_of slot.now)) }
+    ensures { OnOk result (out.new.items ≡ out.old.items ++ held_lines (slot_of_view slot.now)) }
 {
     match slot {
         SlotView::Empty => Ok(()),

@@ -8,7 +8,7 @@ ghost use Rattle.serf_draw.specs.Drawing.{Drawing, Draws, IsDrawn, drawing_of, I
 use crate::clock::{changed_clock, event_clock};
 use crate::label::{first_words, label};
 use crate::picture::{Arrow, Asked, Lane, Packet, Picture, Row, Sender};
-use crate::row::{actor, add_packets, arrow, given_packet, is_restart, note_packet, tone};
+use crate::row::{add_packets, arrow, is_restart, note_packet, tone};
 use serf_agent::Config;
 use serf_replay::{Schedule, ScheduleFault, parse_schedule};
 use serf_wire::Bytes;
@@ -59,8 +59,8 @@ fn draw_action(
 ) -> Result<(), AllocError>
     ensures { (d : Drawing) → IsDrawn asked.now d world.old packets.old.items rows.old.items → number ≡ length d.rows + 1 → OnOk result (IsDrawn asked.now (drawn d action.now) world.new packets.new.items rows.new.items) }
 {
-    let agent = actor(action);
-    let words = first_words(alloc, action, given_packet(action, world.sent()))?;
+    let agent = action.actor();
+    let words = first_words(alloc, action, action.given(world.sent()))?;
     let before = event_clock(world, agent);
     let arrow = arrow(packets, action);
     let Ok(line) = world.step(alloc, action) else {

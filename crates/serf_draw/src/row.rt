@@ -1,54 +1,11 @@
 //! The row of an action.
 
 ghost use Rattle.std.specs.Prelude.{◌≡◌, ◌++◌, OnOk, false, replicate, length, slice_get};
-ghost use Rattle.std.specs.Option.{option_copied};
-ghost use Rattle.serf_model.specs.Trace.{actor_of, packet_given};
 ghost use Rattle.serf_draw.specs.Drawing.{arrow_of, from_packet, given_by, packet_of, restarts, tone_of, with_given};
 
 use crate::picture::{Arrow, Packet, Sender, Tone};
 use serf_model::{Action, Answer};
-use serf_wire::Bytes;
 use std::alloc::AllocError;
-
-/// The number of the agent that acts.
-pub(crate) fn actor(action: &Action) -> Option<u64>
-    ensures { result ≡ actor_of action.now }
-{
-    match action {
-        Action::Fire { agent, .. } => Some(*agent),
-        Action::Deliver { to, .. } => Some(*to),
-        Action::State { agent } => Some(*agent),
-        Action::Merge { to, .. } => Some(*to),
-        Action::Query { agent, .. } => Some(*agent),
-        Action::Respond { agent, .. } => Some(*agent),
-        Action::Restart { agent, .. } => Some(*agent),
-        Action::Break { agent, .. } => Some(*agent),
-        Action::Inject { .. } => None,
-        Action::Close { agent, .. } => Some(*agent),
-        Action::Save { agent } => Some(*agent),
-        Action::Compact { agent } => Some(*agent),
-    }
-}
-
-fn packet_at(sent: &[Bytes], number: u64) -> Option<&[u8]>
-    ensures { option_copied result ≡ slice_get sent.now number }
-{
-    match sent.get(number as usize) {
-        Some(packet) => Some(packet.as_slice()),
-        None => None,
-    }
-}
-
-/// The packet that an action gives, where these were sent.
-pub(crate) fn given_packet<'a>(action: &Action, sent: &'a [Bytes]) -> Option<&'a [u8]>
-    ensures { option_copied result ≡ packet_given sent.now action.now }
-{
-    match action {
-        Action::Deliver { packet, .. } => packet_at(sent, *packet),
-        Action::Merge { packet, .. } => packet_at(sent, *packet),
-        _ => None,
-    }
-}
 
 fn arrow_from(packets: &[Packet], packet: u64) -> Arrow
     ensures { result ≡ from_packet (slice_get packets.now packet) }

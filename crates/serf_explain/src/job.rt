@@ -11,7 +11,7 @@ ghost use Rattle.serf_explain.specs.Explained.{AddsTurn, Explains, HasTold, Tell
 ghost use Rattle.serf_explain.specs.HandOuts.{KnowsSeen, notes_in};
 
 use crate::history::History;
-use crate::range::{Range, actor};
+use crate::range::Range;
 use crate::reasons::{lines_before, put_reasons};
 use crate::told::Told;
 use serf_model::run_promises;
@@ -79,7 +79,7 @@ fn add_turn(
         line: &line,
         carried: &carried,
     };
-    put_turn(alloc, out, range.shows(number, actor(action)), &told)?;
+    put_turn(alloc, out, range.shows(number, action.actor()), &told)?;
     history.note(alloc, world, number, action, &line)
 }
 

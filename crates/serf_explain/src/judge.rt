@@ -4,7 +4,7 @@ ghost use Rattle.std.specs.Prelude.{◌≡◌, ◌<◌, ◌≤◌, ◌-◌, ◌+
 ghost use Rattle.serf_lamport.specs.Clock.{observed};
 ghost use Rattle.serf_wire.specs.declared.texts.EventBody.{EventBody};
 ghost use Rattle.serf_wire.specs.Buffers.{slots_lent};
-ghost use Rattle.serf_wire.specs.Lists.{event_of as text_of};
+ghost use Rattle.serf_wire.specs.Lists.{event_of_view};
 ghost use Rattle.serf_wire.specs.Message.{PushPull};
 ghost use Rattle.serf_window.specs.Slots.{slot_view};
 ghost use Rattle.serf_window.specs.Window.{TimedEntry, count_in, slots_of, time_in};
@@ -114,7 +114,7 @@ impl Judge {
 
     /// Why the next event of the merge is ignored; `None` where it is new.
     fn reason(&self, agent: &Agent<MemSink>, time: Time, event: &EventView) -> Option<Reason>
-        ensures reason { (i j : IdealAgent) → IsSound i → agent.now.concrete ≡ view_of i → IsJudging i j self.now → result ≡ admission j time (text_of event.now) }
+        ensures reason { (i j : IdealAgent) → IsSound i → agent.now.concrete ≡ view_of i → IsJudging i j self.now → result ≡ admission j time (event_of_view event.now) }
         ensures not_later { result ≡ None → time_in self.now.entered.slots time ≤ time }
         ensures not_full { result ≡ None → count_in self.now.entered.slots time < self.now.entered.per_time }
     {
@@ -138,7 +138,7 @@ impl Judge {
         event: &EventView,
     ) -> Result<Option<Reason>, AllocError>
         ensures { (i j : IdealAgent) → IsSound i → agent.now.concrete ≡ view_of i → IsJudging i j self.old
-            → IfOk result (λ reason. (reason ≡ admission j time (text_of event.now)) × IsJudging i (after_event j (record { time = time; key = text_of event.now })) self.new) }
+            → IfOk result (λ reason. (reason ≡ admission j time (event_of_view event.now)) × IsJudging i (after_event j (record { time = time; key = event_of_view event.now })) self.new) }
     {
         slot_laws();
         match self.reason(agent, time, event) {
@@ -169,7 +169,7 @@ impl Judge {
         ensures minimum { OnOk result (self.new.minimum ≡ self.old.minimum) }
         ensures per_time { OnOk result (self.new.entered.per_time ≡ self.old.entered.per_time) }
         ensures slots { OnOk result ((entries : List (TimedEntry EventBody)) → self.old.entered.slots ≡ slots_of (length self.old.entered.slots) entries
-            → self.new.entered.slots ≡ slots_of (length self.old.entered.slots) (entries ++ record { time = time; key = text_of event.now } ∷ [])) }
+            → self.new.entered.slots ≡ slots_of (length self.old.entered.slots) (entries ++ record { time = time; key = event_of_view event.now } ∷ [])) }
     {
         let entry = self.entered.prepare(alloc, time, event)?;
         self.entered.enter(entry);

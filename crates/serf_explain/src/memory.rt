@@ -2,7 +2,6 @@
 
 use crate::hand_outs::Moment;
 use crate::marks::Marks;
-use crate::range::actor;
 use indexmap::IndexMap;
 use serf_agent::Agent;
 use serf_lamport::Time;
@@ -193,7 +192,7 @@ impl Memory {
         line: &Line,
     ) -> Result<(), AllocError> {
         self.note_action(alloc, world, number, action, line)?;
-        let Some(actor) = actor(action) else {
+        let Some(actor) = action.actor() else {
             return Ok(());
         };
         let Some(agent) = world.agent(actor) else {

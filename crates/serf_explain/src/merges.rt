@@ -1,7 +1,7 @@
 //! What becomes of each event that a state carries, told before the state is merged.
 
 ghost use Rattle.std.specs.Prelude.{◌≡◌, ◌++◌, ◌∷◌, [], OnOk, IfOk};
-ghost use Rattle.serf_wire.specs.Lists.{event_of as text_of, events_left, slot_of, slots_left};
+ghost use Rattle.serf_wire.specs.Lists.{event_of_view, events_left, slot_of_view, slots_left};
 ghost use Rattle.serf_wire.specs.Message.{PushPull};
 ghost use Rattle.serf_agent.specs.Events.{admission};
 ghost use Rattle.serf_agent.specs.Ideal.{IdealAgent};
@@ -74,7 +74,7 @@ fn put_carried(
     verdict: Option<Reason>,
     detail: &[u8],
 ) -> Result<(), AllocError>
-    ensures { OnOk result (out.new.items ≡ out.old.items ++ carried_words slot time (text_of event.now) verdict detail.now) }
+    ensures { OnOk result (out.new.items ≡ out.old.items ++ carried_words slot time (event_of_view event.now) verdict detail.now) }
 {
     put_slot_words(out, slot)?;
     put_event(out, time, event.name, event.payload)?;
@@ -150,7 +150,7 @@ fn add_carried(
     verdict: Option<Reason>,
     detail: &[u8],
 ) -> Result<(), AllocError>
-    ensures { (e : IdealAgent) → verdict ≡ admission e time (text_of event.now) → OnOk result (AddsLines (record { time = time; key = text_of event.now } ∷ []) e lines.old.items lines.new.items) }
+    ensures { (e : IdealAgent) → verdict ≡ admission e time (event_of_view event.now) → OnOk result (AddsLines (record { time = time; key = event_of_view event.now } ∷ []) e lines.old.items lines.new.items) }
 {
     let mut reason = Vec::with_capacity(alloc, 96)?;
     put_carried(&mut reason, slot, time, event, verdict, detail)?;
@@ -171,8 +171,8 @@ fn add_event(
     time: Time,
     event: &EventView,
 ) -> Result<(), AllocError>
-    ensures lines { (i j : IdealAgent) → IsSound i → merging.now.agent.now.concrete ≡ view_of i → IsJudging i j judge.old → OnOk result (AddsLines (record { time = time; key = text_of event.now } ∷ []) j lines.old.items lines.new.items) }
-    ensures judging { (i j : IdealAgent) → IsSound i → merging.now.agent.now.concrete ≡ view_of i → IsJudging i j judge.old → OnOk result (IsJudging i (after_event j (record { time = time; key = text_of event.now })) judge.new) }
+    ensures lines { (i j : IdealAgent) → IsSound i → merging.now.agent.now.concrete ≡ view_of i → IsJudging i j judge.old → OnOk result (AddsLines (record { time = time; key = event_of_view event.now } ∷ []) j lines.old.items lines.new.items) }
+    ensures judging { (i j : IdealAgent) → IsSound i → merging.now.agent.now.concrete ≡ view_of i → IsJudging i j judge.old → OnOk result (IsJudging i (after_event j (record { time = time; key = event_of_view event.now })) judge.new) }
 {
     let verdict = judge.judge(alloc, merging.agent, time, event)?;
     let lying = Event {
@@ -211,7 +211,7 @@ fn add_slot(
     slot: u64,
     content: &SlotView,
 ) -> Result<(), AllocError>
-    ensures { (i j : IdealAgent) → IsSound i → merging.now.agent.now.concrete ≡ view_of i → IsJudging i j judge.old → OnOk result (HasJudged i j (events_of_slot (slot_of content.now)) [] lines.old.items lines.new.items judge.new) }
+    ensures { (i j : IdealAgent) → IsSound i → merging.now.agent.now.concrete ≡ view_of i → IsJudging i j judge.old → OnOk result (HasJudged i j (events_of_slot (slot_of_view content.now)) [] lines.old.items lines.new.items judge.new) }
 {
     match *content {
         SlotView::Held(time, events) => {

@@ -1,9 +1,6 @@
 //! Which actions are explained.
 
 ghost use Rattle.std.specs.Prelude.{◌≡◌};
-ghost use Rattle.serf_model.specs.Trace.{actor_of};
-
-use serf_world::Action;
 
 /// Which actions are explained: those of one agent, or of all, from one number to another. Actions count from 1.
 #[derive(Clone, Copy, Debug, PartialEq, Eq)]
@@ -14,26 +11,6 @@ pub struct Range {
     pub from: u64,
     /// The last one.
     pub to: u64,
-}
-
-/// The number of the agent that acts.
-pub(crate) fn actor(action: &Action) -> Option<u64>
-    ensures { result ≡ actor_of action.now }
-{
-    match action {
-        Action::Fire { agent, .. } => Some(*agent),
-        Action::Deliver { to, .. } => Some(*to),
-        Action::State { agent } => Some(*agent),
-        Action::Merge { to, .. } => Some(*to),
-        Action::Query { agent, .. } => Some(*agent),
-        Action::Respond { agent, .. } => Some(*agent),
-        Action::Restart { agent, .. } => Some(*agent),
-        Action::Break { agent, .. } => Some(*agent),
-        Action::Inject { .. } => None,
-        Action::Close { agent, .. } => Some(*agent),
-        Action::Save { agent } => Some(*agent),
-        Action::Compact { agent } => Some(*agent),
-    }
 }
 
 impl Range {

@@ -1,8 +1,8 @@
 //! The reasons of an action.
 
-ghost use Rattle.std.specs.Prelude.{◌≡◌, ◌++◌, true, slice_get, Ok, OnOk, IfOk};
+ghost use Rattle.std.specs.Prelude.{◌≡◌, ◌++◌, true, Ok, OnOk, IfOk};
 ghost use Rattle.std.specs.List.{flat_map};
-ghost use Rattle.std.specs.Option.{option_copied, option_map};
+ghost use Rattle.std.specs.Option.{option_map};
 ghost use Rattle.serf_wire.specs.Decoded.{decoded};
 ghost use Rattle.serf_wire.specs.Message.{PushPull, message_of, push_pull};
 ghost use Rattle.serf_agent.specs.Sound.{IsSound};
@@ -22,11 +22,11 @@ use crate::answers::put_reason;
 use crate::because::put_because;
 use crate::history::History;
 use crate::merges::{Carried, Merging, carried_lines};
-use crate::range::actor;
 use crate::refusals::put_sink_fault;
 use crate::seen::put_seen;
 use crate::told::{Actor, Told, actor_at};
 use serf_agent::Reason;
+use serf_model::packet_at;
 use serf_wire::{Bytes, Message, decode};
 use serf_world::{Action, Answer, Refusal, World};
 use std::alloc::{AllocError, Global};
@@ -97,16 +97,6 @@ fn merging_at<'a>(
     }
 }
 
-/// The packet of this number.
-pub(crate) fn packet_at(sent: &[Bytes], number: u64) -> Option<&[u8]>
-    ensures { option_copied result ≡ slice_get sent.now number }
-{
-    match sent.get(number as usize) {
-        Some(packet) => Some(packet.as_slice()),
-        None => None,
-    }
-}
-
 /// What is told of each event of a state that is to be merged; nothing of any other action.
 pub(crate) fn lines_before(
     alloc: Global,
@@ -134,7 +124,7 @@ pub(crate) fn put_lone(alloc: Global, out: &mut Vec<u8>, told: &Told) -> Result<
     ensures { OnOk result (AddsSome told.now.number out.old.items out.new.items) }
 {
     let mut reason = Vec::with_capacity(alloc, USUAL_BYTES)?;
-    put_reason(&mut reason, told, actor(told.action))?;
+    put_reason(&mut reason, told, told.action.actor())?;
     put_because(out, told.number, reason.as_slice())
 }
 

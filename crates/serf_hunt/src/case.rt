@@ -4,7 +4,6 @@ ghost use Rattle.std.specs.Prelude.{IfOk};
 ghost use Rattle.serf_replay.specs.Schedule.{parsed_of};
 ghost use Rattle.serf_hunt.specs.Case.{IsRunOf};
 
-use crate::configs::copy_configs;
 use serf_agent::Config;
 use serf_replay::Schedule;
 use serf_world::{Action, Trace, run};
@@ -23,7 +22,7 @@ pub fn case_of(alloc: Global, schedule: Schedule) -> Result<Case, AllocError>
     ensures { IfOk result (IsRunOf (parsed_of schedule)) }
 {
     let Schedule { agents, actions } = schedule;
-    let configs = copy_configs(alloc, agents.as_slice())?;
+    let configs = agents.try_clone(alloc)?.into_vec();
     match run(alloc, agents.into_vec(), &actions) {
         Ok(trace) => Ok(Case {
             configs,

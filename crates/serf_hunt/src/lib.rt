@@ -2,13 +2,11 @@
 #![tactic(auto)]
 
 mod case;
-mod configs;
 mod held;
 mod maker;
 mod seeds;
 
 pub use case::{Case, case_of};
-pub use configs::copy_config;
 pub use held::{Held, Other, hold_each};
 pub use maker::{Maker, RandomSchedules};
 pub use seeds::{Found, HuntFault, Hunted, hunt};

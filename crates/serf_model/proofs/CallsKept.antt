@@ -1,5 +1,5 @@
 -- What a call, an event and a query leave sound, over a sink with a plan.
-use Rattle.serf_model.proofs.Names.{◌≡◌, ◌≢◌, ℕ, ◌-◌, ◌^◌, ◌<◌, ◌≤◌, ◌==◌, nat_lt, nat_le, Bool, true, false, cond, List, Option, Some, None, IsSome, Ok, Err, refl, sym, ap, subst, arith, length, inl, inr, All, not, is_some, All-weaker, append-nil, and_parts, or_parts, leb-true, leb-false, ltb-false, EventBody, Query, query, ClockKind, clock_line, FailurePlan, SnapshotView, Writing, Kept, Failed, IsObservable, MayWrite, MayReplace, will_write, will_replace, noted, written, compacted, compaction_of, last_line, note_fails, left_by, Notes, Step, MayNote, planned, ended, will_note, IdealAgent, with_snapshot, Past, IsSound, canonical, TimedEntry, Config, Event, QueryFault, QueryParams, Reason, is_sound, query_fired_as, query_fault, query_asked, query_admission, query_received_as, query_entered, handed_if_passed, ack_if_passed, has_flag, no_broadcast_flag, is_no_timeout, is_too_large_query, FireFault, texts_len, admission, received_as, event_entered, fired_as, fire_fault, event_packet, event_out, drawn, is_too_large}
+use Rattle.serf_model.proofs.Names.{◌≡◌, ◌≢◌, ℕ, ◌-◌, ◌^◌, ◌<◌, ◌≤◌, ◌==◌, nat_lt, nat_le, Bool, true, false, cond, List, Option, Some, None, IsSome, Ok, Err, refl, sym, ap, subst, arith, length, inl, inr, All, not, is_some, All-weaker, append-nil, and_parts, or_parts, leb-true, leb-false, ltb-false, EventBody, Query, query, ClockKind, clock_line, FailurePlan, SnapshotView, Writing, Kept, Failed, IsObservable, MayWrite, MayReplace, will_write, will_replace, noted, written, compacted, compaction_of, last_line, note_fails, durable_left_by, Notes, Step, MayNote, planned, ended, will_note, IdealAgent, with_snapshot, Past, IsSound, canonical, TimedEntry, Config, Event, QueryFault, QueryParams, Reason, is_sound, query_fired_as, query_fault, query_asked, query_admission, query_received_as, query_entered, handed_if_passed, ack_if_passed, has_flag, no_broadcast_flag, is_no_timeout, is_too_large_query, FireFault, texts_len, admission, received_as, event_entered, fired_as, fire_fault, event_packet, event_out, drawn, is_too_large}
 use Rattle.serf_snap.specs.declared.kind.ClockKind.TheVariants as kinds
 use Rattle.serf_agent.specs.declared.outcome.Outcome.TheVariants as outcomes
 use Rattle.serf_agent.specs.declared.outcome.QueryFault.TheVariants as asks
@@ -61,12 +61,12 @@ replace-view m e q b None p h g = absurd (cc h)
 replace-view m e q b (Some k) None h g = absurd (cc g)
 replace-view m e q b (Some k) (Some p) h g = by (p.replaces == 1) refl
   where
-    left : (new : Bool) → (left : Option (List ℕ)) → left ≡ cond new (Some (compaction_of (view m e q b (Some k) (Some p)))) (Some k) → (p.replaces == 1) ≡ true → left_by p (compaction_of (view m e q b (Some k) (Some p))) (Some k) ≡ left
+    left : (new : Bool) → (left : Option (List ℕ)) → left ≡ cond new (Some (compaction_of (view m e q b (Some k) (Some p)))) (Some k) → (p.replaces == 1) ≡ true → durable_left_by p (compaction_of (view m e q b (Some k) (Some p))) (Some k) ≡ left
         → DoesReplace (view m e q b (Some k) (Some p)) (Failed left)
     left true l is fails same = record { may = (inr is, (fails, sym same)); observable = record { durable = ap is_some is; plan = refl } }
     left false l is fails same = record { may = (inl is, (fails, sym same)); observable = record { durable = ap is_some is; plan = refl } }
 
-    by : (f : Bool) → (p.replaces == 1) ≡ f → DoesReplace (view m e q b (Some k) (Some p)) (cond f (Failed (left_by p (compaction_of (view m e q b (Some k) (Some p))) (Some k))) Kept)
+    by : (f : Bool) → (p.replaces == 1) ≡ f → DoesReplace (view m e q b (Some k) (Some p)) (cond f (Failed (durable_left_by p (compaction_of (view m e q b (Some k) (Some p))) (Some k))) Kept)
     by true is = left p.keeps_new _ refl is refl
     by false is = record { may = is; observable = record { durable = refl; plan = refl } }
 

@@ -262,7 +262,7 @@ heard : (es : List (TimedEntry EventBody)) (i : IdealAgent) → (let o = merges_
 heard [] i = rests i i [] refl refl refl refl refl
 heard (e ∷ es) i = let o = planned i (receive_one i e) in heard-on i e es o (merges_events es) (heard-one i e es (admission i e.time e.key) refl) (heard es o.agent)
 
-acts-merge : Below → (m : IdealNode) (to number : ℕ) (join : Bool) (packet : List ℕ) (f : Option MergeFault) (r : Result Message WireFault) → decoded packet ≡ r → merge_refusal (view_of m.agent) r ≡ f
+acts-merge : Below → (m : IdealNode) (to number : ℕ) (join : Bool) (packet : List ℕ) (f : Option MergeFault) (r : Result Message WireFault) → decoded packet ≡ r → merge_refusal m.agent.snapshot r ≡ f
     → Acts m (actions.Merge to number join) (Some packet) (merges_as f m join r)
 acts-merge lower m to number join packet None (Ok (push_pull s)) is refuses = record { effect = by (merges_events (events_of s.slots) (joined s join m.agent)).failed; sound = λ g. representable-merged lower m.agent join packet s g is refuses }
   where
@@ -287,7 +287,7 @@ acts-merge lower m to number join packet None _ is refuses = stays m tt
 
 acts-merges : Below → (m : IdealNode) (to number : ℕ) (join : Bool) (given : Option (List ℕ)) → Acts m (actions.Merge to number join) given (merges_given m join given)
 acts-merges lower m to number join None = stays m tt
-acts-merges lower m to number join (Some packet) = acts-merge lower m to number join packet (merge_refusal (view_of m.agent) (decoded packet)) (decoded packet) refl refl
+acts-merges lower m to number join (Some packet) = acts-merge lower m to number join packet (merge_refusal m.agent.snapshot (decoded packet)) (decoded packet) refl refl
 
 -- ---- states and snapshots
 

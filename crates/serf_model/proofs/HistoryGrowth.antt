@@ -1,5 +1,5 @@
 -- What each action adds to the histories of its agent.
-use Rattle.serf_model.proofs.Names.{◌≡◌, ℕ, ◌+◌, Bool, true, cond, List, [], ◌∷◌, ◌++◌, Option, Some, None, Result, Ok, refl, sym, ap, subst, ◌∙◌, map, WireFault, decoded, Message, push_pull, event_of, TimedEntry, MergeFault, IdealAgent, IsSound, merge_refusal, view_of}
+use Rattle.serf_model.proofs.Names.{◌≡◌, ℕ, ◌+◌, Bool, true, cond, List, [], ◌∷◌, ◌++◌, Option, Some, None, Result, Ok, refl, sym, ap, subst, ◌∙◌, map, WireFault, decoded, Message, push_pull, event_of, TimedEntry, MergeFault, IdealAgent, IsSound, merge_refusal}
 use Rattle.serf_model.specs.Below.{Below}
 use Rattle.serf_model.specs.declared.action.Action.{Action}
 use Rattle.serf_model.specs.declared.line.Answer.TheVariants as lines
@@ -84,4 +84,4 @@ merge-handed m join None _ = refl
 
 pub merges-handed : (m : IdealNode) (join : Bool) (given : Option (List ℕ)) → (merges_given m join given).node.handed ≡ m.handed
 merges-handed m join None = refl
-merges-handed m join (Some packet) = merge-handed m join (merge_refusal (view_of m.agent) (decoded packet)) (decoded packet)
+merges-handed m join (Some packet) = merge-handed m join (merge_refusal m.agent.snapshot (decoded packet)) (decoded packet)

@@ -1,5 +1,5 @@
 -- A merge, a snapshot and a restart leave their agent sound, with clocks that are 64 bits, over a sink that tells and has a plan.
-use Rattle.serf_model.proofs.Names.{◌≡◌, ℕ, ◌-◌, ◌^◌, ◌<◌, ◌≤◌, Bool, true, false, nat_le, List, [], ◌∷◌, ◌++◌, Option, Some, None, IsSome, unwrap_or, Result, Ok, Err, inl, inr, refl, ◌∙◌, arith, AllByRecursion, option_map, cases_Bool, All-nil, All-weaker, EventBody, decoded, PushPull, push_pull, IsRangedPushPull, IsTimed, TimedEntry, ClockKind, is_whole, last_clock, FailurePlan, fresh_device, SnapshotView, Writing, Kept, Failed, IsObservable, last_line, noted, will_replace, opened, Call, Notes, Replaces, Step, planned, ended, will, IdealAgent, IsSound, Config, Outcome, ReceiveFault, Reason, is_sound, unopened, IsInText, events_of, events_of_slot, receive_one, joined, merge_refusal, view_of, admission, received_as, SlotContent, empty, held, NoteFault}
+use Rattle.serf_model.proofs.Names.{◌≡◌, ℕ, ◌-◌, ◌^◌, ◌<◌, ◌≤◌, Bool, true, false, nat_le, List, [], ◌∷◌, ◌++◌, Option, Some, None, IsSome, unwrap_or, Result, Ok, Err, inl, inr, refl, ◌∙◌, arith, AllByRecursion, option_map, cases_Bool, All-nil, All-weaker, EventBody, decoded, PushPull, push_pull, IsRangedPushPull, IsTimed, TimedEntry, ClockKind, is_whole, last_clock, FailurePlan, fresh_device, SnapshotView, Writing, Kept, Failed, IsObservable, last_line, noted, will_replace, opened, Call, Notes, Replaces, Step, planned, ended, will, IdealAgent, IsSound, Config, Outcome, ReceiveFault, Reason, is_sound, unopened, IsInText, events_of, events_of_slot, receive_one, joined, merge_refusal, admission, received_as, SlotContent, empty, held, NoteFault}
 use Rattle.serf_snap.specs.declared.kind.ClockKind.TheVariants as kinds
 use Rattle.serf_snap.specs.declared.snapshot.NoteFault.TheVariants as notes
 use Rattle.serf_agent.specs.declared.outcome.MergeFault.TheVariants as merges
@@ -70,7 +70,7 @@ times-spelled lower packet m is = let ranged = lower.in_range packet (push_pull 
 pub unopened-sound : Below → (config : Config) → is_sound config ≡ true → IsSound (unopened config (opened [] (fresh_device [])))
 unopened-sound lower config ok = lower.sound.begins config [] (fresh_device []) ok (omega arith)
 
-pub representable-merged : Below → (i : IdealAgent) (join : Bool) (packet : List ℕ) (s : PushPull) → IsRepresentable i → decoded packet ≡ Ok (push_pull s) → merge_refusal (view_of i) (Ok (push_pull s)) ≡ None
+pub representable-merged : Below → (i : IdealAgent) (join : Bool) (packet : List ℕ) (s : PushPull) → IsRepresentable i → decoded packet ≡ Ok (push_pull s) → merge_refusal i.snapshot (Ok (push_pull s)) ≡ None
     → IsRepresentable (merges_events (events_of s.slots) (joined s join i)).agent
 representable-merged lower i join packet s g is refuses =
     let ranged = lower.in_range packet (push_pull s) is in

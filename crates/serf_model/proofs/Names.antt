@@ -44,7 +44,7 @@ pub use Rattle.serf_agent.specs.declared.outcome.Outcome.TheVariants.{Event}
 pub use Rattle.serf_agent.specs.declared.outcome.QueryFault.{QueryFault}
 pub use Rattle.serf_agent.specs.declared.outcome.QueryParams.{QueryParams}
 pub use Rattle.serf_agent.specs.declared.outcome.Reason.{Reason}
-pub use Rattle.serf_agent.specs.declared.outcome.Reason.TheVariants.{AckNotAsked, AckTwice, BelowMinimum, Closed, OtherId, Oversize, ResponseTwice}
+pub use Rattle.serf_agent.specs.declared.outcome.Reason.TheVariants.{AckNotAsked, AckTwice, BelowMinimum, Closed, OtherId, ResponseTwice}
 pub use Rattle.serf_agent.specs.declared.outcome.Reason.TheVariants.{Seen, TimeFull, TooOld}
 pub use Rattle.serf_agent.specs.declared.outcome.ReceiveFault.{ReceiveFault}
 pub use Rattle.serf_agent.specs.declared.outcome.RespondFault.{RespondFault}
@@ -56,7 +56,7 @@ pub use Rattle.serf_pack.specs.declared.fault.PackFault.{PackFault}
 pub use Rattle.serf_snap.specs.Clocks.{clock_line, is_whole, last_clock}
 pub use Rattle.serf_snap.specs.Device.{FailurePlan, fresh_device}
 pub use Rattle.serf_snap.specs.Notes.{Failed, IsObservable, Kept, MayReplace, MayWrite, SnapshotView, Writing, compacted, compaction_of, last_line}
-pub use Rattle.serf_snap.specs.Notes.{left_by, note_fails, noted, opened, will_replace, will_write, written}
+pub use Rattle.serf_snap.specs.Notes.{durable_left_by, note_fails, noted, opened, will_replace, will_write, written}
 pub use Rattle.serf_snap.specs.declared.kind.ClockKind.{ClockKind}
 pub use Rattle.serf_snap.specs.declared.snapshot.NoteFault.{NoteFault}
 pub use Rattle.serf_window.specs.Laws.{SlotLaws}

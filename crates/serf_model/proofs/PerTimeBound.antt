@@ -1,5 +1,5 @@
 -- What an agent enters in one life: at most as many of one time as its settings say.
-use Rattle.serf_model.proofs.Names.{◌≡◌, ℕ, ◌+◌, ◌<◌, ◌≤◌, ◌==◌, nat_le, nat_lt, Bool, true, false, cond, List, [], ◌∷◌, ◌++◌, Option, Some, None, refl, sym, ap, subst, ◌∙◌, arith, map, length, length-append, append_assoc, inl, inr, All, filter, and_parts, cases_Bool, eq-eqb, eqb-true, leb-true, leb-false, ne_eqb, append-nil, map-append, All-append, All-head, All-map, All-tail, filter-append, observed, EventBody, event_of, same_texts, same_id, TimedEntry, count_at, held_at, Config, EventOut, Reason, BelowMinimum, TooOld, Seen, TimeFull, Oversize, is_sound, admission, texts_len, IdealAgent, Past, Track, query_admission, of_life, track_reason, was_ever_entered}
+use Rattle.serf_model.proofs.Names.{◌≡◌, ℕ, ◌+◌, ◌<◌, ◌≤◌, ◌==◌, nat_le, nat_lt, Bool, true, false, cond, List, [], ◌∷◌, ◌++◌, Option, Some, None, refl, sym, ap, subst, ◌∙◌, arith, map, length, length-append, append_assoc, inl, inr, All, filter, and_parts, cases_Bool, eq-eqb, eqb-true, leb-true, leb-false, ne_eqb, append-nil, map-append, All-append, All-head, All-map, All-tail, filter-append, observed, EventBody, event_of, same_texts, same_id, TimedEntry, count_at, held_at, Config, EventOut, Reason, BelowMinimum, TooOld, Seen, TimeFull, is_sound, admission, texts_len, IdealAgent, Past, Track, query_admission, of_life, track_reason, was_ever_entered}
 use Rattle.serf_model.specs.Bounds.{AtMostOfOneTime}
 
 -- a reason that isn't given
@@ -111,7 +111,7 @@ reason-room same n k life track t what none =
 
 pub event-room : (i : IdealAgent) (t : ℕ) (what : EventBody) → admission i t what ≡ None → count_at (of_life i.life i.events.history) t < i.config.per_time
 event-room i t what new =
-    reason-room same_texts i.config.event_buffer i.config.per_time i.life i.events t what (none-if (nat_lt 9216 (texts_len what)) Oversize (track_reason same_texts i.config.event_buffer i.config.per_time i.life i.events t what) new).1
+    reason-room same_texts i.config.event_buffer i.config.per_time i.life i.events t what (none-if (nat_lt 9216 (texts_len what)) _ (track_reason same_texts i.config.event_buffer i.config.per_time i.life i.events t what) new).1
 
 pub query-room : (i : IdealAgent) (t id : ℕ) → query_admission i t id ≡ None → count_at (of_life i.life i.queries.history) t < i.config.per_time
 query-room i t id new = reason-room same_id i.config.query_buffer i.config.per_time i.life i.queries t id new

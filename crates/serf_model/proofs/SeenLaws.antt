@@ -1,5 +1,5 @@
 -- What is ignored as seen was handed to the agent before.
-use Rattle.serf_model.proofs.Names.{suc, ◌≡◌, ℕ, ◌==◌, ◌&&◌, ◌||◌, ◌+◌, nat_lt, nat_le, Bool, true, false, cond, List, [], ◌∷◌, Option, Some, None, Ok, refl, sym, ap, subst, ◌∙◌, arith, Contains, slice_get, list_any, and_parts, eqb-true, bytes_eq-Decides, EventBody, decoded, UserEvent, user_event, event_of, same_texts, count_at, Reason, Oversize, BelowMinimum, TooOld, Seen, TimeFull, admission, texts_len, IdealAgent, Past, of_life, was_ever_entered, observed}
+use Rattle.serf_model.proofs.Names.{suc, ◌≡◌, ℕ, ◌==◌, ◌&&◌, ◌||◌, ◌+◌, nat_lt, nat_le, Bool, true, false, cond, List, [], ◌∷◌, Option, Some, None, Ok, refl, sym, ap, subst, ◌∙◌, arith, Contains, slice_get, list_any, and_parts, eqb-true, bytes_eq-Decides, EventBody, decoded, UserEvent, user_event, event_of, same_texts, count_at, Reason, BelowMinimum, TooOld, Seen, TimeFull, admission, texts_len, IdealAgent, Past, of_life, was_ever_entered, observed}
 use Rattle.serf_model.specs.Below.{Below}
 use Rattle.serf_model.specs.declared.action.Action.{Action}
 use Rattle.serf_model.specs.declared.line.Answer.TheVariants as lines
@@ -48,7 +48,7 @@ reason-skips false other r differs e = e
 
 seen-entered : (i : IdealAgent) (t : ℕ) (what : EventBody) → admission i t what ≡ Some Seen → was_ever_entered same_texts i.events.history t what ≡ true
 seen-entered i t what e =
-    let track = reason-skips (nat_lt 9216 (texts_len what)) Oversize _ (λ d. cc) e in
+    let track = reason-skips (nat_lt 9216 (texts_len what)) _ _ (λ d. cc) e in
     let minimum = reason-skips (nat_lt t i.events.minimum) BelowMinimum _ (λ d. cc) track in
     let old = reason-skips (nat_lt (t + i.config.event_buffer) (observed i.events.clock t)) TooOld _ (λ d. cc) minimum in
     by (was_ever_entered same_texts i.events.history t what) (nat_le i.config.per_time (count_at (of_life i.life i.events.history) t)) old

@@ -186,7 +186,7 @@ merges_as None m join (Ok (push_pull p)) = merge_gives m (merges_events (events_
 merges_as None m join _ = does_nothing m (refused NotPushPull)
 
 abbrev pub merges_packet : IdealNode → Bool → Result Message WireFault → Applied
-merges_packet m join r = merges_as (merge_refusal (view_of m.agent) r) m join r
+merges_packet m join r = merges_as (merge_refusal m.agent.snapshot r) m join r
 
 abbrev pub merges_given : IdealNode → Bool → Option (List ℕ) → Applied
 merges_given m join None = does_nothing m (refused NoMessage)

@@ -1,5 +1,9 @@
 //! What is done in a cluster.
 
+ghost use Rattle.std.specs.Prelude.{◌≡◌, slice_get};
+ghost use Rattle.std.specs.Option.{option_copied};
+ghost use Rattle.serf_model.specs.Trace.{actor_of, packet_given};
+
 use crate::boxed::{BoxedBytes, BoxedParams};
 use serf_wire::Bytes;
 
@@ -89,4 +93,47 @@ pub enum Action {
     Compact {
         agent: u64,
     },
+}
+
+impl Action {
+    /// The number of the agent that acts; no agent injects. Takes no memory.
+    pub fn actor(&self) -> Option<u64>
+        ensures { result ≡ actor_of self.now }
+    {
+        match self {
+            Action::Fire { agent, .. } => Some(*agent),
+            Action::Deliver { to, .. } => Some(*to),
+            Action::State { agent } => Some(*agent),
+            Action::Merge { to, .. } => Some(*to),
+            Action::Query { agent, .. } => Some(*agent),
+            Action::Respond { agent, .. } => Some(*agent),
+            Action::Restart { agent, .. } => Some(*agent),
+            Action::Break { agent, .. } => Some(*agent),
+            Action::Inject { .. } => None,
+            Action::Close { agent, .. } => Some(*agent),
+            Action::Save { agent } => Some(*agent),
+            Action::Compact { agent } => Some(*agent),
+        }
+    }
+
+    /// The packet that the action gives to its agent, where these were sent. Takes no memory.
+    pub fn given<'a>(&self, sent: &'a [Bytes]) -> Option<&'a [u8]>
+        ensures { option_copied result ≡ packet_given sent.now self.now }
+    {
+        match self {
+            Action::Deliver { packet, .. } => packet_at(sent, *packet),
+            Action::Merge { packet, .. } => packet_at(sent, *packet),
+            _ => None,
+        }
+    }
+}
+
+/// The packet of this number, where these were sent. Takes no memory.
+pub fn packet_at(sent: &[Bytes], number: u64) -> Option<&[u8]>
+    ensures { option_copied result ≡ slice_get sent.now number }
+{
+    match sent.get(number as usize) {
+        Some(packet) => Some(packet.as_slice()),
+        None => None,
+    }
 }

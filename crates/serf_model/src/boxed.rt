@@ -7,68 +7,50 @@ use serf_wire::Bytes;
 use std::alloc::{AllocError, Global};
 use std::marker::Model;
 
-/// Bytes in a place of their own.
+/// A value in a place of its own.
 ///
-/// Contracts see the list of the bytes.
+/// Contracts see the value.
 #[derive(Debug, Drop)]
-pub struct BoxedBytes {
-    bytes: Box<Bytes>,
+pub struct Boxed<T> {
+    place: Box<T>,
 }
 
-impl Model for BoxedBytes {
-    ghost use Rattle.std.specs.Prelude.{List, ℕ};
+impl<T> Model for Boxed<T> {
+    ghost Value = { T };
 
-    ghost Value = { List ℕ };
-
-    ghost view = { λ b. b.bytes.value };
+    ghost view = { λ b. b.place.value };
 }
 
-impl BoxedBytes {
-    /// Takes the bytes to a place of their own, or is `AllocError` where there is no memory for it.
-    pub fn new(alloc: Global, bytes: Bytes) -> Result<BoxedBytes, AllocError>
-        ensures { IfOk result (λ boxed. boxed ≡ bytes) }
+impl<T: Drop> Boxed<T> {
+    /// Takes the value to a place of its own, or is `AllocError` where there is no memory for it.
+    pub fn new(alloc: Global, value: T) -> Result<Boxed<T>, AllocError>
+        ensures { IfOk result (λ boxed. boxed ≡ value) }
     {
-        let bytes = Box::new(alloc, bytes)?;
-        Ok(BoxedBytes { bytes })
+        let place = Box::new(alloc, value)?;
+        Ok(Boxed { place })
     }
+}
 
+impl<T> Boxed<T> {
+    /// The value. Takes no memory.
+    pub fn get(&self) -> &T
+        ensures { result.now ≡ self.now }
+    {
+        &self.place
+    }
+}
+
+impl Boxed<Bytes> {
     /// The bytes. Takes no memory.
     pub fn as_slice(&self) -> &[u8]
         ensures { result.now ≡ self.now }
     {
-        self.bytes.as_slice()
+        self.place.as_slice()
     }
 }
+
+/// Bytes in a place of their own.
+pub type BoxedBytes = Boxed<Bytes>;
 
 /// How a query is fired, in a place of its own.
-///
-/// Contracts see what it says.
-#[derive(Debug, Drop)]
-pub struct BoxedParams {
-    params: Box<QueryParams>,
-}
-
-impl Model for BoxedParams {
-    ghost use Rattle.serf_agent.specs.declared.outcome.QueryParams.{QueryParams};
-
-    ghost Value = { QueryParams };
-
-    ghost view = { λ b. b.params.value };
-}
-
-impl BoxedParams {
-    /// Takes it to a place of its own, or is `AllocError` where there is no memory for it.
-    pub fn new(alloc: Global, params: QueryParams) -> Result<BoxedParams, AllocError>
-        ensures { IfOk result (λ boxed. boxed ≡ params) }
-    {
-        let params = Box::new(alloc, params)?;
-        Ok(BoxedParams { params })
-    }
-
-    /// How the query is fired. Takes no memory.
-    pub fn get(&self) -> &QueryParams
-        ensures { result.now ≡ self.now }
-    {
-        &self.params
-    }
-}
+pub type BoxedParams = Boxed<QueryParams>;

@@ -14,8 +14,8 @@ mod line;
 mod lists;
 mod trace;
 
-pub use action::{Action, SinkCall};
-pub use boxed::{BoxedBytes, BoxedParams};
+pub use action::{Action, SinkCall, packet_at};
+pub use boxed::{Boxed, BoxedBytes, BoxedParams};
 pub use fault::{NewFault, RunFault};
 pub use laws::{
     agents_alone, handed_queries, merged_agents, representable_agents, run_promises,

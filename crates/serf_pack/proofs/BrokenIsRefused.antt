@@ -6,8 +6,8 @@ use Rattle.serf_pack.specs.declared.head.Field.{Field}
 use Rattle.serf_pack.specs.declared.head.Row.{Row}
 use Rattle.serf_pack.specs.declared.head.Row.TheVariants.{Number, Unsupported}
 use Rattle.serf_pack.specs.Tree.{Tree, Items, no_items, item, Pairs, no_pairs, pair}
-use Rattle.serf_pack.specs.Table.{row_of, head_at, head_by, place}
-use Rattle.serf_pack.specs.Reading.{Reader, items_at, pairs_at, value_at}
+use Rattle.serf_pack.specs.Table.{row_of}
+use Rattle.serf_pack.specs.Reading.{Reader, place, head_by, head_at, items_at, pairs_at, value_at}
 use Rattle.serf_pack.specs.Packs.{item_count, pair_count, Packs, PackItems, PackPairs}
 use Rattle.serf_pack.specs.Breaks.{Breaks, at_end, unsupported, short_number, short_raw, deep_array, deep_map, in_array, in_key, in_value}
 use Rattle.serf_pack.proofs.ByHead.{refuse_head, refuse_raw, refuse_deep_array, refuse_deep_map, refuse_array, refuse_map}

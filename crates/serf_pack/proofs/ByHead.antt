@@ -4,8 +4,7 @@ use Rattle.serf_pack.specs.declared.fault.PackFault.{PackFault}
 use Rattle.serf_pack.specs.declared.fault.PackFault.TheVariants as faults
 use Rattle.serf_pack.specs.declared.head.Head.TheVariants as heads
 use Rattle.serf_pack.specs.Tree.{nil, flag, int, raw, array, pairs, Items, Pairs}
-use Rattle.serf_pack.specs.Table.{head_at, place}
-use Rattle.serf_pack.specs.Reading.{items_at, pairs_at, value_at}
+use Rattle.serf_pack.specs.Reading.{place, head_at, items_at, pairs_at, value_at}
 
 module _ (depth_left total : ℕ) (bytes rest : List ℕ) where
   -- ---- what is read

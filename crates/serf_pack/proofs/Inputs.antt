@@ -3,8 +3,7 @@ use Rattle.serf_pack.proofs.Names.{◌≡◌, ℕ, ◌+◌, ◌<◌, ◌≤◌, 
 use Rattle.serf_pack.specs.declared.fault.PackFault.{PackFault}
 use Rattle.serf_pack.specs.declared.fault.PackFault.TheVariants.{Trailing}
 use Rattle.serf_pack.specs.Tree.{Tree}
-use Rattle.serf_pack.specs.Table.{place}
-use Rattle.serf_pack.specs.Reading.{Gives, value_at, whole_at}
+use Rattle.serf_pack.specs.Reading.{Gives, place, value_at, whole_at}
 use Rattle.serf_pack.specs.Packs.{Packs}
 use Rattle.serf_pack.specs.Breaks.{Breaks, IsFaulty, breaks, trails, fault_place}
 use Rattle.serf_pack.proofs.SpelledIsRead.{value_read}

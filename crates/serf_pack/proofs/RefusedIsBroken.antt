@@ -7,8 +7,8 @@ use Rattle.serf_pack.specs.declared.head.Head.TheVariants as heads
 use Rattle.serf_pack.specs.declared.head.Row.{Row}
 use Rattle.serf_pack.specs.declared.head.Row.TheVariants.{Whole, Number, Unsupported}
 use Rattle.serf_pack.specs.Tree.{Tree, raw, array, pairs, Items, no_items, item, Pairs, no_pairs, pair}
-use Rattle.serf_pack.specs.Table.{row_of, meaning_of, head_at, head_by, place}
-use Rattle.serf_pack.specs.Reading.{Reader, ◌>>=◌, items_at, pairs_at, value_at, parts_by, too_deep}
+use Rattle.serf_pack.specs.Table.{row_of, meaning_of}
+use Rattle.serf_pack.specs.Reading.{Reader, ◌>>=◌, place, head_by, head_at, items_at, pairs_at, value_at, parts_by, too_deep}
 use Rattle.serf_pack.specs.Packs.{item_count, pair_count, Packs, PackItems, PackPairs}
 use Rattle.serf_pack.specs.Breaks.{Breaks, at_end, unsupported, short_number, short_raw, deep_array, deep_map, in_array, in_key, in_value}
 use Rattle.serf_pack.proofs.Steps.{fault_is, bind_err, guard_err}

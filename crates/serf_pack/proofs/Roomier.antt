@@ -4,8 +4,7 @@ use Rattle.serf_pack.specs.declared.fault.PackFault.{PackFault}
 use Rattle.serf_pack.specs.declared.head.Head.{Head}
 use Rattle.serf_pack.specs.declared.head.Head.TheVariants as heads
 use Rattle.serf_pack.specs.Tree.{Tree, array, pairs, Items, item, Pairs, pair}
-use Rattle.serf_pack.specs.Table.{head_at, place}
-use Rattle.serf_pack.specs.Reading.{Reader, ◌>>=◌, items_at, pairs_at, parts_by, too_deep, value_at}
+use Rattle.serf_pack.specs.Reading.{Reader, ◌>>=◌, place, head_at, items_at, pairs_at, parts_by, too_deep, value_at}
 
 -- what the first reader reads, the second reads so too
 abbrev ReadsAlso : {A : Type 0} → Reader A → Reader A → Type 0

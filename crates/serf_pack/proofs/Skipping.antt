@@ -8,8 +8,8 @@ use Rattle.serf_pack.specs.declared.head.Row.{Row}
 use Rattle.serf_pack.specs.declared.head.Row.TheVariants.{Whole, Number}
 use Rattle.serf_pack.specs.declared.head.Head.TheVariants.{Nil, Flag, Int, Raw, Array, Map}
 use Rattle.serf_pack.specs.Tree.{Tree, array, pairs, item, pair}
-use Rattle.serf_pack.specs.Table.{row_of, meaning_of, head_at, head_by, place}
-use Rattle.serf_pack.specs.Reading.{Reader, ◌>>=◌, items_at, pairs_at, value_at, rest_of}
+use Rattle.serf_pack.specs.Table.{row_of, meaning_of}
+use Rattle.serf_pack.specs.Reading.{Reader, ◌>>=◌, place, head_by, head_at, items_at, pairs_at, value_at, rest_of}
 use Rattle.serf_pack.proofs.ByHead.{read_nil, read_flag, read_int, read_raw, refuse_head, refuse_raw, refuse_deep_array, refuse_deep_map}
 
 -- what is done to the value doesn't matter to the rest

@@ -2,9 +2,8 @@
 use Rattle.serf_pack.proofs.Names.{◌≡◌, ℕ, zero, suc, ◌-◌, ◌<◌, List, [], ◌∷◌, length, false, cond, eqb, Result, Ok, Err, refl, ap, subst, ◌∙◌, arith, nat_tests}
 use Rattle.serf_pack.specs.declared.fault.PackFault.{PackFault}
 use Rattle.serf_pack.specs.declared.fault.PackFault.TheVariants.{Trailing}
-use Rattle.serf_pack.specs.Table.{place}
 use Rattle.serf_pack.specs.Tree.{Tree, Items, item, Pairs, pair}
-use Rattle.serf_pack.specs.Reading.{Reader, ◌>>=◌, items_at, pairs_at, value_at, whole_at, rest_of, value_or_nil, items_or_none, pairs_or_none}
+use Rattle.serf_pack.specs.Reading.{Reader, ◌>>=◌, place, items_at, pairs_at, value_at, whole_at, rest_of, value_or_nil, items_or_none, pairs_or_none}
 use Rattle.serf_pack.specs.View.{item_list, pair_list}
 use Rattle.serf_pack.proofs.Steps.{done}
 use Rattle.serf_pack.proofs.Viewing.{IsGood}

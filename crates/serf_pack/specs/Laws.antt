@@ -9,8 +9,7 @@ use Rattle.serf_pack.specs.Tree.{Tree, Items, Pairs}
 use Rattle.serf_pack.specs.Tree as trees
 use Rattle.serf_pack.specs.Packs.{IsHead, Packs, PackItems, PackPairs, item_count, pair_count}
 use Rattle.serf_pack.specs.Breaks.{IsFaulty}
-use Rattle.serf_pack.specs.Reading.{whole_at}
-use Rattle.serf_pack.specs.Table.{head_at}
+use Rattle.serf_pack.specs.Reading.{head_at, whole_at}
 
 -- a byte list spells at most one value
 abbrev pub OneTree : Type 0

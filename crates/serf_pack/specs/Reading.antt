@@ -1,12 +1,15 @@
 -- Reading from left to right, up to the first fault: the bridge between the code and the relations Packs and Breaks.
 -- No rule of MessagePack stands here that does not stand there.
-use Rattle.std.specs.Prelude.{◌≡◌, ℕ, zero, suc, List, length, take, drop, Result, Ok, Err, nat_lt, ◌==◌, if◌then◌else◌}
+use Rattle.std.specs.Prelude.{◌≡◌, ◌≤◌, ◌-◌, ℕ, zero, suc, List, [], ◌∷◌, length, take, drop, Result, Ok, Err, nat_lt, ◌==◌, if◌then◌else◌}
+use Rattle.byteorder.specs.Endian.{big_number}
 use Rattle.serf_pack.specs.declared.fault.PackFault.{PackFault}
-use Rattle.serf_pack.specs.declared.fault.PackFault.TheVariants.{Truncated, TooDeep, Trailing}
+use Rattle.serf_pack.specs.declared.fault.PackFault.TheVariants as faults
 use Rattle.serf_pack.specs.declared.head.Head.{Head}
 use Rattle.serf_pack.specs.declared.head.Head.TheVariants.{Nil, Flag, Int, Raw, Array, Map}
+use Rattle.serf_pack.specs.declared.head.Row.{Row}
+use Rattle.serf_pack.specs.declared.head.Row.TheVariants.{Whole, Number, Unsupported}
 use Rattle.serf_pack.specs.Tree.{Tree, nil, flag, int, raw, array, pairs, Items, no_items, item, Pairs, no_pairs, pair}
-use Rattle.serf_pack.specs.Table.{head_at, place}
+use Rattle.serf_pack.specs.Table.{row_of, meaning_of}
 
 -- what a function returned, seen by view, is what reading gives
 abbrev pub Gives : {X Y E : Type 0} → (X → Y) → Result X E → Result Y E → Type 0
@@ -22,6 +25,27 @@ abbrev pub ◌>>=◌ : {A B : Type 0} → Result A PackFault → (A → Result B
 -- a reader gives what stands at the front, and what follows it
 abbrev pub Reader : Type 0 → Type 0
 Reader A = List ℕ → Result (A × List ℕ) PackFault
+
+-- where a rest of the input begins, of which `total` is the length
+abbrev pub place : ℕ → List ℕ → ℕ
+place total rest = total - length rest
+
+-- what follows a row at place p: nothing more, or the bytes of its number, which may pass the end
+abbrev pub head_by : ℕ → Row → ℕ → List ℕ → Result (Head × List ℕ) PackFault
+head_by p (Whole h) b rest = Ok (h, rest)
+head_by p (Number f w) b rest = if nat_lt (length rest) w then Err (faults.Truncated p) else Ok (meaning_of f w (big_number w rest), drop w rest)
+head_by p Unsupported b rest = Err (faults.Unsupported b p)
+
+-- the head at the front of the bytes, and what follows it
+unfoldable pub head_at : ℕ → List ℕ → Result (Head × List ℕ) PackFault
+head_at total [] = Err (faults.Truncated (place total []))
+head_at total (b ∷ rest) = head_by (place total (b ∷ rest)) (row_of b) b rest
+
+-- a number has one to eight bytes
+abbrev pub HasWidth : Row → Type 0
+HasWidth (Whole h) = Unit {0}
+HasWidth (Number f w) = (1 ≤ w) × (w ≤ 8)
+HasWidth Unsupported = Unit {0}
 
 -- so many values, one after another
 unfoldable pub items_at : Reader Tree → ℕ → Reader Items
@@ -45,13 +69,13 @@ abbrev pub parts_by : (ℕ → Reader Items) → (ℕ → Reader Pairs) → ℕ 
 parts_by items members p Nil rest = Ok (nil p, rest)
 parts_by items members p (Flag b) rest = Ok (flag p b, rest)
 parts_by items members p (Int z) rest = Ok (int p z, rest)
-parts_by items members p (Raw n) rest = if nat_lt (length rest) n then Err (Truncated p) else Ok (raw p (take n rest), drop n rest)
+parts_by items members p (Raw n) rest = if nat_lt (length rest) n then Err (faults.Truncated p) else Ok (raw p (take n rest), drop n rest)
 parts_by items members p (Array n) rest = items n rest >>= λ vs. Ok (array p vs.0, vs.1)
 parts_by items members p (Map n) rest = members n rest >>= λ ps. Ok (pairs p ps.0, ps.1)
 
 -- parts that may not be read, where the value at place p stands inside eight others
 abbrev pub too_deep : {A : Type 0} → ℕ → ℕ → Reader A
-too_deep p n rest = Err (TooDeep p)
+too_deep p n rest = Err (faults.TooDeep p)
 
 -- one value, of the input of length total, with room for so many containers inside one another
 unfoldable pub value_at : ℕ → ℕ → Reader Tree
@@ -66,7 +90,7 @@ rest_of read = read >>= λ x. Ok x.1
 unfoldable pub whole_at : ℕ → List ℕ → Result Tree PackFault
 whole_at depth_left bytes = do
   v ← value_at depth_left (length bytes) bytes
-  if length v.1 == 0 then Ok v.0 else Err (Trailing (place (length bytes) v.1))
+  if length v.1 == 0 then Ok v.0 else Err (faults.Trailing (place (length bytes) v.1))
 
 -- what was read, and a stand-in where nothing was
 abbrev pub value_or_nil : Result (Tree × List ℕ) PackFault → Tree

@@ -1,9 +1,7 @@
 -- The formats of MessagePack, row by row: MessagePack specification, "Formats" (the table of first bytes).
 -- Str and bin are one kind here, raw. Floats, ext and timestamps are of no format of this profile.
-use Rattle.std.specs.Prelude.{ℕ, ℤ, pos, negsuc, ◌<◌, ◌^◌, ◌-ℤ◌, ◌-◌, true, false, List, [], ◌∷◌, length, drop, Result, Ok, Err, nat_lt, ◌==◌, if◌then◌else◌, ◌≤◌}
-use Rattle.byteorder.specs.Endian.{big_number, twos_complement}
-use Rattle.serf_pack.specs.declared.fault.PackFault.{PackFault}
-use Rattle.serf_pack.specs.declared.fault.PackFault.TheVariants as faults
+use Rattle.std.specs.Prelude.{ℕ, ℤ, pos, negsuc, ◌<◌, ◌^◌, ◌-ℤ◌, ◌-◌, true, false, nat_lt, ◌==◌, if◌then◌else◌}
+use Rattle.byteorder.specs.Endian.{twos_complement}
 use Rattle.serf_pack.specs.declared.head.Head.{Head}
 use Rattle.serf_pack.specs.declared.head.Head.TheVariants as heads
 use Rattle.serf_pack.specs.declared.head.Field.{Field}
@@ -63,24 +61,3 @@ meaning_of fields.Signed w x = heads.Int (twos_complement w x)
 meaning_of fields.Raw w x = heads.Raw x
 meaning_of fields.Array w x = heads.Array x
 meaning_of fields.Map w x = heads.Map x
-
--- where a rest of the input begins, of which `total` is the length
-abbrev pub place : ℕ → List ℕ → ℕ
-place total rest = total - length rest
-
--- what follows a row at place p: nothing more, or the bytes of its number, which may pass the end
-abbrev pub head_by : ℕ → Row → ℕ → List ℕ → Result (Head × List ℕ) PackFault
-head_by p (Whole h) b rest = Ok (h, rest)
-head_by p (Number f w) b rest = if nat_lt (length rest) w then Err (faults.Truncated p) else Ok (meaning_of f w (big_number w rest), drop w rest)
-head_by p Unsupported b rest = Err (faults.Unsupported b p)
-
--- the head at the front of the bytes, and what follows it
-unfoldable pub head_at : ℕ → List ℕ → Result (Head × List ℕ) PackFault
-head_at total [] = Err (faults.Truncated (place total []))
-head_at total (b ∷ rest) = head_by (place total (b ∷ rest)) (row_of b) b rest
-
--- a number has one to eight bytes
-abbrev pub HasWidth : Row → Type 0
-HasWidth (Whole h) = Unit {0}
-HasWidth (Number f w) = (1 ≤ w) × (w ≤ 8)
-HasWidth Unsupported = Unit {0}

@@ -3,8 +3,8 @@
 
 ghost use Rattle.std.specs.Prelude.{◌≡◌, ◌≤◌, ◌+◌, ◌<◌, ◌^◌, length, IfOk};
 ghost use Rattle.byteorder.specs.Endian.{big_number, twos_complement};
-ghost use Rattle.serf_pack.specs.Table.{row_of, meaning_of, head_at, HasFormatInt, HasWidth, RowHasFormatInt};
-ghost use Rattle.serf_pack.specs.Reading.{Gives};
+ghost use Rattle.serf_pack.specs.Table.{row_of, meaning_of, HasFormatInt, RowHasFormatInt};
+ghost use Rattle.serf_pack.specs.Reading.{Gives, head_at, HasWidth};
 
 use crate::fault::PackFault;
 use byteorder::{BigEndian, ByteOrder};
@@ -128,7 +128,7 @@ fn meaning(field: Field, width: usize, bytes: &[u8]) -> Head
 /// The head at the front of the bytes, which are the last of `total`, and what follows it. `Truncated`
 /// where the bytes end before the head does, `Unsupported` at a byte of no format, each with the offset
 /// of the first byte. Takes no memory.
-#[tactic(auto, unfolding(crate::specs::Table::head_at))]
+#[tactic(auto, unfolding(crate::specs::Reading::head_at))]
 #[inline(always)]
 pub fn read_head(total: usize, bytes: &[u8]) -> Result<(Head, &[u8]), PackFault>
     requires { length bytes.now ≤ total }

@@ -38,7 +38,8 @@ pub struct View<'a> {
 }
 
 impl<'a> View<'a> {
-    ghost use Rattle.serf_pack.specs.Table.{HasFormatInt, IsFormatInt, place};
+    ghost use Rattle.serf_pack.specs.Table.{HasFormatInt, IsFormatInt};
+    ghost use Rattle.serf_pack.specs.Reading.{place};
     ghost use Rattle.std.specs.Option.{option_copied};
     ghost use Rattle.serf_pack.specs.View.{tree_of, kind_of, int_of, flag_of, raw_of, place_of, items_of, pairs_of, tree_by, HasParts};
     ghost use Rattle.serf_pack.specs.Walk.{items_left, pairs_left};

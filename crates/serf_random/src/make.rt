@@ -10,7 +10,7 @@ ghost use Rattle.serf_schedule_text.specs.ScheduleText.{schedule_text};
 use crate::ask::{Ask, put_comment};
 use crate::draft::add_action;
 use crate::player::Player;
-use crate::settings::{add_agents, copy_of};
+use crate::settings::add_agents;
 use serf_replay::{MAX_SCHEDULE_BYTES, Schedule};
 use serf_schedule_text::{comments_skipped, know_read_back};
 use serf_world::{Action, Roster};
@@ -67,7 +67,7 @@ pub fn random_schedule(alloc: Global, ask: &Ask) -> Result<Made, AllocError>
     let mut text = Vec::new(alloc);
     put_comment(&mut text, ask)?;
     let agents = add_agents(alloc, ask, &mut text)?;
-    let actions = add_actions(alloc, ask, copy_of(alloc, &agents)?, &mut text)?;
+    let actions = add_actions(alloc, ask, agents.try_clone(alloc)?, &mut text)?;
     let schedule = Schedule { agents, actions };
     comments_skipped();
     know_numbers(ask);

@@ -90,23 +90,3 @@ pub(crate) fn add_agents(alloc: Global, ask: &Ask, text: &mut Vec<u8>) -> Result
     }
     Ok(roster)
 }
-
-/// The same agents once more.
-pub(crate) fn copy_of(alloc: Global, roster: &Roster) -> Result<Roster, AllocError> {
-    let mut copy = Roster::new(alloc);
-    for config in roster.as_slice() {
-        let config = Config {
-            name: Bytes::copy_of(alloc, config.name.as_slice())?,
-            event_buffer: config.event_buffer,
-            query_buffer: config.query_buffer,
-            event_limit: config.event_limit,
-            responders: config.responders,
-            per_time: config.per_time,
-            ignore_old: config.ignore_old,
-        };
-        if copy.add(alloc, config).is_err() {
-            return Err(AllocError);
-        }
-    }
-    Ok(copy)
-}

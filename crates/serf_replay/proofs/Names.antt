@@ -29,7 +29,7 @@ pub use Rattle.serf_agent.specs.declared.outcome.QueryParams.{QueryParams}
 pub use Rattle.serf_model.specs.declared.action.Action.{Action}
 pub use Rattle.serf_model.specs.declared.line.Line.{Line}
 pub use Rattle.serf_wire.specs.Fields.{fits}
-pub use Rattle.serf_wire.specs.Lists.{events_left, slot_of, slots_left, status_left, texts_left}
+pub use Rattle.serf_wire.specs.Lists.{events_left, slot_of_view, slots_left, status_left, texts_left}
 pub use Rattle.serf_wire.specs.Message.{message_of}
 pub use Rattle.serf_wire.specs.Slots.{SlotContent, empty, held}
 pub use Rattle.serf_world.specs.Cluster.{Cluster, IdealNode, Run, after, numbers_from, on_agent, run_of, start, step, step_by, trace_of}

@@ -2,7 +2,7 @@
 ghost use Rattle.std.specs.Prelude.{◌≡◌, ◌++◌, OnOk, IfOk, Ok, Err};
 ghost use Rattle.std.specs.List.{flat_map};
 ghost use Rattle.serf_wire.specs.declared.fault.WireFault.{WireFault as Fault};
-ghost use Rattle.serf_wire.specs.Lists.{events_left, event_of, slot_of, slots_left, status_left, status_of, texts_left};
+ghost use Rattle.serf_wire.specs.Lists.{events_left, event_of_view, slot_of_view, slots_left, status_left, status_of, texts_left};
 ghost use Rattle.serf_wire.specs.Message.{Message as Meaning, message_of, response_of, user_event_of};
 ghost use Rattle.serf_wire.specs.Spells.{IsFirstFault, Spells};
 ghost use Rattle.serf_wire.specs.Decoded.{decoded};
@@ -140,7 +140,7 @@ pub fn put_members(
 
 #[tactic(auto, unfolding(crate::specs::MessageText::event_line, crate::specs::TextParts::with_hex))]
 fn put_event_line(out: &mut Vec<u8>, event: EventView) -> Result<(), AllocError>
-    ensures { OnOk result (out.new.items ≡ out.old.items ++ event_line (event_of event.entry)) }
+    ensures { OnOk result (out.new.items ≡ out.old.items ++ event_line (event_of_view event.entry)) }
 {
     put_with_hex(out, b"event", event.name)?;
     put_with_hex(out, b"", event.payload)?;
@@ -160,7 +160,7 @@ fn put_event_lines(out: &mut Vec<u8>, events: EventViews) -> Result<(), AllocErr
 /// After an `AllocError`, which comes where there is no memory for them, `out` may have a front of them.
 #[tactic(auto, unfolding(crate::specs::MessageText::slot_lines))]
 pub fn put_slot(out: &mut Vec<u8>, number: u64, slot: &SlotView) -> Result<(), AllocError>
-    ensures { OnOk result (out.new.items ≡ out.old.items ++ slot_lines number (slot_of slot.now)) }
+    ensures { OnOk result (out.new.items ≡ out.old.items ++ slot_lines number (slot_of_view slot.now)) }
 {
     match slot {
         SlotView::Empty => {

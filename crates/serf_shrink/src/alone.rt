@@ -12,7 +12,7 @@ ghost use Rattle.serf_shrink.specs.Calls.{alone, calls_by, injections_of, packet
 use crate::call::{Call, copy_action, copy_placed};
 use serf_agent::Config;
 use serf_conform::{ConformFault, given_packet, is_of};
-use serf_hunt::{Case, copy_config};
+use serf_hunt::Case;
 use serf_replay::Schedule;
 use serf_wire::Bytes;
 use serf_world::{Action, Line, Roster, RosterFault};
@@ -161,7 +161,7 @@ fn alone_actions(alloc: Global, calls: &[Call]) -> Result<Vec<Action>, AllocErro
 fn lone_roster(alloc: Global, config: &Config) -> Result<Roster, ConformFault>
     ensures { IfOk result (λ roster. roster ≡ config.now ∷ []) }
 {
-    let Ok(copy) = copy_config(alloc, config) else {
+    let Ok(copy) = config.try_clone(alloc) else {
         return Err(ConformFault::OutOfMemory);
     };
     let mut roster = Roster::new(alloc);

@@ -3,7 +3,7 @@ use Rattle.serf_snap.proofs.Names.{◌≡◌, ◌==◌, ℕ, Bool, true, false, 
 use Rattle.serf_snap.specs.declared.kind.ClockKind.{ClockKind}
 use Rattle.serf_snap.specs.Clocks.{is_whole, sealed}
 use Rattle.serf_snap.specs.Device.{Device, Observable, FailurePlan, replace_decremented}
-use Rattle.serf_snap.specs.Notes.{SnapshotView, Writing, Kept, Failed, noted, written, last_line, KeepsPart, KeepsEither, MayWrite, MayReplace, opened, compacted, compaction_of, IsObservable, note_fails, note_decremented, will_write, will_replace, left_by, with_sink}
+use Rattle.serf_snap.specs.Notes.{SnapshotView, Writing, Kept, Failed, noted, written, last_line, KeepsPart, KeepsEither, MayWrite, MayReplace, opened, compacted, compaction_of, IsObservable, note_fails, note_decremented, will_write, will_replace, durable_left_by, with_sink}
 
 pub will_write-only : (s : SnapshotView) (line : List ℕ) (w : Writing) → IsSome s.plan → MayWrite s line w → w ≡ will_write s
 will_write-only s line Kept some may = by s.plan refl
@@ -44,10 +44,10 @@ will_replace-only s (Failed durable) some may = by s.plan refl
     by : (r : Option FailurePlan) → s.plan ≡ r → Failed durable ≡ will_replace s
     by None is = absurd (true≢false (sym (subst IsSome is some)))
     by (Some p) is =
-        let both : ((p.replaces == 1) ≡ true) × (durable ≡ left_by p (compaction_of s) s.durable) = subst (λ (o : Option FailurePlan). IfSome o (λ q. ((q.replaces == 1) ≡ true) × (durable ≡ left_by q (compaction_of s) s.durable))) is may.1 in
+        let both : ((p.replaces == 1) ≡ true) × (durable ≡ durable_left_by p (compaction_of s) s.durable) = subst (λ (o : Option FailurePlan). IfSome o (λ q. ((q.replaces == 1) ≡ true) × (durable ≡ durable_left_by q (compaction_of s) s.durable))) is may.1 in
         rw (is, both.0) (ap Failed both.1)
 
-keeps_left : (p : FailurePlan) (text : List ℕ) (durable : Option (List ℕ)) → KeepsEither durable text (left_by p text durable)
+keeps_left : (p : FailurePlan) (text : List ℕ) (durable : Option (List ℕ)) → KeepsEither durable text (durable_left_by p text durable)
 keeps_left p text durable = by p.keeps_new durable
   where
     by : (b : Bool) (k : Option (List ℕ)) → KeepsEither k text (cond b (option_map (λ (l : List ℕ). text) k) k)

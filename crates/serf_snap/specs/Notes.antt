@@ -105,15 +105,15 @@ KeepsEither None text new = new ≡ None
 KeepsEither (Some k) text new = (new ≡ Some k) ⊎ (new ≡ Some text)
 
 -- what a failing replace keeps by plan
-abbrev pub left_by : FailurePlan → List ℕ → Option (List ℕ) → Option (List ℕ)
-left_by p text durable = if p.keeps_new then option_map (λ (k : List ℕ). text) durable else durable
+abbrev pub durable_left_by : FailurePlan → List ℕ → Option (List ℕ) → Option (List ℕ)
+durable_left_by p text durable = if p.keeps_new then option_map (λ (k : List ℕ). text) durable else durable
 
 -- what a sink may do in a compaction: with a plan exactly what the plan says
 abbrev pub MayReplace : SnapshotView → Writing → Type 0
 MayReplace s Kept = IfSome s.plan (λ p. (p.replaces == 1) ≡ false)
 MayReplace s (Failed durable) =
     KeepsEither s.durable (compaction_of s) durable
-    × IfSome s.plan (λ p. ((p.replaces == 1) ≡ true) × (durable ≡ left_by p (compaction_of s) s.durable))
+    × IfSome s.plan (λ p. ((p.replaces == 1) ≡ true) × (durable ≡ durable_left_by p (compaction_of s) s.durable))
 
 -- what the sink will do in a compaction, where it has a plan
 abbrev pub will_replace : SnapshotView → Writing
@@ -121,7 +121,7 @@ will_replace s = by s.plan
   where
     by : Option FailurePlan → Writing
     by None = Kept
-    by (Some p) = if p.replaces == 1 then Failed (left_by p (compaction_of s) s.durable) else Kept
+    by (Some p) = if p.replaces == 1 then Failed (durable_left_by p (compaction_of s) s.durable) else Kept
 
 -- the numbers of calls after a note that failed: one append, and one flush unless the append failed
 abbrev pub HasTriedNote : Calls → Calls → Type 0

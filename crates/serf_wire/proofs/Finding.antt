@@ -10,7 +10,7 @@ use Rattle.serf_wire.specs.Fields.{is_key, has_key, values_of}
 use Rattle.serf_wire.specs.declared.fault.WireFault.{WireFault}
 use Rattle.serf_wire.specs.declared.fault.WireFault.TheVariants.{Twice}
 use Rattle.serf_wire.specs.Faults.{at, key_faults, first}
-use Rattle.serf_wire.specs.Lookups.{value_at, tree_or_nil}
+use Rattle.serf_wire.specs.Lookups.{value_of_key, tree_or_nil}
 use Rattle.serf_wire.specs.Found.{trees_found, found_at, Finds}
 use Rattle.serf_wire.proofs.Sound.{same_text, text_is}
 
@@ -85,11 +85,11 @@ has_first name (q ∷ qs) =
     let rest = has_first name qs in
     elim (is_key name q.0) as (λ b. (b || has_key name qs) ≡ is_some (first (cond b (q.1 ∷ values_of name qs) (values_of name qs)))) [ true ↦ refl | false ↦ rest ]
 
-value_first : (name : List ℕ) (ps : List (Tree × Tree)) → tree_or_nil (first (values_of name ps)) ≡ value_at name ps
+value_first : (name : List ℕ) (ps : List (Tree × Tree)) → tree_or_nil (first (values_of name ps)) ≡ value_of_key name ps
 value_first name [] = refl
 value_first name (q ∷ qs) =
     let rest = value_first name qs in
-    elim (is_key name q.0) as (λ b. tree_or_nil (first (cond b (q.1 ∷ values_of name qs) (values_of name qs))) ≡ cond b q.1 (value_at name qs)) [ true ↦ refl | false ↦ rest ]
+    elim (is_key name q.0) as (λ b. tree_or_nil (first (cond b (q.1 ∷ values_of name qs) (values_of name qs))) ≡ cond b q.1 (value_of_key name qs)) [ true ↦ refl | false ↦ rest ]
 
 key_by : (name s : List ℕ) (p : Tree × Tree) (b : Bool) → raw_of p.0 ≡ Some s → bytes_eq s name ≡ b → is_key name p.0 ≡ b
 key_by name s p b raw e = rw raw e
@@ -115,7 +115,7 @@ module _ (layout : Layout) (found : FoundFields) (ps : List (Tree × Tree)) (fin
   pub found_has : (name : List ℕ) (f : Field) → field_in 0 name (fields_of layout) ≡ Some f → is_some (found_at found f.place) ≡ has_key name ps
   found_has name f e = ap is_some (finds.values name f e) ∙ sym (has_first name ps)
 
-  pub shown : (name : List ℕ) (place : ℕ) (kind : Kind) (o : Option Tree) → field_in 0 name (fields_of layout) ≡ Some (field_at place kind) → o ≡ found_at found place → tree_or_nil o ≡ value_at name ps
+  pub shown : (name : List ℕ) (place : ℕ) (kind : Kind) (o : Option Tree) → field_in 0 name (fields_of layout) ≡ Some (field_at place kind) → o ≡ found_at found place → tree_or_nil o ≡ value_of_key name ps
   shown name place kind o e is = ap tree_or_nil (is ∙ finds.values name (field_at place kind) e) ∙ value_first name ps
 
   -- ---- the faults of one more pair

@@ -8,7 +8,7 @@ use Rattle.serf_wire.specs.Layout.{fields_of, kind_in}
 use Rattle.serf_wire.specs.Fields.{field, sole, values_of, text, truth, number, time, signed, list, status, both, event_body, slot}
 use Rattle.serf_wire.specs.Faults.{value_faults, faults_behind, map_faults}
 use Rattle.serf_wire.specs.Message.{UserEvent, Query, QueryResponse, PushPull}
-use Rattle.serf_wire.specs.Lookups.{value_at, text_in, truth_in, number_in, time_in, signed_in, list_in, status_in, event_body_in, slot_in}
+use Rattle.serf_wire.specs.Lookups.{value_of_key, text_in, truth_in, number_in, time_in, signed_in, list_in, status_in, event_body_in, slot_in}
 use Rattle.serf_wire.specs.Reading.{event_in, query_in, response_in, push_pull_in}
 use Rattle.serf_wire.specs.Spells.{IsUserEvent, IsQuery, IsQueryResponse, IsPushPull, HasRawKeys}
 use Rattle.serf_wire.specs.declared.texts.EventBody.{EventBody}
@@ -36,9 +36,9 @@ nil_clean (suc depth_left) (kinds.Maps layout) q = refl
 
 -- the field of this name, in a map without faults
 pub field_there : {A : Type 0} (meaning : Tree → Option A) (value : Tree → A) (depth_left : ℕ) (k : Kind) → IsExact meaning value (value_faults depth_left k) → (layout : Layout) (name : List ℕ) → kind_in name (fields_of layout) ≡ Some k
-    → (ps : Pairs) → faults_behind (value_faults depth_left) layout [] ps ≡ [] → field meaning name ps ≡ Some (value (value_at name ps))
+    → (ps : Pairs) → faults_behind (value_faults depth_left) layout [] ps ≡ [] → field meaning name ps ≡ Some (value (value_of_key name ps))
 field_there meaning value depth_left k exact layout name known ps none =
-    first_is (value_faults depth_left) layout name k known meaning [] ps none ∙ exact.there (value_at name ps) (first_sound (value_faults depth_left) layout name k known [] ps (nil_clean depth_left k) none)
+    first_is (value_faults depth_left) layout name k known meaning [] ps none ∙ exact.there (value_of_key name ps) (first_sound (value_faults depth_left) layout name k known [] ps (nil_clean depth_left k) none)
 
 -- a field that is there has one sound value at most
 pub sole_there : {A : Type 0} (meaning : Tree → Option A) (value : Tree → A) (depth_left : ℕ) (k : Kind) → IsExact meaning value (value_faults depth_left k) → (vs : List Tree) (x : A) → sole meaning vs ≡ Some x → IsSole (value_faults depth_left) k false vs
@@ -81,7 +81,7 @@ event_is e ps h = same_event ps (event_in ps) e (event_there ps (event_clean e p
 abbrev event_with : List ℕ → List ℕ → EventBody
 event_with n p = record { name = n; payload = p }
 
-event_body_values : (v : Tree) → pairs_value (record { name = []; payload = [] }) (λ ps. event_with (text_in (value_at (codes "Name") ps)) (text_in (value_at (codes "Payload") ps))) v ≡ event_body_in v
+event_body_values : (v : Tree) → pairs_value (record { name = []; payload = [] }) (λ ps. event_with (text_in (value_of_key (codes "Name") ps)) (text_in (value_of_key (codes "Payload") ps))) v ≡ event_body_in v
 event_body_values (nil p) = refl
 event_body_values (flag p b) = refl
 event_body_values (int p z) = refl
@@ -89,7 +89,7 @@ event_body_values (raw p s) = refl
 event_body_values (array p vs) = refl
 event_body_values (pairs p ps) = refl
 
-slot_values : (v : Tree) → pairs_value empty (λ ps. held (time_in (value_at (codes "LTime") ps)) (list_in event_body_in (value_at (codes "Events") ps))) v ≡ slot_in v
+slot_values : (v : Tree) → pairs_value empty (λ ps. held (time_in (value_of_key (codes "LTime") ps)) (list_in event_body_in (value_of_key (codes "Events") ps))) v ≡ slot_in v
 slot_values (nil p) = refl
 slot_values (flag p b) = refl
 slot_values (int p z) = refl
@@ -97,7 +97,7 @@ slot_values (raw p s) = refl
 slot_values (array p vs) = refl
 slot_values (pairs p ps) = refl
 
-event_there_in : (ps : Pairs) → faults_behind (value_faults 0) layouts.Event [] ps ≡ [] → both (λ n p. event_with n p) (field text (codes "Name") ps) (field text (codes "Payload") ps) ≡ Some (event_with (text_in (value_at (codes "Name") ps)) (text_in (value_at (codes "Payload") ps)))
+event_there_in : (ps : Pairs) → faults_behind (value_faults 0) layouts.Event [] ps ≡ [] → both (λ n p. event_with n p) (field text (codes "Name") ps) (field text (codes "Payload") ps) ≡ Some (event_with (text_in (value_of_key (codes "Name") ps)) (text_in (value_of_key (codes "Payload") ps)))
 event_there_in ps none =
     rw (field_there text text_in 0 kinds.Text text_exact layouts.Event (codes "Name") refl ps none, field_there text text_in 0 kinds.Text text_exact layouts.Event (codes "Payload") refl ps none) refl
 
@@ -110,7 +110,7 @@ event_sound_in ps x keys e =
 pub event_body_exact : IsExact event_body event_body_in (map_faults (value_faults 0) layouts.Event)
 event_body_exact = map_exact _ _ (value_faults 0) layouts.Event _ event_body_values event_there_in event_sound_in
 
-slot_there_in : (ps : Pairs) → faults_behind (value_faults 1) layouts.Slot [] ps ≡ [] → both held (field time (codes "LTime") ps) (field (list event_body) (codes "Events") ps) ≡ Some (held (time_in (value_at (codes "LTime") ps)) (list_in event_body_in (value_at (codes "Events") ps)))
+slot_there_in : (ps : Pairs) → faults_behind (value_faults 1) layouts.Slot [] ps ≡ [] → both held (field time (codes "LTime") ps) (field (list event_body) (codes "Events") ps) ≡ Some (held (time_in (value_of_key (codes "LTime") ps)) (list_in event_body_in (value_of_key (codes "Events") ps)))
 slot_there_in ps none =
     rw (field_there time time_in 1 kinds.Time time_exact layouts.Slot (codes "LTime") refl ps none, field_there (list event_body) (list_in event_body_in) 1 (kinds.Maps layouts.Event) (list_exact _ _ _ event_body_exact) layouts.Slot (codes "Events") refl ps none) refl
 

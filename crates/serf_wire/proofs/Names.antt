@@ -19,8 +19,8 @@ pub use Rattle.byteorder.specs.Endian.{big_number}
 pub use Rattle.serf_pack.specs.Canonical.{array_head, flag_bytes, int_bytes, map_head, raw_bytes, raw_head, uint_bytes}
 pub use Rattle.serf_pack.specs.Packs.{IsHead, PackItems, PackPairs, Packs, item_count, pair_count}
 pub use Rattle.serf_pack.specs.Reading.{Gives, whole_at}
+unfoldable pub use Rattle.serf_pack.specs.Reading.{head_at}
 pub use Rattle.serf_pack.specs.Table.{meaning_of, row_of}
-unfoldable pub use Rattle.serf_pack.specs.Table.{head_at}
 pub use Rattle.serf_pack.specs.Tree.{Items, Pairs, Tree, array, flag, int, item, nil, no_items, no_pairs, pair, pairs, raw}
 pub use Rattle.serf_pack.specs.View.{item_list, items_of, kind_of, pair_list, pairs_of, place_of, raw_of, tree_of}
 pub use Rattle.serf_pack.specs.Walk.{PacksAlone, items_left, pairs_left}

@@ -42,8 +42,8 @@ events_walk (Some walk) = map event_body_in (items_left walk)
 abbrev pub events_left : EventViews → List EventBody
 events_left events = events_walk events.items
 
-abbrev pub event_of : EventView → EventBody
-event_of e = record { name = e.name.now; payload = e.payload.now }
+abbrev pub event_of_view : EventView → EventBody
+event_of_view e = record { name = e.name.now; payload = e.payload.now }
 
 abbrev pub slots_walk : Option Items → List SlotContent
 slots_walk None = []
@@ -53,6 +53,6 @@ slots_walk (Some walk) = map slot_in (items_left walk)
 abbrev pub slots_left : SlotViews → List SlotContent
 slots_left slots = slots_walk slots.items
 
-abbrev pub slot_of : SlotView → SlotContent
-slot_of Empty = empty
-slot_of (Held time events) = held time (events_left events)
+abbrev pub slot_of_view : SlotView → SlotContent
+slot_of_view Empty = empty
+slot_of_view (Held time events) = held time (events_left events)

@@ -7,9 +7,9 @@ use Rattle.serf_wire.specs.Slots.{SlotContent, empty, held}
 use Rattle.serf_wire.specs.Fields.{text, truth, number, time, signed, is_key}
 
 -- the value of the first pair with this key, or nil
-abbrev pub value_at : List ℕ → List (Tree × Tree) → Tree
-value_at name [] = nil 0
-value_at name (p ∷ ps) = if is_key name p.0 then p.1 else value_at name ps
+abbrev pub value_of_key : List ℕ → List (Tree × Tree) → Tree
+value_of_key name [] = nil 0
+value_of_key name (p ∷ ps) = if is_key name p.0 then p.1 else value_of_key name ps
 
 abbrev pub tree_or_nil : Option Tree → Tree
 tree_or_nil None = nil 0
@@ -41,7 +41,7 @@ abbrev pub status_in : Tree → List (List ℕ × ℕ)
 status_in v = map status_time_in (pairs_of v)
 
 abbrev pub event_body_in : Tree → EventBody
-event_body_in v = record { name = text_in (value_at (codes "Name") (pairs_of v)); payload = text_in (value_at (codes "Payload") (pairs_of v)) }
+event_body_in v = record { name = text_in (value_of_key (codes "Name") (pairs_of v)); payload = text_in (value_of_key (codes "Payload") (pairs_of v)) }
 
 abbrev pub slot_in : Tree → SlotContent
 slot_in (nil p) = empty
@@ -49,4 +49,4 @@ slot_in (flag p b) = empty
 slot_in (int p z) = empty
 slot_in (raw p s) = empty
 slot_in (array p vs) = empty
-slot_in (pairs p ps) = held (time_in (value_at (codes "LTime") (pair_list ps))) (list_in event_body_in (value_at (codes "Events") (pair_list ps)))
+slot_in (pairs p ps) = held (time_in (value_of_key (codes "LTime") (pair_list ps))) (list_in event_body_in (value_of_key (codes "Events") (pair_list ps)))

@@ -6,50 +6,50 @@ use Rattle.serf_wire.specs.declared.fault.WireFault.{WireFault}
 use Rattle.serf_wire.specs.declared.fault.WireFault.TheVariants.{NotAMap}
 use Rattle.serf_wire.specs.declared.layout.MessageType.{MessageType}
 use Rattle.serf_wire.specs.declared.layout.MessageType.TheVariants as types
-use Rattle.serf_wire.specs.Lookups.{value_at, text_in, truth_in, number_in, time_in, signed_in, list_in, status_in, slot_in}
+use Rattle.serf_wire.specs.Lookups.{value_of_key, text_in, truth_in, number_in, time_in, signed_in, list_in, status_in, slot_in}
 use Rattle.serf_wire.specs.Faults.{message_faults, first}
 use Rattle.serf_wire.specs.Message.{Message, UserEvent, Query, QueryResponse, PushPull, user_event, query, query_response, push_pull}
 
 abbrev pub event_in : List (Tree × Tree) → UserEvent
 event_in ps = record {
-  time = time_in (value_at (codes "LTime") ps);
-  name = text_in (value_at (codes "Name") ps);
-  payload = text_in (value_at (codes "Payload") ps);
-  coalesce = truth_in (value_at (codes "CC") ps);
+  time = time_in (value_of_key (codes "LTime") ps);
+  name = text_in (value_of_key (codes "Name") ps);
+  payload = text_in (value_of_key (codes "Payload") ps);
+  coalesce = truth_in (value_of_key (codes "CC") ps);
 }
 
 abbrev pub query_in : List (Tree × Tree) → Query
 query_in ps = record {
-  time = time_in (value_at (codes "LTime") ps);
-  id = number_in 0xffff_ffff (value_at (codes "ID") ps);
-  addr = text_in (value_at (codes "Addr") ps);
-  port = number_in 0xffff (value_at (codes "Port") ps);
-  source = text_in (value_at (codes "SourceNode") ps);
-  filters = list_in text_in (value_at (codes "Filters") ps);
-  flags = number_in 0xffff_ffff (value_at (codes "Flags") ps);
-  relay_factor = number_in 0xff (value_at (codes "RelayFactor") ps);
-  timeout = signed_in (value_at (codes "Timeout") ps);
-  name = text_in (value_at (codes "Name") ps);
-  payload = text_in (value_at (codes "Payload") ps);
+  time = time_in (value_of_key (codes "LTime") ps);
+  id = number_in 0xffff_ffff (value_of_key (codes "ID") ps);
+  addr = text_in (value_of_key (codes "Addr") ps);
+  port = number_in 0xffff (value_of_key (codes "Port") ps);
+  source = text_in (value_of_key (codes "SourceNode") ps);
+  filters = list_in text_in (value_of_key (codes "Filters") ps);
+  flags = number_in 0xffff_ffff (value_of_key (codes "Flags") ps);
+  relay_factor = number_in 0xff (value_of_key (codes "RelayFactor") ps);
+  timeout = signed_in (value_of_key (codes "Timeout") ps);
+  name = text_in (value_of_key (codes "Name") ps);
+  payload = text_in (value_of_key (codes "Payload") ps);
 }
 
 abbrev pub response_in : List (Tree × Tree) → QueryResponse
 response_in ps = record {
-  time = number_in 0xffff_ffff_ffff_ffff (value_at (codes "LTime") ps);
-  id = number_in 0xffff_ffff (value_at (codes "ID") ps);
-  from = text_in (value_at (codes "From") ps);
-  flags = number_in 0xffff_ffff (value_at (codes "Flags") ps);
-  payload = text_in (value_at (codes "Payload") ps);
+  time = number_in 0xffff_ffff_ffff_ffff (value_of_key (codes "LTime") ps);
+  id = number_in 0xffff_ffff (value_of_key (codes "ID") ps);
+  from = text_in (value_of_key (codes "From") ps);
+  flags = number_in 0xffff_ffff (value_of_key (codes "Flags") ps);
+  payload = text_in (value_of_key (codes "Payload") ps);
 }
 
 abbrev pub push_pull_in : List (Tree × Tree) → PushPull
 push_pull_in ps = record {
-  member_clock = number_in 0xffff_ffff_ffff_ffff (value_at (codes "LTime") ps);
-  status = status_in (value_at (codes "StatusLTimes") ps);
-  left = list_in text_in (value_at (codes "LeftMembers") ps);
-  event_clock = number_in 0xffff_ffff_ffff_ffff (value_at (codes "EventLTime") ps);
-  slots = list_in slot_in (value_at (codes "Events") ps);
-  query_clock = number_in 0xffff_ffff_ffff_ffff (value_at (codes "QueryLTime") ps);
+  member_clock = number_in 0xffff_ffff_ffff_ffff (value_of_key (codes "LTime") ps);
+  status = status_in (value_of_key (codes "StatusLTimes") ps);
+  left = list_in text_in (value_of_key (codes "LeftMembers") ps);
+  event_clock = number_in 0xffff_ffff_ffff_ffff (value_of_key (codes "EventLTime") ps);
+  slots = list_in slot_in (value_of_key (codes "Events") ps);
+  query_clock = number_in 0xffff_ffff_ffff_ffff (value_of_key (codes "QueryLTime") ps);
 }
 
 abbrev pub message_in : MessageType → List (Tree × Tree) → Message

@@ -7,7 +7,7 @@ ghost use Rattle.std.specs.Option.{option_copied, option_map};
 ghost use Rattle.byteorder.specs.Endian.{big_number};
 ghost use Rattle.serf_pack.specs.declared.head.Head.TheVariants as heads;
 ghost use Rattle.serf_pack.specs.Packs.{Packs};
-ghost use Rattle.serf_pack.specs.Table.{head_at};
+ghost use Rattle.serf_pack.specs.Reading.{head_at};
 ghost use Rattle.serf_pack.specs.Tree.{Tree};
 ghost use Rattle.serf_pack.specs.View.{raw_of, tree_of};
 ghost use Rattle.serf_wire.specs.Fields.{text, truth, number, list};

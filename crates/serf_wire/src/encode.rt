@@ -12,6 +12,7 @@ ghost use Rattle.serf_wire.specs.Fields.{fits};
 ghost use Rattle.serf_wire.specs.Ranges.{IsRangedQuery, IsRangedPushPull};
 
 use crate::laws::laws_below;
+use crate::length::user_event_len;
 use crate::long::{is_long_push_pull, is_long_query, is_long_text};
 use crate::parts::{PushPullParts, QueryParts};
 use crate::put::{
@@ -58,7 +59,8 @@ fn write_user_event(
     ensures bytes { IfOk result (λ packet. packet.items ≡ canonical (user_event_of time name.now payload.now coalesce)) }
     ensures time { OnOk result (time < 18446744073709551615) }
 {
-    let mut out = Vec::new(alloc);
+    let len = user_event_len(time, name, payload, coalesce);
+    let mut out = Vec::with_capacity(alloc, len as usize)?;
     out.extend_from_slice(&[3])?;
     put_map(&mut out, 4)?;
     put_number_field(&mut out, b"LTime", time.get())?;

@@ -4,7 +4,7 @@ ghost use Rattle.std.specs.Prelude.{◌≡◌, ◌≤◌, [], false, unwrap_or};
 ghost use Rattle.std.specs.Option.{option_map};
 ghost use Rattle.serf_pack.specs.View.{tree_of, pairs_of};
 ghost use Rattle.serf_wire.specs.Fields.{text, truth, number, time};
-ghost use Rattle.serf_wire.specs.Lookups.{value_at, tree_or_nil, text_in, truth_in, number_in, time_in, signed_in};
+ghost use Rattle.serf_wire.specs.Lookups.{value_of_key, tree_or_nil, text_in, truth_in, number_in, time_in, signed_in};
 
 use crate::faults::is_name;
 use serf_lamport::Time;
@@ -12,7 +12,7 @@ use serf_pack::View;
 
 /// The value of the first pair with this key.
 pub fn find_value<'a>(map: &View<'a>, name: &[u8]) -> Option<View<'a>>
-    ensures { tree_or_nil (option_map tree_of result) ≡ value_at name.now (pairs_of (tree_of map.now)) }
+    ensures { tree_or_nil (option_map tree_of result) ≡ value_of_key name.now (pairs_of (tree_of map.now)) }
 {
     for (key, value) in map.pairs() {
         if is_name(&key, name) {

@@ -143,11 +143,11 @@ impl<'a> EventView<'a> {
     ghost use Rattle.std.specs.Prelude.{◌≡◌};
     ghost use Rattle.serf_pack.specs.View.{tree_of};
     ghost use Rattle.serf_wire.specs.Lookups.{event_body_in};
-    ghost use Rattle.serf_wire.specs.Lists.{event_of};
+    ghost use Rattle.serf_wire.specs.Lists.{event_of_view};
 
     /// The event that a value is, where it is one.
     pub(crate) fn of(value: &View<'a>) -> EventView<'a>
-        ensures { event_of result ≡ event_body_in (tree_of value.now) }
+        ensures { event_of_view result ≡ event_body_in (tree_of value.now) }
     {
         EventView {
             name: text_or_empty(find_value(value, b"Name")),
@@ -160,11 +160,11 @@ impl<'a> SlotView<'a> {
     ghost use Rattle.std.specs.Prelude.{◌≡◌};
     ghost use Rattle.serf_pack.specs.View.{tree_of};
     ghost use Rattle.serf_wire.specs.Lookups.{slot_in};
-    ghost use Rattle.serf_wire.specs.Lists.{slot_of};
+    ghost use Rattle.serf_wire.specs.Lists.{slot_of_view};
 
     /// The slot that a value is, where it is one.
     pub(crate) fn of(value: &View<'a>) -> SlotView<'a>
-        ensures { slot_of result ≡ slot_in (tree_of value.now) }
+        ensures { slot_of_view result ≡ slot_in (tree_of value.now) }
     {
         match value.kind() {
             Kind::Map => SlotView::Held(
@@ -227,11 +227,11 @@ impl<'a> Iterator for StatusTimes<'a> {
 
 impl<'a> Iterator for EventViews<'a> {
     ghost use Rattle.std.specs.Iterator.{YieldsFirstBy, item_count};
-    ghost use Rattle.serf_wire.specs.Lists.{events_left, event_of};
+    ghost use Rattle.serf_wire.specs.Lists.{events_left, event_of_view};
 
     type Item = EventView<'a>;
 
-    ghost next_gives = { YieldsFirstBy event_of events_left };
+    ghost next_gives = { YieldsFirstBy event_of_view events_left };
 
     ghost remaining = { item_count events_left };
 
@@ -249,11 +249,11 @@ impl<'a> Iterator for EventViews<'a> {
 
 impl<'a> Iterator for SlotViews<'a> {
     ghost use Rattle.std.specs.Iterator.{YieldsFirstBy, item_count};
-    ghost use Rattle.serf_wire.specs.Lists.{slots_left, slot_of};
+    ghost use Rattle.serf_wire.specs.Lists.{slots_left, slot_of_view};
 
     type Item = SlotView<'a>;
 
-    ghost next_gives = { YieldsFirstBy slot_of slots_left };
+    ghost next_gives = { YieldsFirstBy slot_of_view slots_left };
 
     ghost remaining = { item_count slots_left };
 

@@ -3,7 +3,7 @@
 
 ghost use Rattle.std.specs.Prelude.{◌≡◌, ◌∷◌, [], map, IfSome, IfNone};
 ghost use Rattle.serf_pack.specs.Walk.{items_left};
-ghost use Rattle.serf_wire.specs.Lists.{event_of, slot_of};
+ghost use Rattle.serf_wire.specs.Lists.{event_of_view, slot_of_view};
 ghost use Rattle.serf_wire.specs.Lookups.{event_body_in, slot_in};
 
 use crate::fast::{read_event, read_slot};
@@ -13,7 +13,7 @@ use serf_pack::Items;
 /// The next event, where it is compact, and what is left behind it.
 #[inline(always)]
 fn compact_event<'a>(items: &Items<'a>) -> Option<(EventView<'a>, Items<'a>)>
-    ensures { IfSome result (λ x. map event_body_in (items_left items.now) ≡ event_of x.0 ∷ map event_body_in (items_left x.1)) }
+    ensures { IfSome result (λ x. map event_body_in (items_left items.now) ≡ event_of_view x.0 ∷ map event_body_in (items_left x.1)) }
 {
     let bytes = items.bytes();
     let Some((event, rest)) = read_event(bytes) else {
@@ -28,7 +28,7 @@ fn compact_event<'a>(items: &Items<'a>) -> Option<(EventView<'a>, Items<'a>)>
 /// The next event, and what is left behind it.
 #[inline]
 pub fn next_event<'a>(items: &Items<'a>) -> Option<(EventView<'a>, Items<'a>)>
-    ensures some { IfSome result (λ x. map event_body_in (items_left items.now) ≡ event_of x.0 ∷ map event_body_in (items_left x.1)) }
+    ensures some { IfSome result (λ x. map event_body_in (items_left items.now) ≡ event_of_view x.0 ∷ map event_body_in (items_left x.1)) }
     ensures none { IfNone result (items_left items.now ≡ []) }
 {
     if items.left() == 0 {
@@ -47,7 +47,7 @@ pub fn next_event<'a>(items: &Items<'a>) -> Option<(EventView<'a>, Items<'a>)>
 /// The next slot, where it is compact, and what is left behind it.
 #[inline(always)]
 fn compact_slot<'a>(items: &Items<'a>) -> Option<(SlotView<'a>, Items<'a>)>
-    ensures { IfSome result (λ x. map slot_in (items_left items.now) ≡ slot_of x.0 ∷ map slot_in (items_left x.1)) }
+    ensures { IfSome result (λ x. map slot_in (items_left items.now) ≡ slot_of_view x.0 ∷ map slot_in (items_left x.1)) }
 {
     let bytes = items.bytes();
     let Some((slot, rest)) = read_slot(bytes) else {
@@ -62,7 +62,7 @@ fn compact_slot<'a>(items: &Items<'a>) -> Option<(SlotView<'a>, Items<'a>)>
 /// The next slot, and what is left behind it.
 #[inline]
 pub fn next_slot<'a>(items: &Items<'a>) -> Option<(SlotView<'a>, Items<'a>)>
-    ensures some { IfSome result (λ x. map slot_in (items_left items.now) ≡ slot_of x.0 ∷ map slot_in (items_left x.1)) }
+    ensures some { IfSome result (λ x. map slot_in (items_left items.now) ≡ slot_of_view x.0 ∷ map slot_in (items_left x.1)) }
     ensures none { IfNone result (items_left items.now ≡ []) }
 {
     if let Some(found) = compact_slot(items) {

@@ -68,7 +68,7 @@ receives-planned laws (e ∷ es) i old deliveries new fault representable runs t
     by merges.NotPushPull is ends = absurd ends
 
 -- a whole merge
-merges-planned : MergesRepresentable → (i : IdealAgent) (packet : List ℕ) (m : PushPull) (join : Bool) (old : Device) (deliveries : List EventOut) (new : AgentState) (fault : Option MergeFault) → IsRepresentable i → decoded packet ≡ Ok (push_pull m) → merge_refusal (view_of i) (Ok (push_pull m)) ≡ None → fault ≢ Some merges.OutOfMemory
+merges-planned : MergesRepresentable → (i : IdealAgent) (packet : List ℕ) (m : PushPull) (join : Bool) (old : Device) (deliveries : List EventOut) (new : AgentState) (fault : Option MergeFault) → IsRepresentable i → decoded packet ≡ Ok (push_pull m) → merge_refusal i.snapshot (Ok (push_pull m)) ≡ None → fault ≢ Some merges.OutOfMemory
     → Receives (joined m join i) (events_of m.slots) old deliveries new fault → Merging (merges_events (events_of m.slots) (joined m join i)) deliveries new.concrete fault
 merges-planned laws i packet m join old deliveries new fault representable is refuses memory h =
     let runs = none-if i.snapshot.stopped merges.Stopped None refuses in
@@ -80,7 +80,7 @@ not-state false e = cc
 
 -- what a merge does, however its packet reads
 does-merge-read : MergesRepresentable → (m : IdealNode) (join : Bool) (packet : List ℕ) (fault : Option MergeFault) (old : Device) (new : AgentState) (out : List EventOut) (d : Made) (f : Option MergeFault) (r : Result Message WireFault) → IsRepresentable m.agent → fault ≢ Some merges.OutOfMemory
-    → decoded packet ≡ r → merge_refusal (view_of m.agent) r ≡ f
+    → decoded packet ≡ r → merge_refusal m.agent.snapshot r ≡ f
     → ((g : MergeFault) → f ≡ Some g → (fault ≡ Some g) × (new.concrete ≡ view_of m.agent) × (out ≡ []))
     → ((p : PushPull) → f ≡ None → r ≡ Ok (push_pull p) → Merges m.agent p join [] out old new fault)
     → done_of d ≡ record { answer = merge_answer fault; packets = []; events = out; handed = None } → DoesCall (merges_as f m join r) new.concrete d
@@ -109,14 +109,14 @@ does-merge-read laws m join packet fault old new out d None (Ok (push_pull p)) r
     answers-as false = refl
 
 pub does-merge : MergesRepresentable → (m : IdealNode) (join : Bool) (packet : List ℕ) (fault : Option MergeFault) (old : Device) (new : AgentState) (out : List EventOut) (d : Made) → IsRepresentable m.agent → fault ≢ Some merges.OutOfMemory
-    → ((g : MergeFault) → merge_refusal (view_of m.agent) (decoded packet) ≡ Some g → (fault ≡ Some g) × (new.concrete ≡ view_of m.agent) × (out ≡ []))
-    → ((p : PushPull) → merge_refusal (view_of m.agent) (decoded packet) ≡ None → decoded packet ≡ Ok (push_pull p) → Merges m.agent p join [] out old new fault)
+    → ((g : MergeFault) → merge_refusal m.agent.snapshot (decoded packet) ≡ Some g → (fault ≡ Some g) × (new.concrete ≡ view_of m.agent) × (out ≡ []))
+    → ((p : PushPull) → merge_refusal m.agent.snapshot (decoded packet) ≡ None → decoded packet ≡ Ok (push_pull p) → Merges m.agent p join [] out old new fault)
     → done_of d ≡ record { answer = merge_answer fault; packets = []; events = out; handed = None } → DoesCall (merges_packet m join (decoded packet)) new.concrete d
 does-merge laws m join packet fault old new out d representable memory refused_as merged gives =
-    does-merge-read laws m join packet fault old new out d (merge_refusal (view_of m.agent) (decoded packet)) (decoded packet) representable memory refl refl refused_as merged gives
+    does-merge-read laws m join packet fault old new out d (merge_refusal m.agent.snapshot (decoded packet)) (decoded packet) representable memory refl refl refused_as merged gives
 
 -- an agent that refuses no packet runs
-pub runs-merge : (i : IdealAgent) (r : Result Message WireFault) → merge_refusal (view_of i) r ≡ None → i.snapshot.stopped ≡ false
+pub runs-merge : (i : IdealAgent) (r : Result Message WireFault) → merge_refusal i.snapshot r ≡ None → i.snapshot.stopped ≡ false
 runs-merge i (Err e) none = (none-if i.snapshot.stopped merges.Stopped (Some (merges.Wire e)) none).0
 runs-merge i (Ok (user_event e)) none = (none-if i.snapshot.stopped merges.Stopped (Some merges.NotPushPull) none).0
 runs-merge i (Ok (query e)) none = (none-if i.snapshot.stopped merges.Stopped (Some merges.NotPushPull) none).0

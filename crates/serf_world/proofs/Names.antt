@@ -57,7 +57,7 @@ pub use Rattle.serf_model.specs.declared.line.Refusal.TheVariants.{NoAgent}
 pub use Rattle.serf_model.specs.declared.trace.Trace.{Trace}
 pub use Rattle.serf_snap.specs.Clocks.{clock_line}
 pub use Rattle.serf_snap.specs.Device.{Device, FailurePlan}
-pub use Rattle.serf_snap.specs.Notes.{Failed, IsObservable, Kept, MayReplace, MayWrite, SnapshotView, Writing, compaction_of, last_line, left_by}
+pub use Rattle.serf_snap.specs.Notes.{Failed, IsObservable, Kept, MayReplace, MayWrite, SnapshotView, Writing, compaction_of, durable_left_by, last_line}
 pub use Rattle.serf_snap.specs.Notes.{will_replace, will_write}
 pub use Rattle.serf_snap.specs.declared.kind.ClockKind.{ClockKind}
 pub use Rattle.serf_window.specs.Texts.{event_of}

@@ -1,8 +1,7 @@
 -- Over a sink with a plan a call of an agent has one end.
-use Rattle.serf_world.proofs.Names.{zero, suc, ◌<◌, ◌≤◌, arith, length, set, get_or, ◌≡◌, ℕ, nat_le, cond, Bool, true, false, List, [], ◌∷◌, ◌++◌, Option, Some, None, IsSome, MatchBool, map, Result, Ok, Err, refl, sym, ap, subst, ◌∙◌, slice_get, IfOk, AllByRecursion, AllocError, length-map, map-set, All-from_recursion, All-set, recursion_from_All, get_or_from_slice_get, slice_get_within, ClockKind, clock_line, Device, FailurePlan, SnapshotView, Writing, Kept, Failed, IsObservable, MayWrite, MayReplace, will_write, will_replace, left_by, compaction_of, last_line, RespondFault, Handed, respond_fault, Call, Ends, Notes, Replaces, MayNote, MayEnd, planned, ended, will, will_note, IdealAgent, Steps, AgentState, ConcreteState, view_of, Action, Line, NoAgent, IdealNode, Cluster, Applied, Done, apply, called, line_only, numbers_from, on_agent, responds, responds_as, with_handed, AreRepresentable, IsRepresentable}
+use Rattle.serf_world.proofs.Names.{zero, suc, ◌<◌, ◌≤◌, arith, length, set, get_or, ◌≡◌, ℕ, nat_le, cond, Bool, true, false, List, [], ◌∷◌, Option, Some, None, IsSome, MatchBool, map, Result, Ok, Err, refl, sym, ap, subst, ◌∙◌, slice_get, IfOk, AllByRecursion, AllocError, length-map, map-set, All-from_recursion, All-set, recursion_from_All, get_or_from_slice_get, slice_get_within, ClockKind, clock_line, Device, FailurePlan, SnapshotView, Writing, Kept, Failed, IsObservable, MayWrite, MayReplace, will_write, will_replace, durable_left_by, compaction_of, last_line, RespondFault, Handed, respond_fault, Call, Ends, Notes, Replaces, MayNote, MayEnd, planned, ended, will, will_note, IdealAgent, Steps, AgentState, ConcreteState, view_of, Action, Line, NoAgent, IdealNode, Cluster, Applied, Done, apply, called, line_only, on_agent, responds, responds_as, with_handed, AreRepresentable, IsRepresentable}
 use Rattle.serf_model.specs.declared.line.Answer.TheVariants as answers
 use Rattle.serf_world.specs.declared.done.Done.{Done as Made}
-use Rattle.serf_world.specs.declared.turn.Turn.{Turn as Shown}
 use Rattle.serf_world.specs.Turns.{TakesTurn}
 use Rattle.serf_world.specs.View.{IsViewed, NodeState, TakesStep, WorldState, node_of}
 use Rattle.serf_world.specs.Nodes.{DoesCall, IsApplied, DoesRespond, done_of, slot_gives, slot_after, answer_gives, answer_after}
@@ -17,8 +16,8 @@ write-view m e q b k (Some p) line (Failed durable) some may = ap Failed may.1.1
 
 replace-view : (m e q : ℕ) (b : Bool) (k : Option (List ℕ)) (p : Option FailurePlan) (w : Writing) → IsSome p → MayReplace (view m e q b k p) w → w ≡ will_replace (view m e q b k p)
 replace-view m e q b k None w some may = absurd (cc some)
-replace-view m e q b k (Some p) Kept some may = sym (ap (λ f. cond f (Failed (left_by p (compaction_of (view m e q b k (Some p))) k)) Kept) may)
-replace-view m e q b k (Some p) (Failed durable) some may = ap Failed may.1.1 ∙ sym (ap (λ f. cond f (Failed (left_by p (compaction_of (view m e q b k (Some p))) k)) Kept) may.1.0)
+replace-view m e q b k (Some p) Kept some may = sym (ap (λ f. cond f (Failed (durable_left_by p (compaction_of (view m e q b k (Some p))) k)) Kept) may)
+replace-view m e q b k (Some p) (Failed durable) some may = ap Failed may.1.1 ∙ sym (ap (λ f. cond f (Failed (durable_left_by p (compaction_of (view m e q b k (Some p))) k)) Kept) may.1.0)
 
 note-will : (s : SnapshotView) (kind : ClockKind) (t : ℕ) (w : Writing) → IsObservable s → MayNote kind t s w → w ≡ will_note kind t s
 note-will s kind t w observable may = by (nat_le t (last_line kind s)) may
@@ -141,31 +140,32 @@ KeepsRepresentable = (m : IdealNode) (sent : List (List ℕ)) (action : Action) 
 abbrev Owes : Cluster → Action → ℕ → Option IdealNode → WorldState → Line → Type 0
 Owes c action a r w line = TakesStep (on_agent c action a r) w line
 
-pub owes-turn : KeepsRepresentable → (c : Cluster) (w : WorldState) (more : List (List ℕ)) (numbers : List ℕ) (action : Action) (a : ℕ) (old new : NodeState) (turn : Shown) → IsViewed c w → AreRepresentable c → a < length w.nodes → old ≡ get_or w.nodes a old
-    → ((m : IdealNode) → IsRepresentable m.agent → old ≡ node_of m → TakesTurn a (apply m w.sent action) new turn) → more ≡ w.sent ++ turn.packets → numbers ≡ numbers_from (length w.sent) turn.packets
-    → Owes c action a (slice_get c.nodes a) (record { nodes = set w.nodes a new; sent = more; poisoned = w.poisoned }) (record { answer = turn.answer; sent = numbers; events = turn.events; handed = turn.handed })
-owes-turn keeps c w more numbers action a old new turn v representable within at does grown counted = by (slice_get c.nodes a) refl
+owes-turn : KeepsRepresentable → (c : Cluster) (w : WorldState) (more : List (List ℕ)) (action : Action) (a : ℕ) (old new : NodeState) (line : Line) → IsViewed c w → AreRepresentable c → a < length w.nodes → old ≡ get_or w.nodes a old
+    → ((m : IdealNode) → IsRepresentable m.agent → old ≡ node_of m → TakesTurn a w.sent more (apply m w.sent action) new line)
+    → Owes c action a (slice_get c.nodes a) (record { nodes = set w.nodes a new; sent = more; poisoned = w.poisoned }) line
+owes-turn keeps c w more action a old new line v representable within at does = by (slice_get c.nodes a) refl
   where
-    by : (r : Option IdealNode) → slice_get c.nodes a ≡ r → Owes c action a r (record { nodes = set w.nodes a new; sent = more; poisoned = w.poisoned }) (record { answer = turn.answer; sent = numbers; events = turn.events; handed = turn.handed })
+    by : (r : Option IdealNode) → slice_get c.nodes a ≡ r → Owes c action a r (record { nodes = set w.nodes a new; sent = more; poisoned = w.poisoned }) line
     by None none = absurd (let past = none-past c.nodes a none in let n = ap length v.nodes in let l = length-map c.nodes node_of in omega arith)
     by (Some m) found =
         let well : IsRepresentable m.agent = all-at (λ m. IsRepresentable m.agent) c.nodes a m representable found in
         let same : old ≡ node_of m = same-at node_of w.nodes c.nodes a old m v.nodes within at found in
-        let did : TakesTurn a (apply m c.sent action) new turn = subst (λ (s : List (List ℕ)). TakesTurn a (apply m s action) new turn) (sym v.sent) (does m well same) in
+        let did : TakesTurn a c.sent more (apply m c.sent action) new line = subst (λ (s : List (List ℕ)). TakesTurn a s more (apply m s action) new line) (sym v.sent) (does m well same) in
         let o : Applied = apply m c.sent action in
         record {
-          line_is = λ k. record {
-            answer = did.answer k;
-            sent = (counted ∙ ap (λ s. numbers_from (length s) turn.packets) (sym v.sent) ∙ ap (numbers_from (length c.sent)) did.packets) k;
-            events = did.events k;
-            handed = did.handed k;
-          };
+          line_is = λ k. record { answer = did.answer k; sent = did.sent k; events = did.events k; handed = did.handed k };
           view = record {
             nodes = map-set node_of c.nodes a (with_handed o.done.handed o.node) ∙ ap (λ l. set l a (node_of (with_handed o.done.handed o.node))) v.nodes ∙ ap (λ s. set w.nodes a s) (sym did.state);
-            sent = ap (λ l. l ++ o.done.packets) v.sent ∙ ap (λ l. w.sent ++ l) (sym did.packets) ∙ sym grown;
+            sent = sym did.packets;
           };
           representable = all-put (λ m. IsRepresentable m.agent) c.nodes a (with_handed o.done.handed o.node) representable (keeps m c.sent action well);
         }
+
+pub owes-turns : KeepsRepresentable → (c : Cluster) (w : WorldState) (more : List (List ℕ)) (action : Action) (a : ℕ) (old new : NodeState) (result : Result Line AllocError) → IsViewed c w → AreRepresentable c → a < length w.nodes → old ≡ get_or w.nodes a old
+    → ((m : IdealNode) → IsRepresentable m.agent → old ≡ node_of m → IfOk result (TakesTurn a w.sent more (apply m w.sent action) new))
+    → IfOk result (Owes c action a (slice_get c.nodes a) (record { nodes = set w.nodes a new; sent = more; poisoned = w.poisoned }))
+owes-turns keeps c w more action a old new (Ok line) v representable within at does = owes-turn keeps c w more action a old new line v representable within at does
+owes-turns keeps c w more action a old new (Err fault) v representable within at does = tt
 
 pub owes-none : (c : Cluster) (w : WorldState) (action : Action) (a : ℕ) (line : Line) → IsViewed c w → AreRepresentable c → length w.nodes ≤ a → line ≡ line_only (answers.Refused NoAgent) → Owes c action a (slice_get c.nodes a) w line
 owes-none c w action a line v representable past is =

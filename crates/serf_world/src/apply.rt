@@ -21,6 +21,7 @@ use serf_wire::Bytes;
 use std::alloc::{AllocError, Global};
 
 /// An agent is given a packet, where there is one.
+#[inline(always)]
 fn deliver_at(
     alloc: Global,
     agent: &mut Agent<MemSink>,
@@ -37,6 +38,7 @@ fn deliver_at(
 }
 
 /// An agent merges the state that a packet brings, where there is one.
+#[inline(always)]
 fn merge_given(
     alloc: Global,
     agent: &mut Agent<MemSink>,
@@ -61,6 +63,7 @@ fn close_at(alloc: Global, agent: &mut Agent<MemSink>, now: u64) -> Done
 }
 
 /// What an action does to its agent, where these packets were sent.
+#[inline(always)]
 pub(crate) fn apply_action(
     alloc: Global,
     node: &mut Node,

@@ -17,10 +17,10 @@ use crate::done::{Done, fire_done, note_done, only_answer, query_done, receive_d
 use serf_agent::{Agent, Config, OpenFault, QueryParams};
 use serf_model::{Answer, SinkCall, representable_agents};
 use serf_snap::MemSink;
-use serf_wire::Bytes;
 use std::alloc::{AllocError, Global};
 
 /// An agent fires an event.
+#[inline(always)]
 pub(crate) fn fire_at(
     alloc: Global,
     agent: &mut Agent<MemSink>,
@@ -36,6 +36,7 @@ pub(crate) fn fire_at(
 }
 
 /// An agent is given a packet.
+#[inline(always)]
 pub(crate) fn receive_at(
     alloc: Global,
     agent: &mut Agent<MemSink>,
@@ -111,21 +112,6 @@ pub(crate) fn break_at(
     only_answer(alloc, Answer::Broken)
 }
 
-/// A copy of settings.
-pub(crate) fn copy_of(alloc: Global, config: &Config) -> Result<Config, AllocError>
-    ensures { IfOk result (λ copy. copy ≡ config.now) }
-{
-    Ok(Config {
-        name: Bytes::copy_of(alloc, config.name.as_slice())?,
-        event_buffer: config.event_buffer,
-        query_buffer: config.query_buffer,
-        event_limit: config.event_limit,
-        responders: config.responders,
-        per_time: config.per_time,
-        ignore_old: config.ignore_old,
-    })
-}
-
 /// An agent over a new sink that keeps this text, and that fails nowhere: only memory can be wanting.
 pub(crate) fn open_on(
     alloc: Global,
@@ -165,7 +151,7 @@ pub(crate) fn restart_at(
 {
     representable_agents();
     let text = text_of(alloc, agent, tail)?;
-    let config = copy_of(alloc, agent.config())?;
+    let config = agent.config().try_clone(alloc)?;
     let opened = open_on(alloc, config, text.as_slice())?;
     *agent = opened;
     Ok(only_answer(

@@ -24,6 +24,7 @@ pub(crate) struct Done {
 }
 
 /// An answer alone.
+#[inline(always)]
 pub(crate) fn only_answer(alloc: Global, answer: Answer) -> Done
     ensures { done_of result ≡ only answer }
 {
@@ -36,6 +37,7 @@ pub(crate) fn only_answer(alloc: Global, answer: Answer) -> Done
 }
 
 /// A refusal.
+#[inline(always)]
 pub(crate) fn refusal(alloc: Global, refusal: Refusal) -> Done
     ensures { done_of result ≡ refused refusal }
 {
@@ -43,6 +45,7 @@ pub(crate) fn refusal(alloc: Global, refusal: Refusal) -> Done
 }
 
 /// An answer, and a packet that is sent.
+#[inline(always)]
 pub(crate) fn with_packet(alloc: Global, answer: Answer, packet: Bytes) -> Result<Done, AllocError>
     ensures { IfOk result (λ done. done_of done ≡ record { answer = answer; packets = packet ∷ []; events = []; handed = None }) }
 {
@@ -57,6 +60,7 @@ pub(crate) fn with_packet(alloc: Global, answer: Answer, packet: Bytes) -> Resul
 }
 
 /// An answer, a packet that is sent, and an event that is handed out.
+#[inline(always)]
 fn with_event(
     alloc: Global,
     answer: Answer,
@@ -78,6 +82,7 @@ fn with_event(
 }
 
 /// What a firing gives.
+#[inline(always)]
 pub(crate) fn fire_done(alloc: Global, fired: Result<Fired, FireFault>) -> Result<Done, AllocError>
     ensures { IfOk result (λ done. (done_of done ≡ fire_gives fired) × (fired ≢ Err FireFault.OutOfMemory)) }
 {
@@ -121,6 +126,7 @@ fn query_packets(
 }
 
 /// What a delivered packet gives: a new event and, where it asks for that, a new query is sent on as it came.
+#[inline(always)]
 pub(crate) fn receive_done(
     alloc: Global,
     packet: &[u8],
@@ -138,6 +144,7 @@ pub(crate) fn receive_done(
     }
 }
 
+#[inline(always)]
 fn outcome_done(alloc: Global, packet: &[u8], outcome: Outcome) -> Result<Done, AllocError>
     ensures { IfOk result (λ done. done_of done ≡ receive_gives packet.now (Ok outcome)) }
 {

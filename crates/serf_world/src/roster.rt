@@ -124,6 +124,21 @@ impl Roster {
         }
     }
 
+    /// The same agents once more. It is an `AllocError` only where there is no memory for them.
+    pub fn try_clone(&self, alloc: Global) -> Result<Roster, AllocError>
+        ensures { IfOk result (λ copy. copy ≡ self.now) }
+    {
+        let mut configs = Vec::new(alloc);
+        for config in self.as_slice() {
+            configs.push(config.try_clone(alloc)?)?;
+        }
+        match Roster::from_vec(alloc, configs) {
+            Ok(copy) => Ok(copy),
+            Err(NewFault::OutOfMemory) => Err(AllocError),
+            Err(NewFault::NameTwice(_) | NewFault::BadConfig(_)) => unreachable!(),
+        }
+    }
+
     /// The agents' settings, in order. Takes no memory.
     pub fn as_slice(&self) -> &[Config]
         ensures agents { result.now ≡ self.now }

@@ -1,4 +1,4 @@
-//! An agent's turn, as a line shows it.
+//! An agent's turn, as its line.
 
 ghost use Rattle.std.specs.Prelude.{◌≡◌, ◌+◌, ◌-◌, ◌^◌, ◌≤◌, ◌++◌, ℕ, IfOk, OnOk, OnErr, Some, length, map};
 ghost use Rattle.std.specs.Option.{option_map, option_to_list};
@@ -11,20 +11,12 @@ use crate::apply::apply_action;
 use crate::done::Done;
 use crate::node::Node;
 use serf_agent::{BytesList, EventOut, HandedQuery};
-use serf_model::{Action, Answer, EventLine, EventLines, HandedLine, Numbers};
+use serf_model::{Action, EventLine, EventLines, HandedLine, Line, Numbers};
 use serf_wire::Bytes;
 use std::alloc::{AllocError, Global};
 
-/// What an agent's turn shows, and the packets that it sends.
-#[derive(Drop)]
-pub(crate) struct Turn {
-    pub(crate) answer: Answer,
-    pub(crate) packets: BytesList,
-    pub(crate) events: EventLines,
-    pub(crate) handed: Option<HandedLine>,
-}
-
 /// The line of an event that an agent hands out.
+#[inline(always)]
 fn line_of(agent: u64, event: EventOut) -> EventLine
     ensures { result ≡ event_line agent event }
 {
@@ -38,10 +30,11 @@ fn line_of(agent: u64, event: EventOut) -> EventLine
 }
 
 /// The lines of the events that an agent hands out.
+#[inline(always)]
 fn lines_of(alloc: Global, agent: u64, events: Vec<EventOut>) -> Result<EventLines, AllocError>
     ensures { IfOk result (λ lines. lines ≡ map (event_line agent) events.items) }
 {
-    let mut lines = Vec::new(alloc);
+    let mut lines = Vec::with_capacity(alloc, events.len())?;
     for event in events {
         lines.push(line_of(agent, event))?;
     }
@@ -49,6 +42,7 @@ fn lines_of(alloc: Global, agent: u64, events: Vec<EventOut>) -> Result<EventLin
 }
 
 /// Keeps a query that is handed out, where there is one, until it is answered, and gives its line.
+#[inline(always)]
 fn hand_over(
     alloc: Global,
     agent: u64,
@@ -73,38 +67,13 @@ fn hand_over(
     Ok(Some(line))
 }
 
-/// An agent takes its turn.
-pub(crate) fn take_turn(
-    alloc: Global,
-    agent: u64,
-    node: &mut Node,
-    sent: &[Bytes],
-    action: &Action,
-) -> Result<Turn, AllocError>
-    ensures { (m : IdealNode) → IsRepresentable m.agent → node.old ≡ node_of m → IfOk result (TakesTurn agent (apply m sent.now action.now) node.new) }
-{
-    let Done {
-        answer,
-        packets,
-        events,
-        handed,
-    } = apply_action(alloc, node, sent, action)?;
-    let events = lines_of(alloc, agent, events)?;
-    let handed = hand_over(alloc, agent, &mut node.handed, handed)?;
-    Ok(Turn {
-        answer,
-        packets,
-        events,
-        handed,
-    })
-}
-
 /// The numbers of packets that are about to be sent, where so many were.
+#[inline(always)]
 fn numbers_of(alloc: Global, first: u64, packets: &[Bytes]) -> Result<Numbers, AllocError>
     requires { first + length packets.now ≤ 2 ^ 64 - 1 }
     ensures { IfOk result (λ numbers. numbers ≡ numbers_from first packets.now) }
 {
-    let mut numbers = Vec::new(alloc);
+    let mut numbers = Vec::with_capacity(alloc, packets.len())?;
     let mut next = first;
     for _packet in packets {
         numbers.push(next)?;
@@ -114,6 +83,7 @@ fn numbers_of(alloc: Global, first: u64, packets: &[Bytes]) -> Result<Numbers, A
 }
 
 /// Sends packets, and says their numbers. Where there is no memory for it, nothing was sent.
+#[inline(always)]
 pub(crate) fn send(
     alloc: Global,
     sent: &mut Vec<Bytes>,
@@ -128,4 +98,34 @@ pub(crate) fn send(
     let numbers = numbers_of(alloc, sent.len() as u64, packets.as_slice())?;
     sent.append(&mut packets)?;
     Ok(numbers)
+}
+
+/// An agent takes its turn. Where there is no memory for it, nothing was sent.
+#[inline(always)]
+pub(crate) fn take_turn(
+    alloc: Global,
+    agent: u64,
+    node: &mut Node,
+    sent: &mut Vec<Bytes>,
+    action: &Action,
+) -> Result<Line, AllocError>
+    ensures turn { (m : IdealNode) → IsRepresentable m.agent → node.old ≡ node_of m
+        → IfOk result (TakesTurn agent sent.old.items sent.new.items (apply m sent.old.items action.now) node.new) }
+    ensures err { OnErr result (sent.new.items ≡ sent.old.items) }
+{
+    let Done {
+        answer,
+        packets,
+        events,
+        handed,
+    } = apply_action(alloc, node, sent.as_slice(), action)?;
+    let events = lines_of(alloc, agent, events)?;
+    let handed = hand_over(alloc, agent, &mut node.handed, handed)?;
+    let sent = send(alloc, sent, packets)?;
+    Ok(Line {
+        answer,
+        sent,
+        events,
+        handed,
+    })
 }

@@ -10,7 +10,7 @@ ghost use Rattle.serf_model.specs.declared.line.Line.{Line};
 ghost use Rattle.serf_model.specs.Cluster.{Cluster, first_node, on_agent, start, step};
 ghost use Rattle.serf_model.specs.Ready.{AreRepresentable};
 ghost use Rattle.serf_model.specs.Runs.{AreConfigs};
-ghost use Rattle.serf_model.specs.Trace.{actor_of, injects_of};
+ghost use Rattle.serf_model.specs.Trace.{injects_of};
 ghost use Rattle.serf_world.specs.View.{HasDone, IsViewed, TakesStep, agent_at, node_of};
 
 use crate::calls::open_on;
@@ -18,7 +18,7 @@ use crate::fault::StepFault;
 use crate::node::Node;
 use crate::roster::Roster;
 use crate::sizes::read_numbers;
-use crate::turn::{Turn, send, take_turn};
+use crate::turn::{send, take_turn};
 use serf_agent::{Agent, BytesList, Config};
 use serf_model::{
     Action, Answer, EventLines, Line, Numbers, Refusal, representable_agents, run_promises,
@@ -45,26 +45,6 @@ impl Model for World {
     ghost Value = { WorldState };
 
     ghost view = { λ w. record { nodes = w.nodes.items; sent = w.sent.items; poisoned = w.poisoned } };
-}
-
-/// The number of the agent that acts.
-fn actor(action: &Action) -> Option<u64>
-    ensures { result ≡ actor_of action.now }
-{
-    match action {
-        Action::Fire { agent, .. } => Some(*agent),
-        Action::Deliver { to, .. } => Some(*to),
-        Action::State { agent } => Some(*agent),
-        Action::Merge { to, .. } => Some(*to),
-        Action::Query { agent, .. } => Some(*agent),
-        Action::Respond { agent, .. } => Some(*agent),
-        Action::Restart { agent, .. } => Some(*agent),
-        Action::Break { agent, .. } => Some(*agent),
-        Action::Inject { .. } => None,
-        Action::Close { agent, .. } => Some(*agent),
-        Action::Save { agent } => Some(*agent),
-        Action::Compact { agent } => Some(*agent),
-    }
 }
 
 /// The packets that an action injects.
@@ -161,12 +141,13 @@ impl World {
         }
     }
 
+    #[inline(always)]
     fn try_step(&mut self, alloc: Global, action: &Action) -> Result<Line, AllocError>
         ensures step { (c : Cluster) → IsViewed c self.old → AreRepresentable c → IfOk result (TakesStep (step c action.now) self.new) }
         ensures poisoned { self.new.poisoned ≡ self.old.poisoned }
         ensures err { OnErr result (self.new.sent ≡ self.old.sent) }
     {
-        match actor(action) {
+        match action.actor() {
             Some(agent) => self.apply_action(alloc, agent, action),
             None => {
                 let packets = injected(alloc, action)?;
@@ -197,26 +178,13 @@ impl World {
         if number >= self.nodes.len() {
             return Ok(line_only(alloc, Answer::Refused(Refusal::NoAgent)));
         }
-        let turn = take_turn(
+        take_turn(
             alloc,
             agent,
             &mut self.nodes[number],
-            self.sent.as_slice(),
+            &mut self.sent,
             action,
-        )?;
-        let Turn {
-            answer,
-            packets,
-            events,
-            handed,
-        } = turn;
-        let sent = send(alloc, &mut self.sent, packets)?;
-        Ok(Line {
-            answer,
-            sent,
-            events,
-            handed,
-        })
+        )
     }
 
     /// The agent of this number, lent for reading. Takes no memory.

@@ -5,7 +5,7 @@ ghost use Rattle.std.specs.Prelude.{◌≡◌, ◌∷◌, codes, None, IfSome};
 ghost use Rattle.std.specs.Option.{option_map};
 ghost use Rattle.serf_wire.specs.Fields.{text, time, list, event_body, slot};
 ghost use Rattle.serf_wire.specs.Fast.{ReadsIn, ReadsPair, Spans, AreItems};
-ghost use Rattle.serf_wire.specs.Lists.{event_of, events_left, slot_of, slots_left};
+ghost use Rattle.serf_wire.specs.Lists.{event_of_view, events_left, slot_of_view, slots_left};
 ghost use Rattle.serf_wire.specs.Slots.{held};
 
 use crate::compact::{read_array_head, read_number, read_text, skip_nil, view_before};
@@ -38,7 +38,7 @@ fn read_payload(bytes: &[u8]) -> Option<(&[u8], &[u8])>
 /// The event at the front, and what follows it.
 #[inline(always)]
 pub fn read_event(bytes: &[u8]) -> Option<(EventView<'_>, &[u8])>
-    ensures { IfSome result (λ x. ReadsIn 8 event_body (event_of x.0) bytes.now x.1.now) }
+    ensures { IfSome result (λ x. ReadsIn 8 event_body (event_of_view x.0) bytes.now x.1.now) }
 {
     laws_below();
     let [0x82, fields @ ..] = bytes else {
@@ -156,7 +156,7 @@ fn read_held(bytes: &[u8]) -> Option<(u64, EventViews<'_>, &[u8])>
 /// The slot at the front, and what follows it.
 #[inline(always)]
 pub fn read_slot(bytes: &[u8]) -> Option<(SlotView<'_>, &[u8])>
-    ensures { IfSome result (λ x. ReadsIn 6 slot (slot_of x.0) bytes.now x.1.now) }
+    ensures { IfSome result (λ x. ReadsIn 6 slot (slot_of_view x.0) bytes.now x.1.now) }
 {
     match skip_nil(bytes) {
         Some(rest) => Some((SlotView::Empty, rest)),

@@ -3,7 +3,7 @@
 ghost use Rattle.std.specs.Prelude.{◌≡◌, None, Ok, IfSome};
 ghost use Rattle.std.specs.Option.{option_map};
 ghost use Rattle.serf_pack.specs.declared.head.Head.TheVariants as heads;
-ghost use Rattle.serf_pack.specs.Table.{head_at};
+ghost use Rattle.serf_pack.specs.Reading.{head_at};
 ghost use Rattle.serf_wire.specs.Fields.{status};
 ghost use Rattle.serf_wire.specs.Fast.{ReadsIn, Spans, SpansStatusTime, AreParts, status_part_bytes};
 ghost use Rattle.serf_wire.specs.Lists.{status_left};

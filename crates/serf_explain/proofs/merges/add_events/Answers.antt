@@ -1,7 +1,7 @@
 use Rattle.std.proofs.Common.{◌∷◌, [], List, ap, sym, subst}
 use Rattle.serf_wire.specs.declared.lists.EventViews.{EventViews}
 use Rattle.serf_wire.specs.declared.texts.EventBody.{EventBody}
-use Rattle.serf_wire.specs.Lists.{event_of, events_left}
+use Rattle.serf_wire.specs.Lists.{event_of_view, events_left}
 use Rattle.serf_window.specs.Window.{TimedEntry}
 use Rattle.serf_agent.specs.States.{at_time}
 use Rattle.serf_explain.specs.Carried.{after_events}
@@ -20,7 +20,7 @@ loop-event-preserved c = λ i j sound is h.
     let all = at_time c.args.time (events_left c.args.events) in
     let before = c.args.lines.now.items in
     let mid = c.loop-event.lines.items in
-    let part : List (TimedEntry EventBody) = record { time = c.args.time; key = event_of c.in-Some.event } ∷ [] in
+    let part : List (TimedEntry EventBody) = record { time = c.args.time; key = event_of_view c.in-Some.event } ∷ [] in
     let has = subst (λ (l : List (TimedEntry EventBody)). HasJudged i j all l before mid c.loop-event.judge) (ap (λ (l : List EventBody). at_time c.args.time l) c.in-Some.ensures.steps) (c.loop-event.invariant i j sound is h) in
     let now = after_events has.done j in
     judged-more i j all part (at_time c.args.time (events_left c.next.new.self)) before mid c.add_event.new.lines.items c.loop-event.judge c.add_event.new.judge has

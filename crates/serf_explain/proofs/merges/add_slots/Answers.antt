@@ -1,7 +1,7 @@
 use Rattle.std.proofs.Common.{List, ap, sym, subst}
 use Rattle.serf_wire.specs.declared.lists.SlotViews.{SlotViews}
 use Rattle.serf_wire.specs.declared.texts.EventBody.{EventBody}
-use Rattle.serf_wire.specs.Lists.{slot_of, slots_left}
+use Rattle.serf_wire.specs.Lists.{slot_of_view, slots_left}
 use Rattle.serf_wire.specs.Slots.{SlotContent}
 use Rattle.serf_window.specs.Window.{TimedEntry}
 use Rattle.serf_agent.specs.States.{events_of, events_of_slot}
@@ -26,7 +26,7 @@ loop-content-preserved c = λ i j sound is h.
     let before = c.args.lines.now.items in
     let mid = c.loop-content.lines.items in
     let new = c.add_slot.new.lines.items in
-    let part : List (TimedEntry EventBody) = events_of_slot (slot_of c.in-Some.content) in
+    let part : List (TimedEntry EventBody) = events_of_slot (slot_of_view c.in-Some.content) in
     let has = subst (λ (l : List (TimedEntry EventBody)). HasJudged i j all l before mid c.loop-content.judge) (ap (λ (l : List SlotContent). events_of l) c.in-Some.ensures.steps) (c.loop-content.invariant i j sound is h) in
     let now = after_events has.done j in
     let told = c.in_ok-add_slot.ensures i now sound is has.judging in

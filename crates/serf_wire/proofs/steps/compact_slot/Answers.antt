@@ -1,6 +1,6 @@
 use Rattle.serf_wire.proofs.Names.{◌≡◌, ◌-◌, ◌∷◌, ℕ, length, arith, subst, sym, take, Tree, items_left, PacksAlone}
 use Rattle.serf_wire.specs.Fields.{slot}
-use Rattle.serf_wire.specs.Lists.{slot_of}
+use Rattle.serf_wire.specs.Lists.{slot_of_view}
 use Rattle.serf_wire.specs.Lookups.{slot_in}
 use Rattle.serf_wire.proofs.MessageFields.{slot_exact}
 use Rattle.serf_wire.proofs.CompactSteps.{compact_step}
@@ -12,5 +12,5 @@ returns-in-Some-behind c =
     let rest = c.in-Some.rest.now in
     let old = items_left c.args.items.now in
     let new = items_left c.in-Some-behind.behind in
-    compact_step 6 slot slot_in _ (slot_of c.in-Some.slot) bytes rest old new slot_exact (omega arith) c.in-Some.ensures
+    compact_step 6 slot slot_in _ (slot_of_view c.in-Some.slot) bytes rest old new slot_exact (omega arith) c.in-Some.ensures
     (subst (λ b. (tree : ℕ → Tree) → PacksAlone tree (take (length bytes - length rest) b) → (p : ℕ) × (old ≡ tree p ∷ new)) (sym c.bytes-bytes.ensures) c.in-Some-behind.ensures.some)

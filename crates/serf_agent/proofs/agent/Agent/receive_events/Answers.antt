@@ -1,5 +1,5 @@
 use Rattle.serf_agent.proofs.Names.{◌∷◌, [], List, ap, sym, subst, refl, ◌∙◌, EventViews, EventBody, events_left, TimedEntry}
-use Rattle.serf_wire.specs.Lists.{event_of}
+use Rattle.serf_wire.specs.Lists.{event_of_view}
 use Rattle.serf_agent.specs.Merging.{HasReceived}
 use Rattle.serf_agent.specs.States.{at_time}
 use Rattle.serf_agent.specs.View.{ConcreteState}
@@ -24,7 +24,7 @@ loop-event-preserved g c = record {
       let before = c.args.out.now.items in
       let mid = c.loop-event.out.items in
       let old = c.args.self.now.device in
-      let part : List (TimedEntry EventBody) = record { time = c.args.time; key = event_of c.in-Some.event } ∷ [] in
+      let part : List (TimedEntry EventBody) = record { time = c.args.time; key = event_of_view c.in-Some.event } ∷ [] in
       let has = subst (λ (l : List (TimedEntry EventBody)). HasReceived i all l before mid old c.loop-event.self) (ap (λ (l : List EventBody). at_time c.args.time l) c.in-Some.ensures.steps) (c.loop-event.invariant.received i sound is) in
       has-more i all part (at_time c.args.time (events_left c.next.new.self)) before mid c.receive_one.new.out.items old c.loop-event.self c.receive_one.new.self has (c.in-Ok.ensures.received has.goes.agent has.goes.sound has.goes.state);
   runs = c.in-Ok.ensures.runs;
@@ -37,6 +37,6 @@ returns-in-Err-clause-received g c = λ i sound is.
     let before = c.args.out.now.items in
     let mid = c.loop-event.out.items in
     let old = c.args.self.now.device in
-    let part : List (TimedEntry EventBody) = record { time = c.args.time; key = event_of c.in-Some.event } ∷ [] in
+    let part : List (TimedEntry EventBody) = record { time = c.args.time; key = event_of_view c.in-Some.event } ∷ [] in
     let has = subst (λ (l : List (TimedEntry EventBody)). HasReceived i all l before mid old c.loop-event.self) (ap (λ (l : List EventBody). at_time c.args.time l) c.in-Some.ensures.steps) (c.loop-event.invariant.received i sound is) in
     has-wrong i all part (at_time c.args.time (events_left c.next.new.self)) before mid c.receive_one.new.out.items old c.loop-event.self c.receive_one.new.self c.in-Err.fault has (c.in-Err.ensures.received has.goes.agent has.goes.sound has.goes.state)

@@ -1,4 +1,4 @@
-use Rattle.serf_agent.proofs.Names.{[], Ok, ap, sym, subst, refl, ◌∙◌, SlotView, slot_of}
+use Rattle.serf_agent.proofs.Names.{[], Ok, ap, sym, subst, refl, ◌∙◌, SlotView, slot_of_view}
 use Rattle.serf_agent.specs.Merging.{Received}
 use Rattle.serf_agent.specs.States.{events_of_slot}
 use Rattle.serf_agent.specs.View.{ConcreteState}
@@ -9,5 +9,5 @@ pub returns-in-Empty-clause-received : goal.returns-in-Empty-clause-received
 returns-in-Empty-clause-received g c = λ i sound is.
     let before = c.args.out.now.items in
     let runs = sym (ap (λ (s : ConcreteState). s.snapshot.stopped) is) ∙ c.requires in
-    subst (λ (s : SlotView). Received i (events_of_slot (slot_of s)) before before c.args.self.now.device c.args.self.now (Ok tt)) (sym c.in-Empty.is)
+    subst (λ (s : SlotView). Received i (events_of_slot (slot_of_view s)) before before c.args.self.now.device c.args.self.now (Ok tt)) (sym c.in-Empty.is)
     (received-ignored i [] before before c.args.self.now.device c.args.self.now refl (goes-start i c.args.self.now sound runs is))

@@ -1,4 +1,4 @@
-use Rattle.serf_agent.proofs.Names.{List, ap, sym, subst, refl, ◌∙◌, SlotViews, EventBody, slot_of, slots_left, SlotContent, TimedEntry}
+use Rattle.serf_agent.proofs.Names.{List, ap, sym, subst, refl, ◌∙◌, SlotViews, EventBody, slot_of_view, slots_left, SlotContent, TimedEntry}
 use Rattle.serf_agent.specs.Merging.{HasReceived}
 use Rattle.serf_agent.specs.States.{events_of, events_of_slot}
 use Rattle.serf_agent.specs.View.{ConcreteState}
@@ -23,7 +23,7 @@ loop-slot-preserved g c = record {
       let before = c.args.out.now.items in
       let mid = c.loop-slot.out.items in
       let old = c.args.self.now.device in
-      let part : List (TimedEntry EventBody) = events_of_slot (slot_of c.in-Some.slot) in
+      let part : List (TimedEntry EventBody) = events_of_slot (slot_of_view c.in-Some.slot) in
       let has = subst (λ (l : List (TimedEntry EventBody)). HasReceived i all l before mid old c.loop-slot.self) (ap (λ (l : List SlotContent). events_of l) c.in-Some.ensures.steps) (c.loop-slot.invariant.received i sound is) in
       has-more i all part (events_of (slots_left c.next.new.self)) before mid c.receive_slot.new.out.items old c.loop-slot.self c.receive_slot.new.self has (c.in-Ok.ensures.received has.goes.agent has.goes.sound has.goes.state);
   runs = c.in-Ok.ensures.runs;
@@ -36,6 +36,6 @@ returns-in-Err-clause-received g c = λ i sound is.
     let before = c.args.out.now.items in
     let mid = c.loop-slot.out.items in
     let old = c.args.self.now.device in
-    let part : List (TimedEntry EventBody) = events_of_slot (slot_of c.in-Some.slot) in
+    let part : List (TimedEntry EventBody) = events_of_slot (slot_of_view c.in-Some.slot) in
     let has = subst (λ (l : List (TimedEntry EventBody)). HasReceived i all l before mid old c.loop-slot.self) (ap (λ (l : List SlotContent). events_of l) c.in-Some.ensures.steps) (c.loop-slot.invariant.received i sound is) in
     has-wrong i all part (events_of (slots_left c.next.new.self)) before mid c.receive_slot.new.out.items old c.loop-slot.self c.receive_slot.new.self c.in-Err.fault has (c.in-Err.ensures.received has.goes.agent has.goes.sound has.goes.state)

@@ -1,15 +1,15 @@
 use Rattle.std.proofs.Common.{sym}
-use Rattle.serf_wire.specs.Lists.{event_of}
+use Rattle.serf_wire.specs.Lists.{event_of_view}
 use Rattle.serf_explain.proofs.JudgeLaws.{judged-ignored, judged-new}
 use Rattle.serf_explain.proofs.judge.Judge.judge.Goals as goal
 
 pub returns-in-Some : goal.returns-in-Some
 returns-in-Some c = λ i j sound is h.
     let reason = c.in-Some.ensures.reason i j sound is h in
-    (reason, judged-ignored i j c.args.self.now c.observe.new.self c.args.time (event_of c.args.event.now) c.in-Some.reason h (sym reason) c.observe.ensures.clock c.observe.ensures.minimum c.observe.ensures.entered)
+    (reason, judged-ignored i j c.args.self.now c.observe.new.self c.args.time (event_of_view c.args.event.now) c.in-Some.reason h (sym reason) c.observe.ensures.clock c.observe.ensures.minimum c.observe.ensures.entered)
 
 pub returns-in_ok-take_in-in-None : goal.returns-in_ok-take_in-in-None
 returns-in_ok-take_in-in-None c = λ i j sound is h.
     let reason = c.in-None.ensures.reason i j sound is h in
     let took = c.in_ok-take_in-in-None.ensures in
-    (reason, judged-new c.slot_laws.ensures.events i j c.args.self.now c.take_in.new.self c.args.time (event_of c.args.event.now) h (sym reason) took.clock took.minimum took.per_time took.slots)
+    (reason, judged-new c.slot_laws.ensures.events i j c.args.self.now c.take_in.new.self c.args.time (event_of_view c.args.event.now) h (sym reason) took.clock took.minimum took.per_time took.slots)

@@ -3,7 +3,7 @@ use Rattle.std.proofs.lemmas.Bool.Decides.{nat_tests}
 use Rattle.std.proofs.lemmas.List.Elements.{All-weaker}
 use Rattle.serf_lamport.specs.Clock.{observed}
 use Rattle.serf_wire.specs.declared.texts.EventBody.{EventBody}
-use Rattle.serf_wire.specs.Lists.{event_of}
+use Rattle.serf_wire.specs.Lists.{event_of_view}
 use Rattle.serf_window.specs.Texts.{same_texts}
 use Rattle.serf_window.specs.Window.{SlotOf, TimedEntry, TimesBelow, count_in, slots_of, verdict_of}
 use Rattle.serf_agent.specs.Events.{texts_len}
@@ -16,7 +16,7 @@ use Rattle.serf_explain.proofs.judge.Judge.reason.Goals as goal
 pub returns-clause-reason : goal.returns-clause-reason
 returns-clause-reason c = λ i j sound is h.
     let t : ℕ = c.args.time in
-    let what : EventBody = event_of c.args.event.now in
+    let what : EventBody = event_of_view c.args.event.now in
     let n : ℕ = i.config.event_buffer in
     let k : ℕ = i.config.per_time in
     let clock : ℕ = c.args.self.now.clock in
