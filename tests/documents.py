@@ -4,7 +4,7 @@ Each check is one thing that a document names:
 
 - a path in backquotes stands in the repository (from its top, from the document, from a crate or a crate's src);
 - `crate::item` and `Type::method` are public items, and `serf_name` is a crate, or a function of a header in C;
-- a clause named in PROMISES.md's tables, or in brackets behind a function, is a clause of some contract;
+- a clause named in the tables of PROMISES.md or WRONG_BODIES.md, or in brackets behind a function, is a clause of some contract;
 - a link leads to a file that stands;
 - the table of ARCHITECTURE.md, "To add something", has each file of a crate that names the sibling of a column;
 - a command that begins with `./` or with `python3` names a script that stands, and a job that the program has
@@ -29,7 +29,7 @@ ENDINGS = ("rt", "antt", "md", "py", "schedule", "trace", "snapshot", "hex", "ed
 FOREIGN = {"serf.go", "delegate.go", "snapshot.go", "query.go", "messages.go", "local.snapshot"}
 
 # How a file names the siblings in the head of ARCHITECTURE.md's table "To add something".
-SIBLINGS = {"Oversize": r"\bOversize\b", "TimeFull": r"\bTimeFull\b", "RespondersFull": r"\bRespondersFull\b", "save": r"\b(?:Save|Saved|save_at)\b", "relay_factor": r"relay_factor|RelayFactor"}
+SIBLINGS = {"Oversize": r"\bOversize\b", "TimeFull": r"\bTimeFull\b", "RespondersFull": r"\bRespondersFull\b", "save": r"\b(?:Save|Saved)\b", "relay_factor": r"relay_factor|RelayFactor"}
 
 SPAN = re.compile(r"`([^`\n]+)`")
 LINK = re.compile(r"\[[^\]\n]*\]\(([^)\s]+)\)")
@@ -110,7 +110,7 @@ def wrong_span(tree, document, span):
 
 
 def clauses_in(page):
-    """The clauses that PROMISES.md's tables begin a row with, or name behind a function; a crate is none."""
+    """The clauses that a page's tables begin a row with, or name behind a function; a crate is none."""
     found = re.findall(r"^\| `((?!serf_)\w+)` \|", page, re.M)
     return found + [name for names in re.findall(r"clauses? ((?:`\w+`(?:, | and )?)+)", page) for name in re.findall(r"`(\w+)`", names)]
 
@@ -171,7 +171,7 @@ def main():
         checks += [(script + words, wrong_command(jobs, page, script, words.split())) for script, words in COMMAND.findall(page)]
         if document == os.path.join("docs", "ARCHITECTURE.md"):
             checks += missing_siblings(page)
-        if document == os.path.join("docs", "PROMISES.md"):
+        if document in (os.path.join("docs", "PROMISES.md"), os.path.join("docs", "WRONG_BODIES.md")):
             checks += [(clause, None if clause in tree.clauses else "no such clause") for clause in clauses_in(page)]
         passed += sum(fault is None for _, fault in checks)
         wrong += [(document, what, fault) for what, fault in checks if fault]
