@@ -11,7 +11,7 @@ use thiserror::Error;
 pub const MAX_SCHEDULE_BYTES: usize = 16_777_216;
 
 /// How many bytes are asked of the reader at once.
-const CHUNK: usize = 4096;
+const CHUNK: usize = 65536;
 
 /// Why an input was not read to its end.
 #[derive(Clone, Copy, Debug, PartialEq, Eq, Error)]
