@@ -15,13 +15,13 @@ use Rattle.serf_agent.specs.declared.outcome.QueryParams.{QueryParams}
 use Rattle.serf_agent.specs.declared.outcome.Outcome.TheVariants as outcomes
 use Rattle.serf_agent.specs.declared.outcome.Reason.{Reason}
 use Rattle.serf_agent.specs.declared.outcome.ReceiveFault.TheVariants as receives
-use Rattle.serf_agent.specs.Calls.{Ends, MayEnd, answers, ended}
+use Rattle.serf_agent.specs.Calls.{MayEnd, answers, ended}
 use Rattle.serf_agent.specs.Config.{is_sound}
 use Rattle.serf_agent.specs.Events.{admission, drawn, event_observed, fire_fault, fired_as, is_too_large, received_as}
 use Rattle.serf_agent.specs.Handed.{Handed}
-use Rattle.serf_agent.specs.Ideal.{IdealAgent, Past, with_asked}
+use Rattle.serf_agent.specs.Ideal.{IdealAgent, Past}
 use Rattle.serf_agent.specs.Lives.{Act, Fires, Asks, Gets, Hears, Takes, Saves, Compacts, Closes, Opens, HasFlushed, HandsOutOnce, HandsOutQueriesOnce, FiresLater, AsksLater, DurableHasFlushed, Lived, MayAct, MayLive, acted, after, asked_entries, event_entry, events_out, fired_entries, first_life, got_entries, lived, queries_out, query_entries}
-use Rattle.serf_agent.specs.Queries.{all_pass, answer_ignore_reason, asked_at, counted, counted_as, handed_query, is_ack, is_full, is_no_timeout, is_too_large_query, query_admission, query_at, query_fault, query_fired_as, query_observed, query_received_as, response_received_as, response_received_at, with_asked_at}
+use Rattle.serf_agent.specs.Queries.{all_pass, answer_ignore_reason, asked_at, counts_where, handed_query, is_ack, is_full, is_no_timeout, is_too_large_query, query_admission, query_at, query_fault, query_fired_as, query_observed, query_received_as, response_received_as, response_received_at}
 use Rattle.serf_agent.specs.Receive.{receive_message, receive_read}
 use Rattle.serf_agent.specs.Restart.{IsInText, unopened}
 use Rattle.serf_agent.specs.Sound.{IsSound}
@@ -129,7 +129,7 @@ moves-response i now r w None s at = still i i s refl refl
 moves-response i now r w (Some q) s at = by (answer_ignore_reason now r q) refl
   where
     full : (b : Bool) → answer_ignore_reason now r q ≡ None
-        → (let call = cond b (answers i (Err receives.RespondersFull)) (Ends (record { agent = with_asked (with_asked_at r.time (counted r q) i.asked) i; answer = Ok (counted_as r) })) in Moves i (ended i call w).agent (map event_entry (handed_by (ended i call w).answer)) (got_entries (ended i call w).answer))
+        → (let call = counts_where b (is_ack r) i r q in Moves i (ended i call w).agent (map event_entry (handed_by (ended i call w).answer)) (got_entries (ended i call w).answer))
     full true none = still i i s refl refl
     full false none = record { sound = sound-counted now r q i s at none; events_grow = stays refl (ack-no-events (is_ack r)); queries_grow = stays refl (ack-no-queries (is_ack r)) }
 

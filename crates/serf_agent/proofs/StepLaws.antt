@@ -19,7 +19,7 @@ use Rattle.serf_agent.specs.Devices.{FailsLine, device_noted}
 use Rattle.serf_agent.specs.Events.{admission, event_observed, event_entered, event_out, event_packet, received_as, receive_event, fire_fault, fired_as, fire, texts_len, is_too_large, drawn}
 use Rattle.serf_agent.specs.declared.open_query.OpenQuery.{OpenQuery}
 use Rattle.serf_agent.specs.Receive.{receive, receive_read}
-use Rattle.serf_agent.specs.Queries.{ack_if_passed, handed_if_passed, has_flag, no_broadcast_flag, query_admission, query_entered, query_observed, query_received_as, receive_query, answer_ignore_reason, asked_at, counted, counted_as, counts, fire_query, fired_query, is_full, is_no_timeout, is_too_large_query, query_asked, query_at, query_fault, query_fired_as, receive_response, response_received_as, response_received_at, with_asked_at}
+use Rattle.serf_agent.specs.Queries.{ack_if_passed, handed_if_passed, has_flag, no_broadcast_flag, query_admission, query_entered, query_observed, query_received_as, receive_query, answer_ignore_reason, asked_at, counted, counted_as, counts, fire_query, fired_query, is_ack, is_full, is_no_timeout, is_too_large_query, query_asked, query_at, query_fault, query_fired_as, receive_response, response_received_as, response_received_at, with_asked_at}
 use Rattle.serf_agent.specs.Ideal.{IdealAgent, with_asked, with_snapshot}
 use Rattle.serf_agent.specs.Sound.{IsSound}
 use Rattle.serf_agent.specs.Steps.{Steps}
@@ -110,7 +110,7 @@ steps-query_failed snapshots i now q durable result old new sound says may answe
 -- ---- an answer that comes
 
 pub steps-counted : (i : IdealAgent) (now : ℕ) (r : QueryResponse) (q : OpenQuery) (result : Result Outcome ReceiveFault) (old : Device) (new : AgentState) → IsSound i → asked_at r.time i.asked ≡ Some q → answer_ignore_reason now r q ≡ None → is_full i.config.responders r q ≡ false
-    → result ≡ Ok (counted_as r) → new.concrete ≡ view_of (with_asked (with_asked_at r.time (counted r q) i.asked) i) → new.device ≡ old → Steps i (receive_response i now r) result old new
+    → result ≡ Ok (counted_as (is_ack r)) → new.concrete ≡ view_of (with_asked (with_asked_at r.time (counted r q) i.asked) i) → new.device ≡ old → Steps i (receive_response i now r) result old new
 steps-counted i now r q result old new sound at none room answers state device =
     let done : Steps i (counts i r q) result old new = rw room (steps-ends i _ result old new answers state (sound-counted now r q i sound at none) device) in
     let taken : Steps i (response_received_as (answer_ignore_reason now r q) i r q) result old new = subst (λ (o : Option Reason). Steps i (response_received_as o i r q) result old new) (sym none) done in

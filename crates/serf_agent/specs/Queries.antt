@@ -224,14 +224,18 @@ counted r q =
     if is_ack r then record { id = q.id; deadline = q.deadline; wants_ack = q.wants_ack; acks = q.acks ++ r.from ∷ []; responses = q.responses }
     else record { id = q.id; deadline = q.deadline; wants_ack = q.wants_ack; acks = q.acks; responses = q.responses ++ record { from = r.from; payload = r.payload } ∷ [] }
 
--- what is answered where it is counted
-abbrev pub counted_as : QueryResponse → Outcome
-counted_as r = if is_ack r then outcomes.Ack else outcomes.Response
+-- what is answered where an ack, or else a response, is counted
+abbrev pub counted_as : Bool → Outcome
+counted_as ack = if ack then outcomes.Ack else outcomes.Response
+
+-- whether there is no more room for it, and whether it is an ack
+abbrev pub counts_where : Bool → Bool → IdealAgent → QueryResponse → OpenQuery → Call (Result Outcome ReceiveFault)
+counts_where full ack i r q =
+    if full then answers i (Err RespondersFull) else
+    Ends record { agent = with_asked (with_asked_at r.time (counted r q) i.asked) i; answer = Ok (counted_as ack) }
 
 abbrev pub counts : IdealAgent → QueryResponse → OpenQuery → Call (Result Outcome ReceiveFault)
-counts i r q =
-    if is_full i.config.responders r q then answers i (Err RespondersFull) else
-    Ends record { agent = with_asked (with_asked_at r.time (counted r q) i.asked) i; answer = Ok (counted_as r) }
+counts i r q = counts_where (is_full i.config.responders r q) (is_ack r) i r q
 
 abbrev pub response_received_as : Option Reason → IdealAgent → QueryResponse → OpenQuery → Call (Result Outcome ReceiveFault)
 response_received_as (Some reason) i r q = answers i (Ok (outcomes.Ignored reason))

@@ -85,7 +85,7 @@ pub(crate) fn pass(
 
 /// What is answered to an answer that was counted.
 fn outcome_of(answer: &Answer) -> Outcome
-    ensures { result ≡ counted_as (response_in answer.now) }
+    ensures { result ≡ counted_as (is_ack (response_in answer.now)) }
 {
     if has_flag(ACK, answer.flags) {
         Outcome::Ack

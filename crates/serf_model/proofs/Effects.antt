@@ -1,9 +1,9 @@
 -- What each action does to the node that acts, said once: its effect, and that its agent stays sound.
-use Rattle.serf_model.proofs.Names.{◌≡◌, ℕ, Bool, true, false, cond, List, [], ◌∷◌, ◌++◌, Option, Some, None, Result, Ok, Err, refl, sym, ap, subst, ◌∙◌, map, All, Contains, slice_get, map-append, All-nil, All-cons, All-append, All-weaker, All-contains_itself, All-head, Contains-append_right, WireFault, EventBody, canonical, has_long, decoded, Message, UserEvent, Query, QueryResponse, user_event, query, query_response, push_pull, event_of, TimedEntry, SnapshotView, Writing, Kept, Failed, Config, OpenQuery, EventOut, FireFault, MergeFault, Outcome, QueryFault, QueryParams, Reason, ReceiveFault, RespondFault, Call, Ends, Step, answers, ended, planned, will, admission, fire_fault, fired_as, received_as, Handed, IdealAgent, with_asked, with_snapshot, answer_ignore_reason, asked_at, counted, is_ack, is_full, query_admission, query_at, query_fault, query_fired_as, query_received_as, respond_fault, response_received_as, response_received_at, with_asked_at, receive_read, events_of, handed_by, joined, merge_refusal, receive_one, state_of, view_of}
+use Rattle.serf_model.proofs.Names.{◌≡◌, ℕ, Bool, true, false, cond, List, [], ◌∷◌, ◌++◌, Option, Some, None, Result, Ok, Err, refl, sym, ap, subst, ◌∙◌, map, All, Contains, slice_get, map-append, All-nil, All-cons, All-append, All-weaker, All-contains_itself, All-head, Contains-append_right, WireFault, EventBody, canonical, has_long, decoded, Message, UserEvent, Query, QueryResponse, user_event, query, query_response, push_pull, event_of, TimedEntry, SnapshotView, Writing, Kept, Failed, Config, OpenQuery, EventOut, FireFault, MergeFault, Outcome, QueryFault, QueryParams, Reason, ReceiveFault, RespondFault, Call, Step, answers, ended, planned, will, admission, fire_fault, fired_as, received_as, Handed, IdealAgent, with_asked, with_snapshot, answer_ignore_reason, asked_at, counted, is_ack, is_full, query_admission, query_at, query_fault, query_fired_as, query_received_as, respond_fault, response_received_as, response_received_at, with_asked_at, receive_read, events_of, handed_by, joined, merge_refusal, receive_one, state_of, view_of}
 use Rattle.serf_snap.specs.declared.snapshot.NoteFault.TheVariants as notes
-use Rattle.serf_agent.specs.declared.outcome.Outcome.TheVariants as outcomes
 use Rattle.serf_agent.specs.declared.outcome.PushPullFault.TheVariants as states
 use Rattle.serf_agent.specs.declared.outcome.ReceiveFault.TheVariants as receives
+use Rattle.serf_agent.specs.Queries.{counts_where}
 use Rattle.serf_model.specs.Below.{Below}
 use Rattle.serf_model.specs.declared.action.Action.{Action}
 use Rattle.serf_model.specs.declared.action.Action.TheVariants as actions
@@ -174,8 +174,7 @@ acts-response : (m : IdealNode) (to number now : ℕ) (packet : List ℕ) (r : Q
 acts-response m to number now packet r None is at = stays m (ignored m.agent packet (Ok (query_response r)) _ is tt)
 acts-response m to number now packet r (Some q) is at = by (answer_ignore_reason now r q) refl
   where
-    by-room : (full ack : Bool) → answer_ignore_reason now r q ≡ None → is_ack r ≡ ack → DeliveryActs m to number now packet (planned m.agent (cond full (answers m.agent (Err receives.RespondersFull))
-        (Ends (record { agent = with_asked (with_asked_at r.time (counted r q) m.agent.asked) m.agent; answer = Ok (cond ack outcomes.Ack outcomes.Response) }))))
+    by-room : (full ack : Bool) → answer_ignore_reason now r q ≡ None → is_ack r ≡ ack → DeliveryActs m to number now packet (planned m.agent (counts_where full ack m.agent r q))
     by-room true ack none kind = stays m tt
     by-room false true none kind = record { effect = counts to number now packet r q true is at none kind; sound = λ g. representable-counted m.agent now r q g at none }
     by-room false false none kind = record { effect = counts to number now packet r q false is at none kind; sound = λ g. representable-counted m.agent now r q g at none }
