@@ -25,8 +25,8 @@ pub use Rattle.serf_agent.specs.Ideal.{IdealAgent}
 pub use Rattle.serf_agent.specs.Queries.{fire_query, respond_fault}
 pub use Rattle.serf_agent.specs.Receive.{receive}
 pub use Rattle.serf_agent.specs.Restart.{IsInText}
-pub use Rattle.serf_agent.specs.States.{EndsAt, Merges, Receives, after_event, compact, delivered, events_of, fault_in, handed_by, joined}
-pub use Rattle.serf_agent.specs.States.{merge_refusal, receive_one, save}
+pub use Rattle.serf_agent.specs.States.{EndsAt, Merges, Receives, after_event, delivered, events_of, fault_in, handed_by, joined}
+pub use Rattle.serf_agent.specs.States.{merge_refusal, receive_one}
 pub use Rattle.serf_agent.specs.Steps.{Steps}
 pub use Rattle.serf_agent.specs.View.{AgentState, ConcreteState, view_of}
 pub use Rattle.serf_agent.specs.declared.config.Config.{Config}
@@ -51,7 +51,7 @@ pub use Rattle.serf_model.specs.Sizes.{HasSizes}
 pub use Rattle.serf_model.specs.Trace.{Turn, outcome_of, turns_of}
 pub use Rattle.serf_model.specs.declared.action.Action.{Action}
 pub use Rattle.serf_model.specs.declared.fault.RunFault.{RunFault}
-pub use Rattle.serf_model.specs.declared.line.Answer.TheVariants.{Compacted, Restarted, Saved}
+pub use Rattle.serf_model.specs.declared.line.Answer.TheVariants.{Restarted}
 pub use Rattle.serf_model.specs.declared.line.Line.{Line}
 pub use Rattle.serf_model.specs.declared.line.Refusal.TheVariants.{NoAgent}
 pub use Rattle.serf_model.specs.declared.trace.Trace.{Trace}

@@ -1,10 +1,13 @@
 -- Over a sink with a plan a call of an agent has one end.
-use Rattle.serf_world.proofs.Names.{zero, suc, ◌<◌, ◌≤◌, arith, length, set, get_or, ◌≡◌, ℕ, nat_le, cond, Bool, true, false, List, [], ◌∷◌, Option, Some, None, IsSome, MatchBool, map, Result, Ok, Err, refl, sym, ap, subst, ◌∙◌, slice_get, IfOk, AllByRecursion, AllocError, length-map, map-set, All-from_recursion, All-set, recursion_from_All, get_or_from_slice_get, slice_get_within, ClockKind, clock_line, Device, FailurePlan, SnapshotView, Writing, Kept, Failed, IsObservable, MayWrite, MayReplace, will_write, will_replace, durable_left_by, compaction_of, last_line, RespondFault, Handed, respond_fault, Call, Ends, Notes, Replaces, MayNote, MayEnd, planned, ended, will, will_note, IdealAgent, Steps, AgentState, ConcreteState, view_of, Action, Line, NoAgent, IdealNode, Cluster, Applied, Done, apply, called, line_only, on_agent, responds, responds_as, with_handed, AreRepresentable, IsRepresentable}
+use Rattle.serf_world.proofs.Names.{zero, suc, ◌<◌, ◌≤◌, arith, length, set, get_or, ◌≡◌, ℕ, nat_le, cond, Bool, true, false, List, [], ◌∷◌, Option, Some, None, IsSome, MatchBool, map, Result, Ok, Err, refl, sym, ap, subst, ◌∙◌, slice_get, IfOk, AllByRecursion, AllocError, length-map, map-set, All-from_recursion, All-set, recursion_from_All, get_or_from_slice_get, slice_get_within, ClockKind, clock_line, Device, FailurePlan, SnapshotView, Writing, Kept, Failed, IsObservable, MayWrite, MayReplace, will_write, will_replace, durable_left_by, compaction_of, last_line, RespondFault, Handed, respond_fault, Call, Ends, Notes, Replaces, MayNote, MayEnd, planned, ended, will, will_note, IdealAgent, Steps, AgentState, ConcreteState, view_of, Action, Line, NoAgent, IdealNode, Cluster, Applied, Done, apply, called, line_only, on_agent, responds, responds_as, with_handed, AreRepresentable, IsRepresentable, append-nil, EventOut, event_line, only, ◌++◌, ◌≢◌}
+use Rattle.serf_snap.specs.declared.snapshot.NoteFault.{NoteFault}
+use Rattle.serf_model.specs.declared.line.Answer.{Answer}
+use Rattle.serf_model.specs.declared.line.Refusal.{Refusal}
+use Rattle.serf_model.specs.Cluster.{does_nothing, note_gives, note_refusal, refused}
 use Rattle.serf_model.specs.declared.line.Answer.TheVariants as answers
-use Rattle.serf_world.specs.declared.done.Done.{Done as Made}
-use Rattle.serf_world.specs.Turns.{TakesTurn}
+use Rattle.serf_world.specs.Turns.{Shows, TakesTurn}
 use Rattle.serf_world.specs.View.{IsViewed, NodeState, TakesStep, WorldState, node_of}
-use Rattle.serf_world.specs.Nodes.{DoesCall, IsApplied, DoesRespond, done_of, slot_gives, slot_after, answer_gives, answer_after}
+use Rattle.serf_world.specs.Nodes.{slot_gives, slot_after, answer_gives, answer_after}
 
 abbrev view : (m e q : ℕ) (stopped : Bool) (k : Option (List ℕ)) (p : Option FailurePlan) → SnapshotView
 view m e q stopped k p = record { member_clock = m; event_clock = e; query_clock = q; stopped = stopped; durable = k; plan = p }
@@ -44,11 +47,80 @@ steps-planned {R} i call result old new observable steps =
       state = steps.state ∙ ap (λ w. view_of (ended i call w).agent) same;
     }
 
--- an agent made a call, and that gives this
-pub does-call : {R : Type 0} (m : IdealNode) (call : Call R) (result : R) (old : Device) (new : AgentState) (gives : R → Done) (d : Made) → IsRepresentable m.agent → Steps m.agent call result old new → done_of d ≡ gives result → DoesCall (called m (planned m.agent call) gives) new.concrete d
-does-call m call result old new gives d representable steps says =
+-- ---- what lines show
+
+-- no query is handed out
+pub none-kept : (old new : List (Option Handed)) → new ≡ old → new ≡ old ++ []
+none-kept old new same = same ∙ sym (append-nil old)
+
+pub shows-only : (a : ℕ) (sent : List (List ℕ)) (old new : List (Option Handed)) (answer : Answer) (line : Line) → new ≡ old → line ≡ line_only answer → Shows a sent sent old new (only answer) line
+shows-only a sent old new answer line same is = record {
+  packets = sym (append-nil sent);
+  kept = none-kept old new same;
+  answer = ap (λ (l : Line). l.answer) is;
+  sent = ap (λ (l : Line). l.sent) is;
+  events = ap (λ (l : Line). l.events) is;
+  handed = ap (λ (l : Line). l.handed) is;
+}
+
+pub shows-packet : (a : ℕ) (before after : List (List ℕ)) (old new : List (Option Handed)) (answer : Answer) (packet : List ℕ) (line : Line) → after ≡ before ++ packet ∷ [] → new ≡ old
+    → line ≡ record { answer = answer; sent = length before ∷ []; events = []; handed = None } → Shows a before after old new (record { answer = answer; packets = packet ∷ []; events = []; handed = None }) line
+shows-packet a before after old new answer packet line goes same is = record {
+  packets = goes;
+  kept = none-kept old new same;
+  answer = ap (λ (l : Line). l.answer) is;
+  sent = ap (λ (l : Line). l.sent) is;
+  events = ap (λ (l : Line). l.events) is;
+  handed = ap (λ (l : Line). l.handed) is;
+}
+
+pub shows-event : (a : ℕ) (before after : List (List ℕ)) (old new : List (Option Handed)) (answer : Answer) (packet : List ℕ) (event : EventOut) (line : Line) → after ≡ before ++ packet ∷ [] → new ≡ old
+    → line ≡ record { answer = answer; sent = length before ∷ []; events = event_line a event ∷ []; handed = None } → Shows a before after old new (record { answer = answer; packets = packet ∷ []; events = event ∷ []; handed = None }) line
+shows-event a before after old new answer packet event line goes same is = record {
+  packets = goes;
+  kept = none-kept old new same;
+  answer = ap (λ (l : Line). l.answer) is;
+  sent = ap (λ (l : Line). l.sent) is;
+  events = ap (λ (l : Line). l.events) is;
+  handed = ap (λ (l : Line). l.handed) is;
+}
+
+-- an agent made a call, and its line shows what that gives
+pub does-call : {R : Type 0} (m : IdealNode) (call : Call R) (result : R) (old : Device) (new : AgentState) (gives : R → Done) (a : ℕ) (before after : List (List ℕ)) (handed : List (Option Handed)) (line : Line) → IsRepresentable m.agent → Steps m.agent call result old new
+    → Shows a before after m.handed handed (gives result) line → TakesTurn a before after (called m (planned m.agent call) gives) (record { concrete = new.concrete; handed = handed }) line
+does-call m call result old new gives a before after handed line representable steps shows =
     let p = steps-planned m.agent call result old new representable.consistent.observable steps in
-    record { state = p.state; gives = says ∙ ap gives p.answers }
+    record { state = p.state; shows = subst (λ r. Shows a before after m.handed handed (gives r) line) p.answers shows }
+
+err-differs : {R E : Type 0} (r : Result R E) (f g : E) → r ≡ Err f → f ≢ g → r ≢ Err g
+err-differs r f g is differs e = let both : Err f ≡ Err g = sym is ∙ e in let same : f ≡ g = cc both in differs same
+
+ok-differs : {R E : Type 0} (r : Result R E) (x : R) (g : E) → r ≡ Ok x → r ≢ Err g
+ok-differs r x g is e = let both : Ok x ≡ Err g = sym is ∙ e in absurd (cc both)
+
+-- a call that did what it was to do
+pub call-done : {R E : Type 0} (m : IdealNode) (call : Call (Result R E)) (result : Result R E) (old : Device) (new : AgentState) (gives : Result R E → Done) (x : R) (memory : E) (a : ℕ) (before after : List (List ℕ)) (handed : List (Option Handed)) (line : Line) → IsRepresentable m.agent
+    → result ≡ Ok x → (result ≢ Err memory → Steps m.agent call result old new) → Shows a before after m.handed handed (gives (Ok x)) line → TakesTurn a before after (called m (planned m.agent call) gives) (record { concrete = new.concrete; handed = handed }) line
+call-done {R} {E} m call result old new gives x memory a before after handed line representable is steps shows =
+    does-call m call result old new gives a before after handed line representable (steps (ok-differs result x memory is)) (subst (λ (r : Result R E). Shows a before after m.handed handed (gives r) line) (sym is) shows)
+
+-- a call that was refused, and didn't want memory
+pub call-refused : {R E : Type 0} (m : IdealNode) (call : Call (Result R E)) (result : Result R E) (old : Device) (new : AgentState) (gives : Result R E → Done) (refusal : E → Refusal) (fault memory : E) (told : Refusal) (a : ℕ) (sent : List (List ℕ)) (handed : List (Option Handed)) (line : Line) → ((e : E) → gives (Err e) ≡ refused (refusal e)) → IsRepresentable m.agent → handed ≡ m.handed
+    → result ≡ Err fault → (result ≢ Err memory → Steps m.agent call result old new) → (told ≡ refusal fault) × (fault ≢ memory) → line ≡ line_only (answers.Refused told) → TakesTurn a sent sent (called m (planned m.agent call) gives) (record { concrete = new.concrete; handed = handed }) line
+call-refused {R} {E} m call result old new gives refusal fault memory told a sent handed line by representable same is steps says shows =
+    let only_refused : Shows a sent sent m.handed handed (refused (refusal fault)) line = shows-only a sent m.handed handed (answers.Refused (refusal fault)) line same (shows ∙ ap (λ r. line_only (answers.Refused r)) says.0) in
+    does-call m call result old new gives a sent sent handed line representable (steps (err-differs result fault memory is says.1))
+    (subst (λ (r : Result R E). Shows a sent sent m.handed handed (gives r) line) (sym is) (subst (λ (d : Done). Shows a sent sent m.handed handed d line) (sym (by fault)) only_refused))
+
+-- an action that is refused before its agent does anything
+pub refuses : (m : IdealNode) (node : NodeState) (refusal : Refusal) (a : ℕ) (sent : List (List ℕ)) (line : Line) → node ≡ node_of m → line ≡ line_only (answers.Refused refusal) → TakesTurn a sent sent (does_nothing m (refused refusal)) node line
+refuses m node refusal a sent line is shows =
+    record { state = ap (λ (n : NodeState). n.concrete) is; shows = shows-only a sent m.handed node.handed (answers.Refused refusal) line (ap (λ (n : NodeState). n.handed) is) shows }
+
+-- a note of the member clock, or a compaction
+pub shows-note : (a : ℕ) (sent : List (List ℕ)) (old new : List (Option Handed)) (answer : Answer) (noted : Result (Unit {0}) NoteFault) (line : Line) → new ≡ old → line ≡ line_only (note_gives answer noted).answer → Shows a sent sent old new (note_gives answer noted) line
+shows-note a sent old new answer (Ok done) line same is = shows-only a sent old new answer line same is
+shows-note a sent old new answer (Err fault) line same is = shows-only a sent old new (answers.Refused (note_refusal fault)) line same is
 
 -- ---- answering a query
 
@@ -62,43 +134,26 @@ set-same [] k x is = refl
 set-same (y ∷ ys) zero x is = let same : y ≡ x = cc is in ap (λ z. z ∷ ys) (sym same)
 set-same (y ∷ ys) (suc k) x is = ap (λ l. y ∷ l) (set-same ys k x is)
 
-responds-slot : (m : IdealNode) (h now : ℕ) (payload : List ℕ) (slot : Option Handed) (d : Made) → slice_get m.handed h ≡ Some slot → done_of d ≡ slot_gives slot now payload → DoesRespond (responds m h (Some slot) now payload) (set m.handed h (slot_after slot now payload)) d
-responds-slot m h now payload None d at gives = record { state = set-same m.handed h None at; gives = gives }
-responds-slot m h now payload (Some q) d at gives = by (respond_fault q now payload) gives
+responds-slot : (m : IdealNode) (h now : ℕ) (payload : List ℕ) (slot : Option Handed) (a : ℕ) (before after : List (List ℕ)) (line : Line) → slice_get m.handed h ≡ Some slot
+    → ((handed : List (Option Handed)) → Shows a before after handed handed (slot_gives slot now payload) line)
+    → TakesTurn a before after (responds m h (Some slot) now payload) (record { concrete = view_of m.agent; handed = set m.handed h (slot_after slot now payload) }) line
+responds-slot m h now payload None a before after line at shows =
+    record { state = refl; shows = subst (λ (l : List (Option Handed)). Shows a before after m.handed l (slot_gives None now payload) line) (sym (set-same m.handed h None at)) (shows m.handed) }
+responds-slot m h now payload (Some q) a before after line at shows = by (respond_fault q now payload) shows
   where
-    by : (r : Option RespondFault) → done_of d ≡ answer_gives r q payload → DoesRespond (responds_as r m h q payload) (set m.handed h (answer_after r q)) d
-    by (Some fault) says = record { state = set-same m.handed h (Some q) at; gives = says }
-    by None says = record { state = refl; gives = says }
+    by : (r : Option RespondFault) → ((handed : List (Option Handed)) → Shows a before after handed handed (answer_gives r q payload) line)
+        → TakesTurn a before after (responds_as r m h q payload) (record { concrete = view_of m.agent; handed = set m.handed h (answer_after r q) }) line
+    by (Some fault) shown = record { state = refl; shows = subst (λ (l : List (Option Handed)). Shows a before after m.handed l (answer_gives (Some fault) q payload) line) (sym (set-same m.handed h (Some q) at)) (shown m.handed) }
+    by None shown = record { state = refl; shows = shown (set m.handed h None) }
 
-pub responds-there : (m : IdealNode) (h now : ℕ) (payload : List ℕ) (slot new : Option Handed) (handed : List (Option Handed)) (d : Made) → handed ≡ m.handed → h < length handed → slot ≡ get_or handed h slot
-    → done_of d ≡ slot_gives slot now payload → new ≡ slot_after slot now payload → DoesRespond (responds m h (slice_get m.handed h) now payload) (set handed h new) d
-responds-there m h now payload slot new handed d same within at gives after =
-    let found : slice_get m.handed h ≡ Some slot = ap (λ l. slice_get l h) (sym same) ∙ get-there handed h slot within at in
-    let here = responds-slot m h now payload slot d found gives in
-    subst (λ (o : Option (Option Handed)). DoesRespond (responds m h o now payload) (set handed h new) d) (sym found)
-    (record { state = ap (λ l. set l h new) same ∙ ap (λ s. set m.handed h s) after ∙ here.state; gives = here.gives })
-
-pub responds-agent : (m : IdealNode) (h : ℕ) (q : Option (Option Handed)) (now : ℕ) (payload : List ℕ) → (responds m h q now payload).node.agent ≡ m.agent
-responds-agent m h None now payload = refl
-responds-agent m h (Some None) now payload = refl
-responds-agent m h (Some (Some q)) now payload = by (respond_fault q now payload)
-  where
-    by : (r : Option RespondFault) → (responds_as r m h q payload).node.agent ≡ m.agent
-    by (Some fault) = refl
-    by None = refl
-
--- ---- a node, by its agent's call
-
-pub is-applied : (o : Applied) (result : Result Made AllocError) (new : ConcreteState) (handed : List (Option Handed)) → handed ≡ o.node.handed → IfOk result (DoesCall o new) → IfOk result (IsApplied o (record { concrete = new; handed = handed }))
-is-applied o (Ok d) new handed same does = record { state = λ k. record { concrete = does.state k; handed = same k }; gives = does.gives }
-is-applied o (Err e) new handed same does = tt
-
-pub does-one : (o : Applied) (d : Made) (new : ConcreteState) (handed : List (Option Handed)) → handed ≡ o.node.handed → DoesCall o new d → IsApplied o (record { concrete = new; handed = handed }) d
-does-one o d new handed same does = record { state = λ k. record { concrete = does.state k; handed = same k }; gives = does.gives }
-
-pub does-respond : (o : Applied) (result : Result Made AllocError) (concrete : ConcreteState) (new : List (Option Handed)) → concrete ≡ view_of o.node.agent → IfOk result (DoesRespond o new) → IfOk result (IsApplied o (record { concrete = concrete; handed = new }))
-does-respond o (Ok d) concrete new same does = record { state = λ k. record { concrete = same k; handed = does.state k }; gives = does.gives }
-does-respond o (Err e) concrete new same does = tt
+pub responds-there : (m : IdealNode) (h now : ℕ) (payload : List ℕ) (slot new : Option Handed) (old : NodeState) (a : ℕ) (before after : List (List ℕ)) (line : Line) → old ≡ node_of m → h < length old.handed → slot ≡ get_or old.handed h slot
+    → ((handed : List (Option Handed)) → Shows a before after handed handed (slot_gives slot now payload) line) → new ≡ slot_after slot now payload
+    → TakesTurn a before after (responds m h (slice_get m.handed h) now payload) (record { concrete = old.concrete; handed = set old.handed h new }) line
+responds-there m h now payload slot new old a before after line same within at shows is =
+    let found : slice_get m.handed h ≡ Some slot = ap (λ (n : NodeState). slice_get n.handed h) (sym same) ∙ get-there old.handed h slot within at in
+    let here = responds-slot m h now payload slot a before after line found shows in
+    subst (λ (o : Option (Option Handed)). TakesTurn a before after (responds m h o now payload) (record { concrete = old.concrete; handed = set old.handed h new }) line) (sym found)
+    (subst (λ (n : NodeState). TakesTurn a before after (responds m h (Some slot) now payload) n line) (λ k. record { concrete = (sym same k).concrete; handed = set ((sym same k).handed) h (sym is k) }) here)
 
 -- nothing stands behind the end
 pub past-none : {X : Type 0} (xs : List X) (a : ℕ) → length xs ≤ a → slice_get xs a ≡ None
@@ -152,11 +207,12 @@ owes-turn keeps c w more action a old new line v representable within at does = 
         let same : old ≡ node_of m = same-at node_of w.nodes c.nodes a old m v.nodes within at found in
         let did : TakesTurn a c.sent more (apply m c.sent action) new line = subst (λ (s : List (List ℕ)). TakesTurn a s more (apply m s action) new line) (sym v.sent) (does m well same) in
         let o : Applied = apply m c.sent action in
+        let node : node_of (with_handed o.done.handed o.node) ≡ new = λ k. record { concrete = sym did.state k; handed = sym did.shows.kept k } in
         record {
-          line_is = λ k. record { answer = did.answer k; sent = did.sent k; events = did.events k; handed = did.handed k };
+          line_is = λ k. record { answer = did.shows.answer k; sent = did.shows.sent k; events = did.shows.events k; handed = did.shows.handed k };
           view = record {
-            nodes = map-set node_of c.nodes a (with_handed o.done.handed o.node) ∙ ap (λ l. set l a (node_of (with_handed o.done.handed o.node))) v.nodes ∙ ap (λ s. set w.nodes a s) (sym did.state);
-            sent = sym did.packets;
+            nodes = map-set node_of c.nodes a (with_handed o.done.handed o.node) ∙ ap (λ l. set l a (node_of (with_handed o.done.handed o.node))) v.nodes ∙ ap (λ s. set w.nodes a s) node;
+            sent = sym did.shows.packets;
           };
           representable = all-put (λ m. IsRepresentable m.agent) c.nodes a (with_handed o.done.handed o.node) representable (keeps m c.sent action well);
         }

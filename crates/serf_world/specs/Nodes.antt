@@ -1,29 +1,13 @@
--- How the code acts on one agent: private to the crate.
-use Rattle.std.specs.Prelude.{◌≡◌, ℕ, List, [], ◌∷◌, Option, Some, None}
+-- What answers and merges give: private to the crate.
+use Rattle.std.specs.Prelude.{ℕ, List, [], ◌∷◌, Option, Some, None}
 use Rattle.serf_agent.specs.declared.outcome.RespondFault.{RespondFault}
 use Rattle.serf_agent.specs.declared.outcome.MergeFault.{MergeFault}
 use Rattle.serf_agent.specs.Handed.{Handed}
 use Rattle.serf_agent.specs.Queries.{respond_fault, response_packet}
-use Rattle.serf_agent.specs.View.{ConcreteState, view_of}
-use Rattle.serf_world.specs.declared.done.Done.{Done as Made}
 use Rattle.serf_model.specs.declared.line.Answer.{Answer}
 use Rattle.serf_model.specs.declared.line.Answer.TheVariants as answers
 use Rattle.serf_model.specs.declared.line.Refusal.TheVariants.{NoQuery}
-use Rattle.serf_model.specs.Cluster.{Applied, Done, refused, respond_refusal, merge_refusal_of}
-use Rattle.serf_world.specs.View.{NodeState, node_of}
-
-abbrev pub done_of : Made → Done
-done_of d = record { answer = d.answer; packets = d.packets; events = d.events.items; handed = d.handed }
-
--- an agent did what the ideal one does
-pub record DoesCall (o : Applied) (new : ConcreteState) (done : Made) : Type 0 where
-  pub state : new ≡ view_of o.node.agent
-  pub gives : done_of done ≡ o.done
-
--- a node did what the ideal node does
-pub record IsApplied (o : Applied) (new : NodeState) (done : Made) : Type 0 where
-  pub state : new ≡ node_of o.node
-  pub gives : done_of done ≡ o.done
+use Rattle.serf_model.specs.Cluster.{Done, refused, respond_refusal, merge_refusal_of}
 
 -- what answering the query in a slot gives, and leaves there
 abbrev pub answer_gives : Option RespondFault → Handed → List ℕ → Done
@@ -41,11 +25,6 @@ answer_after None q = None
 abbrev pub slot_after : Option Handed → ℕ → List ℕ → Option Handed
 slot_after None now payload = None
 slot_after (Some q) now payload = answer_after (respond_fault q now payload) q
-
--- the slots after that
-pub record DoesRespond (o : Applied) (new : List (Option Handed)) (done : Made) : Type 0 where
-  pub state : new ≡ o.node.handed
-  pub gives : done_of done ≡ o.done
 
 -- what a merge answers
 abbrev pub merge_answer : Option MergeFault → Answer

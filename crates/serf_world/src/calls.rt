@@ -1,6 +1,7 @@
-//! What an agent of a cluster does.
+//! What an agent of a cluster does, but for packets that it is given.
 
-ghost use Rattle.std.specs.Prelude.{◌≡◌, ◌∷◌, ◌++◌, ℕ, [], IfOk, IfSome, OnOk, unwrap_or, true};
+ghost use Rattle.std.specs.Prelude.{◌≡◌, ◌≢◌, ◌++◌, ◌∷◌, ℕ, List, [], IfOk, OnErr, unwrap_or, true, Err};
+ghost use Rattle.std.specs.Option.{option_to_list};
 ghost use Rattle.serf_window.specs.Texts.{event_of};
 ghost use Rattle.serf_agent.specs.Ideal.{IdealAgent};
 ghost use Rattle.serf_snap.specs.Device.{fresh_device};
@@ -9,107 +10,159 @@ ghost use Rattle.serf_agent.specs.Restart.{IsInText, unopened};
 ghost use Rattle.serf_agent.specs.Config.{is_sound};
 ghost use Rattle.serf_agent.specs.Sound.{IsSound};
 ghost use Rattle.serf_agent.specs.View.{view_of};
-ghost use Rattle.serf_model.specs.Cluster.{IdealNode, breaks, compacts, fires_event, fires_query, receives_packet, reopened, restarts, saves, sends_state};
+ghost use Rattle.serf_model.specs.Cluster.{IdealNode, breaks, closes, fires_event, fires_query, line_only, note_gives, reopened, restarts, sends_state};
 ghost use Rattle.serf_model.specs.Ready.{IsRepresentable};
-ghost use Rattle.serf_world.specs.Nodes.{DoesCall, done_of};
+ghost use Rattle.serf_world.specs.Turns.{TakesTurn};
+ghost use Rattle.serf_world.specs.View.{node_of};
 
-use crate::done::{Done, fire_done, note_done, only_answer, query_done, receive_done, state_done};
-use serf_agent::{Agent, Config, OpenFault, QueryParams};
-use serf_model::{Answer, SinkCall, representable_agents};
-use serf_snap::MemSink;
+use crate::line::{line_only, line_with_event, line_with_packet, line_with_query, refused};
+use crate::node::Node;
+use crate::refusal::{fire_refusal, note_refusal, query_refusal, state_refusal};
+use serf_agent::{Agent, BytesList, Config, Fired, FiredQuery, OpenFault, QueryParams};
+use serf_model::{Answer, Line, SinkCall, representable_agents};
+use serf_snap::{MemSink, NoteFault};
+use serf_wire::Bytes;
 use std::alloc::{AllocError, Global};
 
 /// An agent fires an event.
 #[inline(always)]
 pub(crate) fn fire_at(
     alloc: Global,
-    agent: &mut Agent<MemSink>,
+    number: u64,
+    node: &mut Node,
+    sent: &mut Vec<Bytes>,
     name: &[u8],
     payload: &[u8],
     coalesce: bool,
-) -> Result<Done, AllocError>
-    ensures { (m : IdealNode) → IsRepresentable m.agent → agent.old.concrete ≡ view_of m.agent → IfOk result (DoesCall (fires_event m (event_of name.now payload.now) coalesce) agent.new.concrete) }
+) -> Result<Line, AllocError>
+    ensures turn { (m : IdealNode) → IsRepresentable m.agent → node.old ≡ node_of m
+        → IfOk result (TakesTurn number sent.old.items sent.new.items (fires_event m (event_of name.now payload.now) coalesce) node.new) }
+    ensures err { OnErr result (sent.new.items ≡ sent.old.items) }
 {
-    let fired = agent.fire(alloc, name, payload, coalesce);
-    let done = fire_done(alloc, fired)?;
-    Ok(done)
-}
-
-/// An agent is given a packet.
-#[inline(always)]
-pub(crate) fn receive_at(
-    alloc: Global,
-    agent: &mut Agent<MemSink>,
-    now: u64,
-    packet: &[u8],
-) -> Result<Done, AllocError>
-    ensures { (m : IdealNode) → IsRepresentable m.agent → agent.old.concrete ≡ view_of m.agent → IfOk result (DoesCall (receives_packet m now packet.now) agent.new.concrete) }
-{
-    let received = agent.receive(alloc, now, packet);
-    let done = receive_done(alloc, packet, received)?;
-    Ok(done)
+    let fired = node.agent.fire(alloc, name, payload, coalesce);
+    let Fired { packet, handed } = match fired {
+        Ok(fired) => fired,
+        Err(fault) => return Ok(refused(alloc, fire_refusal(fault)?)),
+    };
+    let line = line_with_event(
+        alloc,
+        number,
+        sent,
+        Answer::Fired(handed.time),
+        packet,
+        handed,
+    )?;
+    Ok(line)
 }
 
 /// An agent sends its state.
-pub(crate) fn state_at(alloc: Global, agent: &Agent<MemSink>) -> Result<Done, AllocError>
-    ensures { (m : IdealNode) → agent.now.concrete ≡ view_of m.agent → IfOk result (DoesCall (sends_state m) agent.now.concrete) }
+pub(crate) fn state_at(
+    alloc: Global,
+    number: u64,
+    node: &Node,
+    sent: &mut Vec<Bytes>,
+) -> Result<Line, AllocError>
+    ensures turn { (m : IdealNode) → node.now ≡ node_of m → IfOk result (TakesTurn number sent.old.items sent.new.items (sends_state m) node.now) }
+    ensures err { OnErr result (sent.new.items ≡ sent.old.items) }
 {
-    let state = agent.local_state(alloc, &[], &[]);
-    let done = state_done(alloc, state)?;
-    Ok(done)
+    let agent = &node.agent;
+    match agent.local_state(alloc, &[], &[]) {
+        Ok(packet) => {
+            let line = line_with_packet(alloc, sent, Answer::State, packet)?;
+            Ok(line)
+        }
+        Err(fault) => Ok(refused(alloc, state_refusal(fault)?)),
+    }
+}
+
+/// The packets of a query that is fired: the query, and its ack behind it.
+fn query_packets(alloc: Global, packet: Bytes, ack: Option<Bytes>) -> Result<BytesList, AllocError>
+    ensures { IfOk result (λ packets. packets ≡ packet ∷ option_to_list ack) }
+{
+    let mut packets = BytesList::new(alloc);
+    packets.push(packet)?;
+    if let Some(ack) = ack {
+        packets.push(ack)?;
+    }
+    Ok(packets)
 }
 
 /// An agent fires a query.
 pub(crate) fn query_at(
     alloc: Global,
-    agent: &mut Agent<MemSink>,
+    number: u64,
+    node: &mut Node,
+    sent: &mut Vec<Bytes>,
     now: u64,
     id: u32,
     name: &[u8],
     payload: &[u8],
     params: &QueryParams,
-) -> Result<Done, AllocError>
-    ensures { (m : IdealNode) → IsRepresentable m.agent → agent.old.concrete ≡ view_of m.agent → IfOk result (DoesCall (fires_query m now id name.now payload.now params.now) agent.new.concrete) }
+) -> Result<Line, AllocError>
+    ensures turn { (m : IdealNode) → IsRepresentable m.agent → node.old ≡ node_of m
+        → IfOk result (TakesTurn number sent.old.items sent.new.items (fires_query m now id name.now payload.now params.now) node.new) }
+    ensures err { OnErr result (sent.new.items ≡ sent.old.items) }
 {
-    let fired = agent.query(alloc, now, id, name, payload, params);
-    let done = query_done(alloc, fired)?;
-    Ok(done)
+    let fired = node.agent.query(alloc, now, id, name, payload, params);
+    let FiredQuery {
+        time,
+        packet,
+        handed,
+        ack,
+    } = match fired {
+        Ok(fired) => fired,
+        Err(fault) => return Ok(refused(alloc, query_refusal(fault)?)),
+    };
+    let packets = query_packets(alloc, packet, ack)?;
+    let answer = Answer::Queried(time);
+    let line = line_with_query(
+        alloc,
+        number,
+        sent,
+        &mut node.handed,
+        answer,
+        packets,
+        handed,
+    )?;
+    Ok(line)
 }
 
-/// An agent notes its member clock.
-pub(crate) fn save_at(alloc: Global, agent: &mut Agent<MemSink>) -> Result<Done, AllocError>
-    ensures { (m : IdealNode) → IsRepresentable m.agent → agent.old.concrete ≡ view_of m.agent → IfOk result (DoesCall (saves m) agent.new.concrete) }
+/// The line of a note of the member clock, or of a compaction.
+pub(crate) fn note_line(
+    alloc: Global,
+    answer: Answer,
+    noted: Result<(), NoteFault>,
+) -> Result<Line, AllocError>
+    ensures { IfOk result (λ line. (line ≡ line_only (note_gives answer noted).answer) × (noted ≢ Err NoteFault.OutOfMemory)) }
 {
-    let noted = agent.save_member_clock(alloc);
-    let done = note_done(alloc, Answer::Saved, noted)?;
-    Ok(done)
+    match noted {
+        Ok(()) => Ok(line_only(alloc, answer)),
+        Err(fault) => Ok(refused(alloc, note_refusal(fault)?)),
+    }
 }
 
-/// An agent replaces its snapshot's text by its last lines.
-pub(crate) fn compact_at(alloc: Global, agent: &mut Agent<MemSink>) -> Result<Done, AllocError>
-    ensures { (m : IdealNode) → IsRepresentable m.agent → agent.old.concrete ≡ view_of m.agent → IfOk result (DoesCall (compacts m) agent.new.concrete) }
+/// An agent lets go of its open queries that are past their deadlines.
+pub(crate) fn close_at(alloc: Global, node: &mut Node, now: u64) -> Line
+    ensures { (m : IdealNode) (number : ℕ) (sent : List (List ℕ)) → IsRepresentable m.agent → node.old ≡ node_of m
+        → TakesTurn number sent sent (closes m now) node.new result }
 {
-    let noted = agent.compact(alloc);
-    let done = note_done(alloc, Answer::Compacted, noted)?;
-    Ok(done)
+    let closed = node.agent.close_due(now);
+    line_only(alloc, Answer::Closed(closed as u64))
 }
 
 /// A call of an agent's sink is to fail.
-pub(crate) fn break_at(
-    alloc: Global,
-    agent: &mut Agent<MemSink>,
-    call: SinkCall,
-    count: u64,
-) -> Done
-    ensures { (m : IdealNode) → agent.old.concrete ≡ view_of m.agent → DoesCall (breaks m call count) agent.new.concrete result }
+pub(crate) fn break_at(alloc: Global, node: &mut Node, call: SinkCall, count: u64) -> Line
+    ensures { (m : IdealNode) (number : ℕ) (sent : List (List ℕ)) → node.old ≡ node_of m
+        → TakesTurn number sent sent (breaks m call count) node.new result }
 {
+    let agent = &mut node.agent;
     match call {
         SinkCall::Append => agent.fail_append(count),
         SinkCall::Flush => agent.fail_flush(count),
         SinkCall::ReplaceOld => agent.fail_replace(count, false),
         SinkCall::ReplaceNew => agent.fail_replace(count, true),
     }
-    only_answer(alloc, Answer::Broken)
+    line_only(alloc, Answer::Broken)
 }
 
 /// An agent over a new sink that keeps this text, and that fails nowhere: only memory can be wanting.
@@ -141,20 +194,19 @@ fn text_of(alloc: Global, agent: &Agent<MemSink>, tail: &[u8]) -> Result<Vec<u8>
     Ok(text)
 }
 
-/// An agent is opened again on what its sink keeps and a tail.
-pub(crate) fn restart_at(
-    alloc: Global,
-    agent: &mut Agent<MemSink>,
-    tail: &[u8],
-) -> Result<Done, AllocError>
-    ensures { (m : IdealNode) → IsRepresentable m.agent → agent.old.concrete ≡ view_of m.agent → IfOk result (DoesCall (restarts m tail.now) agent.new.concrete) }
+/// An agent is opened again on what its sink keeps and a tail. The queries of an earlier life can't be answered.
+pub(crate) fn restart_at(alloc: Global, node: &mut Node, tail: &[u8]) -> Result<Line, AllocError>
+    ensures { (m : IdealNode) (number : ℕ) (sent : List (List ℕ)) → IsRepresentable m.agent → node.old ≡ node_of m
+        → IfOk result (TakesTurn number sent sent (restarts m tail.now) node.new) }
 {
     representable_agents();
+    node.handed.clear();
+    let agent = &mut node.agent;
     let text = text_of(alloc, agent, tail)?;
     let config = agent.config().try_clone(alloc)?;
     let opened = open_on(alloc, config, text.as_slice())?;
     *agent = opened;
-    Ok(only_answer(
+    Ok(line_only(
         alloc,
         Answer::Restarted {
             member_clock: agent.member_time(),

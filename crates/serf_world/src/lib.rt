@@ -2,12 +2,13 @@
 //! and queries do, one action after another.
 #![tactic(auto)]
 
-mod apply;
 mod calls;
-mod done;
+mod delivery;
 mod fault;
+mod line;
 mod merging;
 mod node;
+mod refusal;
 mod respond;
 mod roster;
 mod running;

@@ -1,17 +1,18 @@
 //! An agent merges the state of another.
 
-ghost use Rattle.std.specs.Prelude.{◌≡◌, ◌≢◌, ◌++◌, [], IfOk, Err, Some, if◌then◌else◌};
-ghost use Rattle.serf_wire.specs.Decoded.{decoded};
+ghost use Rattle.std.specs.Prelude.{◌≡◌, ◌≢◌, ◌++◌, [], IfOk, Err, Some, slice_get, if◌then◌else◌};
 ghost use Rattle.serf_agent.specs.States.{fault_in};
-ghost use Rattle.serf_agent.specs.View.{view_of};
-ghost use Rattle.serf_model.specs.Cluster.{IdealNode, merge_refusal_of, merges_packet};
+ghost use Rattle.serf_model.specs.Cluster.{IdealNode, merge_refusal_of, merges_given};
 ghost use Rattle.serf_model.specs.Ready.{IsRepresentable};
-ghost use Rattle.serf_world.specs.Nodes.{DoesCall, done_of, merge_answer};
+ghost use Rattle.serf_world.specs.Nodes.{merge_answer};
+ghost use Rattle.serf_world.specs.Turns.{TakesTurn};
+ghost use Rattle.serf_world.specs.View.{node_of};
 
-use crate::done::Done;
-use serf_agent::{Agent, BytesList, EventOut, MergeFault, PushPull};
-use serf_model::{Answer, Refusal, merged_agents};
-use serf_snap::MemSink;
+use crate::line::{line_with_events, refused};
+use crate::node::Node;
+use serf_agent::{EventOut, MergeFault, PushPull};
+use serf_model::{Answer, Line, Refusal, merged_agents, packet_at};
+use serf_wire::Bytes;
 use std::alloc::{AllocError, Global};
 
 /// What a merge answers.
@@ -28,23 +29,28 @@ fn merge_answer(merged: &Result<PushPull, MergeFault>) -> Result<Answer, AllocEr
     }
 }
 
-/// An agent merges the state that a packet brings. Where its sink fails, what came before was handed out.
+/// An agent merges the state that a packet brings, where there is one. Where its sink fails, what came before was
+/// handed out.
 pub(crate) fn merge_at(
     alloc: Global,
-    agent: &mut Agent<MemSink>,
-    packet: &[u8],
+    number: u64,
+    node: &mut Node,
+    sent: &[Bytes],
+    packet: u64,
     join: bool,
-) -> Result<Done, AllocError>
-    ensures { (m : IdealNode) → IsRepresentable m.agent → agent.old.concrete ≡ view_of m.agent → IfOk result (DoesCall (merges_packet m join (decoded packet.now)) agent.new.concrete) }
+) -> Result<Line, AllocError>
+    ensures { (m : IdealNode) → IsRepresentable m.agent → node.old ≡ node_of m
+        → IfOk result (TakesTurn number sent.now sent.now (merges_given m join (slice_get sent.now packet)) node.new) }
 {
     merged_agents();
+    let Some(bytes) = packet_at(sent, packet) else {
+        return Ok(refused(alloc, Refusal::NoMessage));
+    };
     let mut events: Vec<EventOut> = Vec::new(alloc);
-    let merged = agent.merge_remote_state(alloc, packet, join, &mut events);
+    let merged = node
+        .agent
+        .merge_remote_state(alloc, bytes, join, &mut events);
     let answer = merge_answer(&merged)?;
-    Ok(Done {
-        answer,
-        packets: BytesList::new(alloc),
-        events,
-        handed: None,
-    })
+    let line = line_with_events(alloc, number, answer, events)?;
+    Ok(line)
 }

@@ -1,35 +1,46 @@
 //! A query that was handed to an agent is answered.
 
-ghost use Rattle.std.specs.Prelude.{◌≡◌, ℕ, IfOk, OnOk, slice_get};
+ghost use Rattle.std.specs.Prelude.{◌≡◌, ℕ, List, Option, IfOk, OnErr, OnOk, slice_get};
+ghost use Rattle.serf_agent.specs.Handed.{Handed};
 ghost use Rattle.serf_model.specs.Cluster.{IdealNode, responds};
-ghost use Rattle.serf_world.specs.Nodes.{DoesRespond, done_of, slot_after, slot_gives};
+ghost use Rattle.serf_world.specs.Nodes.{slot_after, slot_gives};
+ghost use Rattle.serf_world.specs.Turns.{Shows, TakesTurn};
+ghost use Rattle.serf_world.specs.View.{node_of};
 
-use crate::done::{Done, refusal, with_packet};
+use crate::line::{line_with_packet, refused};
+use crate::node::Node;
 use serf_agent::{HandedQuery, RespondFault};
-use serf_model::{Answer, Refusal};
+use serf_model::{Answer, Line, Refusal};
+use serf_wire::Bytes;
 use std::alloc::{AllocError, Global};
 
 /// Answers the query in a slot, if there is one; a success leaves the slot empty.
 fn respond_in(
     alloc: Global,
+    sent: &mut Vec<Bytes>,
     slot: &mut Option<HandedQuery>,
     now: u64,
     payload: &[u8],
-) -> Result<Done, AllocError>
-    ensures done { IfOk result (λ done. done_of done ≡ slot_gives slot.old now payload.now) }
+) -> Result<Line, AllocError>
+    ensures shows { (number : ℕ) (handed : List (Option Handed))
+        → IfOk result (Shows number sent.old.items sent.new.items handed handed (slot_gives slot.old now payload.now)) }
     ensures slot { OnOk result (slot.new ≡ slot_after slot.old now payload.now) }
+    ensures err { OnErr result (sent.new.items ≡ sent.old.items) }
 {
     let Some(query) = slot.take() else {
-        return Ok(refusal(alloc, Refusal::NoQuery));
+        return Ok(refused(alloc, Refusal::NoQuery));
     };
     match query.respond(alloc, now, payload) {
-        Ok(reply) => with_packet(alloc, Answer::Replied, reply.packet),
+        Ok(reply) => {
+            let line = line_with_packet(alloc, sent, Answer::Replied, reply.packet)?;
+            Ok(line)
+        }
         Err((query, fault)) => {
             *slot = Some(query);
             match fault {
                 RespondFault::OutOfMemory => Err(AllocError),
-                RespondFault::PastDeadline => Ok(refusal(alloc, Refusal::PastDeadline)),
-                RespondFault::TooLarge => Ok(refusal(alloc, Refusal::TooLarge)),
+                RespondFault::PastDeadline => Ok(refused(alloc, Refusal::PastDeadline)),
+                RespondFault::TooLarge => Ok(refused(alloc, Refusal::TooLarge)),
             }
         }
     }
@@ -38,17 +49,21 @@ fn respond_in(
 /// An agent answers a query that was handed to it in this life.
 pub(crate) fn respond_at(
     alloc: Global,
-    handed: &mut Vec<Option<HandedQuery>>,
     number: u64,
+    node: &mut Node,
+    sent: &mut Vec<Bytes>,
+    handed: u64,
     now: u64,
     payload: &[u8],
-) -> Result<Done, AllocError>
-    ensures { (m : IdealNode) → handed.old.items ≡ m.handed → IfOk result (DoesRespond (responds m number (slice_get m.handed number) now payload.now) handed.new.items) }
+) -> Result<Line, AllocError>
+    ensures turn { (m : IdealNode) → node.old ≡ node_of m
+        → IfOk result (TakesTurn number sent.old.items sent.new.items (responds m handed (slice_get m.handed handed) now payload.now) node.new) }
+    ensures err { OnErr result (sent.new.items ≡ sent.old.items) }
 {
-    let number = number as usize;
-    if number >= handed.len() {
-        return Ok(refusal(alloc, Refusal::NoQuery));
+    let slot = handed as usize;
+    if slot >= node.handed.len() {
+        return Ok(refused(alloc, Refusal::NoQuery));
     }
-    let done = respond_in(alloc, &mut handed[number], now, payload)?;
-    Ok(done)
+    let line = respond_in(alloc, sent, &mut node.handed[slot], now, payload)?;
+    Ok(line)
 }

@@ -15,10 +15,11 @@ ghost use Rattle.serf_world.specs.View.{HasDone, IsViewed, TakesStep, agent_at, 
 
 use crate::calls::open_on;
 use crate::fault::StepFault;
+use crate::line::{refused, send};
 use crate::node::Node;
 use crate::roster::Roster;
 use crate::sizes::read_numbers;
-use crate::turn::{send, take_turn};
+use crate::turn::take_turn;
 use serf_agent::{Agent, BytesList, Config};
 use serf_model::{
     Action, Answer, EventLines, Line, Numbers, Refusal, representable_agents, run_promises,
@@ -73,18 +74,6 @@ fn open_all(alloc: Global, configs: Vec<Config>) -> Result<Vec<Node>, AllocError
         })?;
     }
     Ok(nodes)
-}
-
-/// An answer alone.
-fn line_only(alloc: Global, answer: Answer) -> Line
-    ensures { result ≡ record { answer = answer; sent = []; events = []; handed = None } }
-{
-    Line {
-        answer,
-        sent: Numbers::from_vec(Vec::new(alloc)),
-        events: EventLines::from_vec(Vec::new(alloc)),
-        handed: None,
-    }
 }
 
 impl World {
@@ -176,7 +165,7 @@ impl World {
         representable_agents();
         let number = agent as usize;
         if number >= self.nodes.len() {
-            return Ok(line_only(alloc, Answer::Refused(Refusal::NoAgent)));
+            return Ok(refused(alloc, Refusal::NoAgent));
         }
         take_turn(
             alloc,

@@ -1,9 +1,19 @@
-use Rattle.serf_world.proofs.Names.{◌<◌, arith, length}
-use Rattle.serf_world.proofs.NodeLaws.{responds-there}
+use Rattle.serf_world.proofs.Names.{◌≡◌, ◌<◌, ◌≤◌, List, Option, None, arith, ap, length, subst, sym, ◌∙◌, slice_get, responds, Handed}
+use Rattle.serf_model.specs.declared.line.Refusal.TheVariants.{NoQuery}
+use Rattle.serf_world.specs.Turns.{TakesTurn}
+use Rattle.serf_world.specs.View.{NodeState}
+use Rattle.serf_world.proofs.NodeLaws.{past-none, refuses, responds-there}
 use Rattle.serf_world.proofs.respond.respond_at.Goals as goal
 
-pub returns : goal.returns
-returns c = λ m same.
-    let within : c.args.number < length c.args.handed.now.items = omega arith in
-    responds-there m c.args.number c.args.now c.args.payload.now c.index_mut.result.now c.respond_in.new.slot c.args.handed.now.items c.in_ok-done.done same within
-    c.index_mut.ensures.value c.in_ok-done.ensures.done c.in_ok-done.ensures.slot
+pub returns-then-slot-len-clause-turn : goal.returns-then-slot-len-clause-turn
+returns-then-slot-len-clause-turn c = λ m is.
+    let past : length c.node.inside.handed.items ≤ c.args.handed = omega arith in
+    let none : slice_get m.handed c.args.handed ≡ None = subst (λ (l : List (Option Handed)). slice_get l c.args.handed ≡ None) (ap (λ (s : NodeState). s.handed) (c.node.view_is ∙ is)) (past-none c.node.inside.handed.items c.args.handed past) in
+    subst (λ (o : Option (Option Handed)). TakesTurn c.args.number c.args.sent.now.items c.args.sent.now.items (responds m c.args.handed o c.args.now c.args.payload.now) c.args.node.now c.refused.result) (sym none)
+    (refuses m c.args.node.now NoQuery c.args.number c.args.sent.now.items c.refused.result is c.refused.ensures)
+
+pub returns-clause-turn : goal.returns-clause-turn
+returns-clause-turn c = λ m is.
+    let within : c.args.handed < length c.node.inside.handed.items = omega arith in
+    responds-there m c.args.handed c.args.now c.args.payload.now c.index_mut.result.now c.respond_in.new.slot (record { concrete = c.node.inside.agent.concrete; handed = c.node.inside.handed.items }) c.args.number c.args.sent.now.items c.respond_in.new.sent.items c.in_ok-line.line
+    (c.node.view_is ∙ is) within c.index_mut.ensures.value (λ handed. c.in_ok-line.ensures.shows c.args.number handed) c.in_ok-line.ensures.slot

@@ -1,5 +1,5 @@
 use Rattle.serf_world.proofs.Names.{◌≡◌, ◌+◌, ◌++◌, drop, numbers_from}
-use Rattle.serf_world.proofs.turn.numbers_of.Given as goal
+use Rattle.serf_world.proofs.line.numbers_of.Given as goal
 
 -- the numbers so far, and those of the packets that are left
 abbrev pub invariant-loop-packet : goal.invariant-loop-packet

@@ -1,5 +1,5 @@
 use Rattle.serf_world.proofs.Names.{◌≡◌, ◌++◌, map, into_iter_items, event_line}
-use Rattle.serf_world.proofs.turn.lines_of.Given as goal
+use Rattle.serf_world.proofs.line.line_with_events.Given as goal
 
 -- the lines so far, and those of the events that are left
 abbrev pub invariant-loop-event : goal.invariant-loop-event

@@ -1,0 +1,208 @@
+//! The lines of a trace, each made as its packets are sent.
+
+ghost use Rattle.std.specs.Prelude.{◌≡◌, ◌+◌, ◌^◌, ◌-◌, ◌≤◌, ◌++◌, ◌∷◌, [], IfOk, OnOk, OnErr, None, Some, length, map};
+ghost use Rattle.std.specs.Option.{option_map, option_to_list};
+ghost use Rattle.serf_model.specs.Cluster.{event_line, handed_line, line_only, numbers_from};
+ghost use Rattle.serf_world.specs.Turns.{Shows};
+
+use serf_agent::{BytesList, EventOut, HandedQuery};
+use serf_model::{Answer, EventLine, EventLines, HandedLine, Line, Numbers, Refusal};
+use serf_wire::Bytes;
+use std::alloc::{AllocError, Global};
+
+/// A line of an answer alone.
+#[inline(always)]
+pub(crate) fn line_only(alloc: Global, answer: Answer) -> Line
+    ensures { result ≡ line_only answer }
+{
+    Line {
+        answer,
+        sent: Numbers::from_vec(Vec::new(alloc)),
+        events: EventLines::from_vec(Vec::new(alloc)),
+        handed: None,
+    }
+}
+
+/// A line of a refusal.
+#[inline(always)]
+pub(crate) fn refused(alloc: Global, refusal: Refusal) -> Line
+    ensures { result ≡ line_only (Answer.Refused refusal) }
+{
+    line_only(alloc, Answer::Refused(refusal))
+}
+
+/// Sends a packet, and says its number. Where there is no memory for it, nothing was sent.
+#[inline(always)]
+fn send_one(alloc: Global, sent: &mut Vec<Bytes>, packet: Bytes) -> Result<Numbers, AllocError>
+    ensures numbers { IfOk result (λ numbers. numbers ≡ length sent.old.items ∷ []) }
+    ensures sent { OnOk result (sent.new.items ≡ sent.old.items ++ packet ∷ []) }
+    ensures err { OnErr result (sent.new.items ≡ sent.old.items) }
+{
+    let mut numbers = Vec::with_capacity(alloc, 1)?;
+    numbers.push(sent.len() as u64)?;
+    sent.push(packet)?;
+    Ok(Numbers::from_vec(numbers))
+}
+
+/// A line with a packet that is sent. Where there is no memory for it, nothing was sent.
+#[inline(always)]
+pub(crate) fn line_with_packet(
+    alloc: Global,
+    sent: &mut Vec<Bytes>,
+    answer: Answer,
+    packet: Bytes,
+) -> Result<Line, AllocError>
+    ensures line { IfOk result (λ line. line ≡ record { answer = answer; sent = length sent.old.items ∷ []; events = []; handed = None }) }
+    ensures sent { OnOk result (sent.new.items ≡ sent.old.items ++ packet ∷ []) }
+    ensures err { OnErr result (sent.new.items ≡ sent.old.items) }
+{
+    let numbers = send_one(alloc, sent, packet)?;
+    Ok(Line {
+        answer,
+        sent: numbers,
+        events: EventLines::from_vec(Vec::new(alloc)),
+        handed: None,
+    })
+}
+
+/// The line of an event that an agent hands out.
+#[inline(always)]
+fn event_line(agent: u64, event: EventOut) -> EventLine
+    ensures { result ≡ event_line agent event }
+{
+    EventLine {
+        agent,
+        time: event.time,
+        name: event.name,
+        payload: event.payload,
+        coalesce: event.coalesce,
+    }
+}
+
+/// A line with an event that an agent hands out, and the packet that is sent of it. Where there is no memory for it,
+/// nothing was sent.
+#[inline(always)]
+pub(crate) fn line_with_event(
+    alloc: Global,
+    agent: u64,
+    sent: &mut Vec<Bytes>,
+    answer: Answer,
+    packet: Bytes,
+    event: EventOut,
+) -> Result<Line, AllocError>
+    ensures line { IfOk result (λ line. line ≡ record { answer = answer; sent = length sent.old.items ∷ []; events = event_line agent event ∷ []; handed = None }) }
+    ensures sent { OnOk result (sent.new.items ≡ sent.old.items ++ packet ∷ []) }
+    ensures err { OnErr result (sent.new.items ≡ sent.old.items) }
+{
+    let mut events = Vec::with_capacity(alloc, 1)?;
+    events.push(event_line(agent, event))?;
+    let numbers = send_one(alloc, sent, packet)?;
+    Ok(Line {
+        answer,
+        sent: numbers,
+        events: EventLines::from_vec(events),
+        handed: None,
+    })
+}
+
+/// A line with the events that an agent hands out.
+pub(crate) fn line_with_events(
+    alloc: Global,
+    agent: u64,
+    answer: Answer,
+    events: Vec<EventOut>,
+) -> Result<Line, AllocError>
+    ensures { IfOk result (λ line. line ≡ record { answer = answer; sent = []; events = map (event_line agent) events.items; handed = None }) }
+{
+    let mut lines = Vec::with_capacity(alloc, events.len())?;
+    for event in events {
+        lines.push(event_line(agent, event))?;
+    }
+    Ok(Line {
+        answer,
+        sent: Numbers::from_vec(Vec::new(alloc)),
+        events: EventLines::from_vec(lines),
+        handed: None,
+    })
+}
+
+/// The numbers of packets that are about to be sent, where so many were.
+fn numbers_of(alloc: Global, first: u64, packets: &[Bytes]) -> Result<Numbers, AllocError>
+    requires { first + length packets.now ≤ 2 ^ 64 - 1 }
+    ensures { IfOk result (λ numbers. numbers ≡ numbers_from first packets.now) }
+{
+    let mut numbers = Vec::with_capacity(alloc, packets.len())?;
+    let mut next = first;
+    for _packet in packets {
+        numbers.push(next)?;
+        next += 1;
+    }
+    Ok(Numbers::from_vec(numbers))
+}
+
+/// Sends packets, and says their numbers. Where there is no memory for it, nothing was sent.
+pub(crate) fn send(
+    alloc: Global,
+    sent: &mut Vec<Bytes>,
+    packets: BytesList,
+) -> Result<Numbers, AllocError>
+    ensures numbers { IfOk result (λ numbers. numbers ≡ numbers_from (length sent.old.items) packets) }
+    ensures sent { OnOk result (sent.new.items ≡ sent.old.items ++ packets) }
+    ensures err { OnErr result (sent.new.items ≡ sent.old.items) }
+{
+    let mut packets = packets.into_vec();
+    sent.reserve(packets.len())?;
+    let numbers = numbers_of(alloc, sent.len() as u64, packets.as_slice())?;
+    sent.append(&mut packets)?;
+    Ok(numbers)
+}
+
+/// Keeps a query that is handed out, where there is one, until it is answered, and gives its line.
+fn hand_over(
+    alloc: Global,
+    agent: u64,
+    handed: &mut Vec<Option<HandedQuery>>,
+    query: Option<HandedQuery>,
+) -> Result<Option<HandedLine>, AllocError>
+    ensures line { IfOk result (λ line. line ≡ option_map (handed_line agent (length handed.old.items)) query) }
+    ensures kept { OnOk result (handed.new.items ≡ handed.old.items ++ map (λ q. Some q) (option_to_list query)) }
+{
+    let Some(query) = query else {
+        return Ok(None);
+    };
+    let line = HandedLine {
+        agent,
+        index: handed.len() as u64,
+        time: query.time(),
+        id: query.id(),
+        name: Bytes::copy_of(alloc, query.name())?,
+        payload: Bytes::copy_of(alloc, query.payload())?,
+    };
+    handed.push(Some(query))?;
+    Ok(Some(line))
+}
+
+/// A line with packets that are sent and, where there is one, a query that an agent hands out and keeps until it is
+/// answered. Where there is no memory for it, nothing was sent.
+pub(crate) fn line_with_query(
+    alloc: Global,
+    agent: u64,
+    sent: &mut Vec<Bytes>,
+    handed: &mut Vec<Option<HandedQuery>>,
+    answer: Answer,
+    packets: BytesList,
+    query: Option<HandedQuery>,
+) -> Result<Line, AllocError>
+    ensures shows { IfOk result (Shows agent sent.old.items sent.new.items handed.old.items handed.new.items
+        (record { answer = answer; packets = packets; events = []; handed = query })) }
+    ensures err { OnErr result (sent.new.items ≡ sent.old.items) }
+{
+    let line = hand_over(alloc, agent, handed, query)?;
+    let numbers = send(alloc, sent, packets)?;
+    Ok(Line {
+        answer,
+        sent: numbers,
+        events: EventLines::from_vec(Vec::new(alloc)),
+        handed: line,
+    })
+}
