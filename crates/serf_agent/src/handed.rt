@@ -15,8 +15,16 @@ use std::marker::Model;
 const LONGEST_RESPONSE: u128 = 1024;
 
 /// A query that was handed out, which can be answered once: a response spends it. It has no clone.
+///
+/// What it says has a place of its own, so that an answer that may have a query stays small.
 #[derive(Debug, Drop)]
 pub struct HandedQuery {
+    parts: Box<HandedParts>,
+}
+
+/// What a query says that was handed out.
+#[derive(Debug, Drop)]
+struct HandedParts {
     time: Time,
     id: u32,
     name: Bytes,
@@ -34,7 +42,7 @@ impl Model for HandedQuery {
 
     ghost Value = { Handed };
 
-    ghost view = { λ q. record { time = q.time; id = q.id; name = q.name; payload = q.payload; source = q.source; addr = q.addr; port = q.port; relay_factor = q.relay_factor; deadline = q.deadline; node = q.node } };
+    ghost view = { λ q. let parts = q.parts.value in record { time = parts.time; id = parts.id; name = parts.name; payload = parts.payload; source = parts.source; addr = parts.addr; port = parts.port; relay_factor = parts.relay_factor; deadline = parts.deadline; node = parts.node } };
 }
 
 /// The last moment at which a query of this timeout can be answered.
@@ -75,7 +83,7 @@ impl HandedQuery {
         let source = Bytes::copy_of(alloc, query.source)?;
         let addr = Bytes::copy_of(alloc, query.addr)?;
         let node = Bytes::copy_of(alloc, node)?;
-        Ok(HandedQuery {
+        let parts = HandedParts {
             time: query.time,
             id: query.id,
             name,
@@ -86,6 +94,9 @@ impl HandedQuery {
             relay_factor: query.relay_factor,
             deadline: deadline_of(now, query.timeout),
             node,
+        };
+        Ok(HandedQuery {
+            parts: Box::new(alloc, parts)?,
         })
     }
 
@@ -93,70 +104,70 @@ impl HandedQuery {
     pub fn time(&self) -> Time
         ensures { result ≡ self.now.time }
     {
-        self.time
+        self.parts.time
     }
 
     /// The query's ID, which tells it apart from others of its time.
     pub fn id(&self) -> u32
         ensures { result ≡ self.now.id }
     {
-        self.id
+        self.parts.id
     }
 
     /// What is asked.
     pub fn name(&self) -> &[u8]
         ensures { result.now ≡ self.now.name }
     {
-        self.name.as_slice()
+        self.parts.name.as_slice()
     }
 
     /// What is asked about.
     pub fn payload(&self) -> &[u8]
         ensures { result.now ≡ self.now.payload }
     {
-        self.payload.as_slice()
+        self.parts.payload.as_slice()
     }
 
     /// The asking node's name.
     pub fn source(&self) -> &[u8]
         ensures { result.now ≡ self.now.source }
     {
-        self.source.as_slice()
+        self.parts.source.as_slice()
     }
 
     /// The asking node's address, where a response is to be sent.
     pub fn addr(&self) -> &[u8]
         ensures { result.now ≡ self.now.addr }
     {
-        self.addr.as_slice()
+        self.parts.addr.as_slice()
     }
 
     /// The asking node's port.
     pub fn port(&self) -> u16
         ensures { result ≡ self.now.port }
     {
-        self.port
+        self.parts.port
     }
 
     /// How many nodes are to relay the response; this project relays none.
     pub fn relay_factor(&self) -> u8
         ensures { result ≡ self.now.relay_factor }
     {
-        self.relay_factor
+        self.parts.relay_factor
     }
 
     /// The last moment, in nanoseconds, at which it can be answered.
     pub fn deadline(&self) -> u64
         ensures { result ≡ self.now.deadline }
     {
-        self.deadline
+        self.parts.deadline
     }
 
     /// The name of the node that it was handed to.
     pub fn node(&self) -> &[u8]
         ensures { result.now ≡ self.now.node }
     {
-        self.node.as_slice()
+        self.parts.node.as_slice()
     }
 
     /// The packet of a response that fits.
@@ -164,8 +175,8 @@ impl HandedQuery {
         requires { length (response_packet self.now payload.now) ≤ 1024 }
         ensures { IfOk result (λ packet. packet ≡ response_packet self.now payload.now) }
     {
-        let node = self.node.as_slice();
-        match encode_response(alloc, self.time.get(), self.id, node, 0, payload) {
+        let node = self.parts.node.as_slice();
+        match encode_response(alloc, self.parts.time.get(), self.parts.id, node, 0, payload) {
             Ok(packet) => Ok(Bytes::from_vec(packet)),
             Err(EncodeFault::TooLong) => unreachable!(),
             Err(EncodeFault::OutOfMemory) => Err(AllocError),
@@ -189,16 +200,16 @@ impl HandedQuery {
         ensures fault { IfErr result (λ e. e.1 ≢ RespondFault.OutOfMemory → respond_fault self now payload.now ≡ Some e.1) }
         ensures memory { IfErr result (λ e. e.1 ≡ RespondFault.OutOfMemory → respond_fault self now payload.now ≡ None) }
     {
-        if self.deadline < now {
+        if self.parts.deadline < now {
             return Err((self, RespondFault::PastDeadline));
         }
-        let node = self.node.as_slice();
-        if response_len(self.time.get(), self.id, node, 0, payload) > LONGEST_RESPONSE {
+        let node = self.parts.node.as_slice();
+        if response_len(self.parts.time.get(), self.parts.id, node, 0, payload) > LONGEST_RESPONSE {
             return Err((self, RespondFault::TooLarge));
         }
         match self.packet_of(alloc, payload) {
             Ok(packet) => {
-                let HandedQuery { addr, port, .. } = self;
+                let HandedParts { addr, port, .. } = Box::into_inner(self.parts);
                 Ok(Reply { addr, port, packet })
             }
             Err(_) => Err((self, RespondFault::OutOfMemory)),
