@@ -77,20 +77,6 @@ sized-lone : (action : ℕ → Action) (words : List (List ℕ)) → ((agent : �
 unfolding lone_of
 sized-lone action words h = next-ok HasSizes (number_in 2 words) (λ agent. Ok (action agent)) h
 
--- no line of these actions has more words
-pub few-words : (v : Verb) → count_of v ≤ 5
-few-words Deliver = omega arith
-few-words Fire = omega arith
-few-words State = omega arith
-few-words Merge = omega arith
-few-words Respond = omega arith
-few-words Restart = omega arith
-few-words Break = omega arith
-few-words Inject = omega arith
-few-words Close = omega arith
-few-words Save = omega arith
-few-words Compact = omega arith
-
 sized-action : (verb : Verb) (words : List (List ℕ)) → AllOk HasSizes (action_of verb words)
 unfolding delivery_of firing_of merging_of answer_of restart_of break_of injection_of closing_of
 sized-action Deliver words = next-ok HasSizes (number_in 2 words) _ (λ to. next-ok HasSizes (number_in 3 words) _ (λ packet. next-ok HasSizes (number_in 4 words) _ (λ now. tt)))

@@ -4,14 +4,18 @@ use Rattle.std.specs.Prelude.{◌==◌}
 use Rattle.std.proofs.lemmas.List.{length-append}
 use Rattle.serf_replay.specs.declared.command.Command.{Command}
 use Rattle.serf_replay.specs.declared.command.Command.TheVariants.{Agent, Query, Act}
+use Rattle.serf_replay.specs.declared.command.Verb.{Verb}
 use Rattle.serf_replay.specs.Command.{command_of, count_of}
 use Rattle.serf_replay.specs.Words.{word_at, words_of}
 use Rattle.serf_replay.specs.Line.{Parsed, query_said, command_line, said_by, after_line}
 use Rattle.serf_replay.specs.Parts.{parts_said}
-use Rattle.serf_replay.proofs.SizedLaws.{few-words}
 
 apart : (n k : ℕ) → k < n → (n == k) ≡ false
 apart n k h = grind (arith, common_steps)
+
+-- no line of these actions has more words
+few-words : (v : Verb) → count_of v ≤ 5
+few-words v = grind (arith, common_steps)
 
 front-of : {X : Type 0} (xs ys : List X) (n : ℕ) → length xs ≡ n → take n (xs ++ ys) ≡ xs
 front-of xs ys n l = rw (← l) (grind (arith, common_steps))

@@ -1,4 +1,4 @@
-pub mod NodeLaws
+pub mod TurnLaws
 pub mod MergeLaws
 pub mod ResultLaws
 pub mod RosterLaws

@@ -5,9 +5,9 @@ use Rattle.serf_model.specs.declared.line.Line.{Line}
 use Rattle.serf_model.specs.declared.line.Answer.{Answer}
 use Rattle.serf_model.specs.declared.line.Answer.TheVariants as answers
 use Rattle.serf_model.specs.declared.line.Refusal.TheVariants.{SinkFault as FailedSink}
-use Rattle.serf_world.specs.Nodes.{merge_answer}
+use Rattle.serf_world.specs.Turns.{merge_answer}
 use Rattle.serf_world.specs.Turns.{Shows, TakesTurn}
-use Rattle.serf_world.proofs.NodeLaws.{may-will, none-kept, steps-planned}
+use Rattle.serf_world.proofs.TurnLaws.{may-will, shows, steps-planned}
 
 -- a reason that isn't given
 none-if : {X : Type 0} (b : Bool) (x : X) (r : Option X) → cond b (Some x) r ≡ None → (b ≡ false) × (r ≡ None)
@@ -80,30 +80,23 @@ not-state : (b : Bool) → cond b (Some merges.Stopped) (Some merges.NotPushPull
 not-state true e = cc
 not-state false e = cc
 
--- the line of a merge that came to this, and handed this out
-abbrev pub line_of_merge : ℕ → Option MergeFault → List EventOut → Line
-line_of_merge a fault out = record { answer = merge_answer fault; sent = []; events = map (event_line a) out; handed = None }
+-- the line of a merge that was answered so, and handed this out
+abbrev pub line_of_merge : ℕ → Answer → List EventOut → Line
+line_of_merge a answer out = record { answer = answer; sent = []; events = map (event_line a) out; handed = None }
 
-shows-merge : (a : ℕ) (sent : List (List ℕ)) (handed : List (Option Handed)) (fault : Option MergeFault) (out : List EventOut) (line : Line) → line ≡ line_of_merge a fault out → (answer : Answer) (events : List EventOut) → merge_answer fault ≡ answer → out ≡ events
+shows-merge : (a : ℕ) (sent : List (List ℕ)) (handed : List (Option Handed)) (answer : Answer) (events : List EventOut) (line : Line) → line ≡ line_of_merge a answer events
     → Shows a sent sent handed handed (record { answer = answer; packets = []; events = events; handed = None }) line
-shows-merge a sent handed fault out line is answer events says hands = record {
-  packets = sym (append-nil sent);
-  kept = none-kept handed handed refl;
-  answer = ap (λ (l : Line). l.answer) is ∙ says;
-  sent = ap (λ (l : Line). l.sent) is;
-  events = ap (λ (l : Line). l.events) is ∙ ap (map (event_line a)) hands;
-  handed = ap (λ (l : Line). l.handed) is;
-}
+shows-merge a sent handed answer events line is = shows a sent sent handed handed answer [] events line (sym (append-nil sent)) refl is
 
 -- what a merge does, however its packet reads
 does-merge-read : MergesRepresentable → (m : IdealNode) (join : Bool) (packet : List ℕ) (fault : Option MergeFault) (old : Device) (new : AgentState) (out : List EventOut) (a : ℕ) (sent : List (List ℕ)) (line : Line) (f : Option MergeFault) (r : Result Message WireFault) → IsRepresentable m.agent → fault ≢ Some merges.OutOfMemory
     → decoded packet ≡ r → merge_refusal m.agent.snapshot r ≡ f
     → ((g : MergeFault) → f ≡ Some g → (fault ≡ Some g) × (new.concrete ≡ view_of m.agent) × (out ≡ []))
     → ((p : PushPull) → f ≡ None → r ≡ Ok (push_pull p) → Merges m.agent p join [] out old new fault)
-    → line ≡ line_of_merge a fault out → TakesTurn a sent sent (merges_as f m join r) (record { concrete = new.concrete; handed = m.handed }) line
+    → line ≡ line_of_merge a (merge_answer fault) out → TakesTurn a sent sent (merges_as f m join r) (record { concrete = new.concrete; handed = m.handed }) line
 does-merge-read laws m join packet fault old new out a sent line (Some g) r representable memory is refuses refused_as merged gives =
     let h = refused_as g refl in
-    record { state = h.1; shows = shows-merge a sent m.handed fault out line gives (merge_answer (Some g)) [] (ap merge_answer h.0) h.2 }
+    record { state = h.1; shows = shows-merge a sent m.handed (merge_answer (Some g)) [] line (gives ∙ ap (λ x. line_of_merge a (merge_answer x) out) h.0 ∙ ap (line_of_merge a (merge_answer (Some g))) h.2) }
 does-merge-read laws m join packet fault old new out a sent line None (Err e) representable memory is refuses refused_as merged gives = absurd (never m.agent.snapshot.stopped refuses)
   where
     never : (b : Bool) → cond b (Some merges.Stopped) (Some (merges.Wire e)) ≡ None → ⊥
@@ -119,7 +112,8 @@ does-merge-read laws m join packet fault old new out a sent line None (Ok (push_
     let done = merges-planned laws m.agent packet p join old h.deliveries new fault representable is refuses memory h.receives in
     let answer : merge_answer fault ≡ cond (merges_events (events_of p.slots) (joined p join m.agent)).failed (answers.Refused FailedSink) answers.Merged =
     ap merge_answer done.failed ∙ answers-as (merges_events (events_of p.slots) (joined p join m.agent)).failed in
-    record { state = done.state; shows = shows-merge a sent m.handed fault out line gives (cond o.failed (answers.Refused FailedSink) answers.Merged) o.events answer (h.out ∙ done.events) }
+    let said : Answer = cond o.failed (answers.Refused FailedSink) answers.Merged in
+    record { state = done.state; shows = shows-merge a sent m.handed said o.events line (gives ∙ ap (λ x. line_of_merge a x out) answer ∙ ap (line_of_merge a said) (h.out ∙ done.events)) }
   where
     answers-as : (b : Bool) → merge_answer (cond b (Some merges.SinkFault) None) ≡ cond b (answers.Refused FailedSink) answers.Merged
     answers-as true = refl
@@ -128,7 +122,7 @@ does-merge-read laws m join packet fault old new out a sent line None (Ok (push_
 pub does-merge : MergesRepresentable → (m : IdealNode) (join : Bool) (packet : List ℕ) (fault : Option MergeFault) (old : Device) (new : AgentState) (out : List EventOut) (a : ℕ) (sent : List (List ℕ)) (line : Line) → IsRepresentable m.agent → fault ≢ Some merges.OutOfMemory
     → ((g : MergeFault) → merge_refusal m.agent.snapshot (decoded packet) ≡ Some g → (fault ≡ Some g) × (new.concrete ≡ view_of m.agent) × (out ≡ []))
     → ((p : PushPull) → merge_refusal m.agent.snapshot (decoded packet) ≡ None → decoded packet ≡ Ok (push_pull p) → Merges m.agent p join [] out old new fault)
-    → line ≡ line_of_merge a fault out → TakesTurn a sent sent (merges_packet m join (decoded packet)) (record { concrete = new.concrete; handed = m.handed }) line
+    → line ≡ line_of_merge a (merge_answer fault) out → TakesTurn a sent sent (merges_packet m join (decoded packet)) (record { concrete = new.concrete; handed = m.handed }) line
 does-merge laws m join packet fault old new out a sent line representable memory refused_as merged gives =
     does-merge-read laws m join packet fault old new out a sent line (merge_refusal m.agent.snapshot (decoded packet)) (decoded packet) representable memory refl refl refused_as merged gives
 

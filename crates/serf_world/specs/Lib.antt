@@ -9,6 +9,5 @@ pub use Rattle.serf_model.specs.AnswerPromises
 pub use Rattle.serf_model.specs.Bounds
 pub use Rattle.serf_model.specs.Kept
 pub mod View
-pub mod Nodes
 pub mod Turns
 pub mod Roster

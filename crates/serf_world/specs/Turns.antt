@@ -1,10 +1,16 @@
 -- How the code takes an agent's turn: private to the crate.
-use Rattle.std.specs.Prelude.{◌≡◌, ◌++◌, ℕ, List, Option, Some, length, map}
+use Rattle.std.specs.Prelude.{◌≡◌, ◌++◌, ◌∷◌, ℕ, List, [], Option, Some, None, length, map}
 use Rattle.std.specs.Option.{option_map, option_to_list}
 use Rattle.serf_agent.specs.Handed.{Handed}
+use Rattle.serf_agent.specs.Queries.{respond_fault, response_packet}
 use Rattle.serf_agent.specs.View.{view_of}
+use Rattle.serf_agent.specs.declared.outcome.MergeFault.{MergeFault}
+use Rattle.serf_agent.specs.declared.outcome.RespondFault.{RespondFault}
+use Rattle.serf_model.specs.declared.line.Answer.{Answer}
+use Rattle.serf_model.specs.declared.line.Answer.TheVariants as answers
 use Rattle.serf_model.specs.declared.line.Line.{Line}
-use Rattle.serf_model.specs.Cluster.{Applied, Done, event_line, handed_line, numbers_from}
+use Rattle.serf_model.specs.declared.line.Refusal.TheVariants.{NoQuery}
+use Rattle.serf_model.specs.Cluster.{Applied, Done, event_line, handed_line, merge_refusal_of, numbers_from, refused, respond_refusal}
 use Rattle.serf_world.specs.View.{NodeState}
 
 -- A line shows what an action gave an agent of this number. These packets were sent before it and those after it, and
@@ -21,3 +27,27 @@ pub record Shows (a : ℕ) (before after : List (List ℕ)) (old new : List (Opt
 pub record TakesTurn (a : ℕ) (before after : List (List ℕ)) (o : Applied) (new : NodeState) (line : Line) : Type 0 where
   pub state : new.concrete ≡ view_of o.node.agent
   pub shows : Shows a before after o.node.handed new.handed o.done line
+
+-- ---- answers and merges
+
+-- what answering the query in a slot gives, and leaves there
+abbrev pub answer_gives : Option RespondFault → Handed → List ℕ → Done
+answer_gives (Some fault) q payload = refused (respond_refusal fault)
+answer_gives None q payload = record { answer = answers.Replied; packets = response_packet q payload ∷ []; events = []; handed = None }
+
+abbrev pub slot_gives : Option Handed → ℕ → List ℕ → Done
+slot_gives None now payload = refused NoQuery
+slot_gives (Some q) now payload = answer_gives (respond_fault q now payload) q payload
+
+abbrev pub answer_after : Option RespondFault → Handed → Option Handed
+answer_after (Some fault) q = Some q
+answer_after None q = None
+
+abbrev pub slot_after : Option Handed → ℕ → List ℕ → Option Handed
+slot_after None now payload = None
+slot_after (Some q) now payload = answer_after (respond_fault q now payload) q
+
+-- what a merge answers
+abbrev pub merge_answer : Option MergeFault → Answer
+merge_answer None = answers.Merged
+merge_answer (Some fault) = answers.Refused (merge_refusal_of fault)

@@ -1,7 +1,6 @@
 //! What an agent of a cluster does, but for packets that it is given.
 
-ghost use Rattle.std.specs.Prelude.{◌≡◌, ◌≢◌, ◌++◌, ◌∷◌, ℕ, List, [], IfOk, OnErr, unwrap_or, true, Err};
-ghost use Rattle.std.specs.Option.{option_to_list};
+ghost use Rattle.std.specs.Prelude.{◌≡◌, ◌≢◌, ◌++◌, ℕ, List, [], IfOk, OnErr, unwrap_or, true, Err};
 ghost use Rattle.serf_window.specs.Texts.{event_of};
 ghost use Rattle.serf_agent.specs.Ideal.{IdealAgent};
 ghost use Rattle.serf_snap.specs.Device.{fresh_device};
@@ -15,10 +14,12 @@ ghost use Rattle.serf_model.specs.Ready.{IsRepresentable};
 ghost use Rattle.serf_world.specs.Turns.{TakesTurn};
 ghost use Rattle.serf_world.specs.View.{node_of};
 
-use crate::line::{line_only, line_with_event, line_with_packet, line_with_query, refused};
+use crate::line::{
+    line_only, line_with_event, line_with_packet, line_with_query, query_packets, refused,
+};
 use crate::node::Node;
 use crate::refusal::{fire_refusal, note_refusal, query_refusal, state_refusal};
-use serf_agent::{Agent, BytesList, Config, Fired, FiredQuery, OpenFault, QueryParams};
+use serf_agent::{Agent, Config, Fired, FiredQuery, OpenFault, QueryParams};
 use serf_model::{Answer, Line, SinkCall, representable_agents};
 use serf_snap::{MemSink, NoteFault};
 use serf_wire::Bytes;
@@ -75,18 +76,6 @@ pub(crate) fn state_at(
     }
 }
 
-/// The packets of a query that is fired: the query, and its ack behind it.
-fn query_packets(alloc: Global, packet: Bytes, ack: Option<Bytes>) -> Result<BytesList, AllocError>
-    ensures { IfOk result (λ packets. packets ≡ packet ∷ option_to_list ack) }
-{
-    let mut packets = BytesList::new(alloc);
-    packets.push(packet)?;
-    if let Some(ack) = ack {
-        packets.push(ack)?;
-    }
-    Ok(packets)
-}
-
 /// An agent fires a query.
 pub(crate) fn query_at(
     alloc: Global,
@@ -113,7 +102,7 @@ pub(crate) fn query_at(
         Ok(fired) => fired,
         Err(fault) => return Ok(refused(alloc, query_refusal(fault)?)),
     };
-    let packets = query_packets(alloc, packet, ack)?;
+    let packets = query_packets(alloc, Some(packet), ack)?;
     let answer = Answer::Queried(time);
     let line = line_with_query(
         alloc,

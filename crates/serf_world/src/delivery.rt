@@ -1,16 +1,16 @@
 //! An agent is given a packet.
 
-ghost use Rattle.std.specs.Prelude.{◌≡◌, ◌++◌, ◌∷◌, ℕ, List, [], IfOk, IsSome, OnErr, Ok, Some, slice_get, if◌then◌else◌};
+ghost use Rattle.std.specs.Prelude.{◌≡◌, ◌∷◌, ℕ, List, [], IfOk, IsSome, OnErr, Ok, Some, slice_get, if◌then◌else◌};
 ghost use Rattle.std.specs.Option.{option_to_list};
 ghost use Rattle.serf_model.specs.Cluster.{IdealNode, delivers, receive_gives};
 ghost use Rattle.serf_model.specs.Ready.{IsRepresentable};
 ghost use Rattle.serf_world.specs.Turns.{Shows, TakesTurn};
 ghost use Rattle.serf_world.specs.View.{node_of};
 
-use crate::line::{line_only, line_with_event, line_with_query, refused};
+use crate::line::{line_only, line_with_event, line_with_query, query_packets, refused};
 use crate::node::Node;
 use crate::refusal::receive_refusal;
-use serf_agent::{BytesList, HandedQuery, Outcome};
+use serf_agent::{HandedQuery, Outcome};
 use serf_model::{Answer, Line, Refusal, packet_at};
 use serf_wire::Bytes;
 use std::alloc::{AllocError, Global};
@@ -26,26 +26,21 @@ fn copy_at(alloc: Global, sent: &[Bytes], packet: u64) -> Result<Bytes, AllocErr
     }
 }
 
-/// The packets of a query that is new: itself, where it is sent on, and the ack.
-fn query_packets(
+/// A copy of the packet of this number, where it is to be sent on.
+fn sent_on(
     alloc: Global,
     sent: &[Bytes],
     packet: u64,
     rebroadcast: bool,
-    ack: Option<Bytes>,
-) -> Result<BytesList, AllocError>
+) -> Result<Option<Bytes>, AllocError>
     requires { IsSome (slice_get sent.now packet) }
     ensures { (bytes : List ℕ) → slice_get sent.now packet ≡ Some bytes
-        → IfOk result (λ packets. packets ≡ (if rebroadcast then bytes ∷ [] else []) ++ option_to_list ack) }
+        → IfOk result (λ copy. option_to_list copy ≡ (if rebroadcast then bytes ∷ [] else [])) }
 {
-    let mut packets = BytesList::new(alloc);
-    if rebroadcast {
-        packets.push(copy_at(alloc, sent, packet)?)?;
+    if !rebroadcast {
+        return Ok(None);
     }
-    if let Some(ack) = ack {
-        packets.push(ack)?;
-    }
-    Ok(packets)
+    Ok(Some(copy_at(alloc, sent, packet)?))
 }
 
 /// The line of a packet that was sent and given to an agent. A new event and, where it asks for that, a new query is
@@ -75,7 +70,8 @@ fn outcome_line(
             ack,
             rebroadcast,
         } => {
-            let packets = query_packets(alloc, sent.as_slice(), packet, rebroadcast, ack)?;
+            let copy = sent_on(alloc, sent.as_slice(), packet, rebroadcast)?;
+            let packets = query_packets(alloc, copy, ack)?;
             let line = line_with_query(alloc, agent, sent, handed, Answer::Query, packets, query)?;
             Ok(line)
         }

@@ -157,6 +157,24 @@ pub(crate) fn send(
     Ok(numbers)
 }
 
+/// The packets of a query: itself, where it is to be sent, and its ack behind it.
+pub(crate) fn query_packets(
+    alloc: Global,
+    query: Option<Bytes>,
+    ack: Option<Bytes>,
+) -> Result<BytesList, AllocError>
+    ensures { IfOk result (λ packets. packets ≡ option_to_list query ++ option_to_list ack) }
+{
+    let mut packets = BytesList::new(alloc);
+    if let Some(query) = query {
+        packets.push(query)?;
+    }
+    if let Some(ack) = ack {
+        packets.push(ack)?;
+    }
+    Ok(packets)
+}
+
 /// Keeps a query that is handed out, where there is one, until it is answered, and gives its line.
 fn hand_over(
     alloc: Global,

@@ -4,8 +4,7 @@ ghost use Rattle.std.specs.Prelude.{◌≡◌, ◌≢◌, ◌++◌, [], IfOk, Er
 ghost use Rattle.serf_agent.specs.States.{fault_in};
 ghost use Rattle.serf_model.specs.Cluster.{IdealNode, merge_refusal_of, merges_given};
 ghost use Rattle.serf_model.specs.Ready.{IsRepresentable};
-ghost use Rattle.serf_world.specs.Nodes.{merge_answer};
-ghost use Rattle.serf_world.specs.Turns.{TakesTurn};
+ghost use Rattle.serf_world.specs.Turns.{TakesTurn, merge_answer};
 ghost use Rattle.serf_world.specs.View.{node_of};
 
 use crate::line::{line_with_events, refused};

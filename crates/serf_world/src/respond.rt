@@ -3,8 +3,7 @@
 ghost use Rattle.std.specs.Prelude.{◌≡◌, ℕ, List, Option, IfOk, OnErr, OnOk, slice_get};
 ghost use Rattle.serf_agent.specs.Handed.{Handed};
 ghost use Rattle.serf_model.specs.Cluster.{IdealNode, responds};
-ghost use Rattle.serf_world.specs.Nodes.{slot_after, slot_gives};
-ghost use Rattle.serf_world.specs.Turns.{Shows, TakesTurn};
+ghost use Rattle.serf_world.specs.Turns.{Shows, TakesTurn, slot_after, slot_gives};
 ghost use Rattle.serf_world.specs.View.{node_of};
 
 use crate::line::{line_with_packet, refused};

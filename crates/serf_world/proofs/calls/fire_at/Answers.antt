@@ -1,9 +1,9 @@
-use Rattle.serf_world.proofs.Names.{ap, refl, ◌∙◌, event_of, fire, fire_gives}
+use Rattle.serf_world.proofs.Names.{[], ◌∷◌, ap, refl, ◌∙◌, event_of, fire, fire_gives}
 use Rattle.serf_agent.specs.declared.outcome.FireFault.TheVariants.{OutOfMemory}
 use Rattle.serf_model.specs.Cluster.{fire_refusal}
 use Rattle.serf_model.specs.declared.line.Answer.TheVariants.{Fired}
 use Rattle.serf_world.specs.View.{NodeState}
-use Rattle.serf_world.proofs.NodeLaws.{call-done, call-refused, shows-event}
+use Rattle.serf_world.proofs.TurnLaws.{call-done, call-refused, shows}
 use Rattle.serf_world.proofs.calls.fire_at.Goals as goal
 
 pub returns-in-Err-clause-turn : goal.returns-in-Err-clause-turn
@@ -19,5 +19,5 @@ returns-clause-turn c = λ m representable is.
     call-done m (fire m.agent (event_of c.args.name.now c.args.payload.now) c.args.coalesce) c.fire-fired.result c.node.inside.agent.device c.fire-fired.new.self fire_gives c.in-Ok.fired OutOfMemory
     c.args.number c.args.sent.now.items c.line_with_event.new.sent.items c.node.inside.handed.items c.in_ok-line.line representable c.in-Ok.is
     (c.fire-fired.ensures.step m.agent representable.consistent.sound (ap (λ (s : NodeState). s.concrete) was))
-    (shows-event c.args.number c.args.sent.now.items c.line_with_event.new.sent.items m.handed c.node.inside.handed.items (Fired c.in-Ok.fired.handed.time) c.in-Ok.fired.packet c.in-Ok.fired.handed c.in_ok-line.line
+    (shows c.args.number c.args.sent.now.items c.line_with_event.new.sent.items m.handed c.node.inside.handed.items (Fired c.in-Ok.fired.handed.time) (c.in-Ok.fired.packet ∷ []) (c.in-Ok.fired.handed ∷ []) c.in_ok-line.line
     c.in_ok-line.ensures.sent (ap (λ (s : NodeState). s.handed) was) c.in_ok-line.ensures.line)

@@ -4,7 +4,7 @@ use Rattle.serf_model.specs.Cluster.{query_refusal}
 use Rattle.serf_model.specs.declared.line.Answer.TheVariants.{Queried}
 use Rattle.serf_world.specs.Turns.{Shows}
 use Rattle.serf_world.specs.View.{NodeState}
-use Rattle.serf_world.proofs.NodeLaws.{call-done, call-refused}
+use Rattle.serf_world.proofs.TurnLaws.{call-done, call-refused}
 use Rattle.serf_world.proofs.calls.query_at.Goals as goal
 
 pub returns-in-Err-clause-turn : goal.returns-in-Err-clause-turn

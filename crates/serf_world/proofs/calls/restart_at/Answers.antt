@@ -1,6 +1,6 @@
 use Rattle.serf_world.proofs.Names.{◌≡◌, ◌++◌, [], ℕ, List, unwrap_or, subst, sym, ap, ◌∙◌, IdealAgent, IsInText, ConcreteState, view_of, Restarted, line_only, reopened, text_after}
 use Rattle.serf_world.specs.View.{NodeState}
-use Rattle.serf_world.proofs.NodeLaws.{shows-only}
+use Rattle.serf_world.proofs.TurnLaws.{shows-only}
 use Rattle.serf_world.proofs.calls.restart_at.Goals as goal
 
 pub returns : goal.returns

@@ -4,7 +4,7 @@ use Rattle.serf_model.specs.Cluster.{receive_refusal}
 use Rattle.serf_model.specs.declared.line.Refusal.TheVariants.{NoMessage}
 use Rattle.serf_world.specs.Turns.{Shows, TakesTurn}
 use Rattle.serf_world.specs.View.{NodeState}
-use Rattle.serf_world.proofs.NodeLaws.{call-done, call-refused, refuses}
+use Rattle.serf_world.proofs.TurnLaws.{call-done, call-refused, refuses}
 use Rattle.serf_world.proofs.delivery.deliver_at.Goals as goal
 
 pub returns-in_default-clause-turn : goal.returns-in_default-clause-turn

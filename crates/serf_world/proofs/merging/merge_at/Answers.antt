@@ -3,7 +3,7 @@ use Rattle.serf_model.specs.declared.line.Refusal.TheVariants.{NoMessage}
 use Rattle.serf_world.specs.Turns.{TakesTurn}
 use Rattle.serf_world.specs.View.{NodeState}
 use Rattle.serf_world.proofs.MergeLaws.{does-merge, runs-merge}
-use Rattle.serf_world.proofs.NodeLaws.{refuses}
+use Rattle.serf_world.proofs.TurnLaws.{refuses}
 use Rattle.serf_world.proofs.merging.merge_at.Goals as goal
 
 pub returns-in_default : goal.returns-in_default

@@ -2,7 +2,7 @@ use Rattle.serf_world.proofs.Names.{◌≡◌, ◌<◌, ◌≤◌, List, Option,
 use Rattle.serf_model.specs.declared.line.Refusal.TheVariants.{NoQuery}
 use Rattle.serf_world.specs.Turns.{TakesTurn}
 use Rattle.serf_world.specs.View.{NodeState}
-use Rattle.serf_world.proofs.NodeLaws.{past-none, refuses, responds-there}
+use Rattle.serf_world.proofs.TurnLaws.{past-none, refuses, responds-there}
 use Rattle.serf_world.proofs.respond.respond_at.Goals as goal
 
 pub returns-then-slot-len-clause-turn : goal.returns-then-slot-len-clause-turn

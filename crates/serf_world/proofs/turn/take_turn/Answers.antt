@@ -2,7 +2,7 @@ use Rattle.serf_world.proofs.Names.{ap, ◌∙◌, note_gives}
 use Rattle.serf_agent.specs.States.{compact, save}
 use Rattle.serf_model.specs.declared.line.Answer.TheVariants.{Compacted, Saved}
 use Rattle.serf_world.specs.View.{NodeState}
-use Rattle.serf_world.proofs.NodeLaws.{does-call, shows-note}
+use Rattle.serf_world.proofs.TurnLaws.{does-call, shows-note}
 use Rattle.serf_world.proofs.turn.take_turn.Goals as goal
 
 pub returns-in-Break-clause-turn : goal.returns-in-Break-clause-turn

@@ -1,6 +1,6 @@
 use Rattle.serf_world.proofs.Names.{◌<◌, length, arith, subst, sym}
 use Rattle.serf_world.specs.View.{IsViewed}
-use Rattle.serf_world.proofs.NodeLaws.{owes-turns}
+use Rattle.serf_world.proofs.TurnLaws.{owes-turns}
 use Rattle.serf_world.proofs.world.World.apply_action.Goals as goal
 
 pub returns-clause-step : goal.returns-clause-step

@@ -1,7 +1,7 @@
 use Rattle.serf_world.proofs.Names.{◌≡◌, List, map, true, ap, sym, subst, ◌∙◌, AllByRecursion, Config, is_sound, first_node}
 use Rattle.serf_world.specs.View.{node_of}
 use Rattle.serf_world.proofs.DoneLaws.{done-nothing}
-use Rattle.serf_world.proofs.NodeLaws.{map-map}
+use Rattle.serf_world.proofs.TurnLaws.{map-map}
 use Rattle.serf_world.proofs.RosterLaws.{all-sound}
 use Rattle.serf_world.proofs.world.World.new.Goals as goal
 

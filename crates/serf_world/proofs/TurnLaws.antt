@@ -3,11 +3,10 @@ use Rattle.serf_world.proofs.Names.{zero, suc, ◌<◌, ◌≤◌, arith, length
 use Rattle.serf_snap.specs.declared.snapshot.NoteFault.{NoteFault}
 use Rattle.serf_model.specs.declared.line.Answer.{Answer}
 use Rattle.serf_model.specs.declared.line.Refusal.{Refusal}
-use Rattle.serf_model.specs.Cluster.{does_nothing, note_gives, note_refusal, refused}
+use Rattle.serf_model.specs.Cluster.{does_nothing, note_gives, note_refusal, numbers_from, refused}
 use Rattle.serf_model.specs.declared.line.Answer.TheVariants as answers
-use Rattle.serf_world.specs.Turns.{Shows, TakesTurn}
 use Rattle.serf_world.specs.View.{IsViewed, NodeState, TakesStep, WorldState, node_of}
-use Rattle.serf_world.specs.Nodes.{slot_gives, slot_after, answer_gives, answer_after}
+use Rattle.serf_world.specs.Turns.{Shows, TakesTurn, slot_gives, slot_after, answer_gives, answer_after}
 
 abbrev view : (m e q : ℕ) (stopped : Bool) (k : Option (List ℕ)) (p : Option FailurePlan) → SnapshotView
 view m e q stopped k p = record { member_clock = m; event_clock = e; query_clock = q; stopped = stopped; durable = k; plan = p }
@@ -49,41 +48,21 @@ steps-planned {R} i call result old new observable steps =
 
 -- ---- what lines show
 
--- no query is handed out
-pub none-kept : (old new : List (Option Handed)) → new ≡ old → new ≡ old ++ []
-none-kept old new same = same ∙ sym (append-nil old)
+-- a line without a query
+pub shows : (a : ℕ) (before after : List (List ℕ)) (old new : List (Option Handed)) (answer : Answer) (packets : List (List ℕ)) (events : List EventOut) (line : Line) → after ≡ before ++ packets → new ≡ old
+    → line ≡ record { answer = answer; sent = numbers_from (length before) packets; events = map (event_line a) events; handed = None }
+    → Shows a before after old new (record { answer = answer; packets = packets; events = events; handed = None }) line
+shows a before after old new answer packets events line goes same is = record {
+  packets = goes;
+  kept = same ∙ sym (append-nil old);
+  answer = ap (λ (l : Line). l.answer) is;
+  sent = ap (λ (l : Line). l.sent) is;
+  events = ap (λ (l : Line). l.events) is;
+  handed = ap (λ (l : Line). l.handed) is;
+}
 
 pub shows-only : (a : ℕ) (sent : List (List ℕ)) (old new : List (Option Handed)) (answer : Answer) (line : Line) → new ≡ old → line ≡ line_only answer → Shows a sent sent old new (only answer) line
-shows-only a sent old new answer line same is = record {
-  packets = sym (append-nil sent);
-  kept = none-kept old new same;
-  answer = ap (λ (l : Line). l.answer) is;
-  sent = ap (λ (l : Line). l.sent) is;
-  events = ap (λ (l : Line). l.events) is;
-  handed = ap (λ (l : Line). l.handed) is;
-}
-
-pub shows-packet : (a : ℕ) (before after : List (List ℕ)) (old new : List (Option Handed)) (answer : Answer) (packet : List ℕ) (line : Line) → after ≡ before ++ packet ∷ [] → new ≡ old
-    → line ≡ record { answer = answer; sent = length before ∷ []; events = []; handed = None } → Shows a before after old new (record { answer = answer; packets = packet ∷ []; events = []; handed = None }) line
-shows-packet a before after old new answer packet line goes same is = record {
-  packets = goes;
-  kept = none-kept old new same;
-  answer = ap (λ (l : Line). l.answer) is;
-  sent = ap (λ (l : Line). l.sent) is;
-  events = ap (λ (l : Line). l.events) is;
-  handed = ap (λ (l : Line). l.handed) is;
-}
-
-pub shows-event : (a : ℕ) (before after : List (List ℕ)) (old new : List (Option Handed)) (answer : Answer) (packet : List ℕ) (event : EventOut) (line : Line) → after ≡ before ++ packet ∷ [] → new ≡ old
-    → line ≡ record { answer = answer; sent = length before ∷ []; events = event_line a event ∷ []; handed = None } → Shows a before after old new (record { answer = answer; packets = packet ∷ []; events = event ∷ []; handed = None }) line
-shows-event a before after old new answer packet event line goes same is = record {
-  packets = goes;
-  kept = none-kept old new same;
-  answer = ap (λ (l : Line). l.answer) is;
-  sent = ap (λ (l : Line). l.sent) is;
-  events = ap (λ (l : Line). l.events) is;
-  handed = ap (λ (l : Line). l.handed) is;
-}
+shows-only a sent old new answer line same is = shows a sent sent old new answer [] [] line (sym (append-nil sent)) same is
 
 -- an agent made a call, and its line shows what that gives
 pub does-call : {R : Type 0} (m : IdealNode) (call : Call R) (result : R) (old : Device) (new : AgentState) (gives : R → Done) (a : ℕ) (before after : List (List ℕ)) (handed : List (Option Handed)) (line : Line) → IsRepresentable m.agent → Steps m.agent call result old new
