@@ -6,3 +6,6 @@ pub mod WordLemmas
 pub mod SizedLaws
 pub mod Names
 pub mod GrownLaws
+pub mod LineLaws
+pub mod TurnLaws
+pub mod RunTextLaws

@@ -2,7 +2,6 @@
 use Rattle.serf_replay.proofs.Names.{◌≡◌, ℕ, ◌+◌, ◌<◌, ◌≤◌, List, [], ◌∷◌, ◌++◌, Option, Some, None, refl, sym, ap, ◌∙◌, map, length, append_assoc, length-append, codes, decimal, arith, slice_get, flat_map, option_to_list, append-nil, get_or_append_left, length-map, map-append, unwrap_or-slice_get, Action, Line, IdealNode, Cluster, Run, after, numbers_from, on_agent, step, step_by, Turn, actor_of, TakesStep, WorldState}
 use Rattle.serf_replay.specs.TextParts.{hex_text}
 use Rattle.serf_replay.specs.Show.{action_text, actions_text, answer_line, event_line, handed_line, numbered, packet_of, sent_line}
-use Rattle.serf_replay.specs.Running.{IsShown}
 
 -- ---- what is sent later changes no line
 
@@ -67,26 +66,3 @@ line-stays c action n more =
     let did : Sends c action = sends c action in
     let within : length c.sent + length turn.packets ≤ length (step c action).cluster.sent = omega (arith, ap length did.sent, length-append c.sent turn.packets) in
     action-kept (step c action).cluster.sent more n (length c.sent) turn.line turn.packets did.numbers within
-
--- ---- one more action
-
-pub shown-after : (r : Run) (action : Action) (w new : WorldState) (line : Line) (text added : List ℕ) (n : ℕ)
-    → IsShown r w text → n ≡ length r.turns + 1 → TakesStep (step r.cluster action) new line → added ≡ text ++ action_text new.sent n line → IsShown (after r action) new added
-shown-after r action w new line text added n h count takes is = record {
-  view = takes.view;
-  representable = takes.representable;
-  shown = λ more.
-      let turn : Turn = (step r.cluster action).turn in
-      let did : Sends r.cluster action = sends r.cluster action in
-      let lines : List Line = map (λ t. t.line) r.turns in
-      let sent : List (List ℕ) = (step r.cluster action).cluster.sent in
-      let place : 1 + length lines ≡ n = grind (arith, length-map r.turns (λ (t : Turn). t.line), count) in
-      let within : length r.cluster.sent + length turn.packets ≤ length sent = omega (arith, ap length did.sent, length-append r.cluster.sent turn.packets) in
-      ap (λ ls. actions_text (sent ++ more) 1 ls) (map-append (λ (t : Turn). t.line) r.turns (turn ∷ []))
-      ∙ actions-push (sent ++ more) 1 lines turn.line
-      ∙ ap (λ s. actions_text s 1 lines ++ action_text (sent ++ more) (1 + length lines) turn.line) (ap (λ s. s ++ more) did.sent ∙ append_assoc r.cluster.sent turn.packets more)
-      ∙ ap (λ t. t ++ action_text (sent ++ more) (1 + length lines) turn.line) (h.shown (turn.packets ++ more))
-      ∙ ap (λ t. text ++ t) (ap (λ m. action_text (sent ++ more) m turn.line) place ∙ action-kept sent more n (length r.cluster.sent) turn.line turn.packets did.numbers within
-      ∙ ap (λ s. action_text s n turn.line) takes.view.sent ∙ ap (λ l. action_text new.sent n l) (sym takes.line_is))
-      ∙ sym is;
-}

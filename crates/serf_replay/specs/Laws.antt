@@ -1,13 +1,17 @@
 -- What a line adds to a schedule, and an action to a trace.
-use Rattle.std.specs.Prelude.{All, IfOk, ◌≡◌, ◌+◌, ◌<◌, ◌++◌, ℕ, List, ◌∷◌, [], Ok, length}
+use Rattle.std.specs.Prelude.{All, IfOk, ◌≡◌, ◌+◌, ◌<◌, ◌++◌, ℕ, List, ◌∷◌, [], Ok, Err, length}
 use Rattle.serf_model.specs.declared.action.Action.{Action}
 use Rattle.serf_model.specs.declared.line.Line.{Line}
 use Rattle.serf_model.specs.Sizes.{HasSizes}
 use Rattle.serf_world.specs.Cluster.{Cluster, step}
 use Rattle.serf_replay.specs.Grown.{AddsSame, Grows}
 use Rattle.serf_replay.specs.Line.{Parsed, after_line}
-use Rattle.serf_replay.specs.Schedule.{schedule_of}
+use Rattle.serf_replay.specs.Schedule.{schedule_in, schedule_of}
 use Rattle.serf_replay.specs.Show.{action_text, actions_text}
+use Rattle.serf_replay.specs.Output.{TracesRun, output_of}
+use Rattle.serf_replay.specs.Turns.{run_text, turn_answer}
+use Rattle.serf_replay.specs.declared.cause.Cause.{Cause}
+use Rattle.serf_world.specs.Runs.{AreConfigs}
 
 -- a step sends its packets behind those that were sent
 abbrev pub SendsBehind : Type 0
@@ -34,3 +38,22 @@ LateLinesAddSame = (p q : Parsed) (line : List ℕ) → 0 < length p.actions →
 -- the numbers of the actions that a text stands for have their types' sizes
 abbrev pub SchedulesAreSized : Type 0
 SchedulesAreSized = (text : List ℕ) (schedule : Parsed) → schedule_of text ≡ Ok schedule → All HasSizes schedule.actions
+
+-- a line is sound, and the text of its turn stands behind that of the lines before it
+pub record TellsMore (lines : List (List ℕ)) (line : List ℕ) (said : Parsed) (text : List ℕ) : Type 0 where
+  pub after : Parsed
+  pub reads : schedule_in (lines ++ line ∷ []) ≡ Ok after
+  pub text_is : run_text after ≡ run_text said ++ text
+
+-- each line that is answered tells more
+abbrev pub AnswersTellMore : Type 0
+AnswersTellMore = (lines : List (List ℕ)) (line : List ℕ) (said : Parsed) (text : List ℕ) → schedule_in lines ≡ Ok said → turn_answer lines line ≡ Ok text → TellsMore lines line said text
+
+-- a line that is refused is the first bad one, whatever follows
+abbrev pub RefusalsAreFirst : Type 0
+RefusalsAreFirst = (lines more : List (List ℕ)) (line : List ℕ) (said : Parsed) (cause : Cause) → schedule_in lines ≡ Ok said → turn_answer lines line ≡ Err cause
+    → schedule_in (lines ++ line ∷ more) ≡ Err (record { line = length lines + 1; cause = cause })
+
+-- what is written for the bytes of a schedule traces its run
+abbrev pub SchedulesTraceRuns : Type 0
+SchedulesTraceRuns = (bytes : List ℕ) (said : Parsed) → schedule_of bytes ≡ Ok said → AreConfigs said.configs → (output_of bytes ≡ Ok (run_text said)) × TracesRun bytes (run_text said)

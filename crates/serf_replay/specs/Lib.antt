@@ -12,6 +12,7 @@ pub mod Show
 pub mod TextParts
 pub mod WireText
 pub mod Words
-pub mod Running
+pub mod Turns
+pub mod Replaying
 pub mod Grown
 pub mod Laws

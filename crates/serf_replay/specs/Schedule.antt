@@ -26,8 +26,12 @@ abbrev pub after_lines : ℕ → Parsed → List (List ℕ) → Result Parsed Ba
 after_lines number before [] = Ok before
 after_lines number before (line ∷ lines) = at_line number (after_line before line) (λ after. after_lines (number + 1) after lines)
 
+-- the schedule that lines stand for, or the first bad one
+abbrev pub schedule_in : List (List ℕ) → Result Parsed BadLine
+schedule_in lines = after_lines 1 (record { configs = []; actions = [] }) lines
+
 abbrev pub schedule_of : List ℕ → Result Parsed BadLine
-schedule_of text = after_lines 1 (record { configs = []; actions = [] }) (slice_split (λ b. b == 10) text)
+schedule_of text = schedule_in (slice_split (λ b. b == 10) text)
 
 -- what `parse_schedule` answers, unless memory runs out
 abbrev pub Reads : Result Schedule ScheduleFault → Result Parsed BadLine → Type 0

@@ -1,23 +1,20 @@
 //! The whole job: a schedule in, its trace out.
 
-ghost use Rattle.std.specs.Prelude.{◌≡◌, ◌<◌, ◌≤◌, ◌+◌, List, ℕ, length, OnOk, IfOk, IfErr, IfSome, IsErrOf};
+ghost use Rattle.std.specs.Prelude.{◌≡◌, ◌<◌, ◌≤◌, ◌+◌, List, ℕ, length, OnOk, IfOk, IfErr, IfSome, IsErrOf, Ok, Err};
 ghost use Rattle.std.specs.Io.KnownBytes.{Appends, Consumes};
-ghost use Rattle.serf_world.specs.Cluster.{Run, after, run_of, trace_of};
-ghost use Rattle.serf_replay.specs.Show.{trace_text};
 ghost use Rattle.serf_replay.specs.Io.{AppendsFront};
 ghost use Rattle.serf_replay.specs.Output.{output_of, GivesText, TracesRun, longest_schedule};
-ghost use Rattle.serf_replay.specs.Running.{IsShown};
 
-use crate::cause::Cause;
+use crate::cause::{Cause, LineFault};
 use crate::input::{InputFault, read_input};
+use crate::laws::answered_lines;
 use crate::output::write_output;
-use crate::parse::{ScheduleFault, parse_schedule};
-use crate::schedule::Schedule;
-use crate::show::put_action;
+use crate::parse::ScheduleFault;
+use crate::progress::Progress;
+use crate::replaying::Replaying;
 use crate::watch::Watch;
-use serf_model::{run_promises, turns_shown};
-use serf_world::{Action, World};
-use std::alloc::{AllocError, Global};
+use crate::words::cut;
+use std::alloc::Global;
 use std::io::{Read, Write};
 use thiserror::Error;
 
@@ -41,61 +38,41 @@ pub enum ReplayFault {
     WriteFault,
 }
 
-/// Does an action, and adds its lines to the text. Where there is no memory for that, the text may have a part of them.
-fn add_lines(
-    alloc: Global,
-    world: &mut World,
-    out: &mut Vec<u8>,
-    number: u64,
-    action: Action,
-) -> Result<(), AllocError>
-    ensures { (r : Run) → IsShown r world.old out.old.items → number ≡ length r.turns + 1 → OnOk result (IsShown (after r action) world.new out.new.items) }
-{
-    match world.step(alloc, &action) {
-        Ok(line) => put_action(out, world.sent(), number, &line),
-        Err(_) => Err(AllocError),
-    }
-}
-
-/// The text of the run of a schedule, of which nothing is left then.
-///
-/// A line is let go as soon as its text stands, and an action as soon as it is done.
-fn run_text<T: Watch>(
-    alloc: Global,
-    schedule: Schedule,
-    watch: &mut T,
-) -> Result<Vec<u8>, AllocError>
-    ensures { IfOk result (λ text. text.items ≡ trace_text (trace_of (run_of schedule.agents schedule.actions.items))) }
-{
-    let Schedule { agents, actions } = schedule;
-    let mut world = World::new(alloc, agents)?;
-    let mut out = Vec::new(alloc);
-    let all = actions.len() as u64;
-    let mut number: u64 = 0;
-    for action in actions {
-        number += 1;
-        add_lines(alloc, &mut world, &mut out, number, action)?;
-        watch.acted(number, all);
-    }
-    Ok(out)
-}
-
-/// The text of the trace of a schedule's text, of which nothing is left then.
+/// The text of the trace of a schedule's text: each line is done as soon as it is read.
 fn output_text<T: Watch>(
     alloc: Global,
-    input: Vec<u8>,
+    input: &[u8],
     watch: &mut T,
 ) -> Result<Vec<u8>, ScheduleFault>
-    ensures text { GivesText result (output_of input.items) }
-    ensures run { IfOk result (λ text. TracesRun input.items text.items) }
+    ensures text { GivesText result (output_of input.now) }
+    ensures run { IfOk result (λ text. TracesRun input.now text.items) }
 {
-    run_promises();
-    turns_shown();
-    let schedule = parse_schedule(alloc, &input)?;
-    drop(input);
-    match run_text(alloc, schedule, watch) {
-        Ok(text) => Ok(text),
-        Err(_) => Err(ScheduleFault::OutOfMemory),
+    answered_lines();
+    let mut progress = Progress::of(input, watch);
+    let mut replaying = Replaying::new(alloc);
+    let mut words = Vec::new(alloc);
+    let mut out = Vec::new(alloc);
+    let mut number: u64 = 1;
+    let mut rest = input;
+    'lines: loop {
+        let (line, more) = cut(rest, b'\n');
+        match replaying.take_line_in(alloc, &mut words, line, &mut out) {
+            Ok(()) => progress.tell(watch, replaying.turns()),
+            Err(LineFault::Bad(cause)) => {
+                return Err(ScheduleFault::BadLine {
+                    line: number,
+                    cause,
+                });
+            }
+            Err(LineFault::OutOfMemory) => return Err(ScheduleFault::OutOfMemory),
+        }
+        match more {
+            Some(next) => {
+                rest = next;
+                number += 1;
+            }
+            None => return Ok(out),
+        }
     }
 }
 
@@ -134,7 +111,7 @@ pub fn replay<R: Read, W: Write, T: Watch>(
         InputFault::ReadTooLong => ReplayFault::ReadTooLong,
         InputFault::OutOfMemory => ReplayFault::OutOfMemory,
     })?;
-    let text = output_text(alloc, input, watch).map_err(|fault| match fault {
+    let text = output_text(alloc, &input, watch).map_err(|fault| match fault {
         ScheduleFault::BadLine { line, cause } => ReplayFault::BadLine { line, cause },
         ScheduleFault::OutOfMemory => ReplayFault::OutOfMemory,
     })?;

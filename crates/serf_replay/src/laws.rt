@@ -1,7 +1,9 @@
 //! What holds of every schedule that is read line by line, and of the text of every step: clauses of functions that do
 //! nothing.
 
-ghost use Rattle.serf_replay.specs.Laws.{LateLinesAddSame, LinesFollow, LinesGrow, LinesStay, SchedulesAreSized, SendsBehind};
+ghost use Rattle.serf_replay.specs.Laws.{AnswersTellMore, LateLinesAddSame, LinesFollow, LinesGrow, LinesStay, RefusalsAreFirst, SchedulesAreSized, SchedulesTraceRuns, SendsBehind};
+
+use serf_model::{run_promises, turns_shown};
 
 /// A step sends its packets behind those that were sent, and what is sent later changes none of its lines. The lines of
 /// one action more stand behind those of the others. Does nothing.
@@ -22,3 +24,14 @@ pub fn lines_grow()
 pub fn sized_schedules()
     ensures { SchedulesAreSized }
 {}
+
+/// The text of a line's turn stands behind that of the lines before it, and a line that is refused is the schedule's
+/// first bad one. What is written of a whole schedule traces a run that keeps all promises. Does nothing.
+pub fn answered_lines()
+    ensures more { AnswersTellMore }
+    ensures first { RefusalsAreFirst }
+    ensures traces { SchedulesTraceRuns }
+{
+    run_promises();
+    turns_shown();
+}

@@ -12,7 +12,9 @@ mod line;
 mod message_lines;
 mod output;
 mod parse;
+mod progress;
 mod put;
+mod replaying;
 mod schedule;
 mod show;
 mod watch;
@@ -23,13 +25,14 @@ pub use cause::{Cause, LineFault};
 pub use clock_lines::clocks_text;
 pub use input::{InputFault, MAX_SCHEDULE_BYTES, read_input};
 pub use job::{ReplayFault, replay};
-pub use laws::{lines_grow, lines_stay, sized_schedules};
+pub use laws::{answered_lines, lines_grow, lines_stay, sized_schedules};
 pub use message_lines::{DecodeTextFault, decode_text, put_members, put_message, put_slot};
 pub use output::{WriteFault, write_output};
 pub use parse::{ScheduleFault, parse_schedule, read_schedule_line};
 pub use put::{
     flag, put_hex, put_number, put_number_line, put_signed, put_with_hex, put_with_number,
 };
+pub use replaying::Replaying;
 pub use schedule::Schedule;
 pub use show::{put_action, put_answer, show_trace};
 pub use watch::{Unwatched, Watch};

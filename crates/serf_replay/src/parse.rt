@@ -123,7 +123,7 @@ fn is_comment(line: &[u8]) -> bool
 
 /// Reads a line, with room for its words that the lines before it used too.
 #[tactic(auto, unfolding(crate::specs::Line::after_line))]
-fn read_line<'a>(
+pub(crate) fn read_line<'a>(
     alloc: Global,
     parsed: &mut Schedule,
     words: &mut Vec<&'a [u8]>,

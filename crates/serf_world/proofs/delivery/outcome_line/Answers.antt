@@ -1,4 +1,5 @@
 use Rattle.serf_world.proofs.Names.{◌≡◌, ◌++◌, ℕ, List, [], ◌∷◌, ap, refl, subst, ◌∙◌, slice_get}
+use Rattle.std.specs.Option.{option_to_list}
 use Rattle.serf_model.specs.declared.line.Answer.TheVariants as answers
 use Rattle.serf_world.specs.Turns.{Shows}
 use Rattle.serf_world.proofs.TurnLaws.{shows}
@@ -13,7 +14,8 @@ returns-in_ok-line-in-Event-clause-shows c = λ bytes at.
 
 pub returns-in_ok-line-in-Query-clause-shows : goal.returns-in_ok-line-in-Query-clause-shows
 returns-in_ok-line-in-Query-clause-shows c = λ bytes at.
-    let made = c.in_ok-packets-in-Query.ensures bytes (ap (λ (s : List (List ℕ)). slice_get s c.args.packet) c.as_slice-in-Query.ensures.value ∙ at) in
+    let copied = c.in_ok-copy-in-Query.ensures bytes (ap (λ (s : List (List ℕ)). slice_get s c.args.packet) c.as_slice-in-Query.ensures.value ∙ at) in
+    let made = c.in_ok-packets-in-Query.ensures ∙ ap (λ (p : List (List ℕ)). p ++ option_to_list c.in-Query.ack) copied in
     rw (c.in-Query.is)
     (subst (λ (p : List (List ℕ)). Shows c.args.agent c.args.sent.now.items c.line_with_query.new.sent.items c.args.handed.now.items c.line_with_query.new.handed.items
     (record { answer = answers.Query; packets = p; events = []; handed = c.in-Query.query }) c.in_ok-line-in-Query.line) made c.in_ok-line-in-Query.ensures.shows)

@@ -8,15 +8,15 @@ use Rattle.std.proofs.lemmas.List.Sums.{fold-append}
 use Rattle.serf_agent.specs.declared.config.Config.{Config}
 use Rattle.serf_model.specs.declared.action.Action.{Action}
 use Rattle.serf_model.specs.declared.line.Line.{Line}
-use Rattle.serf_model.specs.Cluster.{Run, after, start, step}
-use Rattle.serf_model.specs.Trace.{Turn}
+use Rattle.serf_world.specs.Cluster.{Run, after, start, step}
+use Rattle.serf_world.specs.Trace.{Turn}
 use Rattle.serf_replay.specs.Grown.{with_turn}
 use Rattle.serf_replay.specs.Line.{Parsed}
 use Rattle.serf_replay.specs.Show.{action_text, actions_text}
-use Rattle.serf_streamed.specs.Streamed.{run_in, text_behind_turns}
+use Rattle.serf_replay.specs.Turns.{run_in, text_behind_turns}
 use Rattle.serf_world.specs.View.{WorldState}
-use Rattle.serf_streamed.specs.declared.turn.Acting.{Acting}
-use Rattle.serf_streamed.specs.Steps.{HasActed, Shows, StandsAt}
+use Rattle.serf_replay.specs.declared.replaying.Acting.{Acting}
+use Rattle.serf_replay.specs.Replaying.{HasActed, Shows, StandsAt}
 
 -- a turn for each action
 turns-more : (r : Run) (actions : List Action) → length (fold after r actions).turns ≡ length r.turns + length actions
@@ -68,9 +68,9 @@ one-action (b ∷ []) a at few = let same : b ≡ a = cc at in ap (λ (x : Actio
 one-action (b ∷ d ∷ more) a at few = absurd (omega arith)
 
 -- the turn that came of the first action
-pub begun : (said : Parsed) (configs : List Config) (a : Action) (w : WorldState) (old new : List ℕ) → said.configs ≡ configs → said.actions ≡ a ∷ [] → old ≡ []
-    → Shows (after (start configs) a) 0 w old new → (acting : Acting) → acting.world ≡ w → acting.turns ≡ 1 → HasActed said acting × (new ≡ text_behind_turns 0 (run_in said))
-begun said configs a w old new settings acts empty did acting world turns =
+pub begun : (said : Parsed) (configs : List Config) (a : Action) (w : WorldState) (old new : List ℕ) → said.configs ≡ configs → said.actions ≡ a ∷ []
+    → Shows (after (start configs) a) 0 w old new → (acting : Acting) → acting.world ≡ w → acting.turns ≡ 1 → HasActed said acting × (new ≡ old ++ text_behind_turns 0 (run_in said))
+begun said configs a w old new settings acts did acting world turns =
     let run : run_in said ≡ after (start configs) a = ap (λ (cs : List Config). fold after (start cs) said.actions) settings ∙ ap (fold after (start configs)) acts in
     let one = ap length acts in (
       record {
@@ -78,17 +78,17 @@ begun said configs a w old new settings acts empty did acting world turns =
         counted = turns ∙ sym one;
         stands = subst (λ (r : Run). StandsAt r acting.world) (sym run) (subst (λ (v : WorldState). StandsAt (after (start configs) a) v) (sym world) did.stands);
       },
-      did.text_is ∙ ap (λ t. t ++ text_behind_turns 0 (after (start configs) a)) empty ∙ ap (text_behind_turns 0) (sym run),
+      did.text_is ∙ ap (λ (r : Run). old ++ text_behind_turns 0 r) (sym run),
     )
 
 -- no action came
 pub stayed : (said : Parsed) (first : Action) (turn : Option Action) (actions : List Action) (acting : Acting) (text : List ℕ) → actions ≡ first ∷ option_to_list turn → length actions < 2
-    → HasActed said acting → text ≡ [] → (length actions ≡ 1) × HasActed (with_turn said turn) acting × (text ≡ text_behind_turns (length said.actions) (run_in (with_turn said turn)))
-stayed said first (Some a) actions acting text are few h empty = let two = ap length are in absurd (omega (arith, two))
-stayed said first None actions acting text are few h empty =
+    → HasActed said acting → (length actions ≡ 1) × HasActed (with_turn said turn) acting × (text ≡ text ++ text_behind_turns (length said.actions) (run_in (with_turn said turn)))
+stayed said first (Some a) actions acting text are few h = let two = ap length are in absurd (omega (arith, two))
+stayed said first None actions acting text are few h =
     let same : said ≡ with_turn said None = ap (λ (xs : List Action). let q : Parsed = record { configs = said.configs; actions = xs } in q) (sym (append-nil said.actions)) in
     let none : text_behind_turns (length said.actions) (run_in said) ≡ [] = ap (λ n. text_behind_turns n (run_in said)) (sym (turn-count said)) ∙ text-of-none (run_in said) in
-    (ap length are, subst (λ (p : Parsed). HasActed p acting) same h, empty ∙ sym none ∙ ap (λ (p : Parsed). text_behind_turns (length said.actions) (run_in p)) same)
+    (ap length are, subst (λ (p : Parsed). HasActed p acting) same h, sym (append-nil text) ∙ ap (λ t. text ++ t) (sym none ∙ ap (λ (p : Parsed). text_behind_turns (length said.actions) (run_in p)) same))
 
 -- two actions, of which the last is taken
 pair : (rest : List Action) (a first b : Action) → first ∷ b ∷ [] ≡ rest ++ a ∷ [] → (rest ≡ first ∷ []) × (b ≡ a)
@@ -98,11 +98,11 @@ pair (x ∷ y ∷ more) a first b is = let long = ap length is in let sum = leng
 
 -- one more action came
 pub went-on : (said : Parsed) (first : Action) (turn : Option Action) (actions rest : List Action) (a : Action) (n : ℕ) (old acting : Acting) (before text : List ℕ)
-    → actions ≡ first ∷ option_to_list turn → 2 ≤ length actions → actions ≡ rest ++ a ∷ [] → HasActed said old → n ≡ old.turns + 1 → acting.turns ≡ n → before ≡ []
+    → actions ≡ first ∷ option_to_list turn → 2 ≤ length actions → actions ≡ rest ++ a ∷ [] → HasActed said old → n ≡ old.turns + 1 → acting.turns ≡ n
     → ((r : Run) → StandsAt r old.world → n ≡ length r.turns + 1 → Shows (after r a) (length r.turns) acting.world before text)
-    → (length rest ≡ 1) × HasActed (with_turn said turn) acting × (text ≡ text_behind_turns (length said.actions) (run_in (with_turn said turn)))
-went-on said first None actions rest a n old acting before text are many all h next counts empty shows = let one = ap length are in absurd (omega (arith, one))
-went-on said first (Some b) actions rest a n old acting before text are many all h next counts empty shows =
+    → (length rest ≡ 1) × HasActed (with_turn said turn) acting × (text ≡ before ++ text_behind_turns (length said.actions) (run_in (with_turn said turn)))
+went-on said first None actions rest a n old acting before text are many all h next counts shows = let one = ap length are in absurd (omega (arith, one))
+went-on said first (Some b) actions rest a n old acting before text are many all h next counts shows =
     let parts = pair rest a first b (sym are ∙ all) in
     let front : rest ≡ first ∷ [] = parts.0 in
     let action : b ≡ a = parts.1 in
@@ -117,6 +117,10 @@ went-on said first (Some b) actions rest a n old acting before text are many all
         counted = counts ∙ next ∙ ap (λ k. k + 1) h.counted ∙ sym longer;
         stands = subst (λ (r : Run). StandsAt r acting.world) (sym run) did.stands;
       },
-      did.text_is ∙ ap (λ t. t ++ text_behind_turns (length (run_in said).turns) (after (run_in said) a)) empty
-          ∙ ap (λ k. text_behind_turns k (after (run_in said) a)) count ∙ ap (text_behind_turns (length said.actions)) (sym run),
+      did.text_is ∙ ap (λ k. before ++ text_behind_turns k (after (run_in said) a)) count ∙ ap (λ (r : Run). before ++ text_behind_turns (length said.actions) r) (sym run),
     )
+
+-- no action came yet
+pub waits : (said : Parsed) (text : List ℕ) → said.actions ≡ [] → text ≡ text ++ text_behind_turns 0 (run_in said)
+waits said text none =
+    sym (append-nil text) ∙ ap (λ t. text ++ t) (sym (ap (λ (actions : List Action). text_behind_turns 0 (fold after (start said.configs) actions)) none))

@@ -2,16 +2,17 @@
 use Rattle.std.specs.Prelude.{◌≡◌, ℕ, ◌<◌, ◌≤◌, ◌++◌, List, [], ◌∷◌, length, Option, Some, None, Ok}
 use Rattle.std.specs.Option.{option_to_list}
 use Rattle.serf_model.specs.declared.action.Action.{Action}
-use Rattle.serf_model.specs.Cluster.{Run}
-use Rattle.serf_model.specs.Ready.{AreRepresentable}
-use Rattle.serf_model.specs.Runs.{AreConfigs}
+use Rattle.serf_world.specs.Cluster.{Run}
+use Rattle.serf_world.specs.Ready.{AreRepresentable}
+use Rattle.serf_world.specs.Runs.{AreConfigs}
 use Rattle.serf_replay.specs.Grown.{with_turn}
 use Rattle.serf_replay.specs.Line.{Parsed}
-use Rattle.serf_replay.specs.Schedule.{parsed_of}
+use Rattle.serf_replay.specs.Schedule.{parsed_of, schedule_in}
 use Rattle.serf_replay.specs.declared.schedule.Schedule.{Schedule}
 use Rattle.serf_world.specs.View.{IsViewed, WorldState}
-use Rattle.serf_streamed.specs.Streamed.{run_in, schedule_in, text_behind_turns}
-use Rattle.serf_streamed.specs.declared.turn.Acting.{Acting}
+use Rattle.serf_replay.specs.Turns.{run_in, text_behind_turns}
+use Rattle.serf_replay.specs.declared.replaying.Acting.{Acting}
+use Rattle.serf_replay.specs.declared.replaying.Replaying.{Replaying}
 
 -- the world stores what a run came to
 pub record StandsAt (r : Run) (w : WorldState) : Type 0 where
@@ -41,8 +42,8 @@ Takes held (Some acting) said after =
     (first : Action) × (turn : Option Action) × (held.actions.items ≡ first ∷ option_to_list turn) × (after ≡ with_turn said turn) × HasActed said acting
 
 -- these lines were done
-pub record Follows (held : Schedule) (acting : Option Acting) (lines : List (List ℕ)) : Type 0 where
+pub record Follows (r : Replaying) (lines : List (List ℕ)) : Type 0 where
   pub said : Parsed
   pub reads : schedule_in lines ≡ Ok said
   pub settings : AreConfigs said.configs
-  pub stage : IsStage held acting said
+  pub stage : IsStage r.schedule r.acting said

@@ -1,17 +1,17 @@
 -- What the lines of a schedule are answered, one after another.
-use Rattle.std.specs.Prelude.{ℕ, ◌+◌, List, [], length, map, drop, Result, Ok, Err}
-use Rattle.serf_model.specs.Cluster.{Run, run_of}
+use Rattle.std.specs.Prelude.{◌≡◌, ℕ, ◌++◌, ◌+◌, List, [], length, map, drop, Result, Ok, Err}
+use Rattle.serf_world.specs.Cluster.{Run, run_of, trace_of}
 use Rattle.serf_replay.specs.declared.cause.Cause.{Cause}
 use Rattle.serf_replay.specs.Line.{Parsed, after_line}
-use Rattle.serf_replay.specs.Schedule.{BadLine, after_lines}
-use Rattle.serf_replay.specs.Show.{actions_text}
-
--- the schedule that lines stand for, or the first bad one
-abbrev pub schedule_in : List (List ℕ) → Result Parsed BadLine
-schedule_in lines = after_lines 1 (record { configs = []; actions = [] }) lines
+use Rattle.serf_replay.specs.Schedule.{BadLine, schedule_in}
+use Rattle.serf_replay.specs.Show.{actions_text, trace_text}
 
 abbrev pub run_in : Parsed → Run
 run_in s = run_of s.configs s.actions
+
+-- the text of a schedule's trace
+abbrev pub run_text : Parsed → List ℕ
+run_text s = trace_text (trace_of (run_in s))
 
 -- the text of the turns of a run behind the first of them
 abbrev pub text_behind_turns : ℕ → Run → List ℕ
@@ -29,3 +29,9 @@ answer_behind (Err bad) line = Ok []
 -- a line is answered by the text of the turn that it adds to those before it
 abbrev pub turn_answer : List (List ℕ) → List ℕ → Result (List ℕ) Cause
 turn_answer lines line = answer_behind (schedule_in lines) line
+
+-- the text of the turn that a line adds was appended
+pub record Appended (lines : List (List ℕ)) (line old new : List ℕ) : Type 0 where
+  pub text : List ℕ
+  pub answer : turn_answer lines line ≡ Ok text
+  pub text_is : new ≡ old ++ text

@@ -2,17 +2,17 @@
 use Rattle.std.proofs.Common.{◌≡◌, ◌<◌, ◌≤◌, ◌+◌, ◌++◌, ◌∙◌, inl, inr, ℕ, List, [], ◌∷◌, Option, Some, None, Result, Ok, Err, refl, sym, ap, subst, arith, length, length-append}
 use Rattle.std.specs.Prelude.{IfOk}
 use Rattle.std.specs.Option.{option_to_list}
-use Rattle.serf_model.specs.Runs.{AreConfigs}
+use Rattle.serf_world.specs.Runs.{AreConfigs}
 use Rattle.serf_model.specs.declared.action.Action.{Action}
 use Rattle.serf_replay.specs.declared.cause.Cause.{Cause}
 use Rattle.serf_replay.specs.declared.schedule.Schedule.{Schedule}
 use Rattle.serf_replay.specs.Grown.{AddsSame, Grows, with_turn}
 use Rattle.serf_replay.specs.Line.{Parsed, after_line}
-use Rattle.serf_replay.specs.Schedule.{BadLine, after_lines, at_line, parsed_of}
-use Rattle.serf_streamed.specs.Below.{Below}
-use Rattle.serf_streamed.specs.Streamed.{added_text, answer_behind, run_in, schedule_in, text_behind_turns, turn_answer}
-use Rattle.serf_streamed.specs.declared.turn.Acting.{Acting}
-use Rattle.serf_streamed.specs.Steps.{Follows, IsStage, Takes}
+use Rattle.serf_replay.specs.Schedule.{BadLine, after_lines, at_line, parsed_of, schedule_in}
+use Rattle.serf_replay.specs.Turns.{added_text, answer_behind, run_in, text_behind_turns, turn_answer}
+use Rattle.serf_replay.specs.declared.replaying.Acting.{Acting}
+use Rattle.serf_replay.specs.Replaying.{IsStage, Takes}
+use Rattle.serf_replay.proofs.GrownLaws.{grown, late-same}
 
 -- ---- lines behind others
 
@@ -86,21 +86,19 @@ reads-late held new acting said line (Ok a) (Err f) settings stage h is this = a
 reads-late held new acting said line (Err e) (Ok b) settings stage h is this = absurd h
 reads-late held new acting said line (Err e) (Err f) settings stage h is this = absurd (cc is)
 
-pub reads-line : Below → (held new : Schedule) (acting : Option Acting) (lines : List (List ℕ)) (line : List ℕ) (f : Follows held acting lines) → AreConfigs new.agents
-    → after_line (parsed_of held) line ≡ Ok (parsed_of new) → Reads new acting f.said line
-reads-line below held new None lines line f settings is =
-    let stage : IsStage held None f.said = f.stage in
-    let here : after_line f.said line ≡ Ok (parsed_of new) = ap (λ (p : Parsed). after_line p line) (sym stage.0) ∙ is in
+pub reads-line : (held new : Schedule) (acting : Option Acting) (line : List ℕ) (said : Parsed) → AreConfigs said.configs → IsStage held acting said → AreConfigs new.agents
+    → after_line (parsed_of held) line ≡ Ok (parsed_of new) → Reads new acting said line
+reads-line held new None line said before stage settings is =
+    let here : after_line said line ≡ Ok (parsed_of new) = ap (λ (p : Parsed). after_line p line) (sym stage.0) ∙ is in
     record {
       after = parsed_of new;
       after_is = here;
-      takes = (stage.1, refl, few-actions f.said (parsed_of new) stage.1 (subst (λ (r : Result Parsed Cause). IfOk r (Grows f.said)) here (below.grow f.said line)), settings);
+      takes = (stage.1, refl, few-actions said (parsed_of new) stage.1 (subst (λ (r : Result Parsed Cause). IfOk r (Grows said)) here (grown said line)), settings);
       settings = settings;
     }
-reads-line below held new (Some acting) lines line f settings is =
-    let stage : IsStage held (Some acting) f.said = f.stage in
+reads-line held new (Some acting) line said before stage settings is =
     let one : 0 < length (parsed_of held).actions = (let e = stage.0 in omega (arith, e)) in
-    reads-late held new acting f.said line (after_line f.said line) (after_line (parsed_of held) line) f.settings stage (below.late f.said (parsed_of held) line stage.1.some one) is refl
+    reads-late held new acting said line (after_line said line) (after_line (parsed_of held) line) before stage (late-same said (parsed_of held) line stage.1.some one) is refl
 
 bad-late : (p q : Parsed) (r s : Result Parsed Cause) (cause : Cause) → AddsSame p q r s → s ≡ Err cause → r ≡ Err cause
 bad-late p q (Ok a) (Ok b) cause h is = absurd (cc is)
@@ -108,12 +106,10 @@ bad-late p q (Ok a) (Err f) cause h is = absurd h
 bad-late p q (Err e) (Ok b) cause h is = absurd h
 bad-late p q (Err e) (Err f) cause h is = ap (λ (x : Cause). let err : Result Parsed Cause = Err x in err) h ∙ is
 
-pub bad-line : Below → (held : Schedule) (acting : Option Acting) (lines : List (List ℕ)) (line : List ℕ) (cause : Cause) (f : Follows held acting lines) → after_line (parsed_of held) line ≡ Err cause
+pub bad-line : (held : Schedule) (acting : Option Acting) (lines : List (List ℕ)) (line : List ℕ) (cause : Cause) (said : Parsed) → schedule_in lines ≡ Ok said → IsStage held acting said → after_line (parsed_of held) line ≡ Err cause
     → turn_answer lines line ≡ Err cause
-bad-line below held None lines line cause f is =
-    let stage : IsStage held None f.said = f.stage in
-    answer-bad lines line f.said cause f.reads (ap (λ (p : Parsed). after_line p line) (sym stage.0) ∙ is)
-bad-line below held (Some acting) lines line cause f is =
-    let stage : IsStage held (Some acting) f.said = f.stage in
+bad-line held None lines line cause said reads stage is =
+    answer-bad lines line said cause reads (ap (λ (p : Parsed). after_line p line) (sym stage.0) ∙ is)
+bad-line held (Some acting) lines line cause said reads stage is =
     let one : 0 < length (parsed_of held).actions = (let e = stage.0 in omega (arith, e)) in
-    answer-bad lines line f.said cause f.reads (bad-late f.said (parsed_of held) (after_line f.said line) (after_line (parsed_of held) line) cause (below.late f.said (parsed_of held) line stage.1.some one) is)
+    answer-bad lines line said cause reads (bad-late said (parsed_of held) (after_line said line) (after_line (parsed_of held) line) cause (late-same said (parsed_of held) line stage.1.some one) is)

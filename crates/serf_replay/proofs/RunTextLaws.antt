@@ -1,0 +1,128 @@
+-- The text of a schedule's run, one line after another.
+use Rattle.serf_replay.proofs.Names.{◌≡◌, ◌+◌, ◌++◌, ◌∙◌, ℕ, List, [], ◌∷◌, Option, Some, None, Result, Ok, Err, refl, sym, ap, subst, arith, map, length, append-nil, append_assoc, fold, length-map, map-append, Action, Line, Run, Turn, after, run_of, start, step, trace_of, turns_of}
+use Rattle.std.proofs.Common.{inl, inr}
+use Rattle.std.specs.Prelude.{All, IfOk}
+use Rattle.serf_agent.specs.declared.config.Config.{Config}
+use Rattle.serf_world.specs.Kept.{KeepsPromises}
+use Rattle.serf_world.specs.Runs.{AreConfigs}
+use Rattle.serf_world.specs.Sizes.{HasSizes}
+use Rattle.serf_replay.specs.declared.cause.Cause.{Cause}
+use Rattle.serf_replay.specs.Grown.{Grows}
+use Rattle.serf_replay.specs.Laws.{AnswersTellMore, RefusalsAreFirst, SchedulesTraceRuns, TellsMore}
+use Rattle.serf_replay.specs.Line.{Parsed, after_line}
+use Rattle.serf_replay.specs.Output.{TracesRun, output_of, text_of}
+use Rattle.serf_replay.specs.Schedule.{BadLine, schedule_in, schedule_of}
+use Rattle.serf_replay.specs.Show.{action_text, actions_text, trace_text}
+use Rattle.serf_replay.specs.Turns.{added_text, answer_behind, run_in, run_text, text_behind_turns, turn_answer}
+use Rattle.serf_replay.proofs.GrownLaws.{grown}
+use Rattle.serf_replay.proofs.LineLaws.{line-bad, line-more}
+use Rattle.serf_replay.proofs.ShownLaws.{actions-push, line-stays, sends}
+use Rattle.serf_replay.proofs.SizedLaws.{sized-schedule}
+use Rattle.serf_replay.proofs.TurnLaws.{run-more, text-of-none, text-of-turn, turn-count}
+
+-- ---- the text of a run and of one more turn
+
+abbrev shown : Run → List ℕ
+shown r = actions_text r.cluster.sent 1 (map (λ t. t.line) r.turns)
+
+-- what is sent later changes no line
+record IsStable (r : Run) : Type 0 where
+  same : (more : List (List ℕ)) → actions_text (r.cluster.sent ++ more) 1 (map (λ t. t.line) r.turns) ≡ shown r
+
+pushed : (r : Run) (a : Action) → IsStable r → (more : List (List ℕ))
+    → actions_text ((step r.cluster a).cluster.sent ++ more) 1 (map (λ t. t.line) (after r a).turns) ≡ shown r ++ action_text (step r.cluster a).cluster.sent (length r.turns + 1) (step r.cluster a).turn.line
+pushed r a h more =
+    let turn : Turn = (step r.cluster a).turn in
+    let lines : List Line = map (λ t. t.line) r.turns in
+    let sent : List (List ℕ) = (step r.cluster a).cluster.sent in
+    let long = length-map r.turns (λ (t : Turn). t.line) in
+    let place : 1 + length lines ≡ length r.turns + 1 = omega (arith, long) in
+    ap (λ ls. actions_text (sent ++ more) 1 ls) (map-append (λ (t : Turn). t.line) r.turns (turn ∷ []))
+    ∙ actions-push (sent ++ more) 1 lines turn.line
+    ∙ ap (λ s. actions_text s 1 lines ++ action_text (sent ++ more) (1 + length lines) turn.line) (ap (λ s. s ++ more) (sends r.cluster a).sent ∙ append_assoc r.cluster.sent turn.packets more)
+    ∙ ap (λ t. t ++ action_text (sent ++ more) (1 + length lines) turn.line) (h.same (turn.packets ++ more))
+    ∙ ap (λ t. shown r ++ t) (ap (λ m. action_text (sent ++ more) m turn.line) place ∙ line-stays r.cluster a (length r.turns + 1) more)
+
+shown-more : (r : Run) (a : Action) → IsStable r → shown (after r a) ≡ shown r ++ text_behind_turns (length r.turns) (after r a)
+shown-more r a h =
+    ap (λ s. actions_text s 1 (map (λ t. t.line) (after r a).turns)) (sym (append-nil (step r.cluster a).cluster.sent))
+    ∙ pushed r a h [] ∙ ap (λ t. shown r ++ t) (sym (text-of-turn r a))
+
+stable-after : (r : Run) (a : Action) → IsStable r → IsStable (after r a)
+stable-after r a h = record { same = λ more. pushed r a h more ∙ ap (λ t. shown r ++ t) (sym (text-of-turn r a)) ∙ sym (shown-more r a h) }
+
+stable-all : (r : Run) (actions : List Action) → IsStable r → IsStable (fold after r actions)
+stable-all r [] h = h
+stable-all r (a ∷ more) h = stable-all (after r a) more (stable-after r a h)
+
+stable : (p : Parsed) → IsStable (run_in p)
+stable p = stable-all (start p.configs) p.actions (record { same = λ more. refl })
+
+-- ---- the text of a schedule and of one more line
+
+no-text : (p : Parsed) → p.actions ≡ [] → shown (run_in p) ≡ []
+no-text p none = ap (λ (actions : List Action). shown (run_of p.configs actions)) none
+
+nothing-behind : (n : ℕ) (p : Parsed) → n ≡ 0 → p.actions ≡ [] → text_behind_turns n (run_in p) ≡ []
+nothing-behind n p zero none = ap (λ m. text_behind_turns m (run_in p)) zero ∙ ap (λ (actions : List Action). text_behind_turns 0 (run_of p.configs actions)) none
+
+grown-text : (p after : Parsed) → Grows p after → shown (run_in after) ≡ shown (run_in p) ++ text_behind_turns (length p.actions) (run_in after)
+grown-text p after (inl both) =
+    no-text after both.1 ∙ sym (ap (λ t. t ++ text_behind_turns (length p.actions) (run_in after)) (no-text p both.0) ∙ nothing-behind (length p.actions) after (ap length both.0) both.1)
+grown-text p after (inr (None, is)) =
+    let same : after ≡ p = is ∙ ap (λ (xs : List Action). let q : Parsed = record { configs = p.configs; actions = xs } in q) (append-nil p.actions) in
+    let none : text_behind_turns (length p.actions) (run_in after) ≡ [] =
+    ap (λ (q : Parsed). text_behind_turns (length p.actions) (run_in q)) same ∙ ap (λ n. text_behind_turns n (run_in p)) (sym (turn-count p)) ∙ text-of-none (run_in p) in
+    ap (λ (q : Parsed). shown (run_in q)) same ∙ sym (append-nil (shown (run_in p))) ∙ ap (λ t. shown (run_in p) ++ t) (sym none)
+grown-text p now (inr (Some a, is)) =
+    let run : run_in now ≡ after (run_in p) a = ap (λ (q : Parsed). run_in q) is ∙ run-more p a in
+    ap (λ (r : Run). shown r) run ∙ shown-more (run_in p) a (stable p)
+    ∙ ap (λ n. shown (run_in p) ++ text_behind_turns n (after (run_in p) a)) (turn-count p) ∙ ap (λ (r : Run). shown (run_in p) ++ text_behind_turns (length p.actions) r) (sym run)
+
+-- ---- the answers to lines
+
+-- a line that is answered is sound
+record IsAnswered (p : Parsed) (line text : List ℕ) : Type 0 where
+  after : Parsed
+  after_is : after_line p line ≡ Ok after
+  text_is : text_behind_turns (length p.actions) (run_in after) ≡ text
+
+answered-by : (p : Parsed) (line text : List ℕ) (r : Result Parsed Cause) → after_line p line ≡ r → added_text p r ≡ Ok text → IsAnswered p line text
+answered-by p line text (Ok after) is h = record { after = after; after_is = is; text_is = cc h }
+answered-by p line text (Err cause) is h = absurd (cc h)
+
+pub tells-more : AnswersTellMore
+tells-more lines line said text reads answer =
+    let here = answered-by said line text (after_line said line) refl (sym (ap (λ r. answer_behind r line) reads) ∙ answer) in
+    let grow : Grows said here.after = subst (λ (r : Result Parsed Cause). IfOk r (Grows said)) here.after_is (grown said line) in
+    record {
+      after = here.after;
+      reads = line-more lines line said here.after reads here.after_is;
+      text_is = grown-text said here.after grow ∙ ap (λ t. run_text said ++ t) here.text_is;
+    }
+
+refused-by : (p : Parsed) (cause : Cause) (r : Result Parsed Cause) → added_text p r ≡ Err cause → r ≡ Err cause
+refused-by p cause (Ok after) h = absurd (cc h)
+refused-by p cause (Err e) h = let same : e ≡ cause = cc h in ap (λ (x : Cause). let err : Result Parsed Cause = Err x in err) same
+
+pub refusal-first : RefusalsAreFirst
+refusal-first lines more line said cause reads answer =
+    line-bad lines more line said cause reads (refused-by said cause (after_line said line) (sym (ap (λ r. answer_behind r line) reads) ∙ answer))
+
+-- ---- the whole
+
+pub traces-run : ((configs : List Config) (done left : List Action) → AreConfigs configs → turns_of (done ++ left) (trace_of (run_of configs done)) ≡ (run_of configs done).turns)
+    → ((configs : List Config) (actions : List Action) → AreConfigs configs → All HasSizes actions → KeepsPromises configs (run_of configs actions)) → SchedulesTraceRuns
+traces-run turns promises bytes said reads settings =
+    let sizes : All HasSizes said.actions = sized-schedule bytes said reads in (
+      ap text_of reads,
+      record {
+        schedule = said;
+        reads = reads;
+        settings = settings;
+        sizes = sizes;
+        text_is = refl;
+        turns = ap (λ l. turns_of l (trace_of (run_in said))) (sym (append-nil said.actions)) ∙ turns said.configs said.actions [] settings;
+        promises = promises said.configs said.actions settings sizes;
+      },
+    )

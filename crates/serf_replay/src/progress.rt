@@ -1,0 +1,59 @@
+//! How far a run is.
+
+use crate::command::is_word;
+use crate::watch::Watch;
+use crate::words::cut;
+
+/// Whether a line of a schedule has an action: its first word is another than that of an agent.
+fn has_action(line: &[u8]) -> bool {
+    if line.starts_with(b"#") {
+        return false;
+    }
+    match line.iter().position(|b| *b != b' ') {
+        Some(at) => !is_word(cut(&line[at..], b' ').0, b"agent"),
+        None => false,
+    }
+}
+
+/// How many lines of a schedule's text have an action.
+fn count_actions(text: &[u8]) -> u64 {
+    let mut count: u64 = 0;
+    let mut rest = text;
+    'lines: loop {
+        let (line, more) = cut(rest, b'\n');
+        if has_action(line) {
+            count = count.saturating_add(1);
+        }
+        match more {
+            Some(next) => rest = next,
+            None => return count,
+        }
+    }
+}
+
+/// How many actions a schedule has, and how many of them its watch was told of.
+#[derive(Drop)]
+pub(crate) struct Progress {
+    all: u64,
+    told: u64,
+}
+
+impl Progress {
+    /// Of a schedule's text. Where nobody watches, its actions are not counted.
+    pub(crate) fn of<T: Watch>(text: &[u8], watch: &T) -> Progress {
+        let all = if watch.is_watching() {
+            count_actions(text)
+        } else {
+            0
+        };
+        Progress { all, told: 0 }
+    }
+
+    /// Tells the watch that so many actions are done, where this wasn't told before.
+    pub(crate) fn tell<T: Watch>(&mut self, watch: &mut T, done: u64) {
+        if done > self.told {
+            self.told = done;
+            watch.acted(done, self.all);
+        }
+    }
+}
