@@ -5,6 +5,9 @@ use Rattle.std.specs.Option.{option_to_list}
 use Rattle.serf_world.specs.Runs.{AreConfigs}
 use Rattle.serf_model.specs.declared.action.Action.{Action}
 use Rattle.serf_replay.specs.declared.cause.Cause.{Cause}
+use Rattle.serf_replay.specs.declared.cause.LineFault.{LineFault}
+use Rattle.serf_replay.specs.declared.cause.LineFault.TheVariants.{Bad, OutOfMemory}
+use Rattle.serf_replay.specs.Gives.{Fails}
 use Rattle.serf_replay.specs.declared.schedule.Schedule.{Schedule}
 use Rattle.serf_replay.specs.Grown.{AddsSame, Grows, with_turn}
 use Rattle.serf_replay.specs.Line.{Parsed, after_line}
@@ -106,10 +109,15 @@ bad-late p q (Ok a) (Err f) cause h is = absurd h
 bad-late p q (Err e) (Ok b) cause h is = absurd h
 bad-late p q (Err e) (Err f) cause h is = ap (λ (x : Cause). let err : Result Parsed Cause = Err x in err) h ∙ is
 
-pub bad-line : (held : Schedule) (acting : Option Acting) (lines : List (List ℕ)) (line : List ℕ) (cause : Cause) (said : Parsed) → schedule_in lines ≡ Ok said → IsStage held acting said → after_line (parsed_of held) line ≡ Err cause
+bad-line : (held : Schedule) (acting : Option Acting) (lines : List (List ℕ)) (line : List ℕ) (cause : Cause) (said : Parsed) → schedule_in lines ≡ Ok said → IsStage held acting said → after_line (parsed_of held) line ≡ Err cause
     → turn_answer lines line ≡ Err cause
 bad-line held None lines line cause said reads stage is =
     answer-bad lines line said cause reads (ap (λ (p : Parsed). after_line p line) (sym stage.0) ∙ is)
 bad-line held (Some acting) lines line cause said reads stage is =
     let one : 0 < length (parsed_of held).actions = (let e = stage.0 in omega (arith, e)) in
     answer-bad lines line said cause reads (bad-late said (parsed_of held) (after_line said line) (after_line (parsed_of held) line) cause (late-same said (parsed_of held) line stage.1.some one) is)
+
+pub fails-line : (held : Schedule) (acting : Option Acting) (lines : List (List ℕ)) (line : List ℕ) (fault : LineFault) (said : Parsed) → schedule_in lines ≡ Ok said → IsStage held acting said → Fails fault (after_line (parsed_of held) line)
+    → Fails fault (turn_answer lines line)
+fails-line held acting lines line OutOfMemory said reads stage h = tt
+fails-line held acting lines line (Bad cause) said reads stage h = bad-line held acting lines line cause said reads stage h

@@ -1,7 +1,7 @@
 -- The text of a schedule's run, one line after another.
-use Rattle.serf_replay.proofs.Names.{◌≡◌, ◌+◌, ◌++◌, ◌∙◌, ℕ, List, [], ◌∷◌, Option, Some, None, Result, Ok, Err, refl, sym, ap, subst, arith, map, length, append-nil, append_assoc, fold, length-map, map-append, Action, Line, Run, Turn, after, run_of, start, step, trace_of, turns_of}
+use Rattle.serf_replay.proofs.Names.{◌≡◌, ◌+◌, ◌++◌, ◌∙◌, ℕ, List, [], ◌∷◌, Option, Some, None, Result, Ok, Err, refl, sym, ap, subst, arith, map, length, append-nil, append_assoc, fold, length-map, map-append, slice_split, Action, Line, Run, Turn, after, run_of, start, step, trace_of, turns_of}
 use Rattle.std.proofs.Common.{inl, inr}
-use Rattle.std.specs.Prelude.{All, IfOk}
+use Rattle.std.specs.Prelude.{All, IfOk, MatchOption, ◌==◌}
 use Rattle.serf_agent.specs.declared.config.Config.{Config}
 use Rattle.serf_world.specs.Kept.{KeepsPromises}
 use Rattle.serf_world.specs.Runs.{AreConfigs}
@@ -13,7 +13,9 @@ use Rattle.serf_replay.specs.Line.{Parsed, after_line}
 use Rattle.serf_replay.specs.Output.{TracesRun, output_of, text_of}
 use Rattle.serf_replay.specs.Schedule.{BadLine, schedule_in, schedule_of}
 use Rattle.serf_replay.specs.Show.{action_text, actions_text, trace_text}
-use Rattle.serf_replay.specs.Turns.{added_text, answer_behind, run_in, run_text, text_behind_turns, turn_answer}
+use Rattle.serf_replay.specs.Replaying.{Follows}
+use Rattle.serf_replay.specs.declared.replaying.Replaying.{Replaying}
+use Rattle.serf_replay.specs.Turns.{Appended, added_text, answer_behind, run_in, run_text, text_behind_turns, turn_answer}
 use Rattle.serf_replay.proofs.GrownLaws.{grown}
 use Rattle.serf_replay.proofs.LineLaws.{line-bad, line-more}
 use Rattle.serf_replay.proofs.ShownLaws.{actions-push, line-stays, sends}
@@ -126,3 +128,36 @@ traces-run turns promises bytes said reads settings =
         promises = promises said.configs said.actions settings sizes;
       },
     )
+
+-- ---- a schedule that is done line by line
+
+pub nothing-told : (r : Replaying) (f : Follows r []) → [] ≡ run_text f.said
+nothing-told r f =
+    let none : Result Parsed BadLine = Ok (record { configs = []; actions = [] }) in
+    let sure : none ≡ Ok f.said = f.reads in
+    let same : record { configs = []; actions = [] } ≡ f.said = cc sure in
+    ap run_text same
+
+pub told-more : (before after : Replaying) (lines : List (List ℕ)) (line old new : List ℕ) (f : Follows before lines) (n : Follows after (lines ++ line ∷ [])) → old ≡ run_text f.said → Appended lines line old new → new ≡ run_text n.said
+told-more before after lines line old new f n is d =
+    let t = tells-more lines line f.said d.text f.reads d.answer in
+    let sure : Ok n.said ≡ Ok t.after = sym n.reads ∙ t.reads in
+    let same : n.said ≡ t.after = cc sure in
+    d.text_is ∙ ap (λ s. s ++ d.text) is ∙ sym t.text_is ∙ ap run_text (sym same)
+
+-- the first of the lines that are left
+pub first-line : {X : Type 0} (m : Option X) (rest : X → List (List ℕ)) (left : List (List ℕ)) (line : List ℕ) → MatchOption m (left ≡ line ∷ []) (λ x. left ≡ line ∷ rest x) → (more : List (List ℕ)) × (left ≡ line ∷ more)
+first-line None rest left line is = ([], is)
+first-line (Some x) rest left line is = (rest x, is)
+
+pub refused-output : (bytes : List ℕ) (lines left : List (List ℕ)) (line : List ℕ) (said : Parsed) (cause : Cause) (number : ℕ) → schedule_in lines ≡ Ok said → slice_split (λ b. b == 10) bytes ≡ lines ++ left → (more : List (List ℕ)) × (left ≡ line ∷ more)
+    → number ≡ length lines + 1 → turn_answer lines line ≡ Err cause → output_of bytes ≡ Err (record { line = number; cause = cause })
+refused-output bytes lines left line said cause number reads split first counted answer =
+    let all : slice_split (λ b. b == 10) bytes ≡ lines ++ line ∷ first.0 = split ∙ ap (λ (l : List (List ℕ)). lines ++ l) first.1 in
+    ap (λ (l : List (List ℕ)). text_of (schedule_in l)) all ∙ ap text_of (refusal-first lines first.0 line said cause reads answer)
+    ∙ ap (λ n. let bad : BadLine = record { line = n; cause = cause } in let err : Result (List ℕ) BadLine = Err bad in err) (sym counted)
+
+pub whole-output : SchedulesTraceRuns → (bytes text : List ℕ) (lines : List (List ℕ)) (r : Replaying) (n : Follows r lines) → slice_split (λ b. b == 10) bytes ≡ lines → text ≡ run_text n.said → (output_of bytes ≡ Ok text) × TracesRun bytes text
+whole-output traces bytes text lines r n split is =
+    let whole = traces bytes n.said (ap schedule_in split ∙ n.reads) n.settings in
+    (whole.0 ∙ ap (λ (t : List ℕ). let ok : Result (List ℕ) BadLine = Ok t in ok) (sym is), subst (TracesRun bytes) (sym is) whole.1)
