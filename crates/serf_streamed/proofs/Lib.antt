@@ -1,3 +1,1 @@
-pub mod TurnLaws
-pub mod LineLaws
 pub mod TextLaws

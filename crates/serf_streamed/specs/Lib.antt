@@ -1,4 +1,1 @@
-pub mod Streamed
-pub mod Steps
 pub mod Stopped
-pub mod Below

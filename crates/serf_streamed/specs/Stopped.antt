@@ -1,16 +1,14 @@
 -- How a schedule that is done line by line stops before its end.
 use Rattle.std.specs.Prelude.{◌≡◌, ℕ, ◌+◌, ◌++◌, ◌<◌, List, ◌∷◌, length, Option, Ok, Err}
-use Rattle.serf_model.specs.Cluster.{trace_of}
 use Rattle.serf_replay.specs.declared.cause.Cause.{Cause}
 use Rattle.serf_replay.specs.Line.{Parsed}
-use Rattle.serf_replay.specs.Schedule.{schedule_of}
-use Rattle.serf_replay.specs.Show.{trace_text}
+use Rattle.serf_replay.specs.Schedule.{schedule_in, schedule_of}
+use Rattle.serf_replay.specs.Turns.{run_text}
 use Rattle.serf_stream.specs.declared.fault.StreamFault.{StreamFault}
 use Rattle.serf_stream.specs.declared.fault.StreamFault.TheVariants.{ReadFault, BadLine, LineTooLong, OutOfMemory, WriteFault}
 use Rattle.serf_stream.specs.declared.kept.TheConstants.{MAX_LINE_BYTES}
 use Rattle.serf_stream.specs.Lines.{lines_of, number_behind}
 use Rattle.serf_stream.specs.Streams.{WritesUpTo}
-use Rattle.serf_streamed.specs.Streamed.{run_in, schedule_in}
 
 -- What a fault says of the lines that were done, and of those that were not.
 abbrev pub IsHaltedBy : StreamFault Cause → List ℕ → List (List ℕ) → List (List ℕ) → Type 0
@@ -31,5 +29,5 @@ pub record IsHalted (fault : StreamFault Cause) (bytes : List ℕ) (first now : 
   pub cut : lines_of bytes ≡ lines ++ left
   pub schedule : Parsed
   pub reads : schedule_in lines ≡ Ok schedule
-  pub written : WritesUpTo fault first now (trace_text (trace_of (run_in schedule)))
+  pub written : WritesUpTo fault first now (run_text schedule)
   pub cause : IsHaltedBy fault bytes lines left

@@ -2,6 +2,5 @@
 #![tactic(auto)]
 
 mod job;
-mod turn;
 
 pub use job::replay_lines;
