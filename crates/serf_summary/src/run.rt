@@ -1,12 +1,12 @@
 //! The summary of a run.
 
-ghost use Rattle.std.specs.Prelude.{◌≡◌, IfOk, OnOk, map};
+ghost use Rattle.std.specs.Prelude.{◌≡◌, false, IfOk, OnOk, map};
 ghost use Rattle.serf_model.specs.Cluster.{Run, after, run_of};
 ghost use Rattle.serf_summary.specs.Summaries.{IsSummary, Stands};
 
 use crate::summary::Summary;
 use serf_replay::{Schedule, Watch};
-use serf_world::{Action, World};
+use serf_world::{Action, StepFault, World};
 use std::alloc::{AllocError, Global};
 
 /// Does an action, and takes its line in.
@@ -16,11 +16,14 @@ fn add_action(
     summary: &mut Summary,
     action: &Action,
 ) -> Result<(), AllocError>
-    ensures { (r : Run) → Stands r world.old summary.old → OnOk result (Stands (after r action.now) world.new summary.new) }
+    requires { world.old.poisoned ≡ false }
+    ensures stands { (r : Run) → Stands r world.old summary.old → OnOk result (Stands (after r action.now) world.new summary.new) }
+    ensures unpoisoned { OnOk result (world.new.poisoned ≡ false) }
 {
     match world.step(alloc, action) {
         Ok(line) => summary.add(alloc, &line),
-        Err(_) => Err(AllocError),
+        Err(StepFault::OutOfMemory) => Err(AllocError),
+        Err(StepFault::Spent) => unreachable!(),
     }
 }
 

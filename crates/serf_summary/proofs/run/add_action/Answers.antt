@@ -6,8 +6,8 @@ use Rattle.serf_model.specs.Cluster.{after, step}
 use Rattle.serf_summary.specs.Summaries.{IsSummary}
 use Rattle.serf_summary.proofs.run.add_action.Goals as goal
 
-pub returns-in-Ok : goal.returns-in-Ok
-returns-in-Ok c = λ r h.
+pub returns-in-Ok-clause-stands : goal.returns-in-Ok-clause-stands
+returns-in-Ok-clause-stands c = λ r h.
     let took = c.in-Ok.ensures.step r.cluster h.view h.representable in
     let before : List Line = map (λ t. t.line) r.turns in
     let lines : before ++ c.in-Ok.line ∷ [] ≡ map (λ t. t.line) (after r c.args.action.now).turns =
