@@ -1,6 +1,6 @@
 //! The picture of a schedule's run.
 
-ghost use Rattle.std.specs.Prelude.{◌≡◌, ◌++◌, ◌∷◌, ◌+◌, [], filter, length, IfOk, OnOk};
+ghost use Rattle.std.specs.Prelude.{◌≡◌, ◌++◌, ◌∷◌, ◌+◌, [], false, filter, length, IfOk, OnOk};
 ghost use Rattle.serf_replay.specs.Schedule.{parsed_of, schedule_of};
 ghost use Rattle.serf_draw.specs.Asked.{is_chosen};
 ghost use Rattle.serf_draw.specs.Drawing.{Drawing, Draws, IsDrawn, drawing_of, IsPicture, drawn, lost_in, row_with, shown_lanes, shown_rows};
@@ -12,7 +12,7 @@ use crate::row::{add_packets, arrow, is_restart, note_packet, tone};
 use serf_agent::Config;
 use serf_replay::{Schedule, ScheduleFault, parse_schedule};
 use serf_wire::Bytes;
-use serf_world::{Action, Line, Roster, World};
+use serf_world::{Action, Line, Roster, StepFault, World};
 use std::alloc::{AllocError, Global};
 
 /// The row of an action that began with these words, from its line.
@@ -57,14 +57,18 @@ fn draw_action(
     number: u64,
     action: &Action,
 ) -> Result<(), AllocError>
-    ensures { (d : Drawing) → IsDrawn asked.now d world.old packets.old.items rows.old.items → number ≡ length d.rows + 1 → OnOk result (IsDrawn asked.now (drawn d action.now) world.new packets.new.items rows.new.items) }
+    requires { world.old.poisoned ≡ false }
+    ensures drawn { (d : Drawing) → IsDrawn asked.now d world.old packets.old.items rows.old.items → number ≡ length d.rows + 1 → OnOk result (IsDrawn asked.now (drawn d action.now) world.new packets.new.items rows.new.items) }
+    ensures unpoisoned { OnOk result (world.new.poisoned ≡ false) }
 {
     let agent = action.actor();
     let words = first_words(alloc, action, action.given(world.sent()))?;
     let before = event_clock(world, agent);
     let arrow = arrow(packets, action);
-    let Ok(line) = world.step(alloc, action) else {
-        return Err(AllocError);
+    let line = match world.step(alloc, action) {
+        Ok(line) => line,
+        Err(StepFault::OutOfMemory) => return Err(AllocError),
+        Err(StepFault::Spent) => unreachable!(),
     };
     let clock = changed_clock(before, event_clock(world, agent));
     let sender = Sender {

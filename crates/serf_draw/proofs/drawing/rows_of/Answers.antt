@@ -16,6 +16,7 @@ loop-action-init c = (
   refl,
   refl,
   refl,
+  c.in_ok-world.ensures.fresh,
 )
 
 pub loop-action-preserved : goal.loop-action-preserved
@@ -25,8 +26,9 @@ loop-action-preserved c =
     let next : drop c.loop-action.action-index c.args.actions.now ≡ c.action-item.result ∷ drop (c.loop-action.action-index + 1) c.args.actions.now = grind (arith, common_steps, c.action-item.is) in
     let one : c.loop-action.number + 1 ≡ length d.rows + 1 = ap (λ n. n + 1) inv.2 in (
       drawn d c.action-item.result,
-      c.in_ok-draw_action.ensures d inv.1 one,
+      c.in_ok-draw_action.ensures.drawn d inv.1 one,
       one ∙ sym (length-append d.rows (_ ∷ [])),
       ap (λ n. n + 1) inv.3,
       ap (fold drawn d) (sym next) ∙ inv.4,
+      c.in_ok-draw_action.ensures.unpoisoned,
     )
