@@ -3,7 +3,7 @@
 ghost use Rattle.std.specs.Prelude.{◌≡◌, ◌++◌, ◌∷◌, [], IfOk};
 ghost use Rattle.serf_written.specs.Running.{HasRun, HasWorld};
 
-use serf_world::{Action, Roster, World};
+use serf_world::{Action, Roster, StepFault, World};
 use std::alloc::{AllocError, Global};
 
 /// The world of these actions: the one that is there, or a fresh one before the first action. `AllocError` where memory
@@ -42,6 +42,7 @@ pub(crate) fn world_behind(
     let mut world = world;
     match world.step(alloc, action) {
         Ok(_) => Ok(world),
-        Err(_) => Err(AllocError),
+        Err(StepFault::OutOfMemory) => Err(AllocError),
+        Err(StepFault::Spent) => unreachable!(),
     }
 }
