@@ -42,6 +42,10 @@ impl<'a, R: Clock + Eprint> Progress<'a, R> {
 }
 
 impl<R: Clock + Eprint> Watch for Progress<'_, R> {
+    fn is_watching(&self) -> bool {
+        self.since.is_some()
+    }
+
     fn acted(&mut self, done: u64, all: u64) {
         if done % ACTIONS == 0
             && let Some(since) = self.since
