@@ -175,15 +175,7 @@ impl HandedQuery {
         requires { length (response_packet self.now payload.now) ≤ 1024 }
         ensures { IfOk result (λ packet. packet ≡ response_packet self.now payload.now) }
     {
-        let node = self.parts.node.as_slice();
-        match encode_response(
-            alloc,
-            self.parts.time.get(),
-            self.parts.id,
-            node,
-            0,
-            payload,
-        ) {
+        match encode_response(alloc, self.time().get(), self.id(), self.node(), 0, payload) {
             Ok(packet) => Ok(Bytes::from_vec(packet)),
             Err(EncodeFault::TooLong) => unreachable!(),
             Err(EncodeFault::OutOfMemory) => Err(AllocError),
