@@ -36,7 +36,8 @@ fn add_actions(
     let mut player = Player::new(alloc, ask, roster)?;
     let mut actions = Vec::new(alloc);
     for _action in 0..ask.actions {
-        let action = player.play(alloc)?;
+        let (played, action) = player.play(alloc)?;
+        player = played;
         if !add_action(text, &mut actions, action)? {
             return Ok(actions);
         }

@@ -1,5 +1,7 @@
 //! A cluster that is stepped along, and what is done in it next.
 
+ghost use Rattle.std.specs.Prelude.{◌≡◌, false};
+
 use crate::ask::Ask;
 use crate::dice::Dice;
 use crate::kind::Kind;
@@ -7,7 +9,7 @@ use crate::strangers::stranger;
 use crate::times::near;
 use crate::verb::{Verb, verbs};
 use crate::{own, pools};
-use serf_world::{Action, Line, Roster, World};
+use serf_world::{Action, Line, Roster, StepFault, World};
 use std::alloc::{AllocError, Global};
 
 /// What follows an action: the packet that it sent goes on.
@@ -45,6 +47,8 @@ pub(crate) struct Player {
     pub(crate) query: LastQuery,
     /// How many queries were handed to some agent in its life, at most.
     pub(crate) handed: u64,
+    // memory hasn't run out
+    ghost unpoisoned: { world.poisoned ≡ false },
 }
 
 /// The seed of a player's numbers: other ones than those of the settings.
@@ -72,16 +76,17 @@ impl Player {
         })
     }
 
-    /// The next action, which was done.
-    pub(crate) fn play(&mut self, alloc: Global) -> Result<Action, AllocError> {
-        let action = self.choose(alloc)?;
-        match self.world.step(alloc, &action) {
-            Ok(line) => {
-                self.note(&action, &line);
-                Ok(action)
-            }
-            Err(_) => Err(AllocError),
-        }
+    /// The player that has done the next action, and that action. Where memory runs out, the player is let go.
+    pub(crate) fn play(self, alloc: Global) -> Result<(Player, Action), AllocError> {
+        let mut player = self;
+        let action = player.choose(alloc)?;
+        let line = match player.world.step(alloc, &action) {
+            Ok(line) => line,
+            Err(StepFault::OutOfMemory) => return Err(AllocError),
+            Err(StepFault::Spent) => unreachable!(),
+        };
+        player.note(&action, &line);
+        Ok((player, action))
     }
 
     fn choose(&mut self, alloc: Global) -> Result<Action, AllocError> {
