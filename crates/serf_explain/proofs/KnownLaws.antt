@@ -17,7 +17,7 @@ use Rattle.serf_model.specs.declared.line.Line.{Line}
 use Rattle.serf_model.specs.Cluster.{Cluster, IdealNode, Run, after, delivers, on_agent, step, step_by}
 use Rattle.serf_model.specs.Promises.{SeenWasHanded}
 use Rattle.serf_model.specs.Trace.{Turn, actor_of, packet_given}
-use Rattle.serf_explain.specs.HandOuts.{IsKnown, KnowsSeen, Note, is_note, notes_from}
+use Rattle.serf_explain.specs.HandOuts.{KnowsSeen, Note, is_note, notes_from}
 use Rattle.serf_explain.specs.Seen.{event_delivered, event_given, event_read}
 use Rattle.serf_explain.proofs.NoteLaws.{handed-noted}
 

@@ -190,10 +190,11 @@ run-length : (r : Run) (done : List Action) → length (fold after r done).turns
 run-length r [] = omega arith
 run-length r (x ∷ xs) = run-length (after r x) xs ∙ (let one = length-append r.turns ((step r.cluster x).turn ∷ []) in let sum : length (after r x).turns + length xs ≡ length r.turns + length (x ∷ xs) = omega (arith, one) in sum)
 
-pub told-next : (range : Range) (configs : List Config) (done : List Action) (action : Action) (w : WorldState) (past : List Note) (text : List ℕ) → AreConfigs configs
+pub told-next : (range : Range) (configs : List Config) (done : List Action) (action : Action) (w : WorldState) (past : List Note) (text : List ℕ) → AreConfigs configs → w.poisoned ≡ false
     → IsTold range (after (run_of configs done) action) (clusters_before configs done ++ (run_of configs done).cluster ∷ []) w past text → HasTold range configs (done ++ action ∷ []) w past text
-told-next range configs done action w past text settings h = record {
+told-next range configs done action w past text settings unpoisoned h = record {
   settings = settings;
+  unpoisoned = unpoisoned;
   told = subst (λ (r : Run). IsTold range r (clusters_before configs (done ++ action ∷ [])) w past text) (sym (run-push configs done action))
       (subst (λ (cs : List Cluster). IsTold range (after (run_of configs done) action) cs w past text) (sym (clusters-from (start configs) done action)) h);
 }
@@ -203,9 +204,10 @@ pub next-number : (configs : List Config) (done : List Action) (n : ℕ) → n �
 next-number configs done n is = omega (arith, is, run-length (start configs) done)
 
 -- a run of no action
-pub told-first : (range : Range) (configs : List Config) (w : WorldState) (past : List Note) (text : List ℕ) → AreConfigs configs → IsViewed (start configs).cluster w → AreRepresentable (start configs).cluster → past ≡ [] → text ≡ [] → HasTold range configs [] w past text
-told-first range configs w past text settings view representable none empty = record {
+pub told-first : (range : Range) (configs : List Config) (w : WorldState) (past : List Note) (text : List ℕ) → AreConfigs configs → w.poisoned ≡ false → IsViewed (start configs).cluster w → AreRepresentable (start configs).cluster → past ≡ [] → text ≡ [] → HasTold range configs [] w past text
+told-first range configs w past text settings unpoisoned view representable none empty = record {
   settings = settings;
+  unpoisoned = unpoisoned;
   told = record {
     view = view;
     representable = representable;

@@ -1,5 +1,5 @@
 -- A trace with its reasons.
-use Rattle.std.specs.Prelude.{◌≡◌, ℕ, ◌+◌, ◌<◌, ◌++◌, Bool, true, if◌then◌else◌, List, [], ◌∷◌, Ok, All, length, map}
+use Rattle.std.specs.Prelude.{◌≡◌, ℕ, ◌+◌, ◌<◌, ◌++◌, Bool, true, false, if◌then◌else◌, List, [], ◌∷◌, Ok, All, length, map}
 use Rattle.std.specs.List.{flat_map}
 use Rattle.serf_agent.specs.declared.config.Config.{Config}
 use Rattle.serf_agent.specs.declared.outcome.Reason.TheVariants.{Seen}
@@ -103,9 +103,10 @@ pub record IsTold (range : Range) (r : Run) (clusters : List Cluster) (w : World
   pub whole : IsExplained range r.turns clusters explained
   pub told : (more : List (List ℕ)) → turns_text range (r.cluster.sent ++ more) 1 explained ≡ text
 
--- The world did these actions in a cluster of agents of these settings, and the text tells them.
+-- The world did these actions in a cluster of agents of these settings and isn't poisoned, and the text tells them.
 pub record HasTold (range : Range) (configs : List Config) (done : List Action) (w : WorldState) (notes : List Note) (text : List ℕ) : Type 0 where
   pub settings : AreConfigs configs
+  pub unpoisoned : w.poisoned ≡ false
   pub told : IsTold range (run_of configs done) (clusters_before configs done) w notes text
 
 -- What is told of an action: of a merge what was told of its events; of an event that was seen which action handed it out.

@@ -19,7 +19,7 @@ use serf_replay::{
     Cause, InputFault, MAX_SCHEDULE_BYTES, ReplayFault, Schedule, ScheduleFault, Watch, lines_stay,
     parse_schedule, put_action, read_input, write_output,
 };
-use serf_world::{Action, World};
+use serf_world::{Action, StepFault, World};
 use std::alloc::{AllocError, Global};
 use std::io::{Read, Write};
 
@@ -67,8 +67,10 @@ fn add_turn(
     lines_stay();
     run_promises();
     let carried = lines_before(alloc, world, history, number, action)?;
-    let Ok(line) = world.step(alloc, action) else {
-        return Err(AllocError);
+    let line = match world.step(alloc, action) {
+        Ok(line) => line,
+        Err(StepFault::OutOfMemory) => return Err(AllocError),
+        Err(StepFault::Spent) => unreachable!(),
     };
     let told = Told {
         number,

@@ -23,7 +23,7 @@ returns c = λ configs done has number.
     let shown = c.shows.ensures ∙ ap (λ o. is_shown c.args.range.now c.args.number o) c.actor.ensures in
     let line : Line = c.in-Ok.line in
     on_ok_weaker c.note.result
-    (λ is. told-next c.args.range.now configs done c.args.action.now c.step.new.self (notes_in c.note.new.self.hand_outs.outs.items) c.put_turn.new.out.items has.settings
+    (λ is. told-next c.args.range.now configs done c.args.action.now c.step.new.self (notes_in c.note.new.self.hand_outs.outs.items) c.put_turn.new.out.items has.settings c.in-Ok.ensures.ok
     (told-after c.args.range.now r (clusters_before configs done) c.args.action.now c.args.world.now c.step.new.self line carried past (notes_in c.note.new.self.hand_outs.outs.items) c.args.out.now.items c.put_turn.new.out.items c.args.number
     (c.lines_stay.ensures.sent r.cluster c.args.action.now) (λ more. c.lines_stay.ensures.lines r.cluster c.args.action.now c.args.number more)
     h count (subst (λ (ls : List Carried). TellsMerge r.cluster c.args.action.now (reasons_in ls)) (sym c.deref.ensures.value) (c.in_ok-carried.ensures r.cluster h.view h.representable)) (c.in-Ok.ensures.step r.cluster h.view h.representable)

@@ -10,7 +10,7 @@ pub loop-action-init : goal.loop-action-init
 loop-action-init g c =
     let all = c.into_iter-action-iterator.ensures.into_iter_gives.0 in (
       [],
-      told-first c.args.range.now c.args.schedule.agents c.in_ok-world.world (notes_in c.in_ok-history.history.hand_outs.outs.items) c.new-out.result.items c.in_ok-world.ensures.configs c.in_ok-world.ensures.start c.in_ok-world.ensures.representable c.in_ok-history.ensures c.new-out.ensures.items,
+      told-first c.args.range.now c.args.schedule.agents c.in_ok-world.world (notes_in c.in_ok-history.history.hand_outs.outs.items) c.new-out.result.items c.in_ok-world.ensures.configs c.in_ok-world.ensures.fresh c.in_ok-world.ensures.start c.in_ok-world.ensures.representable c.in_ok-history.ensures c.new-out.ensures.items,
       refl,
       omega (arith, ap length all),
       all,
