@@ -1,13 +1,13 @@
 //! Actions up to the first whose turn isn't common.
 
-ghost use Rattle.std.specs.Prelude.{◌+◌, ◌≤◌, ℕ, IfOk, List, OnOk, length};
+ghost use Rattle.std.specs.Prelude.{◌≡◌, ◌+◌, ◌≤◌, ℕ, false, IfOk, List, OnOk, length};
 ghost use Rattle.serf_agent.specs.declared.config.Config.{Config};
 ghost use Rattle.serf_common_turns.specs.Cut.{AreKept, GoesOn, IsAlong, MayAdd};
 
 use serf_conform::is_common_turn;
 use serf_replay::MAX_SCHEDULE_BYTES;
 use serf_schedule_text::{is_sayable, put_action};
-use serf_world::{Action, Roster, World};
+use serf_world::{Action, Roster, StepFault, World};
 use std::alloc::{AllocError, Global};
 
 /// Appends an action and its line, and says whether it did: not where the text would be too long.
@@ -33,15 +33,19 @@ fn add_turn(
     kept: &mut Vec<Action>,
     action: Action,
 ) -> Result<bool, AllocError>
+    requires { world.old.poisoned ≡ false }
     ensures along { (configs : List Config) (first : List ℕ) → IsAlong configs first text.old.items kept.old.items world.old
         → IfOk result (λ more. GoesOn more configs first text.new.items kept.new.items world.new) }
     ensures few { OnOk result (length kept.new.items ≤ length kept.old.items + 1) }
+    ensures unpoisoned { OnOk result (world.new.poisoned ≡ false) }
 {
     if !is_sayable(&action) {
         return Ok(false);
     }
-    let Ok(line) = world.step(alloc, &action) else {
-        return Err(AllocError);
+    let line = match world.step(alloc, &action) {
+        Ok(line) => line,
+        Err(StepFault::OutOfMemory) => return Err(AllocError),
+        Err(StepFault::Spent) => unreachable!(),
     };
     if !is_common_turn(&action, &line) {
         return Ok(false);

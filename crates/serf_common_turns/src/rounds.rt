@@ -1,9 +1,9 @@
 //! Actions whose turns aren't common, left out in rounds.
 
-ghost use Rattle.std.specs.Prelude.{◌+◌, ◌≤◌, IfOk, OnOk, length};
+ghost use Rattle.std.specs.Prelude.{◌≡◌, ◌+◌, ◌≤◌, false, IfOk, OnOk, length};
 
 use serf_conform::is_common_turn;
-use serf_world::{Action, Roster, World};
+use serf_world::{Action, Roster, StepFault, World};
 use std::alloc::{AllocError, Global};
 
 /// How often actions are left out, at most: what is left runs otherwise, so that other turns may rest on a rule of our
@@ -17,10 +17,14 @@ fn keep_common(
     kept: &mut Vec<Action>,
     action: Action,
 ) -> Result<(), AllocError>
+    requires { world.old.poisoned ≡ false }
     ensures few { OnOk result (length kept.new.items ≤ length kept.old.items + 1) }
+    ensures unpoisoned { OnOk result (world.new.poisoned ≡ false) }
 {
-    let Ok(line) = world.step(alloc, &action) else {
-        return Err(AllocError);
+    let line = match world.step(alloc, &action) {
+        Ok(line) => line,
+        Err(StepFault::OutOfMemory) => return Err(AllocError),
+        Err(StepFault::Spent) => unreachable!(),
     };
     if is_common_turn(&action, &line) {
         kept.push(action)?;
