@@ -84,6 +84,7 @@ GROWTHS = {
     "sink_with": 1,
     "step": 165,
     "take_due": 27,
+    "take_line": 200,
 }
 
 # Each public call that is passed an allocator, and the case that makes it; None where it takes no memory.
@@ -102,6 +103,8 @@ CALLS = {
     "serf_agent HandedQuery::respond": "respond",
     "serf_agent List::new": None,
     "serf_model Boxed::new": "parse_schedule",
+    "serf_replay Replaying::new": None,
+    "serf_replay Replaying::take_line": "take_line",
     "serf_replay bytes_at": "parse_schedule",
     "serf_replay clocks_text": "clocks_text",
     "serf_replay decode_text": "decode_text",
