@@ -1,5 +1,5 @@
 -- What sound settings are.
-use Rattle.serf_agent.proofs.Names.{◌≡◌, ℕ, ◌<◌, ◌≤◌, ◌&&◌, nat_le, Bool, true, length, arith, and_parts, leb-true}
+use Rattle.serf_agent.proofs.Names.{◌≡◌, ◌≤◌, ◌&&◌, nat_le, true, length, and_parts, leb-true}
 use Rattle.serf_agent.specs.declared.config.Config.{Config}
 use Rattle.serf_agent.specs.Config.{is_sound, is_between}
 

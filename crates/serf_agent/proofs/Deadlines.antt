@@ -1,5 +1,5 @@
 -- The least deadline of open queries.
-use Rattle.serf_agent.proofs.Names.{◌≡◌, ℕ, ◌<◌, ◌≤◌, ◌↔◌, min, inl, inr, List, [], ◌∷◌, ◌++◌, length, map, filter, Option, Some, None, IsSomeAnd, nat_lt, refl, ap, arith, ◌∙◌, cases_lt, le-ltb, lt-ltb}
+use Rattle.serf_agent.proofs.Names.{◌≡◌, ℕ, ◌<◌, ◌≤◌, ◌↔◌, inl, inr, List, [], ◌∷◌, ◌++◌, length, map, filter, Option, Some, None, IsSomeAnd, refl, ap, arith, ◌∙◌, cases_lt, le-ltb, lt-ltb}
 use Rattle.serf_agent.specs.declared.open_query.OpenQuery.{OpenQuery}
 use Rattle.serf_agent.specs.LentQueries.{least, lesser}
 use Rattle.serf_agent.specs.Queries.{is_due}

@@ -1,5 +1,5 @@
 -- What a note's answer says of the sink's choice.
-use Rattle.serf_agent.proofs.Names.{◌≡◌, ℕ, ◌<◌, ◌≤◌, nat_le, Bool, true, false, MatchBool, List, Option, refl, sym, subst, ap, leb-false, lt-leb, ClockKind, clock_line, SnapshotView, Writing, Kept, Failed, last_line, MayWrite}
+use Rattle.serf_agent.proofs.Names.{◌≡◌, ℕ, ◌<◌, nat_le, Bool, true, false, MatchBool, List, Option, refl, sym, subst, leb-false, lt-leb, ClockKind, clock_line, SnapshotView, Kept, Failed, last_line, MayWrite}
 use Rattle.serf_agent.specs.Calls.{MayNote}
 
 pub may-kept : (kind : ClockKind) (t : ℕ) (s : SnapshotView) → (last_line kind s < t → MayWrite s (clock_line kind t) Kept) → MayNote kind t s Kept

@@ -1,5 +1,5 @@
 -- Each change of a sound agent leaves a sound agent.
-use Rattle.serf_agent.proofs.Names.{◌≡◌, ◌≢◌, ℕ, ◌+◌, ◌-◌, ◌^◌, ◌<◌, ◌≤◌, ◌==◌, ◌&&◌, nat_lt, nat_le, nat_eq, max, not, cond, Bool, true, false, List, [], ◌∷◌, ◌++◌, length, filter, get_or, Option, Some, None, MatchBool, refl, sym, ◌∙◌, ap, subst, arith, ◌⊎◌, inl, inr, All, AllPairs, list_any, bytes_eq, cases_Bool, leb-true, leb-false, and_from, eq-eqb, true≢false, All-nil, All-push, All-weaker, All-filter, AllPairs-filter, all_pairs_push, bytes_eq-Decides, EventBody, PushPull, Query, QueryResponse, same_texts, same_id, ClockKind, clock_line, last_clock, Device, SnapshotView, Writing, Kept, Failed, last_line, noted, written, compacted, KeepsPart, KeepsEither, compaction_of, MayWrite, MayReplace, opened, ltb-false}
+use Rattle.serf_agent.proofs.Names.{◌≡◌, ◌≢◌, ℕ, ◌+◌, ◌-◌, ◌^◌, ◌<◌, ◌≤◌, ◌==◌, ◌&&◌, nat_lt, nat_le, nat_eq, max, not, cond, Bool, true, false, List, [], ◌∷◌, ◌++◌, Option, Some, None, MatchBool, refl, sym, subst, arith, inl, inr, All, AllPairs, cases_Bool, leb-true, leb-false, and_from, eq-eqb, All-nil, All-push, All-weaker, All-filter, AllPairs-filter, all_pairs_push, bytes_eq-Decides, EventBody, PushPull, Query, QueryResponse, same_texts, same_id, ClockKind, clock_line, last_clock, Device, SnapshotView, Writing, Kept, Failed, last_line, noted, written, compacted, KeepsPart, KeepsEither, compaction_of, MayWrite, MayReplace, opened, ltb-false}
 use Rattle.serf_snap.specs.declared.kind.ClockKind.TheVariants as kinds
 use Rattle.serf_agent.specs.Snapshots.{SnapshotLaws}
 use Rattle.serf_agent.specs.Calls.{MayNote}
@@ -8,12 +8,12 @@ use Rattle.serf_agent.specs.declared.config.Config.{Config}
 use Rattle.serf_agent.specs.declared.open_query.OpenQuery.{OpenQuery}
 use Rattle.serf_agent.specs.Events.{admission, event_observed, event_entered, texts_len}
 use Rattle.serf_agent.specs.Queries.{query_admission, query_observed, query_entered, query_asked, opened_query, is_due, asked_at, with_asked_at, close_due, counted, is_ack, answer_ignore_reason, ack_ignore_reason, response_ignore_reason, has_acked, has_responded}
-use Rattle.serf_agent.specs.Ideal.{IdealAgent, Past, Track, with_snapshot, with_asked}
+use Rattle.serf_agent.specs.Ideal.{IdealAgent, with_snapshot, with_asked}
 use Rattle.serf_agent.specs.Restart.{restarted, IsInText, unopened}
 use Rattle.serf_agent.specs.Sound.{IsSound, IsOpenQuerySound}
 use Rattle.serf_agent.specs.States.{joined}
-use Rattle.serf_agent.specs.Tracks.{track_reason, was_ever_entered, IsTrackSound}
-use Rattle.serf_agent.proofs.TrackLaws.{track-entered, track-observed, track-raised, track-reopened, track-noted, unknown-fresh, later-fresh, no-reason, none-from}
+use Rattle.serf_agent.specs.Tracks.{track_reason, IsTrackSound}
+use Rattle.serf_agent.proofs.TrackLaws.{track-entered, track-observed, track-raised, track-reopened, unknown-fresh, later-fresh, no-reason, none-from}
 use Rattle.serf_agent.specs.declared.outcome.Reason.{Reason}
 use Rattle.serf_agent.specs.declared.outcome.Reason.TheVariants.{OtherId, Closed, AckNotAsked, AckTwice, ResponseTwice}
 use Rattle.serf_agent.specs.declared.lists.Response.{Response as ResponseText}

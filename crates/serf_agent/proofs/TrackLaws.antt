@@ -1,5 +1,5 @@
 -- What a sound track stays, and that its window decides as its whole history does.
-use Rattle.serf_agent.proofs.Names.{◌≡◌, ◌≢◌, ℕ, ◌+◌, ◌<◌, ◌≤◌, ◌==◌, ◌&&◌, ◌||◌, ◌%◌, ◌⊎◌, inl, inr, nat_lt, nat_le, max, cond, Bool, true, false, List, [], ◌∷◌, ◌++◌, length, map, filter, get_or, Option, Some, None, refl, sym, ◌∙◌, ap, subst, arith, All, list_any, range_with_len, cases_Bool, eqb-false, eq-eqb, ne_eqb, true≢false, or_parts, and_from, ltb-false, All-nil, All-cons, All-head, All-tail, All-push, All-weaker, all_pairs_push, get_or-map-range_with_len, length-map-range_with_len, observed, Verdict, TimedEntry, SlotOf, greatest_time, entries_of, slots_of, was_entered, count_at, verdict_of, TimesBelow}
+use Rattle.serf_agent.proofs.Names.{◌≡◌, ◌≢◌, ℕ, ◌+◌, ◌<◌, ◌≤◌, ◌==◌, ◌&&◌, ◌||◌, ◌%◌, inl, inr, nat_lt, nat_le, max, cond, Bool, true, false, List, [], ◌∷◌, ◌++◌, length, Option, Some, None, refl, sym, ◌∙◌, ap, subst, arith, All, cases_Bool, eqb-false, eq-eqb, ne_eqb, true≢false, or_parts, and_from, ltb-false, All-nil, All-cons, All-head, All-tail, All-push, All-weaker, all_pairs_push, get_or-map-range_with_len, length-map-range_with_len, observed, Verdict, TimedEntry, SlotOf, greatest_time, entries_of, slots_of, was_entered, count_at, verdict_of, TimesBelow}
 use Rattle.serf_window.specs.Window.{slot_of}
 use Rattle.serf_agent.specs.declared.outcome.Reason.{Reason}
 use Rattle.serf_agent.specs.declared.outcome.Reason.TheVariants.{BelowMinimum, TooOld, Seen, TimeFull}

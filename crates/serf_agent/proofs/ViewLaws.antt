@@ -1,17 +1,16 @@
 -- What an agent stores of the ideal agent, after each change.
-use Rattle.serf_agent.proofs.Names.{◌≡◌, ℕ, ◌+◌, ◌<◌, max, List, [], ◌∷◌, ◌++◌, length, Option, refl, sym, ◌∙◌, ap, subst, observed, EventBody, TimedEntry, slots_of, ClockKind, Device, SnapshotView, Writing, Kept, Failed, noted, written, opened}
-use Rattle.serf_snap.specs.declared.kind.ClockKind.TheVariants as kinds
+use Rattle.serf_agent.proofs.Names.{◌≡◌, ℕ, ◌+◌, List, [], Option, sym, ◌∙◌, ap, observed, EventBody, slots_of, ClockKind, Device, SnapshotView, Failed, written, opened}
 use Rattle.serf_agent.specs.declared.config.Config.{Config}
 use Rattle.serf_agent.specs.declared.open_query.OpenQuery.{OpenQuery}
-use Rattle.serf_agent.specs.Events.{event_observed, event_entered}
-use Rattle.serf_agent.specs.Ideal.{IdealAgent, with_snapshot, with_asked}
+use Rattle.serf_agent.specs.Events.{event_observed}
+use Rattle.serf_agent.specs.Ideal.{IdealAgent, with_snapshot}
 use Rattle.serf_agent.specs.Inside.{first_concrete}
-use Rattle.serf_agent.specs.Queries.{query_observed, query_entered}
+use Rattle.serf_agent.specs.Queries.{query_observed}
 use Rattle.serf_agent.specs.Restart.{restarted}
 use Rattle.serf_agent.specs.Sound.{IsSound}
-use Rattle.serf_agent.specs.Tracks.{ConcreteTrack, view_of_track, track_observed, track_entered}
+use Rattle.serf_agent.specs.Tracks.{ConcreteTrack}
 use Rattle.serf_agent.specs.View.{ConcreteState, view_of, concrete_with}
-use Rattle.serf_agent.proofs.TrackLaws.{of_life-none, view-observed, view-entered}
+use Rattle.serf_agent.proofs.TrackLaws.{of_life-none, view-observed}
 
 pub concrete-eq : (new : ConcreteState) (config : Config) (member_clock : ℕ) (events : ConcreteTrack EventBody) (queries : ConcreteTrack ℕ) (snapshot : SnapshotView) (asked : List (ℕ × OpenQuery))
     → new.config ≡ config → new.member_clock ≡ member_clock → new.events ≡ events → new.queries ≡ queries → new.snapshot ≡ snapshot → new.asked ≡ asked

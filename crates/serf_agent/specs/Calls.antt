@@ -1,6 +1,6 @@
 -- What a call of the ideal agent comes to. Every call has one form: it ends at once, or a clock line comes first,
 -- and then the sink's choice decides.
-use Rattle.std.specs.Prelude.{◌≡◌, ℕ, nat_le, if◌then◌else◌, MatchBool, Some}
+use Rattle.std.specs.Prelude.{◌≡◌, ℕ, nat_le, if◌then◌else◌, MatchBool}
 use Rattle.serf_snap.specs.declared.kind.ClockKind.{ClockKind}
 use Rattle.serf_snap.specs.Clocks.{clock_line}
 use Rattle.serf_snap.specs.Notes.{SnapshotView, Writing, Kept, Failed, last_line, noted, written, compacted, MayWrite, MayReplace, will_write, will_replace}

@@ -1,7 +1,20 @@
 -- An agent's settings (`config.go`: `NodeName`, `EventBuffer`, `QueryBuffer`, `UserEventSizeLimit`; the bounds are this
 -- project's own).
 use Rattle.std.specs.Prelude.{ℕ, ◌&&◌, nat_le, Bool, length}
+use Rattle.serf_window.specs.Window.{greatest_per_time, greatest_slot_count}
 use Rattle.serf_agent.specs.declared.config.Config.{Config}
+
+-- the most bytes of a node's name (this project's own)
+abbrev pub longest_name : ℕ
+longest_name = 128
+
+-- the most bytes that an event's name and payload have together (`serf.go`, `UserEventSizeLimit`)
+abbrev pub longest_texts : ℕ
+longest_texts = 9216
+
+-- the most nodes whose acks and responses a query keeps (this project's own)
+abbrev pub greatest_responders : ℕ
+greatest_responders = 65536
 
 abbrev pub is_between : ℕ → ℕ → ℕ → Bool
 is_between low high n = nat_le low n && nat_le n high
@@ -9,9 +22,9 @@ is_between low high n = nat_le low n && nat_le n high
 -- whether an agent can have these settings
 abbrev pub is_sound : Config → Bool
 is_sound c =
-    is_between 1 128 (length c.name)
-    && is_between 1 65536 c.event_buffer
-    && is_between 1 65536 c.query_buffer
-    && nat_le c.event_limit 9216
-    && is_between 1 65536 c.responders
-    && is_between 1 65536 c.per_time
+    is_between 1 longest_name (length c.name)
+    && is_between 1 greatest_slot_count c.event_buffer
+    && is_between 1 greatest_slot_count c.query_buffer
+    && nat_le c.event_limit longest_texts
+    && is_between 1 greatest_responders c.responders
+    && is_between 1 greatest_per_time c.per_time

@@ -1,11 +1,13 @@
 -- What the ideal agent does with user events (Serf's internals page, "Lamport Clocks"; `serf.go`, `UserEvent` and
 -- `handleUserEvent`).
 use Rattle.std.specs.Prelude.{ℕ, ◌+◌, ◌-◌, ◌^◌, ◌||◌, min, nat_lt, nat_le, Bool, if◌then◌else◌, length, List, Option, Some, None, Result, Ok, Err}
+use Rattle.serf_lamport.specs.Clock.{greatest_clock}
 use Rattle.serf_wire.specs.declared.texts.EventBody.{EventBody}
 use Rattle.serf_wire.specs.Canonical.{canonical}
-use Rattle.serf_wire.specs.Message.{UserEvent, user_event}
+use Rattle.serf_wire.specs.Message.{user_event}
 use Rattle.serf_window.specs.Texts.{same_texts}
 use Rattle.serf_snap.specs.declared.kind.ClockKind.TheVariants as kinds
+use Rattle.serf_agent.specs.Config.{longest_texts}
 use Rattle.serf_agent.specs.declared.outcome.EventOut.{EventOut}
 use Rattle.serf_agent.specs.declared.outcome.Fired.{Fired}
 use Rattle.serf_agent.specs.declared.outcome.FireFault.{FireFault}
@@ -28,7 +30,7 @@ texts_len what = length what.name + length what.payload
 -- its texts have more than 9,216 bytes.
 abbrev pub admission : IdealAgent → ℕ → EventBody → Option Reason
 admission i t what =
-    if nat_lt 9216 (texts_len what) then Some Oversize else
+    if nat_lt longest_texts (texts_len what) then Some Oversize else
     track_reason same_texts i.config.event_buffer i.config.per_time i.life i.events t what
 
 -- the agent once it has observed an event's time
@@ -69,7 +71,7 @@ abbrev pub fire_fault : IdealAgent → EventBody → Bool → Option FireFault
 fire_fault i what coalesce =
     if i.snapshot.stopped then Some faults.Stopped else
     if is_too_large i.config.event_limit (drawn i.events.clock) what coalesce then Some faults.TooLarge else
-    if nat_le (2 ^ 64 - 1) i.events.clock then Some faults.Exhausted else None
+    if nat_le greatest_clock i.events.clock then Some faults.Exhausted else None
 
 -- An event that is fired: at the clock's time its line is written, and then it enters and is handed out.
 abbrev pub fired_as : Option FireFault → IdealAgent → EventBody → Bool → Call (Result Fired FireFault)

@@ -1,48 +1,49 @@
 -- What holds of every sound agent's steps, and of every short packet.
-use Rattle.std.specs.Prelude.{◌≡◌, ◌≢◌, ◌+◌, ◌-◌, ◌^◌, ◌<◌, ◌≤◌, ℕ, Bool, true, false, List, length, Option, None, All}
+use Rattle.std.specs.Prelude.{◌≡◌, ◌≢◌, ◌+◌, ◌<◌, ◌≤◌, ℕ, Bool, true, false, List, length, Option, None, All}
+use Rattle.serf_lamport.specs.Clock.{greatest_clock}
 use Rattle.serf_wire.specs.declared.texts.EventBody.{EventBody}
 use Rattle.serf_wire.specs.Canonical.{canonical, has_long}
 use Rattle.serf_wire.specs.Message.{PushPull, Query, query, response_of, user_event_of}
 use Rattle.serf_snap.specs.declared.kind.ClockKind.{ClockKind}
 use Rattle.serf_snap.specs.declared.kind.ClockKind.TheVariants as kinds
 use Rattle.serf_snap.specs.Device.{Device}
-use Rattle.serf_snap.specs.Notes.{SnapshotView, Writing, Kept, Failed, MayReplace, compacted, noted, opened, written}
+use Rattle.serf_snap.specs.Notes.{Writing, Kept, Failed, MayReplace, compacted, noted, opened, written}
 use Rattle.serf_agent.specs.Calls.{MayNote}
-use Rattle.serf_agent.specs.Config.{is_sound}
+use Rattle.serf_agent.specs.Config.{is_sound, longest_texts}
 use Rattle.serf_agent.specs.declared.config.Config.{Config}
 use Rattle.serf_agent.specs.Events.{admission, event_entered, event_observed, texts_len}
 use Rattle.serf_agent.specs.Ideal.{IdealAgent, with_snapshot}
-use Rattle.serf_agent.specs.Queries.{query_admission, query_asked, query_entered, query_observed}
+use Rattle.serf_agent.specs.Queries.{longest_query, longest_response, query_admission, query_asked, query_entered, query_observed}
 use Rattle.serf_agent.specs.Restart.{IsInText, restarted, unopened}
 use Rattle.serf_agent.specs.Sound.{IsSound}
 use Rattle.serf_agent.specs.States.{joined}
 
 -- nothing of a packet that an agent sends is too long for its header
 pub record ShortPackets : Type 0 where
-  pub event_fits : (t : ℕ) (name payload : List ℕ) (flag : Bool) → length name + length payload ≤ 9216 → has_long (user_event_of t name payload flag) ≡ false
-  pub query_fits : (q : Query) → length (canonical (query q)) ≤ 1024 → has_long (query q) ≡ false
-  pub response_fits : (t id : ℕ) (from : List ℕ) (flags : ℕ) (payload : List ℕ) → length from ≤ 9216 → length payload ≤ 9216 → has_long (response_of t id from flags payload) ≡ false
+  pub event_fits : (t : ℕ) (name payload : List ℕ) (flag : Bool) → length name + length payload ≤ longest_texts → has_long (user_event_of t name payload flag) ≡ false
+  pub query_fits : (q : Query) → length (canonical (query q)) ≤ longest_query → has_long (query q) ≡ false
+  pub response_fits : (t id : ℕ) (from : List ℕ) (flags : ℕ) (payload : List ℕ) → length from ≤ longest_texts → length payload ≤ longest_texts → has_long (response_of t id from flags payload) ≡ false
   -- and a short answer has short texts
-  pub texts_short : (t id : ℕ) (from : List ℕ) (flags : ℕ) (payload : List ℕ) → length (canonical (response_of t id from flags payload)) ≤ 1024 → (length from ≤ 9216) × (length payload ≤ 9216)
+  pub texts_short : (t id : ℕ) (from : List ℕ) (flags : ℕ) (payload : List ℕ) → length (canonical (response_of t id from flags payload)) ≤ longest_response → (length from ≤ longest_texts) × (length payload ≤ longest_texts)
 
 -- what an agent admits was never entered, and an event has short texts
 pub record AdmitsNew : Type 0 where
-  pub event_new : (i : IdealAgent) (t : ℕ) (what : EventBody) → admission i t what ≡ None → (texts_len what ≤ 9216) × All (λ p. p.entry ≢ record { time = t; key = what }) i.events.history
+  pub event_new : (i : IdealAgent) (t : ℕ) (what : EventBody) → admission i t what ≡ None → (texts_len what ≤ longest_texts) × All (λ p. p.entry ≢ record { time = t; key = what }) i.events.history
   pub query_new : (i : IdealAgent) (t id : ℕ) → query_admission i t id ≡ None → All (λ p. p.entry ≢ record { time = t; key = id }) i.queries.history
 
 -- each change of a sound agent leaves a sound agent
 pub record StaysSound : Type 0 where
   pub fails_note : (kind : ClockKind) (t : ℕ) (durable : Option (List ℕ)) (i : IdealAgent) → IsSound i → MayNote kind t i.snapshot (Failed durable) → IsSound (with_snapshot (written kind t i.snapshot (Failed durable)) i)
   pub observes_event : (t : ℕ) (i : IdealAgent) → IsSound i → IsSound (event_observed t i)
-  pub enters_event : (t : ℕ) (what : EventBody) (i : IdealAgent) → IsSound i → i.snapshot.stopped ≡ false → t < 2 ^ 64 - 1 → texts_len what ≤ 9216 → All (λ p. p.entry ≢ record { time = t; key = what }) i.events.history
+  pub enters_event : (t : ℕ) (what : EventBody) (i : IdealAgent) → IsSound i → i.snapshot.stopped ≡ false → t < greatest_clock → texts_len what ≤ longest_texts → All (λ p. p.entry ≢ record { time = t; key = what }) i.events.history
       → IsSound (with_snapshot (noted kinds.Event t i.snapshot Kept) (event_entered t what i))
   pub observes_query : (t : ℕ) (i : IdealAgent) → IsSound i → IsSound (query_observed t i)
-  pub enters_query : (t id : ℕ) (i : IdealAgent) → IsSound i → i.snapshot.stopped ≡ false → t < 2 ^ 64 - 1 → All (λ p. p.entry ≢ record { time = t; key = id }) i.queries.history
+  pub enters_query : (t id : ℕ) (i : IdealAgent) → IsSound i → i.snapshot.stopped ≡ false → t < greatest_clock → All (λ p. p.entry ≢ record { time = t; key = id }) i.queries.history
       → IsSound (with_snapshot (noted kinds.Query t i.snapshot Kept) (query_entered t id i))
-  pub asks_query : (now : ℕ) (q : Query) (i : IdealAgent) → IsSound i → i.snapshot.stopped ≡ false → q.time ≡ i.queries.clock → q.time < 2 ^ 64 - 1
+  pub asks_query : (now : ℕ) (q : Query) (i : IdealAgent) → IsSound i → i.snapshot.stopped ≡ false → q.time ≡ i.queries.clock → q.time < greatest_clock
       → IsSound (with_snapshot (noted kinds.Query q.time i.snapshot Kept) (query_asked now q i))
-  pub joins : (m : PushPull) (is_join : Bool) (i : IdealAgent) → IsSound i → m.member_clock ≤ 2 ^ 64 - 1 → IsSound (joined m is_join i)
-  pub saves : (t : ℕ) (i : IdealAgent) → IsSound i → i.snapshot.stopped ≡ false → t < 2 ^ 64 - 1 → IsSound (with_snapshot (noted kinds.Member t i.snapshot Kept) i)
+  pub joins : (m : PushPull) (is_join : Bool) (i : IdealAgent) → IsSound i → m.member_clock ≤ greatest_clock → IsSound (joined m is_join i)
+  pub saves : (t : ℕ) (i : IdealAgent) → IsSound i → i.snapshot.stopped ≡ false → t < greatest_clock → IsSound (with_snapshot (noted kinds.Member t i.snapshot Kept) i)
   pub compacts : (w : Writing) (i : IdealAgent) → IsSound i → MayReplace i.snapshot w → IsSound (with_snapshot (compacted i.snapshot w) i)
-  pub restarts : (i : IdealAgent) (text : List ℕ) (d : Device) → IsSound i → IsInText i text → (opened text d).member_clock < 2 ^ 64 - 1 → IsSound (restarted (opened text d) i)
-  pub begins : (config : Config) (text : List ℕ) (d : Device) → is_sound config ≡ true → (opened text d).member_clock < 2 ^ 64 - 1 → IsSound (unopened config (opened text d))
+  pub restarts : (i : IdealAgent) (text : List ℕ) (d : Device) → IsSound i → IsInText i text → (opened text d).member_clock < greatest_clock → IsSound (restarted (opened text d) i)
+  pub begins : (config : Config) (text : List ℕ) (d : Device) → is_sound config ≡ true → (opened text d).member_clock < greatest_clock → IsSound (unopened config (opened text d))

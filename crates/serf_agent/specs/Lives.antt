@@ -1,7 +1,8 @@
 -- The lives of one agent over its own disk: the calls that it is asked for, in any order, what its sink does with each
 -- line, and the restarts between them; and what is promised of what it hands out. The agent is the ideal one, which each
 -- public call's contract says the real one follows; its history goes on through its restarts.
-use Rattle.std.specs.Prelude.{◌≡◌, ◌≢◌, ℕ, ◌-◌, ◌^◌, ◌<◌, ◌≤◌, Bool, true, false, List, [], ◌∷◌, ◌++◌, map, Option, Some, None, Result, Ok, Err, All, AllPairs}
+use Rattle.std.specs.Prelude.{◌≡◌, ◌≢◌, ℕ, ◌<◌, ◌≤◌, Bool, true, false, List, [], ◌∷◌, ◌++◌, map, Option, Some, None, Result, Ok, Err, All, AllPairs}
+use Rattle.serf_lamport.specs.Clock.{greatest_clock}
 use Rattle.serf_wire.specs.declared.texts.EventBody.{EventBody}
 use Rattle.serf_wire.specs.Message.{PushPull}
 use Rattle.serf_window.specs.Texts.{event_of}
@@ -68,8 +69,8 @@ abbrev pub MayAct : IdealAgent → Act → Type 0
 MayAct i (Fires what coalesce w) = MayEnd i (fire i what coalesce) w
 MayAct i (Asks now id name payload params w) = MayEnd i (fire_query i now id name payload params) w
 MayAct i (Gets now packet w) = MayEnd i (receive i now packet) w
-MayAct i (Hears m is_join) = m.member_clock ≤ 2 ^ 64 - 1
-MayAct i (Takes e w) = (i.snapshot.stopped ≡ false) × (e.time < 2 ^ 64 - 1) × MayEnd i (receive_one i e) w
+MayAct i (Hears m is_join) = m.member_clock ≤ greatest_clock
+MayAct i (Takes e w) = (i.snapshot.stopped ≡ false) × (e.time < greatest_clock) × MayEnd i (receive_one i e) w
 MayAct i (Saves w) = MayEnd i (save i) w
 MayAct i (Compacts w) = MayEnd i (compact i) w
 MayAct i (Closes now) = Unit {0}

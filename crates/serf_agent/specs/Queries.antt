@@ -1,15 +1,15 @@
 -- What the ideal agent does with queries, their acks and their responses (`serf.go`, `Query`, `handleQuery` and
 -- `handleQueryResponse`; `query.go`).
-use Rattle.std.specs.Prelude.{◌≡◌, ℕ, ℤ, pos, negsuc, ◌+◌, ◌-◌, ◌^◌, ◌==◌, ◌&&◌, min, nat_lt, nat_le, nat_eq, bit_and, not, Bool, true, false, if◌then◌else◌, List, [], ◌∷◌, ◌++◌, length, map, filter, Option, Some, None, Result, Ok, Err}
+use Rattle.std.specs.Prelude.{ℕ, ℤ, pos, negsuc, ◌+◌, ◌-◌, ◌^◌, ◌==◌, min, nat_lt, nat_le, nat_eq, bit_and, not, Bool, true, if◌then◌else◌, List, [], ◌∷◌, ◌++◌, length, filter, Option, Some, None, Result, Ok, Err}
 use Rattle.std.specs.List.{list_any, list_all}
 use Rattle.std.specs.Map.{lookup, set_value}
 use Rattle.std.specs.Str.{bytes_eq}
+use Rattle.serf_lamport.specs.Clock.{greatest_clock}
 use Rattle.serf_wire.specs.Canonical.{canonical}
-use Rattle.serf_wire.specs.Message.{Query, QueryResponse, query, query_response, response_of}
+use Rattle.serf_wire.specs.Message.{Query, QueryResponse, query, response_of}
 use Rattle.serf_wire.specs.Passes.{passes_of}
 use Rattle.serf_window.specs.Queries.{same_id}
 use Rattle.serf_snap.specs.declared.kind.ClockKind.TheVariants as kinds
-use Rattle.serf_agent.specs.declared.lists.Response.{Response as ResponseText}
 use Rattle.serf_agent.specs.declared.open_query.OpenQuery.{OpenQuery}
 use Rattle.serf_agent.specs.declared.outcome.FiredQuery.{FiredQuery}
 use Rattle.serf_agent.specs.declared.outcome.QueryFault.{QueryFault}
@@ -80,6 +80,10 @@ ack_if_passed node q = if all_pass q.filters node then (if has_flag ack_flag q.f
 
 -- Answering a query that was handed out
 
+-- the most bytes of a packet that answers a query (`config.go`, `QueryResponseSizeLimit`)
+abbrev pub longest_response : ℕ
+longest_response = 1024
+
 -- the packet of a response, which has no flags
 abbrev pub response_packet : Handed → List ℕ → List ℕ
 response_packet h payload = canonical (response_of h.time h.id h.node 0 payload)
@@ -88,7 +92,7 @@ response_packet h payload = canonical (response_of h.time h.id h.node 0 payload)
 abbrev pub respond_fault : Handed → ℕ → List ℕ → Option RespondFault
 respond_fault h now payload =
     if nat_lt h.deadline now then Some responds.PastDeadline else
-    if nat_lt 1024 (length (response_packet h payload)) then Some responds.TooLarge else None
+    if nat_lt longest_response (length (response_packet h payload)) then Some responds.TooLarge else None
 
 -- A query that comes
 
@@ -142,9 +146,13 @@ abbrev pub is_no_timeout : ℤ → Bool
 is_no_timeout (pos timeout) = timeout == 0
 is_no_timeout (negsuc timeout) = true
 
+-- the most bytes of a query's packet (`config.go`, `QuerySizeLimit`)
+abbrev pub longest_query : ℕ
+longest_query = 1024
+
 -- whether the packet of a query is too large to be fired
 abbrev pub is_too_large_query : List ℕ → ℕ → ℕ → List ℕ → List ℕ → QueryParams → Bool
-is_too_large_query node clock id name payload params = nat_lt 1024 (length (canonical (query (query_at (drawn clock) node id name payload params))))
+is_too_large_query node clock id name payload params = nat_lt longest_query (length (canonical (query (query_at (drawn clock) node id name payload params))))
 
 -- why a query isn't fired: the first that holds
 abbrev pub query_fault : IdealAgent → ℕ → List ℕ → List ℕ → QueryParams → Option QueryFault
@@ -152,7 +160,7 @@ query_fault i id name payload params =
     if i.snapshot.stopped then Some faults.Stopped else
     if is_too_large_query i.config.name i.queries.clock id name payload params then Some faults.TooLarge else
     if is_no_timeout params.timeout then Some faults.ZeroTimeout else
-    if nat_le (2 ^ 64 - 1) i.queries.clock then Some faults.Exhausted else None
+    if nat_le greatest_clock i.queries.clock then Some faults.Exhausted else None
 
 -- a query that takes answers from now on, and has none
 abbrev pub opened_query : ℕ → Query → OpenQuery

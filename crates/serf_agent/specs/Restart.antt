@@ -2,8 +2,7 @@
 use Rattle.std.specs.Prelude.{ℕ, ◌+◌, ◌≤◌, List, [], All}
 use Rattle.serf_snap.specs.declared.kind.ClockKind.TheVariants.{Event, Query}
 use Rattle.serf_snap.specs.Clocks.{last_clock}
-use Rattle.serf_snap.specs.Device.{Device}
-use Rattle.serf_snap.specs.Notes.{SnapshotView, opened}
+use Rattle.serf_snap.specs.Notes.{SnapshotView}
 use Rattle.serf_agent.specs.declared.config.Config.{Config}
 use Rattle.serf_agent.specs.Ideal.{IdealAgent}
 use Rattle.serf_agent.specs.Tracks.{track_reopened}

@@ -1,8 +1,9 @@
 -- What is true of every ideal agent, whatever it was called to do.
-use Rattle.std.specs.Prelude.{◌≡◌, ◌≢◌, ℕ, ◌+◌, ◌-◌, ◌^◌, ◌<◌, ◌≤◌, true, length, All, AllPairs}
+use Rattle.std.specs.Prelude.{◌≡◌, ◌≢◌, ◌+◌, ◌<◌, ◌≤◌, true, length, All, AllPairs}
+use Rattle.serf_lamport.specs.Clock.{greatest_clock}
 use Rattle.serf_snap.specs.Notes.{IsSnapshotSound}
 use Rattle.serf_agent.specs.declared.open_query.OpenQuery.{OpenQuery}
-use Rattle.serf_agent.specs.Config.{is_sound}
+use Rattle.serf_agent.specs.Config.{is_sound, longest_texts}
 use Rattle.serf_agent.specs.Ideal.{IdealAgent}
 use Rattle.serf_agent.specs.Tracks.{IsTrackSound}
 
@@ -15,11 +16,11 @@ pub record IsSound (i : IdealAgent) : Type 0 where
   -- its settings are within their bounds
   pub config : is_sound i.config ≡ true
   -- the member clock is a u64
-  pub member_clock : i.member_clock ≤ 2 ^ 64 - 1
+  pub member_clock : i.member_clock ≤ greatest_clock
   pub events : IsTrackSound i.events i.life i.snapshot.event_clock
   pub queries : IsTrackSound i.queries i.life i.snapshot.query_clock
   -- each event's texts are short
-  pub short : All (λ p. length p.entry.key.name + length p.entry.key.payload ≤ 9216) i.events.history
+  pub short : All (λ p. length p.entry.key.name + length p.entry.key.payload ≤ longest_texts) i.events.history
   -- what the sink keeps has the last lines
   pub snapshot : IsSnapshotSound i.snapshot
   -- the open queries have distinct times, each below the query clock

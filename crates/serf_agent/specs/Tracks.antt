@@ -1,6 +1,6 @@
 -- What events and queries have in common: each definition stands for both. K is what is entered, an event's texts
 -- or a query's ID (`serf.go`, `handleUserEvent` and `handleQuery`; what this project adds is marked as its own).
-use Rattle.std.specs.Prelude.{◌≡◌, ◌≢◌, ℕ, ◌+◌, ◌<◌, ◌≤◌, ◌==◌, ◌&&◌, max, nat_lt, nat_le, Bool, if◌then◌else◌, List, [], ◌∷◌, ◌++◌, map, filter, Option, Some, None, All, AllPairs}
+use Rattle.std.specs.Prelude.{◌≢◌, ℕ, ◌+◌, ◌<◌, ◌≤◌, ◌==◌, ◌&&◌, max, nat_lt, nat_le, Bool, if◌then◌else◌, List, [], ◌∷◌, ◌++◌, map, filter, Option, Some, None, All, AllPairs}
 use Rattle.std.specs.List.{list_any}
 use Rattle.serf_lamport.specs.Clock.{observed}
 use Rattle.serf_window.specs.Window.{TimedEntry, SlotOf, count_at, slots_of}

@@ -1,5 +1,5 @@
 -- What an agent stores of the ideal agent.
-use Rattle.std.specs.Prelude.{◌≡◌, ℕ, List}
+use Rattle.std.specs.Prelude.{ℕ, List}
 use Rattle.serf_wire.specs.declared.texts.EventBody.{EventBody}
 use Rattle.serf_snap.specs.Device.{Device, FailurePlan, with_plan}
 use Rattle.serf_snap.specs.Notes.{SnapshotView, with_sink}

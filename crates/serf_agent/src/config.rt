@@ -3,8 +3,19 @@
 ghost use Rattle.std.specs.Prelude.{◌≡◌, IfOk};
 ghost use Rattle.serf_agent.specs.Config.{is_sound};
 
+use serf_window::{MAX_PER_TIME, MAX_SLOTS};
 use serf_wire::Bytes;
 use std::alloc::{AllocError, Global};
+
+/// The greatest length of a node's name, in bytes.
+pub const LONGEST_NAME: usize = 128;
+
+/// The greatest length of an event's name and payload together, in bytes, wherever it comes from (Serf's `serf.go`:
+/// `UserEventSizeLimit`).
+pub const LONGEST_TEXTS: usize = 9216;
+
+/// The greatest number of names that are counted among the acks of a query, and among its responses.
+pub const MAX_RESPONDERS: u64 = 65536;
 
 /// What an agent is set to (Serf's `config.go`). The bounds are this project's own; settings outside them are refused
 /// when an agent is opened.
@@ -33,16 +44,16 @@ impl Config {
     {
         let name = self.name.as_slice().len();
         name >= 1
-            && name <= 128
+            && name <= LONGEST_NAME
             && self.event_buffer >= 1
-            && self.event_buffer <= 65536
+            && self.event_buffer <= MAX_SLOTS
             && self.query_buffer >= 1
-            && self.query_buffer <= 65536
-            && self.event_limit <= 9216
+            && self.query_buffer <= MAX_SLOTS
+            && self.event_limit <= LONGEST_TEXTS as u64
             && self.responders >= 1
-            && self.responders <= 65536
+            && self.responders <= MAX_RESPONDERS
             && self.per_time >= 1
-            && self.per_time <= 65536
+            && self.per_time <= MAX_PER_TIME
     }
 
     /// A copy of the settings. It is an `AllocError` only where there is no memory for it.

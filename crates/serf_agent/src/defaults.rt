@@ -1,7 +1,7 @@
 //! An agent's settings where nothing else is said.
 
 ghost use Rattle.std.specs.Prelude.{◌≡◌, length, IfOk};
-ghost use Rattle.serf_agent.specs.Config.{is_between, is_sound};
+ghost use Rattle.serf_agent.specs.Config.{is_between, is_sound, longest_name};
 ghost use Rattle.serf_agent.specs.Defaults.{default_config};
 
 use crate::config::Config;
@@ -29,7 +29,7 @@ impl Config {
     /// time. `AllocError` where there is no memory for the name.
     pub fn new(alloc: Global, name: &[u8]) -> Result<Config, AllocError>
         ensures config { IfOk result (λ config. config ≡ default_config name.now) }
-        ensures sound { IfOk result (λ config. is_sound config ≡ is_between 1 128 (length name.now)) }
+        ensures sound { IfOk result (λ config. is_sound config ≡ is_between 1 longest_name (length name.now)) }
     {
         Ok(Config {
             name: Bytes::copy_of(alloc, name)?,

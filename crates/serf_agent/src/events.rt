@@ -1,6 +1,7 @@
 //! User events: firing them, and taking those that come.
 
-ghost use Rattle.std.specs.Prelude.{◌≡◌, ◌≢◌, ◌<◌, ◌≤◌, ◌+◌, ◌-◌, ◌^◌, false, List, None, length, Err, OnOk, OnErr, IfOk, IsErrOf, Ok};
+ghost use Rattle.std.specs.Prelude.{◌≡◌, ◌≢◌, ◌<◌, ◌≤◌, ◌+◌, ◌-◌, false, List, None, length, Err, OnOk, OnErr, IfOk, IsErrOf, Ok};
+ghost use Rattle.serf_lamport.specs.Clock.{greatest_clock};
 ghost use Rattle.serf_wire.specs.Canonical.{canonical};
 ghost use Rattle.serf_wire.specs.Message.{user_event_of};
 ghost use Rattle.serf_window.specs.Texts.{event_of};
@@ -10,6 +11,7 @@ ghost use Rattle.serf_snap.specs.Clocks.{clock_line};
 ghost use Rattle.serf_snap.specs.Device.{HasFailed};
 ghost use Rattle.serf_snap.specs.Notes.{Kept, Failed, noted, written};
 ghost use Rattle.serf_agent.specs.Calls.{AsksSink, MayNote};
+ghost use Rattle.serf_agent.specs.Config.{longest_texts};
 ghost use Rattle.serf_agent.specs.Devices.{FailsLine, device_noted};
 ghost use Rattle.serf_agent.specs.Events.{admission, drawn, event_entered, event_out, event_packet, fire, is_too_large, receive_event};
 ghost use Rattle.serf_agent.specs.Ideal.{IdealAgent, with_snapshot};
@@ -18,15 +20,13 @@ ghost use Rattle.serf_agent.specs.Steps.{Steps};
 ghost use Rattle.serf_agent.specs.View.{concrete_with, view_of};
 
 use crate::agent::Agent;
+use crate::config::LONGEST_TEXTS;
 use crate::laws::sound_snapshots;
 use crate::outcome::{EventOut, FireFault, Fired, LineFault, Outcome, Reason, ReceiveFault};
 use serf_lamport::Time;
 use serf_snap::{ClockKind, NoteFault, Sink};
 use serf_wire::{Bytes, EncodeFault, EventView, encode_user_event, user_event_len};
 use std::alloc::{AllocError, Global};
-
-/// The greatest length of an event's name and payload together, wherever it comes from.
-const LONGEST_TEXTS: usize = 9216;
 
 /// A copy of an event, to hand out.
 fn handed_out(
@@ -54,7 +54,7 @@ fn packet_of(
     payload: &[u8],
     coalesce: bool,
 ) -> Result<Bytes, AllocError>
-    requires { length name.now + length payload.now ≤ 9216 }
+    requires { length name.now + length payload.now ≤ longest_texts }
     ensures { IfOk result (λ packet. packet ≡ event_packet time (event_of name.now payload.now) coalesce) }
 {
     match encode_user_event(alloc, time, name, payload, coalesce) {
@@ -128,7 +128,7 @@ impl<S: Sink> Agent<S> {
         ensures reason { (i : IdealAgent) → IsSound i → self.now.concrete ≡ view_of i → result ≡ admission i time (event_of name.now payload.now) }
         ensures not_later { result ≡ None → time_in self.now.concrete.events.slots time ≤ time }
         ensures not_full { result ≡ None → count_in self.now.concrete.events.slots time < self.now.concrete.config.per_time }
-        ensures small { result ≡ None → time < 2 ^ 64 - 1 }
+        ensures small { result ≡ None → time < greatest_clock }
     {
         if name.len() > LONGEST_TEXTS || payload.len() > LONGEST_TEXTS - name.len() {
             return Some(Reason::Oversize);

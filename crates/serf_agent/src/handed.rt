@@ -2,7 +2,8 @@
 
 ghost use Rattle.std.specs.Prelude.{◌≡◌, ◌≢◌, ◌≤◌, length, if◌then◌else◌, Some, None, IfOk, IfErr};
 ghost use Rattle.serf_wire.specs.Parts.{query_of};
-ghost use Rattle.serf_agent.specs.Queries.{ack_packet, deadline_of, handed_query, respond_fault, response_packet};
+ghost use Rattle.serf_agent.specs.Config.{longest_name};
+ghost use Rattle.serf_agent.specs.Queries.{ack_packet, deadline_of, handed_query, longest_response, respond_fault, response_packet};
 
 use crate::flags::ACK;
 use crate::outcome::{Reply, RespondFault};
@@ -58,7 +59,7 @@ pub(crate) fn deadline_of(now: u64, timeout: i64) -> u64
 
 /// A node's ack of a query.
 pub(crate) fn ack_of(alloc: Global, query: &QueryParts, node: &[u8]) -> Result<Bytes, AllocError>
-    requires { length node.now ≤ 128 }
+    requires { length node.now ≤ longest_name }
     ensures { IfOk result (λ ack. ack ≡ ack_packet node.now (query_of query.now)) }
 {
     match encode_response(alloc, query.time.get(), query.id, node, ACK, b"") {
@@ -172,7 +173,7 @@ impl HandedQuery {
 
     /// The packet of a response that fits.
     fn packet_of(&self, alloc: Global, payload: &[u8]) -> Result<Bytes, AllocError>
-        requires { length (response_packet self.now payload.now) ≤ 1024 }
+        requires { length (response_packet self.now payload.now) ≤ longest_response }
         ensures { IfOk result (λ packet. packet ≡ response_packet self.now payload.now) }
     {
         match encode_response(alloc, self.time().get(), self.id(), self.node(), 0, payload) {

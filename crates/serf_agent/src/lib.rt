@@ -44,7 +44,7 @@ mod track;
 
 pub use agent::Agent;
 pub use answer::Answer;
-pub use config::Config;
+pub use config::{Config, LONGEST_NAME, LONGEST_TEXTS, MAX_RESPONDERS};
 pub use defaults::{
     DEFAULT_EVENT_LIMIT, DEFAULT_PER_TIME, DEFAULT_RESPONDERS, DEFAULT_SLOTS,
     DEFAULT_SNAPSHOT_LIMIT,

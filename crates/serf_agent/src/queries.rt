@@ -1,6 +1,7 @@
 //! Queries: taking those that come, and counting what is answered.
 
-ghost use Rattle.std.specs.Prelude.{◌≡◌, ◌≢◌, ◌<◌, ◌≤◌, ◌-◌, ◌^◌, false, true, if◌then◌else◌, None, Some, [], filter, length, not, Ok, Err, OnOk, OnErr, IfOk, IsOk, IsErrOf};
+ghost use Rattle.std.specs.Prelude.{◌≡◌, ◌≢◌, ◌<◌, ◌≤◌, false, true, if◌then◌else◌, None, Some, [], filter, length, not, Ok, Err, OnOk, OnErr, IfOk, IsOk, IsErrOf};
+ghost use Rattle.serf_lamport.specs.Clock.{greatest_clock};
 ghost use Rattle.serf_wire.specs.Lists.{texts_left};
 ghost use Rattle.serf_wire.specs.Message.{query};
 ghost use Rattle.serf_wire.specs.Parts.{query_of};
@@ -11,6 +12,7 @@ ghost use Rattle.serf_snap.specs.Notes.{Kept, Failed, noted, written};
 ghost use Rattle.serf_snap.specs.Clocks.{clock_line};
 ghost use Rattle.serf_agent.specs.Answers.{Counts};
 ghost use Rattle.serf_agent.specs.Calls.{AsksSink, MayNote};
+ghost use Rattle.serf_agent.specs.Config.{longest_name};
 ghost use Rattle.serf_agent.specs.Devices.{FailsLine, device_noted};
 ghost use Rattle.serf_agent.specs.Ideal.{IdealAgent, with_snapshot};
 ghost use Rattle.serf_agent.specs.Lent.{query_in, response_in};
@@ -59,7 +61,7 @@ pub(crate) fn pass(
     node: &[u8],
     passed: bool,
 ) -> Result<Passed, AllocError>
-    requires { length node.now ≤ 128 }
+    requires { length node.now ≤ longest_name }
     ensures handed { IfOk result (λ p. p.handed ≡ (if passed then Some (handed_query node.now now (query_of query.now)) else None)) }
     ensures ack { IfOk result (λ p. p.ack ≡ (if passed then (if has_flag 1 query.now.flags then Some (ack_packet node.now (query_of query.now)) else None) else None)) }
 {
@@ -138,7 +140,7 @@ impl<S: Sink> Agent<S> {
         ensures reason { (i : IdealAgent) → IsSound i → self.now.concrete ≡ view_of i → result ≡ query_admission i time id }
         ensures not_later { result ≡ None → time_in self.now.concrete.queries.slots time ≤ time }
         ensures not_full { result ≡ None → count_in self.now.concrete.queries.slots time < self.now.concrete.config.per_time }
-        ensures small { time < 2 ^ 64 - 1 }
+        ensures small { time < greatest_clock }
     {
         self.queries.reason(time, &id)
     }

@@ -1,6 +1,6 @@
 //! Queries of an agent's own: firing them.
 
-ghost use Rattle.std.specs.Prelude.{◌≡◌, ◌≢◌, ◌<◌, ◌≤◌, ◌-◌, false, [], ◌∷◌, ◌++◌, Some, All, length, Err, OnOk, OnErr, IfOk, IsErrOf};
+ghost use Rattle.std.specs.Prelude.{◌≡◌, ◌≢◌, ◌<◌, ◌≤◌, false, [], ◌∷◌, ◌++◌, Some, All, length, Err, OnOk, OnErr, IfOk, IsErrOf};
 ghost use Rattle.serf_wire.specs.Canonical.{canonical};
 ghost use Rattle.serf_wire.specs.Message.{query};
 ghost use Rattle.serf_wire.specs.Parts.{query_of};
@@ -10,9 +10,10 @@ ghost use Rattle.serf_snap.specs.Device.{HasFailed};
 ghost use Rattle.serf_snap.specs.Notes.{Kept, Failed, MayWrite, noted, written};
 ghost use Rattle.serf_snap.specs.Clocks.{clock_line};
 ghost use Rattle.serf_agent.specs.Calls.{AsksSink, MayNote};
+ghost use Rattle.serf_agent.specs.Config.{longest_name};
 ghost use Rattle.serf_agent.specs.Devices.{FailsLine, device_noted};
 ghost use Rattle.serf_agent.specs.Ideal.{IdealAgent, with_asked, with_snapshot};
-ghost use Rattle.serf_agent.specs.Queries.{all_pass, fire_query, fired_query, has_flag, is_no_timeout, is_too_large_query, opened_query, query_asked, query_at, query_entered};
+ghost use Rattle.serf_agent.specs.Queries.{all_pass, fire_query, fired_query, has_flag, is_no_timeout, is_too_large_query, longest_query, opened_query, query_asked, query_at, query_entered};
 ghost use Rattle.serf_agent.specs.Sound.{IsSound};
 ghost use Rattle.serf_agent.specs.Steps.{Steps};
 ghost use Rattle.serf_agent.specs.View.{concrete_with, view_of};
@@ -43,7 +44,7 @@ fn filters_pass(filters: &[Bytes], node: &[u8]) -> bool
 
 /// The packet of a query that is small enough to be fired.
 fn packet_of(alloc: Global, parts: &QueryParts) -> Result<Bytes, AllocError>
-    requires { length (canonical (query (query_of parts.now))) ≤ 1024 }
+    requires { length (canonical (query (query_of parts.now))) ≤ longest_query }
     ensures { IfOk result (λ packet. packet ≡ canonical (query (query_of parts.now))) }
 {
     match encode_query(alloc, parts) {
@@ -60,8 +61,8 @@ fn fired_of(
     now: u64,
     node: &[u8],
 ) -> Result<FiredQuery, AllocError>
-    requires node { length node.now ≤ 128 }
-    requires short { length (canonical (query (query_of parts.now))) ≤ 1024 }
+    requires node { length node.now ≤ longest_name }
+    requires short { length (canonical (query (query_of parts.now))) ≤ longest_query }
     ensures { IfOk result (λ fired. fired ≡ fired_query node.now now (query_of parts.now)) }
 {
     let packet = packet_of(alloc, parts)?;
@@ -237,7 +238,7 @@ impl<S: Sink> Agent<S> {
         requires at { time ≡ self.old.concrete.queries.clock }
         requires not_later { time_in self.old.concrete.queries.slots time ≤ time }
         requires not_full { count_in self.old.concrete.queries.slots time < self.old.concrete.config.per_time }
-        requires short { length (canonical (query (query_at time self.old.concrete.config.name id name.now payload.now params.now))) ≤ 1024 }
+        requires short { length (canonical (query (query_at time self.old.concrete.config.name id name.now payload.now params.now))) ≤ longest_query }
 
         ensures fired { IfOk result (λ f. f ≡ fired_query self.old.concrete.config.name now (query_at time self.old.concrete.config.name id name.now payload.now params.now)) }
         ensures entered { OnOk result ((i : IdealAgent) → self.old.concrete ≡ view_of i

@@ -48,13 +48,14 @@ impl<S: Sink> Agent<S> {
         if self.snapshot.is_stopped() {
             return Err(ReceiveFault::Stopped);
         }
-        match decode(packet) {
-            Ok(message) => self.receive_message(alloc, now, &message),
-            Err(fault) => Err(ReceiveFault::Wire(fault)),
+        match &decode(packet) {
+            Ok(message) => self.receive_message(alloc, now, message),
+            Err(fault) => Err(ReceiveFault::Wire(*fault)),
         }
     }
 
     /// Takes a message that comes.
+    #[inline(always)]
     fn receive_message(
         &mut self,
         alloc: Global,

@@ -1,6 +1,7 @@
 //! The whole states that agents exchange, the member clock's line, and compaction.
 
-ghost use Rattle.std.specs.Prelude.{◌≡◌, ◌≢◌, ◌<◌, ◌≤◌, ◌-◌, ◌^◌, ◌⊎◌, false, List, [], ◌∷◌, ◌++◌, None, Some, map, Ok, Err, OnOk, OnErr, IfOk, IfSome, IsErrOf, IsOk, vec_len, vec_capacity};
+ghost use Rattle.std.specs.Prelude.{◌≡◌, ◌≢◌, ◌<◌, ◌≤◌, ◌-◌, ◌⊎◌, false, List, [], ◌∷◌, ◌++◌, None, Some, map, Ok, Err, OnOk, OnErr, IfOk, IfSome, IsErrOf, IsOk, vec_len, vec_capacity};
+ghost use Rattle.serf_lamport.specs.Clock.{greatest_clock};
 ghost use Rattle.serf_wire.specs.declared.texts.EventBody.{EventBody};
 ghost use Rattle.serf_wire.specs.Decoded.{decoded};
 ghost use Rattle.serf_wire.specs.Lists.{event_of_view, events_left, slot_of_view, slots_left, status_of};
@@ -303,7 +304,7 @@ impl<S: Sink> Agent<S> {
         requires runs { self.old.concrete.snapshot.stopped ≡ false }
         requires not_later { time_in self.old.concrete.events.slots time ≤ time }
         requires not_full { count_in self.old.concrete.events.slots time < self.old.concrete.config.per_time }
-        requires small { time < 2 ^ 64 - 1 }
+        requires small { time < greatest_clock }
         ensures received { (i : IdealAgent) → IsSound i → self.old.concrete ≡ view_of i → admission i time (event_of_view event.now) ≡ None
             → Received i (record { time = time; key = event_of_view event.now } ∷ []) out.old.items out.new.items self.old.device self.new result }
         ensures runs { OnOk result (self.new.concrete.snapshot.stopped ≡ false) }

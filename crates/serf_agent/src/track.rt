@@ -1,10 +1,10 @@
 //! What an agent knows of its events, or of its queries.
 
-ghost use Rattle.std.specs.Prelude.{◌≡◌, ℕ, ◌<◌, ◌≤◌, ◌-◌, ◌^◌, List, [], ◌∷◌, ◌++◌, max, map, length, OnOk, IfOk, SomeIff};
-ghost use Rattle.serf_lamport.specs.Clock.{observed};
+ghost use Rattle.std.specs.Prelude.{◌≡◌, ℕ, ◌<◌, ◌≤◌, ◌-◌, List, [], ◌∷◌, ◌++◌, max, map, length, OnOk, IfOk, SomeIff};
+ghost use Rattle.serf_lamport.specs.Clock.{observed, greatest_clock};
 ghost use Rattle.serf_wire.specs.Buffers.{slots_lent};
 ghost use Rattle.serf_window.specs.Slots.{slot_view};
-ghost use Rattle.serf_window.specs.Window.{TimedEntry, count_in, room_for, slots_of, time_in};
+ghost use Rattle.serf_window.specs.Window.{TimedEntry, count_in, greatest_per_time, greatest_slot_count, room_for, slots_of, time_in};
 ghost use Rattle.serf_agent.specs.Events.{drawn};
 ghost use Rattle.serf_agent.specs.Ideal as ideal;
 ghost use Rattle.serf_agent.specs.Inside.{concrete_of};
@@ -13,7 +13,7 @@ ghost use Rattle.serf_agent.specs.Tracks.{IsTrackSound, track_reason, view_of_tr
 use crate::outcome::Reason;
 use crate::reason::reason_of;
 use serf_lamport::{Clock, Time};
-use serf_window::{Entry, LentKey, Window};
+use serf_window::{Entry, LentKey, MAX_PER_TIME, MAX_SLOTS, Window};
 use serf_wire::{EventBody, LentSlots};
 use std::alloc::{AllocError, Global};
 use std::marker::Model;
@@ -50,9 +50,9 @@ impl<K: Drop> Track<K> {
     /// A track that has nothing, and draws the time 1 first. Takes no memory.
     pub(crate) fn new(alloc: Global, slot_count: u64, per_time: u64) -> Track<K>
         requires some_slot { 0 < slot_count }
-        requires most_slots { slot_count ≤ 65536 }
+        requires most_slots { slot_count ≤ greatest_slot_count }
         requires some_of_time { 0 < per_time }
-        requires most_of_time { per_time ≤ 65536 }
+        requires most_of_time { per_time ≤ greatest_per_time }
         ensures clock { result.clock ≡ 1 }
         ensures minimum { result.minimum ≡ 1 }
         ensures slots { result.window.slots ≡ slots_of slot_count [] }
@@ -99,7 +99,7 @@ impl<K: Drop> Track<K> {
 
     /// The time that is drawn next, which no slot holds yet.
     pub(crate) fn next_time(&self) -> Option<Time>
-        ensures some { SomeIff result (self.now.clock < 2 ^ 64 - 1) self.now.clock }
+        ensures some { SomeIff result (self.now.clock < greatest_clock) self.now.clock }
         ensures not_later { time_in self.now.window.slots self.now.clock ≤ self.now.clock }
         ensures not_full { count_in self.now.window.slots self.now.clock < self.now.window.per_time }
     {
@@ -112,7 +112,7 @@ impl<K: Drop> Track<K> {
             → result ≡ track_reason L.same n self.now.window.per_time life track time (L.key key.now) }
         ensures not_later { result ≡ None → time_in self.now.window.slots time ≤ time }
         ensures not_full { result ≡ None → count_in self.now.window.slots time < self.now.window.per_time }
-        ensures small { time < 2 ^ 64 - 1 }
+        ensures small { time < greatest_clock }
     {
         let clock_after = self.clock.time().max(time.get() + 1);
         let verdict = self.window.offer(clock_after, self.minimum, time, key);

@@ -11,7 +11,7 @@ ghost use Rattle.serf_conform.specs.Wanted.{ack_of, counted_lines, event_said, h
 use serf_pipe::{Reply, ReplyLine};
 use serf_replay::put_answer;
 use serf_wire::{Bytes, Message, decode};
-use serf_world::{Answer, EventLine, HandedLine, Line};
+use serf_world::{Answer, Boxed, EventLine, HandedLine, Line};
 use std::alloc::{AllocError, Global};
 
 fn add(lines: &mut Vec<ReplyLine>, line: ReplyLine) -> Result<(), AllocError>
@@ -143,13 +143,13 @@ fn handed_line(alloc: Global, query: &HandedLine) -> Result<ReplyLine, AllocErro
 fn add_handed(
     alloc: Global,
     lines: &mut Vec<ReplyLine>,
-    handed: &Option<HandedLine>,
+    handed: &Option<Boxed<HandedLine>>,
 ) -> Result<(), AllocError>
     ensures { OnOk result (lines.new.items ≡ lines.old.items ++ map handed_said (option_to_list handed.now)) }
 {
     match handed {
         Some(query) => {
-            let line = handed_line(alloc, query)?;
+            let line = handed_line(alloc, query.get())?;
             add(lines, line)
         }
         None => Ok(()),

@@ -1,8 +1,9 @@
 -- The message that lines mean. A field is what the first line of its name says, and 0 or nothing where it says no such
 -- value: whether the message has this very text is asked afterwards.
-use Rattle.std.specs.Prelude.{ℕ, ℤ, pos, negsuc, ◌==◌, ◌-◌, ◌++◌, ◌&&◌, nat_lt, nat_le, if◌then◌else◌, List, [], ◌∷◌, codes, map, unwrap_or, Option, Some, None}
+use Rattle.std.specs.Prelude.{◌^◌, ℕ, ℤ, pos, negsuc, ◌==◌, ◌-◌, ◌++◌, ◌&&◌, nat_lt, nat_le, if◌then◌else◌, List, [], ◌∷◌, codes, map, unwrap_or, Option, Some, None}
 use Rattle.std.specs.List.{fold}
 use Rattle.std.specs.Str.{bytes_eq}
+use Rattle.serf_lamport.specs.Clock.{last_time}
 use Rattle.serf_wire.specs.declared.texts.EventBody.{EventBody}
 use Rattle.serf_wire.specs.Message.{Message, Query, PushPull, user_event_of, response_of, query, push_pull, foreign}
 use Rattle.serf_wire.specs.Slots.{SlotContent, empty, held}
@@ -36,17 +37,17 @@ texts_at name rows = map (λ r. bytes_meant r.first) (rows_of name rows)
 
 unfoldable pub event_meant : List RowText → Message
 event_meant rows =
-    user_event_of (number_at 18446744073709551614 (codes "LTime") rows) (bytes_at (codes "Name") rows) (bytes_at (codes "Payload") rows) (bytes_eq (value_of (codes "CC") rows) (codes "1"))
+    user_event_of (number_at last_time (codes "LTime") rows) (bytes_at (codes "Name") rows) (bytes_at (codes "Payload") rows) (bytes_eq (value_of (codes "CC") rows) (codes "1"))
 
 unfoldable pub query_meant : List RowText → Query
 query_meant rows = record {
-  time = number_at 18446744073709551614 (codes "LTime") rows;
-  id = number_at 4294967295 (codes "ID") rows;
+  time = number_at last_time (codes "LTime") rows;
+  id = number_at (2 ^ 32 - 1) (codes "ID") rows;
   addr = bytes_at (codes "Addr") rows;
   port = number_at 65535 (codes "Port") rows;
   source = bytes_at (codes "SourceNode") rows;
   filters = texts_at (codes "filter") rows;
-  flags = number_at 4294967295 (codes "Flags") rows;
+  flags = number_at (2 ^ 32 - 1) (codes "Flags") rows;
   relay_factor = number_at 255 (codes "RelayFactor") rows;
   timeout = signed_meant (value_of (codes "Timeout") rows);
   name = bytes_at (codes "Name") rows;
@@ -55,12 +56,12 @@ query_meant rows = record {
 
 unfoldable pub response_meant : List RowText → Message
 response_meant rows =
-    response_of (number_at 18446744073709551615 (codes "LTime") rows) (number_at 4294967295 (codes "ID") rows) (bytes_at (codes "From") rows)
-    (number_at 4294967295 (codes "Flags") rows) (bytes_at (codes "Payload") rows)
+    response_of (number_at (2 ^ 64 - 1) (codes "LTime") rows) (number_at (2 ^ 32 - 1) (codes "ID") rows) (bytes_at (codes "From") rows)
+    (number_at (2 ^ 32 - 1) (codes "Flags") rows) (bytes_at (codes "Payload") rows)
 
 -- a member's name and its time
 abbrev pub member_meant : RowText → List ℕ × ℕ
-member_meant row = (bytes_meant row.first, number_up_to 18446744073709551615 row.second)
+member_meant row = (bytes_meant row.first, number_up_to (2 ^ 64 - 1) row.second)
 
 -- an event, behind those of a slot
 abbrev pub with_event : EventBody → SlotContent → SlotContent
@@ -79,7 +80,7 @@ on_last change (slot ∷ next ∷ slots) = slot ∷ on_last change (next ∷ slo
 -- A slot's line begins a slot, and an event's line goes into the last one. `nil` is a slot of time 0 that holds nothing.
 abbrev pub after_row : List SlotContent → RowText → List SlotContent
 after_row slots row =
-    if bytes_eq row.name (codes "slot") then slots ++ held (number_up_to 18446744073709551614 row.second) [] ∷ []
+    if bytes_eq row.name (codes "slot") then slots ++ held (number_up_to last_time row.second) [] ∷ []
     else if bytes_eq row.name (codes "event") then on_last (with_event (event_of_row row)) slots
     else slots
 
@@ -88,12 +89,12 @@ slots_meant rows = fold after_row [] rows
 
 unfoldable pub push_pull_meant : List RowText → PushPull
 push_pull_meant rows = record {
-  member_clock = number_at 18446744073709551615 (codes "LTime") rows;
+  member_clock = number_at (2 ^ 64 - 1) (codes "LTime") rows;
   status = map member_meant (rows_of (codes "status") rows);
   left = texts_at (codes "left") rows;
-  event_clock = number_at 18446744073709551615 (codes "EventLTime") rows;
+  event_clock = number_at (2 ^ 64 - 1) (codes "EventLTime") rows;
   slots = slots_meant rows;
-  query_clock = number_at 18446744073709551615 (codes "QueryLTime") rows;
+  query_clock = number_at (2 ^ 64 - 1) (codes "QueryLTime") rows;
 }
 
 -- the message, by what its first line says it is

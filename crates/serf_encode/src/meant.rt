@@ -2,6 +2,7 @@
 
 ghost use Rattle.std.specs.Prelude.{◌≡◌, ◌≤◌, ◌<◌, ◌++◌, ◌∷◌, [], ℤ, pos, IfOk, OnOk, Some, map, filter};
 ghost use Rattle.std.specs.Str.{bytes_eq};
+ghost use Rattle.serf_lamport.specs.Clock.{last_time};
 ghost use Rattle.serf_replay.specs.Words.{between, bytes_of, number_of};
 ghost use Rattle.serf_encode.specs.Rows.{row_seen, rows_of, value_of};
 ghost use Rattle.serf_encode.specs.Meant.{below_zero, bytes_at, bytes_meant, member_meant, number_at, number_up_to, signed_meant, texts_at};
@@ -26,7 +27,7 @@ pub(crate) fn number_to(word: &[u8], top: u64) -> u64
 
 /// The time that a word says, or 0.
 pub(crate) fn time_in(word: &[u8]) -> Time
-    ensures { result ≡ number_up_to 18446744073709551614 word.now }
+    ensures { result ≡ number_up_to last_time word.now }
 {
     match Time::new(number_to(word, u64::MAX - 1)) {
         Some(time) => time,

@@ -1,5 +1,5 @@
 -- What the code holds of a line, and of a log.
-use Rattle.std.specs.Prelude.{◌≡◌, ℕ, ◌+◌, ◌++◌, ◌==◌, Bool, length, slice_index, min, if◌then◌else◌, List, [], ◌∷◌, map, Result, Ok, Err}
+use Rattle.std.specs.Prelude.{◌^◌, ◌-◌, ◌≡◌, ℕ, ◌+◌, ◌++◌, ◌==◌, Bool, length, slice_index, min, if◌then◌else◌, List, [], ◌∷◌, map, Result, Ok, Err}
 use Rattle.std.specs.List.{fold}
 use Rattle.serf_replay.specs.declared.cause.Cause.{Cause}
 use Rattle.serf_replay.specs.Words.{words_of}
@@ -48,7 +48,7 @@ pub record Reading : Type 0 where
   pub log : LogView
 
 abbrev pub with_said : Reading → Result Happening Cause → Reading
-with_said r (Ok h) = record { number = min (r.number + 1) 18446744073709551615; log = with_happening r.log r.number h }
+with_said r (Ok h) = record { number = min (r.number + 1) (2 ^ 64 - 1); log = with_happening r.log r.number h }
 with_said r (Err cause) = r
 
 abbrev pub after_line : Reading → List ℕ → Reading

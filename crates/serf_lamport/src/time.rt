@@ -2,6 +2,7 @@
 
 ghost use Rattle.std.specs.Prelude.{◌≡◌, ◌<◌};
 ghost use Rattle.std.specs.Option.{SomeIff};
+ghost use Rattle.serf_lamport.specs.Clock.{greatest_clock};
 
 use std::marker::Model;
 
@@ -15,12 +16,13 @@ pub struct Time {
 
 impl Model for Time {
     ghost use Rattle.std.specs.Prelude.{ℕ, ◌<◌};
+    ghost use Rattle.serf_lamport.specs.Clock.{greatest_clock};
 
     ghost Value = { ℕ };
 
     ghost view = { λ t. t.value };
 
-    ghost invariant = { λ t. t.value < 18446744073709551615 };
+    ghost invariant = { λ t. t.value < greatest_clock };
 
     ghost inverse = { λ n. record { value = n } };
 }
@@ -28,7 +30,7 @@ impl Model for Time {
 impl Time {
     /// The time of this number, or `None` at 2^64 - 1. Takes no memory.
     pub fn new(value: u64) -> Option<Time>
-        ensures { SomeIff result (value < 18446744073709551615) value }
+        ensures { SomeIff result (value < greatest_clock) value }
     {
         if value == u64::MAX {
             return None;
@@ -39,7 +41,7 @@ impl Time {
     /// The number. Takes no memory.
     pub fn get(self) -> u64
         ensures value { result ≡ self }
-        ensures time { result < 18446744073709551615 }
+        ensures time { result < greatest_clock }
     {
         self.value
     }

@@ -1,9 +1,10 @@
 -- What enters at an agent in one life is bounded by its settings, in every run.
 use Rattle.serf_model.proofs.Names.{zero, suc, ◌≡◌, ℕ, ◌+◌, ◌*◌, ◌≤◌, ◌==◌, ◌&&◌, inl, inr, Bool, true, false, cond, List, [], ◌∷◌, ◌++◌, Option, Some, None, refl, sym, ap, subst, ◌∙◌, arith, map, length, set, get_or, ◌%◌, All, slice_get, filter, range_with_len, option_map, cases_Bool, eq-eqb, eqb-true, eqb-false, append-nil, All-filter, All-map, fold-append, EventBody, EachAtMost, SlotOf, TimedEntry, count_at, entries_of, greatest_time, held_at, held_count, slot_of, slots_of, SlotLaws, Config, IdealAgent, Past, of_life}
+use Rattle.serf_agent.specs.Config.{longest_texts}
 use Rattle.serf_model.specs.Below.{Below}
 use Rattle.serf_model.specs.declared.action.Action.{Action}
 use Rattle.serf_model.specs.declared.line.EventLine.{EventLine}
-use Rattle.serf_model.specs.Bounds.{AtMostOfOneTime, EventsBounded, AreEventsBounded, IsBounded, QueriesBounded, events_of_life, longest_texts, is_restarted, lived_on, present_life, queries_of_life, reopens}
+use Rattle.serf_model.specs.Bounds.{AtMostOfOneTime, EventsBounded, AreEventsBounded, IsBounded, QueriesBounded, events_of_life, is_restarted, lived_on, present_life, queries_of_life, reopens}
 use Rattle.serf_model.specs.Cluster.{Applied, Cluster, IdealNode, Run, Stepped, applied, apply, after, first_node, injects, on_agent, run_of, start, step, with_handed}
 use Rattle.serf_model.specs.Ready.{IsRepresentable}
 use Rattle.serf_model.specs.Runs.{AreConfigs}

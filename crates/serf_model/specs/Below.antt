@@ -1,5 +1,6 @@
 -- What the crates below promise, as far as the promises of a run rest on it.
-use Rattle.std.specs.Prelude.{◌≡◌, ◌-◌, ◌^◌, ◌<◌, ◌≤◌, ◌++◌, ℕ, List, Ok}
+use Rattle.std.specs.Prelude.{◌≡◌, ◌<◌, ◌≤◌, ◌++◌, ℕ, List, Ok}
+use Rattle.serf_lamport.specs.Clock.{greatest_clock}
 use Rattle.serf_wire.specs.declared.texts.EventBody.{EventBody}
 use Rattle.serf_wire.specs.Decoded.{decoded}
 use Rattle.serf_wire.specs.Laws.{CanonicalSpells, DecodesInRange}
@@ -19,7 +20,7 @@ pub record Below : Type 0 where
   pub slots : SlotLaws EventBody
   -- the clocks of a text: no bytes behind it lower them, and they are times
   pub clock_grows : (k : ClockKind) (front tail : List ℕ) → last_clock k front ≤ last_clock k (front ++ tail)
-  pub clock_below : (k : ClockKind) (text : List ℕ) → last_clock k text < 2 ^ 64 - 1
+  pub clock_below : (k : ClockKind) (text : List ℕ) → last_clock k text < greatest_clock
   -- an agent's packets, its steps, and what it admits
   pub short : ShortPackets
   pub sound : StaysSound

@@ -4,6 +4,7 @@ use Rattle.std.specs.List.{fold}
 use Rattle.serf_wire.specs.declared.texts.EventBody.{EventBody}
 use Rattle.serf_window.specs.Window.{TimedEntry, count_at, held_count, slots_of}
 use Rattle.serf_agent.specs.declared.config.Config.{Config}
+use Rattle.serf_agent.specs.Config.{longest_texts}
 use Rattle.serf_model.specs.declared.line.Answer.{Answer}
 use Rattle.serf_model.specs.declared.line.Answer.TheVariants as answers
 use Rattle.serf_model.specs.Trace.{Turn, AtEach, actor_of, is_agent, events_to, queries_at}
@@ -44,10 +45,6 @@ AtMostOfOneTime k entered = (t : ℕ) → count_at entered t ≤ k
 pub record IsBounded {K : Type 0} (n k : ℕ) (entered : List (TimedEntry K)) : Type 0 where
   pub of_one_time : AtMostOfOneTime k entered
   pub in_window : held_count (slots_of n entered) ≤ n * k
-
--- the most bytes that the name and the payload of an event have together
-abbrev pub longest_texts : ℕ
-longest_texts = 9216
 
 -- and its events are short
 pub record AreEventsBounded (n k : ℕ) (entered : List (TimedEntry EventBody)) : Type 0 where

@@ -1,6 +1,7 @@
 -- What is true of each agent of a cluster, whatever was done in it.
-use Rattle.std.specs.Prelude.{◌-◌, ◌^◌, ◌≤◌}
+use Rattle.std.specs.Prelude.{◌≤◌}
 use Rattle.std.specs.List.{AllByRecursion}
+use Rattle.serf_lamport.specs.Clock.{greatest_clock}
 use Rattle.serf_snap.specs.Notes.{IsObservable}
 use Rattle.serf_agent.specs.Ideal.{IdealAgent}
 use Rattle.serf_agent.specs.Sound.{IsSound}
@@ -14,8 +15,8 @@ pub record IsConsistent (i : IdealAgent) : Type 0 where
 -- and its clocks are numbers of 64 bits
 pub record IsRepresentable (i : IdealAgent) : Type 0 where
   pub consistent : IsConsistent i
-  pub events : i.events.clock ≤ 2 ^ 64 - 1
-  pub queries : i.queries.clock ≤ 2 ^ 64 - 1
+  pub events : i.events.clock ≤ greatest_clock
+  pub queries : i.queries.clock ≤ greatest_clock
 
 abbrev pub AreRepresentable : Cluster → Type 0
 AreRepresentable c = AllByRecursion (λ m. IsRepresentable m.agent) c.nodes

@@ -1,5 +1,6 @@
 //! What comes of an action.
 
+use crate::boxed::Boxed;
 use crate::lists::{EventLines, Numbers};
 use serf_agent::Reason;
 use serf_lamport::Time;
@@ -113,6 +114,6 @@ pub struct Line {
     pub sent: Numbers,
     /// The events that were handed out, in order.
     pub events: EventLines,
-    /// The query that was handed out.
-    pub handed: Option<HandedLine>,
+    /// The query that was handed out, in a place of its own, so that a line without one is small.
+    pub handed: Option<Boxed<HandedLine>>,
 }

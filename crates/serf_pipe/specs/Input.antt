@@ -1,6 +1,10 @@
 -- Where a reply ends in what an agent writes.
 use Rattle.std.specs.Prelude.{◌≡◌, ℕ, ◌==◌, ◌&&◌, ◌++◌, Bool, true, if◌then◌else◌, List, [], ◌∷◌, Option, Some, None}
 
+-- the most bytes of a reply's lines together
+abbrev pub longest_reply : ℕ
+longest_reply = 67108864
+
 -- the bytes of a reply's lines, and what follows the empty line behind them
 pub record Cut : Type 0 where
   pub text : List ℕ

@@ -1,8 +1,9 @@
 -- What a reply says, or its first line that can't be read.
-use Rattle.std.specs.Prelude.{◌≡◌, ℕ, ◌==◌, ◌+◌, ◌++◌, nat_lt, not, if◌then◌else◌, List, [], ◌∷◌, length, codes, Option, Some, None, Result, Ok, Err}
+use Rattle.std.specs.Prelude.{◌^◌, ◌-◌, ◌≡◌, ℕ, ◌==◌, ◌+◌, ◌++◌, nat_lt, not, if◌then◌else◌, List, [], ◌∷◌, length, codes, Option, Some, None, Result, Ok, Err}
 use Rattle.std.specs.List.{slice_split}
 use Rattle.std.specs.declared.vec.Vec.{Vec}
 use Rattle.std.specs.Str.{bytes_eq}
+use Rattle.serf_lamport.specs.Clock.{last_time}
 use Rattle.serf_replay.specs.declared.cause.Cause.{Cause}
 use Rattle.serf_replay.specs.declared.cause.Cause.TheVariants.{UnknownWord, WordCount}
 use Rattle.serf_replay.specs.Gives.{◌>>=◌}
@@ -49,7 +50,7 @@ sent_of words = do
 
 unfoldable pub event_of : List (List ℕ) → Result ReplyLine Cause
 event_of words = do
-  time ← number_between 0 18446744073709551614 2 words
+  time ← number_between 0 last_time 2 words
   name ← bytes_in 3 words
   payload ← bytes_in 4 words
   coalesce ← choice_in (codes "0") (codes "1") 5 words
@@ -58,23 +59,23 @@ event_of words = do
 unfoldable pub handed_of : List (List ℕ) → Result ReplyLine Cause
 handed_of words = do
   index ← number_in 2 words
-  time ← number_between 0 18446744073709551614 3 words
-  id ← number_between 0 4294967295 4 words
+  time ← number_between 0 last_time 3 words
+  id ← number_between 0 (2 ^ 32 - 1) 4 words
   name ← bytes_in 5 words
   payload ← bytes_in 6 words
   Ok (lines.Handed index time id name payload)
 
 unfoldable pub counted_ack_of : List (List ℕ) → Result ReplyLine Cause
 counted_ack_of words = do
-  time ← number_between 0 18446744073709551614 3 words
-  id ← number_between 0 4294967295 4 words
+  time ← number_between 0 last_time 3 words
+  id ← number_between 0 (2 ^ 32 - 1) 4 words
   from ← bytes_in 5 words
   Ok (lines.CountedAck time id from)
 
 unfoldable pub counted_response_of : List (List ℕ) → Result ReplyLine Cause
 counted_response_of words = do
-  time ← number_between 0 18446744073709551614 3 words
-  id ← number_between 0 4294967295 4 words
+  time ← number_between 0 last_time 3 words
+  id ← number_between 0 (2 ^ 32 - 1) 4 words
   from ← bytes_in 5 words
   payload ← bytes_in 6 words
   Ok (lines.CountedResponse time id from payload)

@@ -1,7 +1,7 @@
 //! Reading one reply of an agent.
 
 ghost use Rattle.std.specs.Prelude.{◌≡◌, ◌<◌, ◌≤◌, IfOk, IfSome, IsErrOf, None, length};
-ghost use Rattle.serf_pipe.specs.Input.{ReadsReply, first_reply};
+ghost use Rattle.serf_pipe.specs.Input.{ReadsReply, first_reply, longest_reply};
 
 use std::alloc::Global;
 use std::io::Read;
@@ -32,8 +32,8 @@ pub enum ReadFault {
 pub fn read_reply_text<R: Read>(alloc: Global, reader: &mut R) -> Result<Vec<u8>, ReadFault>
     ensures text { IfOk result (λ text. ReadsReply (R.remaining reader.old) (R.remaining reader.new) text.items) }
     ensures ended { IsErrOf result ReadFault.Ended → IfSome (R.remaining reader.old) (λ input. first_reply input ≡ None) }
-    ensures too_long { IsErrOf result ReadFault.TooLong → IfSome (R.remaining reader.old) (λ input. MAX_REPLY_BYTES < length input) }
-    ensures short { IfOk result (λ text. length text.items ≤ MAX_REPLY_BYTES) }
+    ensures too_long { IsErrOf result ReadFault.TooLong → IfSome (R.remaining reader.old) (λ input. longest_reply < length input) }
+    ensures short { IfOk result (λ text. length text.items ≤ longest_reply) }
 {
     let mut text = Vec::new(alloc);
     let mut begins = true;

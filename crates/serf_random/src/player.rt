@@ -232,7 +232,7 @@ impl Player {
     fn note(&mut self, action: &Action, line: &Line) {
         own::note_query(self, action, line);
         if let Some(handed) = &line.handed {
-            self.handed = self.handed.max(handed.index.saturating_add(1));
+            self.handed = self.handed.max(handed.get().index.saturating_add(1));
         }
     }
 }

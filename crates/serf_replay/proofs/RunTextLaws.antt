@@ -7,12 +7,15 @@ use Rattle.serf_world.specs.Kept.{KeepsPromises}
 use Rattle.serf_world.specs.Runs.{AreConfigs}
 use Rattle.serf_world.specs.Sizes.{HasSizes}
 use Rattle.serf_replay.specs.declared.cause.Cause.{Cause}
+use Rattle.serf_replay.specs.declared.cause.LineFault.{LineFault}
+use Rattle.serf_replay.specs.declared.cause.LineFault.TheVariants.{Bad, OutOfMemory}
+use Rattle.serf_replay.specs.Gives.{Fails}
 use Rattle.serf_replay.specs.Grown.{Grows}
-use Rattle.serf_replay.specs.Laws.{AnswersTellMore, RefusalsAreFirst, SchedulesTraceRuns, TellsMore}
+use Rattle.serf_replay.specs.Laws.{AnswersTellMore, RefusalsAreFirst, SchedulesTraceRuns}
 use Rattle.serf_replay.specs.Line.{Parsed, after_line}
-use Rattle.serf_replay.specs.Output.{TracesRun, output_of, text_of}
-use Rattle.serf_replay.specs.Schedule.{BadLine, schedule_in, schedule_of}
-use Rattle.serf_replay.specs.Show.{action_text, actions_text, trace_text}
+use Rattle.serf_replay.specs.Output.{GivesText, TracesRun, output_of, text_of}
+use Rattle.serf_replay.specs.Schedule.{BadLine, schedule_fault, schedule_in}
+use Rattle.serf_replay.specs.Show.{action_text, actions_text}
 use Rattle.serf_replay.specs.Replaying.{Follows}
 use Rattle.serf_replay.specs.declared.replaying.Replaying.{Replaying}
 use Rattle.serf_replay.specs.Turns.{Appended, added_text, answer_behind, run_in, run_text, text_behind_turns, turn_answer}
@@ -156,6 +159,11 @@ refused-output bytes lines left line said cause number reads split first counted
     let all : slice_split (λ b. b == 10) bytes ≡ lines ++ line ∷ first.0 = split ∙ ap (λ (l : List (List ℕ)). lines ++ l) first.1 in
     ap (λ (l : List (List ℕ)). text_of (schedule_in l)) all ∙ ap text_of (refusal-first lines first.0 line said cause reads answer)
     ∙ ap (λ n. let bad : BadLine = record { line = n; cause = cause } in let err : Result (List ℕ) BadLine = Err bad in err) (sym counted)
+
+pub refused-text : (bytes : List ℕ) (lines left : List (List ℕ)) (line : List ℕ) (said : Parsed) (fault : LineFault) (number : ℕ) → schedule_in lines ≡ Ok said → slice_split (λ b. b == 10) bytes ≡ lines ++ left → (more : List (List ℕ)) × (left ≡ line ∷ more)
+    → number ≡ length lines + 1 → Fails fault (turn_answer lines line) → GivesText {A = ℕ} (Err (schedule_fault number fault)) (output_of bytes)
+refused-text bytes lines left line said (Bad cause) number reads split first counted answer = refused-output bytes lines left line said cause number reads split first counted answer
+refused-text bytes lines left line said OutOfMemory number reads split first counted answer = tt
 
 pub whole-output : SchedulesTraceRuns → (bytes text : List ℕ) (lines : List (List ℕ)) (r : Replaying) (n : Follows r lines) → slice_split (λ b. b == 10) bytes ≡ lines → text ≡ run_text n.said → (output_of bytes ≡ Ok text) × TracesRun bytes text
 whole-output traces bytes text lines r n split is =

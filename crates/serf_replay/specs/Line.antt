@@ -1,5 +1,5 @@
 -- What a line adds to the schedule before it.
-use Rattle.std.specs.Prelude.{ℕ, pos, ◌==◌, ◌+◌, ◌++◌, ◌%◌, ◌||◌, nat_le, nat_lt, Bool, not, if◌then◌else◌, List, [], ◌∷◌, length, take, drop, codes, slice_index, Option, Some, None, Result, Ok, Err}
+use Rattle.std.specs.Prelude.{◌^◌, ◌-◌, ℕ, pos, ◌==◌, ◌+◌, ◌++◌, ◌%◌, ◌||◌, nat_le, nat_lt, Bool, not, if◌then◌else◌, List, [], ◌∷◌, length, take, drop, codes, slice_index, Option, Some, None, Result, Ok, Err}
 use Rattle.serf_agent.specs.declared.config.Config.{Config}
 use Rattle.serf_agent.specs.declared.outcome.QueryParams.{QueryParams}
 use Rattle.serf_agent.specs.Config.{is_sound}
@@ -100,7 +100,7 @@ unfoldable pub break_of : List (List ℕ) → Result Action Cause
 break_of words = do
   agent ← number_in 2 words
   call ← sink_call_in 3 words
-  count ← number_between 1 18446744073709551615 4 words
+  count ← number_between 1 (2 ^ 64 - 1) 4 words
   Ok (actions.Break agent call count)
 
 unfoldable pub injection_of : List (List ℕ) → Result Action Cause
@@ -157,7 +157,7 @@ unfoldable pub query_of : List (List ℕ) → List (List ℕ) → Result Action 
 query_of words filters = do
   agent ← number_in 2 words
   now ← number_in 3 words
-  id ← number_between 0 4294967295 4 words
+  id ← number_between 0 (2 ^ 32 - 1) 4 words
   name ← bytes_in 5 words
   payload ← bytes_in 6 words
   params ← params_of words filters

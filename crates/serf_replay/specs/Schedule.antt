@@ -4,6 +4,8 @@ use Rattle.std.specs.List.{slice_split}
 use Rattle.serf_replay.specs.Line.{Parsed, after_line}
 use Rattle.serf_replay.specs.declared.cause.Cause.{Cause}
 use Rattle.serf_replay.specs.declared.schedule.Schedule.{Schedule}
+use Rattle.serf_replay.specs.declared.cause.LineFault.{LineFault}
+use Rattle.serf_replay.specs.declared.cause.LineFault.TheVariants.{Bad, OutOfMemory}
 use Rattle.serf_replay.specs.declared.parse.ScheduleFault.{ScheduleFault}
 use Rattle.serf_replay.specs.declared.parse.ScheduleFault.TheVariants as faults
 
@@ -32,6 +34,11 @@ schedule_in lines = after_lines 1 (record { configs = []; actions = [] }) lines
 
 abbrev pub schedule_of : List ℕ → Result Parsed BadLine
 schedule_of text = schedule_in (slice_split (λ b. b == 10) text)
+
+-- why a text is no schedule whose line of this number has this fault
+abbrev pub schedule_fault : ℕ → LineFault → ScheduleFault
+schedule_fault line (Bad cause) = faults.BadLine line cause
+schedule_fault line OutOfMemory = faults.OutOfMemory
 
 -- what `parse_schedule` answers, unless memory runs out
 abbrev pub Reads : Result Schedule ScheduleFault → Result Parsed BadLine → Type 0

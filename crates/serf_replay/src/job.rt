@@ -5,11 +5,11 @@ ghost use Rattle.std.specs.Io.KnownBytes.{Appends, Consumes};
 ghost use Rattle.serf_replay.specs.Io.{AppendsFront};
 ghost use Rattle.serf_replay.specs.Output.{output_of, GivesText, TracesRun, longest_schedule};
 
-use crate::cause::{Cause, LineFault};
+use crate::cause::Cause;
 use crate::input::{InputFault, read_input};
 use crate::laws::answered_lines;
 use crate::output::write_output;
-use crate::parse::ScheduleFault;
+use crate::parse::{ScheduleFault, fault_at};
 use crate::progress::Progress;
 use crate::replaying::Replaying;
 use crate::watch::Watch;
@@ -56,16 +56,10 @@ fn output_text<T: Watch>(
     let mut rest = input;
     'lines: loop {
         let (line, more) = cut(rest, b'\n');
-        match replaying.take_line_in(alloc, &mut words, line, &mut out) {
-            Ok(()) => progress.tell(watch, replaying.turns()),
-            Err(LineFault::Bad(cause)) => {
-                return Err(ScheduleFault::BadLine {
-                    line: number,
-                    cause,
-                });
-            }
-            Err(LineFault::OutOfMemory) => return Err(ScheduleFault::OutOfMemory),
+        if let Err(fault) = replaying.take_line_in(alloc, &mut words, line, &mut out) {
+            return Err(fault_at(number, fault));
         }
+        progress.tell(watch, replaying.turns());
         match more {
             Some(next) => {
                 rest = next;

@@ -7,7 +7,7 @@ ghost use Rattle.serf_replay.specs.Command.{command_of};
 ghost use Rattle.serf_replay.specs.Words.{words_of, word_at};
 ghost use Rattle.serf_replay.specs.Line.{action_line, query_said, after_line, with_action};
 ghost use Rattle.serf_replay.specs.Parts.{agent_said, parts_said};
-ghost use Rattle.serf_replay.specs.Schedule.{parsed_of, schedule_of, Reads};
+ghost use Rattle.serf_replay.specs.Schedule.{parsed_of, schedule_fault, schedule_of, Reads};
 ghost use Rattle.serf_replay.specs.Gives.{Gives};
 
 use crate::cause::{Cause, LineFault};
@@ -27,6 +27,16 @@ pub enum ScheduleFault {
     BadLine { line: u64, cause: Cause },
     #[error("out of memory")]
     OutOfMemory,
+}
+
+/// Why a text is no schedule of which the line of this number, counted from 1, has this fault.
+pub(crate) fn fault_at(line: u64, fault: LineFault) -> ScheduleFault
+    ensures { result ≡ schedule_fault line fault }
+{
+    match fault {
+        LineFault::Bad(cause) => ScheduleFault::BadLine { line, cause },
+        LineFault::OutOfMemory => ScheduleFault::OutOfMemory,
+    }
 }
 
 fn read_agent(
@@ -52,6 +62,7 @@ fn read_agent(
     }
 }
 
+#[inline(always)]
 fn add_action(parsed: &mut Schedule, action: Action) -> Result<(), LineFault>
     ensures { Gives (λ _. parsed_of parsed.new) result (Ok (with_action (parsed_of parsed.old) action)) }
 {
@@ -123,6 +134,7 @@ fn is_comment(line: &[u8]) -> bool
 
 /// Reads a line, with room for its words that the lines before it used too.
 #[tactic(auto, unfolding(crate::specs::Line::after_line))]
+#[inline(always)]
 pub(crate) fn read_line<'a>(
     alloc: Global,
     parsed: &mut Schedule,
@@ -181,15 +193,8 @@ pub fn parse_schedule(alloc: Global, text: &[u8]) -> Result<Schedule, ScheduleFa
     let mut rest = text;
     'lines: loop {
         let (line, more) = cut(rest, b'\n');
-        match read_line(alloc, &mut parsed, &mut words, line) {
-            Ok(()) => {}
-            Err(LineFault::Bad(cause)) => {
-                return Err(ScheduleFault::BadLine {
-                    line: number,
-                    cause,
-                });
-            }
-            Err(LineFault::OutOfMemory) => return Err(ScheduleFault::OutOfMemory),
+        if let Err(fault) = read_line(alloc, &mut parsed, &mut words, line) {
+            return Err(fault_at(number, fault));
         }
         match more {
             Some(next) => {

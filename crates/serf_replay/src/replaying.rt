@@ -5,7 +5,7 @@ ghost use Rattle.std.specs.Option.{option_to_list};
 ghost use Rattle.serf_model.specs.declared.action.Action.{Action};
 ghost use Rattle.serf_world.specs.Cluster.{Run, after};
 ghost use Rattle.serf_world.specs.Runs.{AreConfigs};
-ghost use Rattle.serf_replay.specs.Gives.{Fails, Gives};
+ghost use Rattle.serf_replay.specs.Gives.{Fails};
 ghost use Rattle.serf_replay.specs.Grown.{with_turn};
 ghost use Rattle.serf_replay.specs.Line.{Parsed};
 ghost use Rattle.serf_replay.specs.Schedule.{parsed_of};
@@ -28,6 +28,7 @@ pub(crate) struct Acting {
 }
 
 /// Does an action of this number, and appends the text of its turn.
+#[inline(always)]
 fn add_turn(
     alloc: Global,
     world: &mut World,
@@ -45,6 +46,7 @@ fn add_turn(
 }
 
 /// The cluster that begins with the first action of a schedule; `None` where the schedule has none yet.
+#[inline(never)]
 fn begin(
     alloc: Global,
     schedule: &mut Schedule,
@@ -65,6 +67,7 @@ fn begin(
 }
 
 /// Does the second action of a schedule, where it has one, and takes it out.
+#[inline(always)]
 fn go_on(
     alloc: Global,
     schedule: &mut Schedule,
@@ -79,7 +82,7 @@ fn go_on(
         return Ok(());
     }
     let Some(action) = schedule.actions.pop() else {
-        return Ok(());
+        unreachable!();
     };
     let Some(number) = acting.turns.checked_add(1) else {
         return Err(AllocError);
@@ -90,6 +93,7 @@ fn go_on(
 }
 
 /// Does the action that a line put into the schedule, where there is one, and appends the text of its turn.
+#[inline(always)]
 fn do_action(
     alloc: Global,
     schedule: &mut Schedule,
@@ -159,6 +163,7 @@ impl Replaying {
     }
 
     /// Does the next line, with room for its words that the lines before it used too.
+    #[inline(always)]
     pub(crate) fn take_line_in<'a>(
         &mut self,
         alloc: Global,

@@ -10,7 +10,7 @@ use crate::put::{flag, put_hex, put_number, put_with_number, put_with_numbers};
 use crate::wire_words::put_wire_fault;
 use serf_agent::Reason;
 use serf_wire::Bytes;
-use serf_world::{Answer, EventLine, HandedLine, Line, Refusal, Trace};
+use serf_world::{Answer, Boxed, EventLine, HandedLine, Line, Refusal, Trace};
 use std::alloc::{AllocError, Global};
 
 fn reason_name(reason: Reason) -> &'static [u8]
@@ -71,6 +71,7 @@ fn put_restarted(
 
 /// Appends the words of an answer. After an `AllocError`, which comes where there is no memory for them, `out` may
 /// have a front of them.
+#[inline(always)]
 pub fn put_answer(out: &mut Vec<u8>, answer: Answer) -> Result<(), AllocError>
     ensures { OnOk result (out.new.items ≡ out.old.items ++ answer_text answer) }
 {
@@ -108,6 +109,7 @@ pub fn put_answer(out: &mut Vec<u8>, answer: Answer) -> Result<(), AllocError>
 }
 
 #[tactic(auto, unfolding(crate::specs::Show::answer_line))]
+#[inline(always)]
 fn put_answer_line(out: &mut Vec<u8>, number: u64, answer: Answer) -> Result<(), AllocError>
     ensures { OnOk result (out.new.items ≡ out.old.items ++ answer_line number answer) }
 {
@@ -198,6 +200,7 @@ fn put_handed_line(out: &mut Vec<u8>, number: u64, query: &HandedLine) -> Result
     out.extend_from_slice(b"\n")
 }
 
+#[inline(always)]
 fn put_sent_lines(
     out: &mut Vec<u8>,
     sent: &[Bytes],
@@ -212,6 +215,7 @@ fn put_sent_lines(
     Ok(())
 }
 
+#[inline(always)]
 fn put_event_lines(out: &mut Vec<u8>, number: u64, events: &[EventLine]) -> Result<(), AllocError>
     ensures { OnOk result (out.new.items ≡ out.old.items ++ flat_map (event_line number) events.now) }
 {
@@ -221,11 +225,16 @@ fn put_event_lines(out: &mut Vec<u8>, number: u64, events: &[EventLine]) -> Resu
     Ok(())
 }
 
-fn put_handed(out: &mut Vec<u8>, number: u64, handed: &Option<HandedLine>) -> Result<(), AllocError>
+#[inline(always)]
+fn put_handed(
+    out: &mut Vec<u8>,
+    number: u64,
+    handed: &Option<Boxed<HandedLine>>,
+) -> Result<(), AllocError>
     ensures { OnOk result (out.new.items ≡ out.old.items ++ flat_map (handed_line number) (option_to_list handed.now)) }
 {
     match handed {
-        Some(query) => put_handed_line(out, number, query),
+        Some(query) => put_handed_line(out, number, query.get()),
         None => Ok(()),
     }
 }
@@ -233,6 +242,7 @@ fn put_handed(out: &mut Vec<u8>, number: u64, handed: &Option<HandedLine>) -> Re
 /// Appends the lines of an action of this number, where these packets were sent. After an `AllocError`, which comes
 /// where there is no memory for them, `out` may have a front of them.
 #[tactic(auto, unfolding(crate::specs::Show::action_text))]
+#[inline(always)]
 pub fn put_action(
     out: &mut Vec<u8>,
     sent: &[Bytes],

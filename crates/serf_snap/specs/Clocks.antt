@@ -1,8 +1,9 @@
 -- Snapshot text: its lines, and the greatest value of the clock lines of a kind (`snapshot.go`, the lines
 -- `clock: `, `event-clock: ` and `query-clock: ` of `updateClock`, `processUserEvent` and `processQuery`, read
 -- again by `replay`; Serf takes the last line of a kind, here the greatest counts).
-use Rattle.std.specs.Prelude.{ℕ, ◌+◌, ◌-◌, ◌*◌, ◌^◌, max, Bool, true, false, ◌&&◌, not, if◌then◌else◌, nat_lt, ◌==◌, Option, Some, None, List, [], ◌∷◌, ◌++◌, codes, decimal}
+use Rattle.std.specs.Prelude.{ℕ, ◌+◌, ◌-◌, ◌*◌, max, Bool, true, false, ◌&&◌, not, if◌then◌else◌, nat_lt, ◌==◌, Option, Some, None, List, [], ◌∷◌, ◌++◌, codes, decimal}
 use Rattle.std.specs.Str.{all_ascii_digits}
+use Rattle.serf_lamport.specs.Clock.{greatest_clock}
 use Rattle.serf_snap.specs.declared.kind.ClockKind.{ClockKind}
 use Rattle.serf_snap.specs.declared.kind.ClockKind.TheVariants.{Member, Event, Query}
 
@@ -52,7 +53,7 @@ is_empty (b ∷ bs) = false
 
 -- one or more digits, with a value that is a time
 abbrev pub is_time_text : List ℕ → Bool
-is_time_text ds = not (is_empty ds) && (all_ascii_digits ds && nat_lt (read_on 0 ds) (2 ^ 64 - 1))
+is_time_text ds = not (is_empty ds) && (all_ascii_digits ds && nat_lt (read_on 0 ds) greatest_clock)
 
 -- the value of what follows the prefix; 0 where it is no time
 abbrev pub time_text_value : Option (List ℕ) → ℕ

@@ -1,8 +1,9 @@
 -- A snapshot as contracts see it, and the one rule of its notes, of its openings and of its compactions
 -- (`snapshot.go`). A line is written only where its time is above the last one of its kind; the sink keeps
 -- it, or it fails, and then the snapshot is stopped.
-use Rattle.std.specs.Prelude.{◌≡◌, ◌⊎◌, ℕ, ◌-◌, ◌^◌, ◌<◌, ◌≤◌, ◌==◌, ◌||◌, nat_le, Bool, true, false, if◌then◌else◌, List, ◌++◌, take, Option, Some, None, IsSome, IfSome, IsSomeAnd}
+use Rattle.std.specs.Prelude.{◌≡◌, ◌⊎◌, ℕ, ◌<◌, ◌≤◌, ◌==◌, ◌||◌, nat_le, Bool, true, false, if◌then◌else◌, List, ◌++◌, take, Option, Some, None, IsSome, IfSome, IsSomeAnd}
 use Rattle.std.specs.Option.{option_map}
+use Rattle.serf_lamport.specs.Clock.{greatest_clock}
 use Rattle.serf_snap.specs.declared.kind.ClockKind.{ClockKind}
 use Rattle.serf_snap.specs.declared.kind.ClockKind.TheVariants.{Member, Event, Query}
 use Rattle.serf_snap.specs.Clocks.{of_kind, once_set, last_clock, clock_line, sealed, seal_line, is_whole, compacted_text}
@@ -149,9 +150,9 @@ with_new_plan change s = record { snapshot = with_sink s.snapshot.durable change
 
 -- the last lines are times
 pub record AreTimes (s : SnapshotView) : Type 0 where
-  pub member_clock : s.member_clock < 2 ^ 64 - 1
-  pub event_clock : s.event_clock < 2 ^ 64 - 1
-  pub query_clock : s.query_clock < 2 ^ 64 - 1
+  pub member_clock : s.member_clock < greatest_clock
+  pub event_clock : s.event_clock < greatest_clock
+  pub query_clock : s.query_clock < greatest_clock
 
 -- what is durable has each last line or a greater one; while the snapshot isn't stopped it has no greater one,
 -- and its last line is whole

@@ -2,6 +2,7 @@
 
 ghost use Rattle.std.specs.Prelude.{◌≡◌, ◌-◌, ◌^◌, ◌<◌, Some, max, min};
 ghost use Rattle.std.specs.Str.{all_ascii_digits};
+ghost use Rattle.serf_lamport.specs.Clock.{greatest_clock};
 ghost use Rattle.serf_snap.specs.Clocks.{behind, is_whole, last_clock, line_value, of_kind, once_set, read_on, time_text_value};
 ghost use Rattle.serf_snap.specs.declared.kind.ClockKind.TheVariants.{Member, Event, Query};
 
@@ -93,7 +94,7 @@ pub fn read_clocks(text: &[u8]) -> Clocks
     ensures member { result.member_clock ≡ last_clock Member text.now }
     ensures event { result.event_clock ≡ last_clock Event text.now }
     ensures query { result.query_clock ≡ last_clock Query text.now }
-    ensures times { (result.member_clock < 2 ^ 64 - 1) × (result.event_clock < 2 ^ 64 - 1) × (result.query_clock < 2 ^ 64 - 1) }
+    ensures times { (result.member_clock < greatest_clock) × (result.event_clock < greatest_clock) × (result.query_clock < greatest_clock) }
 {
     let mut clocks = Clocks {
         member_clock: 0,

@@ -1,6 +1,7 @@
 //! The laws of snapshot texts and of snapshots, as clauses of functions that do nothing.
 
-ghost use Rattle.std.specs.Prelude.{◌≡◌, ◌≢◌, ◌↔◌, ◌<◌, ◌≤◌, ◌-◌, ◌^◌, ◌++◌, ℕ, List, Option, IsSome, false, true, max};
+ghost use Rattle.std.specs.Prelude.{◌≡◌, ◌≢◌, ◌↔◌, ◌<◌, ◌≤◌, ◌++◌, ℕ, List, Option, IsSome, false, true, max};
+ghost use Rattle.serf_lamport.specs.Clock.{greatest_clock};
 ghost use Rattle.serf_snap.specs.declared.kind.ClockKind.{ClockKind};
 ghost use Rattle.serf_snap.specs.Clocks.{clock_line, compacted_text, is_whole, last_clock, of_kind, sealed};
 ghost use Rattle.serf_snap.specs.Device.{Device, FailurePlan};
@@ -10,13 +11,13 @@ ghost use Rattle.serf_snap.specs.Notes.{Failed, IsSnapshotSound, IsObservable, K
 /// and no other, and neither a seal nor a compaction changes one.
 pub fn text_laws()
     ensures grows { (k : ClockKind) (front tail : List ℕ) → last_clock k front ≤ last_clock k (front ++ tail) }
-    ensures below { (k : ClockKind) (text : List ℕ) → last_clock k text < 2 ^ 64 - 1 }
-    ensures own_line { (k : ClockKind) (text : List ℕ) (t : ℕ) → is_whole text ≡ true → t < 2 ^ 64 - 1 → last_clock k (text ++ clock_line k t) ≡ max (last_clock k text) t }
-    ensures other_line { (k j : ClockKind) (text : List ℕ) (t : ℕ) → is_whole text ≡ true → t < 2 ^ 64 - 1 → k ≢ j → last_clock k (text ++ clock_line j t) ≡ last_clock k text }
+    ensures below { (k : ClockKind) (text : List ℕ) → last_clock k text < greatest_clock }
+    ensures own_line { (k : ClockKind) (text : List ℕ) (t : ℕ) → is_whole text ≡ true → t < greatest_clock → last_clock k (text ++ clock_line k t) ≡ max (last_clock k text) t }
+    ensures other_line { (k j : ClockKind) (text : List ℕ) (t : ℕ) → is_whole text ≡ true → t < greatest_clock → k ≢ j → last_clock k (text ++ clock_line j t) ≡ last_clock k text }
     ensures line_whole { (k : ClockKind) (text : List ℕ) (t : ℕ) → is_whole (text ++ clock_line k t) ≡ true }
     ensures sealed { (k : ClockKind) (text : List ℕ) → last_clock k (sealed text) ≡ last_clock k text }
     ensures sealed_whole { (text : List ℕ) → is_whole (sealed text) ≡ true }
-    ensures compacted { (k : ClockKind) (m e q : ℕ) → m < 2 ^ 64 - 1 → e < 2 ^ 64 - 1 → q < 2 ^ 64 - 1 → last_clock k (compacted_text m e q) ≡ of_kind k m e q }
+    ensures compacted { (k : ClockKind) (m e q : ℕ) → m < greatest_clock → e < greatest_clock → q < greatest_clock → last_clock k (compacted_text m e q) ≡ of_kind k m e q }
     ensures compacted_whole { (m e q : ℕ) → is_whole (compacted_text m e q) ≡ true }
 {}
 
@@ -24,7 +25,7 @@ pub fn text_laws()
 /// each compaction keeps it so, those that fail too.
 pub fn snapshot_laws()
     ensures opened { (text : List ℕ) (d : Device) → IsSnapshotSound (opened text d) }
-    ensures noted { (k : ClockKind) (s : SnapshotView) (t : ℕ) → IsSnapshotSound s → s.stopped ≡ false → t < 2 ^ 64 - 1 → IsSnapshotSound (noted k t s Kept) }
+    ensures noted { (k : ClockKind) (s : SnapshotView) (t : ℕ) → IsSnapshotSound s → s.stopped ≡ false → t < greatest_clock → IsSnapshotSound (noted k t s Kept) }
     ensures note_failed { (k : ClockKind) (s : SnapshotView) (t : ℕ) (line : List ℕ) (durable : Option (List ℕ)) → IsSnapshotSound s → KeepsPart s.durable line durable → IsSnapshotSound (written k t s (Failed durable)) }
     ensures compacted { (s : SnapshotView) → IsSnapshotSound s → IsSnapshotSound (compacted s Kept) }
     ensures planned { (s : SnapshotView) (change : FailurePlan → FailurePlan) → IsSnapshotSound s → IsSnapshotSound (with_sink s.durable change s) }

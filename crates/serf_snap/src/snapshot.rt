@@ -60,6 +60,7 @@ impl<S: Sink> Model for Snapshot<S> {
     ghost use Rattle.std.specs.Prelude.{◌≡◌, ◌<◌, ◌-◌, ◌^◌, false};
     ghost use Rattle.serf_snap.specs.Notes.{SnapshotState};
     ghost use Rattle.serf_snap.specs.Compaction.{IsLengthOf};
+    ghost use Rattle.serf_lamport.specs.Clock.{greatest_clock};
     ghost use Rattle.serf_snap.specs.Device.{IsClean, durable_of};
 
     ghost Value = { SnapshotState };
@@ -78,7 +79,7 @@ impl<S: Sink> Model for Snapshot<S> {
 
     ghost invariant = { λ a.
         (a.stopped ≡ false → IsClean (S.device a.sink))
-        × (a.last.member_clock < 2 ^ 64 - 1) × (a.last.event_clock < 2 ^ 64 - 1) × (a.last.query_clock < 2 ^ 64 - 1)
+        × (a.last.member_clock < greatest_clock) × (a.last.event_clock < greatest_clock) × (a.last.query_clock < greatest_clock)
         × (a.stopped ≡ false → IsLengthOf (durable_of (S.device a.sink)) a.kept) };
 }
 

@@ -1,8 +1,12 @@
 -- Lines, and the answers to them.
-use Rattle.std.specs.Prelude.{◌≡◌, ℕ, ◌+◌, ◌++◌, ◌==◌, min, List, [], ◌∷◌, length, Result, Ok, Err}
+use Rattle.std.specs.Prelude.{◌^◌, ◌-◌, ◌≡◌, ℕ, ◌+◌, ◌++◌, ◌==◌, min, List, [], ◌∷◌, length, Result, Ok, Err}
 use Rattle.std.specs.List.{slice_split}
 use Rattle.serf_stream.specs.declared.fault.LineFault.{LineFault}
 use Rattle.serf_stream.specs.declared.fault.LineFault.TheVariants.{Bad, OutOfMemory}
+
+-- the most bytes of a line
+abbrev pub longest_line : ℕ
+longest_line = 16777216
 
 -- a text cut at its newlines
 abbrev pub lines_of : List ℕ → List (List ℕ)
@@ -10,7 +14,7 @@ lines_of text = slice_split (λ b. b == 10) text
 
 -- the number of the line behind these, counted from 1; it stops at 2^64 - 1
 abbrev pub number_behind : List (List ℕ) → ℕ
-number_behind lines = min (length lines + 1) 18446744073709551615
+number_behind lines = min (length lines + 1) (2 ^ 64 - 1)
 
 -- a text and the rest, where both are there
 abbrev pub joined : {F : Type 0} → Result (List ℕ) F → Result (List ℕ) F → Result (List ℕ) F

@@ -4,8 +4,7 @@ use Rattle.std.specs.Io.KnownBytes.{Appends}
 use Rattle.serf_replay.specs.Io.{AppendsFront}
 use Rattle.serf_stream.specs.declared.fault.StreamFault.{StreamFault}
 use Rattle.serf_stream.specs.declared.fault.StreamFault.TheVariants.{ReadFault, BadLine, LineTooLong, OutOfMemory, WriteFault}
-use Rattle.serf_stream.specs.declared.kept.TheConstants.{MAX_LINE_BYTES}
-use Rattle.serf_stream.specs.Lines.{lines_of, number_behind, text_behind}
+use Rattle.serf_stream.specs.Lines.{lines_of, longest_line, number_behind, text_behind}
 
 -- What the lines that were done, and those that were not, have to do with a fault.
 abbrev pub IsCause : {F : Type 0} → (List (List ℕ) → List ℕ → Result (List ℕ) F) → StreamFault F → List (List ℕ) → List (List ℕ) → Type 0
@@ -14,7 +13,7 @@ IsCause answer ReadFault lines left = length left ≡ 1
 IsCause answer (BadLine number fault) lines left =
     (line : List ℕ) × (more : List (List ℕ)) × (left ≡ line ∷ more) × (number ≡ number_behind lines) × (answer lines line ≡ Err fault)
 IsCause answer (LineTooLong number) lines left =
-    (line : List ℕ) × (more : List (List ℕ)) × (left ≡ line ∷ more) × (number ≡ number_behind lines) × (MAX_LINE_BYTES < length line)
+    (line : List ℕ) × (more : List (List ℕ)) × (left ≡ line ∷ more) × (number ≡ number_behind lines) × (longest_line < length line)
 IsCause answer OutOfMemory lines left = Unit {0}
 IsCause answer WriteFault lines left = Unit {0}
 
@@ -57,7 +56,7 @@ pub record Reached {J F : Type 0} (follows : J → List (List ℕ) → Type 0) (
 abbrev pub IsLineFault : {F : Type 0} → (List (List ℕ) → List ℕ → Result (List ℕ) F) → StreamFault F → List (List ℕ) → List ℕ → Type 0
 IsLineFault answer ReadFault lines line = ⊥
 IsLineFault answer (BadLine number fault) lines line = (number ≡ number_behind lines) × (answer lines line ≡ Err fault)
-IsLineFault answer (LineTooLong number) lines line = (number ≡ number_behind lines) × (MAX_LINE_BYTES < length line)
+IsLineFault answer (LineTooLong number) lines line = (number ≡ number_behind lines) × (longest_line < length line)
 IsLineFault answer OutOfMemory lines line = Unit {0}
 IsLineFault answer WriteFault lines line = ⊥
 

@@ -6,8 +6,7 @@ use Rattle.serf_replay.specs.Schedule.{schedule_in, schedule_of}
 use Rattle.serf_replay.specs.Turns.{run_text}
 use Rattle.serf_stream.specs.declared.fault.StreamFault.{StreamFault}
 use Rattle.serf_stream.specs.declared.fault.StreamFault.TheVariants.{ReadFault, BadLine, LineTooLong, OutOfMemory, WriteFault}
-use Rattle.serf_stream.specs.declared.kept.TheConstants.{MAX_LINE_BYTES}
-use Rattle.serf_stream.specs.Lines.{lines_of, number_behind}
+use Rattle.serf_stream.specs.Lines.{lines_of, longest_line, number_behind}
 use Rattle.serf_stream.specs.Streams.{WritesUpTo}
 
 -- What a fault says of the lines that were done, and of those that were not.
@@ -17,7 +16,7 @@ IsHaltedBy ReadFault bytes lines left = length left ≡ 1
 -- the whole is refused for the same line and cause
 IsHaltedBy (BadLine number cause) bytes lines left = (number ≡ number_behind lines) × (schedule_of bytes ≡ Err (record { line = length lines + 1; cause = cause }))
 IsHaltedBy (LineTooLong number) bytes lines left =
-    (line : List ℕ) × (more : List (List ℕ)) × (left ≡ line ∷ more) × (number ≡ number_behind lines) × (MAX_LINE_BYTES < length line)
+    (line : List ℕ) × (more : List (List ℕ)) × (left ≡ line ∷ more) × (number ≡ number_behind lines) × (longest_line < length line)
 IsHaltedBy OutOfMemory bytes lines left = Unit {0}
 IsHaltedBy WriteFault bytes lines left = Unit {0}
 

@@ -1,12 +1,12 @@
 -- How often something came in a list of notes, and when at last.
-use Rattle.std.specs.Prelude.{ℕ, ◌+◌, min, Bool, if◌then◌else◌, List, Option, Some, None}
+use Rattle.std.specs.Prelude.{◌^◌, ◌-◌, ℕ, ◌+◌, min, Bool, if◌then◌else◌, List, Option, Some, None}
 use Rattle.std.specs.List.{fold}
 use Rattle.serf_summary.specs.declared.tally.Spread.{Spread}
 
 -- it comes once more, at this action
 abbrev pub again : ℕ → Option Spread → Spread
 again action None = record { times = 1; last = action }
-again action (Some s) = record { times = min (s.times + 1) 18446744073709551615; last = action }
+again action (Some s) = record { times = min (s.times + 1) (2 ^ 64 - 1); last = action }
 
 -- private to the crate: what is known of one thing, once another one was noted
 abbrev pub noted : Bool → Spread → Option Spread → Option Spread

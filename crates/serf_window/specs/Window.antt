@@ -25,9 +25,16 @@ pub record WindowOf (K : Type 0) : Type 0 where
   pub rooms : List ℕ
   pub per_time : ℕ
 
--- Not a number of slots, or of entries of one time, that a window can have: these are 1 to 65,536.
-abbrev pub IsBadSize : ℕ → Type 0
-IsBadSize n = (n ≡ 0) ⊎ (65536 < n)
+-- the most slots that a window can have, and the most entries of one time that it can take (this project's own)
+abbrev pub greatest_slot_count : ℕ
+greatest_slot_count = 65536
+
+abbrev pub greatest_per_time : ℕ
+greatest_per_time = 65536
+
+-- Not a number of slots, or of entries of one time, that a window can have, where there are this many at most.
+abbrev pub IsBadSize : ℕ → ℕ → Type 0
+IsBadSize most n = (n ≡ 0) ⊎ (most < n)
 
 -- What entries are held in slots
 
@@ -127,7 +134,7 @@ held_count slots = sum_by (λ s. length s.held) slots
 -- what is true of every window: it has 1 to 65,536 slots, and each holds k entries at most, k from 1 to 65,536
 pub record IsWindow {K : Type 0} (n k : ℕ) (slots : List (SlotOf K)) : Type 0 where
   pub some_slot : 0 < n
-  pub most_slots : n ≤ 65536
+  pub most_slots : n ≤ greatest_slot_count
   pub some_of_time : 0 < k
-  pub most_of_time : k ≤ 65536
+  pub most_of_time : k ≤ greatest_per_time
   pub each : EachAtMost k slots

@@ -3,7 +3,9 @@
 ghost use Rattle.std.specs.Prelude.{◌≡◌, ◌+◌, ◌<◌, ◌≤◌, ◌++◌, replicate, OnOk, OnErr, vec_len, vec_capacity};
 ghost use Rattle.serf_wire.specs.Buffers.{unused_slot};
 ghost use Rattle.serf_window.specs.Slots.{all_slots};
+ghost use Rattle.serf_window.specs.Window.{greatest_slot_count};
 
+use crate::verdict::MAX_SLOTS;
 use serf_lamport::Time;
 use serf_wire::{RoomyList, TimeSlot};
 use std::alloc::{AllocError, Global};
@@ -40,7 +42,7 @@ pub(crate) fn reach<K>(
     n: usize,
 ) -> Result<(), AllocError>
     requires within { place < n }
-    requires most { n ≤ 65536 }
+    requires most { n ≤ greatest_slot_count }
     requires size { vec_len slots.old ≤ n }
     ensures there { OnOk result (place < vec_len slots.new) }
     ensures size { vec_len slots.new ≤ n }

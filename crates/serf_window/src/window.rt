@@ -5,7 +5,7 @@ ghost use Rattle.std.specs.List.{list_any};
 ghost use Rattle.serf_window.specs.OneSlot.{slot_verdict};
 ghost use Rattle.serf_wire.specs.Buffers.{slots_lent, unused_slot};
 ghost use Rattle.serf_window.specs.Slots.{slot_view};
-ghost use Rattle.serf_window.specs.Window.{IsBadSize, IsWindow, TimesBelow, TimedEntry, count_in, held_count, room_for, slot_after, slots_after, slots_of, time_in, verdict_of};
+ghost use Rattle.serf_window.specs.Window.{IsBadSize, IsWindow, TimesBelow, TimedEntry, count_in, greatest_per_time, greatest_slot_count, held_count, room_for, slot_after, slots_after, slots_of, time_in, verdict_of};
 
 use crate::growth::reach;
 use crate::lent_key::LentKey;
@@ -100,6 +100,7 @@ fn verdict_in<K, L: LentKey<K>>(slot: &TimeSlot<K>, per_time: u64, time: Time, k
 }
 
 /// The verdict of the slot of this place. Where that was never used, nothing was entered.
+#[inline(always)]
 fn verdict_at<K, L: LentKey<K>>(
     made: &[TimeSlot<K>],
     place: usize,
@@ -148,7 +149,7 @@ impl<K: Drop> Window<K> {
         ensures size { IfOk result (λ window. length window.slots ≡ slot_count) }
         ensures below { IfOk result (λ window. (clock : ℕ) → 0 < clock → TimesBelow clock window.slots) }
         ensures per_time { IfOk result (λ window. window.per_time ≡ per_time) }
-        ensures bad { IsErr result ↔ (IsBadSize slot_count ⊎ IsBadSize per_time) }
+        ensures bad { IsErr result ↔ (IsBadSize greatest_slot_count slot_count ⊎ IsBadSize greatest_per_time per_time) }
     {
         if slot_count == 0 || slot_count > MAX_SLOTS || per_time == 0 || per_time > MAX_PER_TIME {
             return Err(NewWindowFault::BadSize);

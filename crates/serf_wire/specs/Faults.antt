@@ -1,5 +1,6 @@
 -- The faults of a map's places, in reading order.
 use Rattle.std.specs.Prelude.{ℕ, zero, suc, ◌+◌, ℤ, pos, negsuc, List, [], ◌∷◌, ◌++◌, Option, Some, None, ◌==◌, if◌then◌else◌}
+use Rattle.serf_lamport.specs.Clock.{greatest_clock, last_time}
 use Rattle.serf_pack.specs.Tree.{Tree, nil, flag, int, raw, array, pairs}
 use Rattle.serf_pack.specs.View.{raw_of, place_of, item_list, pair_list}
 use Rattle.serf_wire.specs.declared.fault.WireFault.{WireFault}
@@ -29,13 +30,13 @@ number_faults max (pairs p ps) = WrongKind (p + 1) ∷ []
 
 -- of an integer in a time's place
 abbrev pub time_fault : ℤ → ℕ → WireFault
-time_fault (pos n) p = if n == 18446744073709551615 then GreatestTime p else OutOfRange p
+time_fault (pos n) p = if n == greatest_clock then GreatestTime p else OutOfRange p
 time_fault (negsuc k) p = OutOfRange p
 
 abbrev pub time_faults : Tree → List WireFault
 time_faults (nil p) = []
 time_faults (flag p b) = WrongKind (p + 1) ∷ []
-time_faults (int p z) = unless (up_to 18446744073709551614 z) (time_fault z (p + 1))
+time_faults (int p z) = unless (up_to last_time z) (time_fault z (p + 1))
 time_faults (raw p s) = WrongKind (p + 1) ∷ []
 time_faults (array p vs) = WrongKind (p + 1) ∷ []
 time_faults (pairs p ps) = WrongKind (p + 1) ∷ []

@@ -1,6 +1,7 @@
 -- What the fields of a map are.
 use Rattle.std.specs.Prelude.{ℕ, ℤ, pos, negsuc, Bool, true, false, ◌||◌, ◌&&◌, List, [], ◌∷◌, Option, Some, None, is_some, codes, nat_le, nat_lt, if◌then◌else◌}
 use Rattle.std.specs.Str.{bytes_eq}
+use Rattle.serf_lamport.specs.Clock.{last_time}
 use Rattle.serf_wire.specs.declared.texts.EventBody.{EventBody}
 use Rattle.serf_wire.specs.Slots.{SlotContent, empty, held}
 use Rattle.serf_pack.specs.Tree.{Tree, nil, flag, int, raw, array, pairs}
@@ -38,7 +39,7 @@ number max (pairs p ps) = None
 
 -- 2^64 - 1 is no time
 abbrev pub time : Tree → Option ℕ
-time = number 18446744073709551614
+time = number last_time
 
 -- an integer of 64 bits
 abbrev pub fits : ℤ → Option ℤ

@@ -2,6 +2,7 @@
 
 ghost use Rattle.std.specs.Prelude.{◌≡◌, ◌<◌, ◌^◌, ◌++◌, ◌↔◌, IsTrue, false, true, length, map, codes, nat_lt, IfOk, OnOk, Some};
 ghost use Rattle.std.specs.List.{list_any, list_all};
+ghost use Rattle.serf_lamport.specs.Clock.{greatest_clock};
 ghost use Rattle.serf_pack.specs.Canonical.{raw_bytes, uint_bytes, int_bytes};
 ghost use Rattle.serf_wire.specs.Message.{query, push_pull, user_event_of, response_of};
 ghost use Rattle.serf_wire.specs.Lists.{status_of};
@@ -57,7 +58,7 @@ fn write_user_event(
     requires name { length name.now < 2 ^ 32 }
     requires payload { length payload.now < 2 ^ 32 }
     ensures bytes { IfOk result (λ packet. packet.items ≡ canonical (user_event_of time name.now payload.now coalesce)) }
-    ensures time { OnOk result (time < 18446744073709551615) }
+    ensures time { OnOk result (time < greatest_clock) }
 {
     let len = user_event_len(time, name, payload, coalesce);
     let mut out = Vec::with_capacity(alloc, len as usize)?;

@@ -93,6 +93,7 @@ fn read<'a>(message: MessageType, value: &View<'a>) -> Result<Message<'a>, WireF
 }
 
 /// The message of a map with such fields, or the bytes' first fault.
+#[inline(never)]
 fn read_checked(message: MessageType, bytes: &[u8]) -> Result<Message<'_>, WireFault>
     ensures { Gives message_of result (read_value message (whole_at 8 bytes.now)) }
 {
@@ -102,29 +103,47 @@ fn read_checked(message: MessageType, bytes: &[u8]) -> Result<Message<'_>, WireF
     }
 }
 
-/// The user event or the state of a map in compact spellings, which is read in one pass. Every other map is left
-/// to `read_checked`.
-fn read_fast(message: MessageType, bytes: &[u8]) -> Option<Message<'_>>
-    ensures { IfSome result (λ m. SpellsMap message (message_of m) bytes.now) }
+/// The user event of a map: in one pass where it is spelled compactly.
+#[inline(always)]
+fn read_event_map(bytes: &[u8]) -> Result<Message<'_>, WireFault>
+    ensures { Gives message_of result (read_value MessageType.UserEvent (whole_at 8 bytes.now)) }
 {
-    match message {
-        MessageType::UserEvent => read_user_event(bytes),
-        MessageType::PushPull => read_push_pull(bytes),
-        MessageType::Query | MessageType::QueryResponse => None,
+    laws_below();
+    match read_user_event(bytes) {
+        Some(event) => Ok(Message::UserEvent {
+            time: event.time,
+            name: event.name,
+            payload: event.payload,
+            coalesce: event.coalesce,
+        }),
+        None => read_checked(MessageType::UserEvent, bytes),
     }
 }
 
-/// The same, in one pass where that can be.
+/// The state of a map: in one pass where it is spelled compactly.
+fn read_state_map(bytes: &[u8]) -> Result<Message<'_>, WireFault>
+    ensures { Gives message_of result (read_value MessageType.PushPull (whole_at 8 bytes.now)) }
+{
+    laws_below();
+    match read_push_pull(bytes) {
+        Some(found) => Ok(found),
+        None => read_checked(MessageType::PushPull, bytes),
+    }
+}
+
+/// The message of a map.
+#[inline(always)]
 fn read_map(message: MessageType, bytes: &[u8]) -> Result<Message<'_>, WireFault>
     ensures { Gives message_of result (read_value message (whole_at 8 bytes.now)) }
 {
-    laws_below();
-    match read_fast(message, bytes) {
-        Some(found) => Ok(found),
-        None => read_checked(message, bytes),
+    match message {
+        MessageType::UserEvent => read_event_map(bytes),
+        MessageType::PushPull => read_state_map(bytes),
+        MessageType::Query | MessageType::QueryResponse => read_checked(message, bytes),
     }
 }
 
+#[inline(always)]
 #[tactic(auto, unfolding(crate::specs::Decoded::decoded))]
 fn read_packet(packet: &[u8]) -> Result<Message<'_>, WireFault>
     ensures { Gives message_of result (decoded packet.now) }
@@ -145,6 +164,7 @@ fn read_packet(packet: &[u8]) -> Result<Message<'_>, WireFault>
 /// `Empty` comes where there is no byte, then `UnknownType`, then `Pack` where the bytes behind the type are no
 /// value of MessagePack, then `NotAMap`, then the fault of the map's first faulty place. Of the types 0, 1
 /// and 6 to 9 the answer is `Foreign`, whatever follows. Takes no memory.
+#[inline(always)]
 pub fn decode(packet: &[u8]) -> Result<Message<'_>, WireFault>
     // What is read is spelled so.
     ensures spells { IfOk result (λ m. Spells (message_of m) packet.now) }

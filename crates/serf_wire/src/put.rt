@@ -2,6 +2,7 @@
 
 ghost use Rattle.std.specs.Prelude.{◌≡◌, ◌<◌, ◌^◌, ◌++◌, false, true, length, nat_lt, codes, map, replicate, OnOk, Some};
 ghost use Rattle.std.specs.List.{flat_map, list_any, list_all};
+ghost use Rattle.serf_lamport.specs.Clock.{greatest_clock};
 ghost use Rattle.serf_pack.specs.Canonical.{map_head, raw_bytes, uint_bytes, int_bytes, flag_bytes};
 ghost use Rattle.serf_wire.specs.Lists.{status_of};
 ghost use Rattle.serf_wire.specs.Buffers.{slots_lent, unused_slot};
@@ -166,7 +167,7 @@ fn put_held(out: &mut Vec<u8>, time: u64, events: &[EventBody]) -> Result<(), Al
 fn put_slot(out: &mut Vec<u8>, slot: &Slot) -> Result<(), AllocError>
     requires { is_long_slot (slot_content slot.now) ≡ false }
     ensures bytes { OnOk result (out.new.items ≡ out.old.items ++ slot_bytes (slot_content slot.now)) }
-    ensures time { OnOk result (slot.now.time < 18446744073709551615) }
+    ensures time { OnOk result (slot.now.time < greatest_clock) }
 {
     let time = slot.time.get();
     let events = slot.held.as_slice();
@@ -180,7 +181,7 @@ fn put_slot(out: &mut Vec<u8>, slot: &Slot) -> Result<(), AllocError>
 fn put_slots(out: &mut Vec<u8>, slots: &[Slot]) -> Result<(), AllocError>
     requires { list_any (λ s. is_long_slot (slot_content s)) slots.now ≡ false }
     ensures bytes { OnOk result (out.new.items ≡ out.old.items ++ flat_map (λ s. slot_bytes (slot_content s)) slots.now) }
-    ensures times { OnOk result (list_all (λ s. nat_lt s.time 18446744073709551615) slots.now ≡ true) }
+    ensures times { OnOk result (list_all (λ s. nat_lt s.time greatest_clock) slots.now ≡ true) }
 {
     for slot in slots {
         put_slot(out, slot)?;
@@ -208,7 +209,7 @@ pub fn put_slots_field(
     requires list { length (slots_lent slots.now) < 2 ^ 32 }
     requires items { list_any (λ s. is_long_slot (slot_content s)) slots.now.used.now ≡ false }
     ensures bytes { OnOk result (out.new.items ≡ out.old.items ++ entry name.now (list_bytes (λ s. slot_bytes (slot_content s)) (slots_lent slots.now))) }
-    ensures times { OnOk result (list_all (λ s. nat_lt s.time 18446744073709551615) (slots_lent slots.now) ≡ true) }
+    ensures times { OnOk result (list_all (λ s. nat_lt s.time greatest_clock) (slots_lent slots.now) ≡ true) }
 {
     put_raw(out, name)?;
     put_array(out, slots.len() as u32)?;

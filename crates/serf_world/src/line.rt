@@ -6,7 +6,7 @@ ghost use Rattle.serf_model.specs.Cluster.{event_line, handed_line, line_only, n
 ghost use Rattle.serf_world.specs.Turns.{Shows};
 
 use serf_agent::{BytesList, EventOut, HandedQuery};
-use serf_model::{Answer, EventLine, EventLines, HandedLine, Line, Numbers, Refusal};
+use serf_model::{Answer, Boxed, EventLine, EventLines, HandedLine, Line, Numbers, Refusal};
 use serf_wire::Bytes;
 use std::alloc::{AllocError, Global};
 
@@ -181,7 +181,7 @@ fn hand_over(
     agent: u64,
     handed: &mut Vec<Option<HandedQuery>>,
     query: Option<HandedQuery>,
-) -> Result<Option<HandedLine>, AllocError>
+) -> Result<Option<Boxed<HandedLine>>, AllocError>
     ensures line { IfOk result (λ line. line ≡ option_map (handed_line agent (length handed.old.items)) query) }
     ensures kept { OnOk result (handed.new.items ≡ handed.old.items ++ map (λ q. Some q) (option_to_list query)) }
 {
@@ -196,8 +196,9 @@ fn hand_over(
         name: Bytes::copy_of(alloc, query.name())?,
         payload: Bytes::copy_of(alloc, query.payload())?,
     };
+    let boxed = Boxed::new(alloc, line)?;
     handed.push(Some(query))?;
-    Ok(Some(line))
+    Ok(Some(boxed))
 }
 
 /// A line with packets that are sent and, where there is one, a query that an agent hands out and keeps until it is

@@ -103,6 +103,7 @@ impl World {
     ///
     /// Where each step so far answered a line, these lines are those of a run that keeps all promises, and the agents
     /// that are stored hold of their open queries what was counted (`done`).
+    #[inline(always)]
     pub fn step(&mut self, alloc: Global, action: &Action) -> Result<Line, StepFault>
         ensures step { (c : Cluster) → IsViewed c self.old → AreRepresentable c → IfOk result (TakesStep (step c action.now) self.new) }
         ensures spent { IsErrOf result StepFault.Spent ↔ IsTrue self.old.poisoned }

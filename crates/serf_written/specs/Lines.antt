@@ -1,5 +1,5 @@
 -- What a line does, and what it adds.
-use Rattle.std.specs.Prelude.{ℕ, ◌==◌, ◌+◌, ◌++◌, nat_lt, Bool, true, false, not, if◌then◌else◌, List, [], ◌∷◌, length, take, drop, codes, position, Option, Some, None, Result, Ok}
+use Rattle.std.specs.Prelude.{◌^◌, ◌-◌, ℕ, ◌==◌, ◌+◌, ◌++◌, nat_lt, Bool, true, false, not, if◌then◌else◌, List, [], ◌∷◌, length, take, drop, codes, position, Option, Some, None, Result, Ok}
 use Rattle.std.specs.Str.{bytes_eq}
 use Rattle.serf_agent.specs.declared.config.Config.{Config}
 use Rattle.serf_agent.specs.Config.{is_sound}
@@ -92,7 +92,7 @@ tail_in place pieces =
 unfoldable pub count_in : ℕ → List Piece → Result ℕ Fault
 count_in place pieces =
     if nat_lt (length pieces) place then Ok 1
-    else or_wrong place wanted.Count (between 1 18446744073709551615 (number_of (word_at place pieces)))
+    else or_wrong place wanted.Count (between 1 (2 ^ 64 - 1) (number_of (word_at place pieces)))
 
 unfoldable pub firing_of : List Config → List Piece → Result (List Action) Fault
 firing_of configs pieces = do

@@ -1,5 +1,5 @@
 -- What a query's line says.
-use Rattle.std.specs.Prelude.{ℕ, pos, ◌==◌, ◌+◌, ◌++◌, true, false, if◌then◌else◌, List, [], ◌∷◌, take, drop, codes, position, Option, Some, None, Result, Ok}
+use Rattle.std.specs.Prelude.{◌^◌, ◌-◌, ℕ, pos, ◌==◌, ◌+◌, ◌++◌, true, false, if◌then◌else◌, List, [], ◌∷◌, take, drop, codes, position, Option, Some, None, Result, Ok}
 use Rattle.std.specs.Str.{bytes_eq}
 use Rattle.serf_agent.specs.declared.config.Config.{Config}
 use Rattle.serf_model.specs.declared.action.Action.{Action}
@@ -19,7 +19,7 @@ plain_query = record { id = 0; params = record { filters = []; want_ack = false;
 -- the value of a key; there may be any number of filters, and of the others the last one counts
 abbrev pub option_value : ℕ → Asked → List ℕ → List ℕ → Result Asked Fault
 option_value place asked key value =
-    if bytes_eq key (codes "id") then or_wrong place wanted.Option (between 0 4294967295 (number_of value))
+    if bytes_eq key (codes "id") then or_wrong place wanted.Option (between 0 (2 ^ 32 - 1) (number_of value))
     >>= (λ id. Ok (record { id = id; params = asked.params }))
     else if bytes_eq key (codes "timeout") then or_wrong place wanted.Option (between 0 9223372036854775807 (time_of value))
     >>= (λ time. Ok (record { id = asked.id; params = record asked.params { timeout = pos time } }))

@@ -1,5 +1,5 @@
 -- What a written text means: agents, actions and labels, or its first fault.
-use Rattle.std.specs.Prelude.{ℕ, ◌==◌, ◌+◌, ◌-◌, ◌++◌, ◌&&◌, nat_lt, min, Bool, not, if◌then◌else◌, List, [], ◌∷◌, length, take, drop, codes, slice_index, Option, Some, None, Result, Ok, Err}
+use Rattle.std.specs.Prelude.{◌^◌, ℕ, ◌==◌, ◌+◌, ◌-◌, ◌++◌, ◌&&◌, nat_lt, min, Bool, not, if◌then◌else◌, List, [], ◌∷◌, length, take, drop, codes, slice_index, Option, Some, None, Result, Ok, Err}
 use Rattle.std.specs.List.{slice_split, list_any}
 use Rattle.std.specs.Option.{is_some}
 use Rattle.std.specs.Str.{bytes_eq}
@@ -82,7 +82,7 @@ is_new_label labels name =
 -- the place counts the label too
 abbrev pub behind_label : {A : Type 0} → Result A Fault → Result A Fault
 behind_label (Ok x) = Ok x
-behind_label (Err fault) = Err (record { place = min (fault.place + 1) 18446744073709551615; wanted = fault.wanted })
+behind_label (Err fault) = Err (record { place = min (fault.place + 1) (2 ^ 64 - 1); wanted = fault.wanted })
 
 -- what was sent between the two has the label
 abbrev pub with_label : List ℕ → Written → Written → Written

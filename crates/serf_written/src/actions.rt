@@ -1,6 +1,6 @@
 //! The actions of a line.
 
-ghost use Rattle.std.specs.Prelude.{◌≡◌, ◌<◌};
+ghost use Rattle.std.specs.Prelude.{◌^◌, ◌-◌, ◌≡◌, ◌<◌};
 ghost use Rattle.serf_replay.specs.Words.{between};
 ghost use Rattle.serf_model.specs.declared.action.Action.TheVariants.{State, Save, Compact};
 ghost use Rattle.serf_written.specs.Gives.{Gives};
@@ -56,7 +56,7 @@ fn tail_at(alloc: Global, pieces: &[Piece], place: usize) -> Result<Bytes, LineF
 }
 
 fn from_one(number: Option<u64>) -> Option<u64>
-    ensures { result ≡ between 1 18446744073709551615 number }
+    ensures { result ≡ between 1 (2 ^ 64 - 1) number }
 {
     match number {
         Some(found) => { if found >= 1 { Some(found) } else { None } }

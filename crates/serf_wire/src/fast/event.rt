@@ -2,15 +2,15 @@
 
 ghost use Rattle.std.specs.Prelude.{◌≡◌, ◌<◌, [], false, unwrap_or, IfSome};
 ghost use Rattle.std.specs.Option.{option_copied};
-ghost use Rattle.serf_wire.specs.Fast.{Extends, IsEventSoFar, IsReadSoFar};
-ghost use Rattle.serf_wire.specs.Message.{message_of, user_event_of};
+ghost use Rattle.serf_lamport.specs.Clock.{greatest_clock};
+ghost use Rattle.serf_wire.specs.Fast.{Extends, IsEventSoFar, IsReadSoFar, event_said};
+ghost use Rattle.serf_wire.specs.Message.{user_event_of};
 ghost use Rattle.serf_wire.specs.Spells.{SpellsMap};
 ghost use Rattle.serf_wire.specs.declared.layout.MessageType.TheVariants as types;
 
 use crate::compact::{once_flag, once_number, once_text, read_map_head};
 use crate::key::{EventKey, read_event_key};
 use crate::laws::laws_below;
-use crate::message::Message;
 use serf_lamport::Time;
 
 /// What was found of a user event.
@@ -20,6 +20,15 @@ struct EventFields<'a> {
     name: Option<&'a [u8]>,
     payload: Option<&'a [u8]>,
     coalesce: Option<bool>,
+}
+
+/// A user event that was read.
+#[derive(Clone, Copy)]
+pub struct FoundEvent<'a> {
+    pub time: Time,
+    pub name: &'a [u8],
+    pub payload: &'a [u8],
+    pub coalesce: bool,
 }
 
 /// Adds the pair at the front.
@@ -52,6 +61,7 @@ fn read_pair<'a>(found: &mut EventFields<'a>, bytes: &'a [u8]) -> Option<&'a [u8
 }
 
 /// Reads so many pairs.
+#[inline(always)]
 fn read_pairs(count: u8, bytes: &[u8]) -> Option<(EventFields<'_>, &[u8])>
     ensures { IfSome result (λ x. IsReadSoFar IsEventSoFar x.0 count bytes.now x.1.now) }
 {
@@ -73,9 +83,9 @@ fn read_pairs(count: u8, bytes: &[u8]) -> Option<(EventFields<'_>, &[u8])>
 }
 
 /// The user event of what was found, where its time is one.
-fn event_of<'a>(found: &EventFields<'a>) -> Option<Message<'a>>
-    ensures message { IfSome result (λ m. message_of m ≡ user_event_of (unwrap_or found.now.time 0) (unwrap_or (option_copied found.now.name) []) (unwrap_or (option_copied found.now.payload) []) (unwrap_or found.now.coalesce false)) }
-    ensures time { IfSome result (λ m. unwrap_or found.now.time 0 < 18446744073709551615) }
+fn event_of<'a>(found: &EventFields<'a>) -> Option<FoundEvent<'a>>
+    ensures event { IfSome result (λ e. event_said e ≡ user_event_of (unwrap_or found.now.time 0) (unwrap_or (option_copied found.now.name) []) (unwrap_or (option_copied found.now.payload) []) (unwrap_or found.now.coalesce false)) }
+    ensures time { IfSome result (λ e. unwrap_or found.now.time 0 < greatest_clock) }
 {
     let number = match found.time {
         None => 0,
@@ -84,7 +94,7 @@ fn event_of<'a>(found: &EventFields<'a>) -> Option<Message<'a>>
     let Some(time) = Time::new(number) else {
         return None;
     };
-    Some(Message::UserEvent {
+    Some(FoundEvent {
         time,
         name: match found.name {
             None => b"",
@@ -102,8 +112,9 @@ fn event_of<'a>(found: &EventFields<'a>) -> Option<Message<'a>>
 }
 
 /// The user event that such a map is.
-pub fn read_user_event(bytes: &[u8]) -> Option<Message<'_>>
-    ensures { IfSome result (λ m. SpellsMap types.UserEvent (message_of m) bytes.now) }
+#[inline(always)]
+pub fn read_user_event(bytes: &[u8]) -> Option<FoundEvent<'_>>
+    ensures { IfSome result (λ e. SpellsMap types.UserEvent (event_said e) bytes.now) }
 {
     let (count, pairs) = read_map_head(bytes)?;
     let Some((found, end)) = read_pairs(count, pairs) else {

@@ -125,6 +125,7 @@ fn state_of<'a>(found: &StateFields<'a>) -> Message<'a>
 }
 
 /// The state that such a map is.
+#[inline(never)]
 pub fn read_push_pull(bytes: &[u8]) -> Option<Message<'_>>
     ensures { IfSome result (λ m. SpellsMap types.PushPull (message_of m) bytes.now) }
 {

@@ -1,4 +1,4 @@
-use Rattle.serf_agent.proofs.Names.{arith, ◌≡◌, ◌<◌, ◌∙◌, ap, sym, length, map, take, get_or, map_more}
+use Rattle.serf_agent.proofs.Names.{arith, ◌<◌, ◌∙◌, ap, sym, length, map, take, get_or, map_more}
 use Rattle.serf_agent.specs.declared.open_query.OpenQuery.{OpenQuery}
 use Rattle.serf_agent.specs.LentQueries.{least, lesser}
 use Rattle.serf_agent.proofs.Deadlines.{least-append}

@@ -3,7 +3,7 @@ use Rattle.std.specs.Prelude.{slice_get}
 use Rattle.serf_model.specs.declared.action.Action.{Action}
 use Rattle.serf_world.specs.Cluster.{start}
 use Rattle.serf_replay.specs.Line.{Parsed}
-use Rattle.serf_replay.proofs.TurnLaws.{begun, one-action, waits}
+use Rattle.serf_replay.proofs.TurnLaws.{begun, one-action}
 use Rattle.serf_replay.proofs.replaying.begin.Goals as goal
 
 pub returns-in_ok-add_turn-in-Some : goal.returns-in_ok-add_turn-in-Some

@@ -1,4 +1,4 @@
-use Rattle.serf_agent.proofs.Names.{◌≡◌, ◌<◌, ℕ, List, [], length, ap, sym, subst, ◌∙◌, All, All-nil, EventBody, WindowOf}
+use Rattle.serf_agent.proofs.Names.{◌<◌, ℕ, List, length, ap, sym, subst, ◌∙◌, All, All-nil, EventBody, WindowOf}
 use Rattle.serf_agent.specs.declared.open_query.OpenQuery.{OpenQuery}
 use Rattle.serf_agent.proofs.agent.Agent.behind.Goals as goal
 

@@ -1,4 +1,4 @@
-use Rattle.serf_agent.proofs.Names.{◌≡◌, ◌<◌, ℕ, List, filter, length, not, ap, sym, subst, ◌∙◌, All-filter}
+use Rattle.serf_agent.proofs.Names.{◌<◌, ℕ, List, filter, length, not, ap, sym, subst, ◌∙◌, All-filter}
 use Rattle.std.proofs.Common.{All}
 use Rattle.serf_agent.specs.declared.open_query.OpenQuery.{OpenQuery}
 use Rattle.serf_agent.specs.Queries.{is_due}

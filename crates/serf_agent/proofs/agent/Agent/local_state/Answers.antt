@@ -1,4 +1,4 @@
-use Rattle.serf_agent.proofs.Names.{◌≡◌, ◌≢◌, ℕ, List, map, false, true, ap, sym, refl, ◌∙◌, Ok, Err, EncodeFault, slots_lent, status_of, PushPull, SlotOf, EventBody}
+use Rattle.serf_agent.proofs.Names.{List, map, ap, sym, ◌∙◌, Err, EncodeFault, slots_lent, status_of, SlotOf, EventBody}
 use Rattle.serf_agent.specs.Inside.{concrete_of}
 use Rattle.serf_agent.specs.States.{slot_sent}
 use Rattle.serf_agent.specs.View.{ConcreteState}

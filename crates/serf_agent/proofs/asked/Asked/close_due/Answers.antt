@@ -1,4 +1,4 @@
-use Rattle.serf_agent.proofs.Names.{rules, arith, ◌≡◌, ◌+◌, ◌-◌, ℕ, List, filter, not, length, ap, sym, ◌∙◌, filter-RetainsPairs}
+use Rattle.serf_agent.proofs.Names.{rules, arith, ◌≡◌, ℕ, List, filter, not, length, ap, ◌∙◌, filter-RetainsPairs}
 use Rattle.serf_agent.specs.declared.open_query.OpenQuery.{OpenQuery}
 use Rattle.serf_agent.specs.Queries.{is_due}
 use Rattle.serf_agent.proofs.OpenQueries.{count-rest}

@@ -1,4 +1,4 @@
-use Rattle.serf_agent.proofs.Names.{◌≡◌, ◌<◌, ◌++◌, ◌∷◌, [], ℕ, List, ap, sym, subst, ◌∙◌}
+use Rattle.serf_agent.proofs.Names.{◌<◌, ◌++◌, ◌∷◌, [], ℕ, List, ap, sym, subst, ◌∙◌}
 use Rattle.std.proofs.Common.{All}
 use Rattle.serf_agent.specs.declared.open_query.OpenQuery.{OpenQuery}
 use Rattle.serf_agent.proofs.OpenQueries.{insert-later}

@@ -1,4 +1,4 @@
-use Rattle.serf_agent.proofs.Names.{arith, ◌≤◌, ℕ, List, length, ap, sym, subst, ◌∙◌, Err, true≢false, EncodeFault}
+use Rattle.serf_agent.proofs.Names.{◌≤◌, ℕ, List, length, ap, sym, subst, ◌∙◌, Err, true≢false, EncodeFault}
 use Rattle.serf_agent.proofs.WireLaws.{response-not_long, response-short}
 use Rattle.serf_agent.proofs.handed.HandedQuery.packet_of.Goals as goal
 

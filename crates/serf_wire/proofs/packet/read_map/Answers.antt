@@ -1,6 +1,0 @@
-use Rattle.serf_wire.specs.Message.{message_of}
-use Rattle.serf_wire.proofs.Packets.{spelled_map}
-use Rattle.serf_wire.proofs.packet.read_map.Goals as goal
-
-pub returns-in-Some : goal.returns-in-Some
-returns-in-Some c = spelled_map c.laws_below.ensures c.args.message c.args.bytes.now (message_of c.in-Some.found) c.in-Some.ensures
