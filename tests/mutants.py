@@ -24,6 +24,7 @@ import subprocess
 import sys
 import tempfile
 import time
+import traceback
 from concurrent.futures import ThreadPoolExecutor
 
 TOP = os.path.dirname(os.path.dirname(os.path.abspath(__file__)))
@@ -33,6 +34,9 @@ import toolchain
 
 # How many crates are tried side by side: a check takes one processor, and up to 3 GB.
 LANES = min(os.cpu_count() or 1, 5)
+
+# How long a check waits, in seconds, before it is made again on a machine that was out of something.
+WAITS = [5, 30, 120]
 
 # A line that begins or names a function.
 FUNCTION = re.compile(r'^(\s*(?:pub(?:\([^)]*\))? )?(?:const )?(?:extern "C" )?)fn (\w+)')
@@ -325,7 +329,7 @@ def check(rt, crate, batch, kept, is_control):
     """What the toolchain says of a copy of the crate with the edits of a batch in it, or with none for a control."""
     lib = rt.rtlib
     stubs = stubs_for(crate.name, batch)
-    with tempfile.TemporaryDirectory(prefix="mutants-") as room:
+    with tempfile.TemporaryDirectory(prefix="mutants-", ignore_cleanup_errors=True) as room:
         for part in lib.PARTS:
             if os.path.isdir(f"{crate.folder}/{part}"):
                 shutil.copytree(f"{crate.folder}/{part}", f"{room}/{part}")
@@ -344,9 +348,24 @@ def check(rt, crate, batch, kept, is_control):
         return subprocess.run([*lib.guarded(), *words], cwd=room, stdin=subprocess.DEVNULL, stdout=subprocess.PIPE, stderr=subprocess.STDOUT, text=True, errors="replace").stdout
 
 
+def said_of(rt, crate, batch, kept, is_control):
+    """What `check` gives. Where the machine has no room, memory or process left for it, it is made again, up to three times."""
+    for seconds in WAITS:
+        try:
+            return check(rt, crate, batch, kept, is_control)
+        except OSError as why:
+            print(f"mutants: {crate.name} is checked again in {seconds} seconds: {why!r:.300}; {free_space()}", flush=True)
+            time.sleep(seconds)
+    return check(rt, crate, batch, kept, is_control)
+
+
+def free_space():
+    return f"{shutil.disk_usage(tempfile.gettempdir()).free >> 20} MB are free"
+
+
 def tried(rt, crate, batch, kept, is_control):
     """For each edit of a batch, the goal that refuses it or None; and what the toolchain said."""
-    said = check(rt, crate, batch, kept, is_control)
+    said = said_of(rt, crate, batch, kept, is_control)
     goals = goals_in(said)
     found = []
     for edit in batch:
@@ -359,7 +378,7 @@ def try_crate(rt, crate, is_control):
     """Tries the edits of a crate: the lines to print, how many went as they should, and how many not."""
     edits = edits_of(crate.name)
     lines, failed = [], 0
-    with tempfile.TemporaryDirectory(prefix="mutants-") as kept:
+    with tempfile.TemporaryDirectory(prefix="mutants-", ignore_cleanup_errors=True) as kept:
         for batch in batches_of(edits):
             began = time.monotonic()
             found, said = tried(rt, crate, batch, kept, is_control)
@@ -372,6 +391,15 @@ def try_crate(rt, crate, is_control):
             if own_failed:
                 lines += [line[:200] for line in said.split("\n") if re.search(r"error|not proved|no proof", line)][:40]
     return lines, len(edits) - failed, failed
+
+
+def try_whole(rt, crate, is_control):
+    """Tries the edits of a crate. What ends this too early is said in a line and counts as a failure, and the other crates go on."""
+    try:
+        return try_crate(rt, crate, is_control)
+    except Exception as why:
+        where = traceback.extract_tb(why.__traceback__)[-1]
+        return [f"FAILED {crate.name}: {why!r:.300}, at {os.path.basename(where.filename)}:{where.lineno}; {free_space()}"], 0, 1
 
 
 def line_of(crate, edit, goal, is_control):
@@ -418,7 +446,7 @@ def main(words):
     # the crates with most edits first
     crates = [crate for crate, edits in sorted(listed, key=lambda it: -len(it[1]))]
     with ThreadPoolExecutor(LANES) as pool:
-        for lines, refused, not_refused in pool.map(lambda crate: try_crate(rt, crate, "--control" in words), crates):
+        for lines, refused, not_refused in pool.map(lambda crate: try_whole(rt, crate, "--control" in words), crates):
             print("\n".join(lines), flush=True)
             passed, failed = passed + refused, failed + not_refused
     used = resource.getrusage(resource.RUSAGE_CHILDREN)
