@@ -14,7 +14,7 @@ use crate::agent::Agent;
 use crate::answer::Answer;
 use crate::outcome::{Outcome, ReceiveFault};
 use serf_snap::Sink;
-use serf_wire::{Message, QueryParts, decode};
+use serf_wire::{Message, QueryParts, decode, decode_user_event};
 use std::alloc::Global;
 
 impl<S: Sink> Agent<S> {
@@ -48,6 +48,33 @@ impl<S: Sink> Agent<S> {
         if self.snapshot.is_stopped() {
             return Err(ReceiveFault::Stopped);
         }
+        // A user event comes most often, and has no need of the room that another message takes.
+        match decode_user_event(packet) {
+            Some(event) => {
+                self.receive_event(alloc, event.time, event.name, event.payload, event.coalesce)
+            }
+            None => self.receive_packet(alloc, now, packet),
+        }
+    }
+
+    /// Takes a packet, whatever it spells.
+    #[inline(never)]
+    fn receive_packet(
+        &mut self,
+        alloc: Global,
+        now: u64,
+        packet: &[u8],
+    ) -> Result<Outcome, ReceiveFault>
+        requires { self.old.concrete.snapshot.stopped ≡ false }
+        ensures step { (i : IdealAgent) → IsSound i → self.old.concrete ≡ view_of i → result ≢ Err ReceiveFault.OutOfMemory
+            → Steps i (receive i now packet.now) result self.old.device self.new }
+        ensures only_new { (i : IdealAgent) → IsSound i → self.old.concrete ≡ view_of i → IsErrOf result ReceiveFault.OutOfMemory → TakesMemory (receive i now packet.now) }
+        ensures memory { IsErrOf result ReceiveFault.OutOfMemory → self.new ≡ self.old }
+        ensures refused { OnErr result (result ≢ Err ReceiveFault.SinkFault → self.new ≡ self.old) }
+        ensures cause { IsErrOf result ReceiveFault.SinkFault → HasFailed self.old.device.failures self.new.device.failures }
+        ensures ack { result ≡ Ok Outcome.Ack → CountsAnswer true (answer_in packet.now) self.old.concrete.asked self.new.concrete.asked }
+        ensures response { result ≡ Ok Outcome.Response → CountsAnswer false (answer_in packet.now) self.old.concrete.asked self.new.concrete.asked }
+    {
         match &decode(packet) {
             Ok(message) => self.receive_message(alloc, now, message),
             Err(fault) => Err(ReceiveFault::Wire(*fault)),

@@ -2,11 +2,11 @@
 use Rattle.serf_wire.proofs.Names.{◌+◌, ◌<◌, ◌≡◌, ℕ, List, [], ◌∷◌, ◌++◌, Bool, false, codes, Option, Some, None, IfSome, unwrap_or, refl, sym, subst, ◌∙◌, arith, append-nil, option_copied, Tree, raw, PackPairs, pair_list}
 use denote.Bor.{Bor}
 use Rattle.serf_wire.specs.declared.fast.event.EventFields.{EventFields}
-use Rattle.serf_wire.specs.declared.fast.event.FoundEvent.{FoundEvent}
+use Rattle.serf_wire.specs.declared.parts.UserEventParts.{UserEventParts}
 use Rattle.serf_wire.specs.declared.layout.MessageType.TheVariants as types
 use Rattle.serf_wire.specs.Fields.{text, truth, number, values_of}
-use Rattle.serf_wire.specs.Fast.{IsEventSoFar, IsReadSoFar, event_said}
-use Rattle.serf_wire.specs.Message.{user_event_of}
+use Rattle.serf_wire.specs.Fast.{IsEventSoFar, IsReadSoFar}
+use Rattle.serf_wire.specs.Message.{event_said, user_event_of}
 use Rattle.serf_wire.specs.Spells.{SpellsMap}
 use Rattle.serf_wire.proofs.FastPairs.{keys_push, kept, added, sole_shown, narrow_sole, map_packs}
 
@@ -61,7 +61,7 @@ event_read n bytes f small r lt =
       },
     )
 
-pub event_whole : (r : Option FoundEvent) (f : EventFields) (n : ℕ) (bytes rest end : List ℕ) → bytes ≡ (128 + n) ∷ rest → n < 16 → end ≡ [] → IsReadSoFar IsEventSoFar f n rest end
+pub event_whole : (r : Option UserEventParts) (f : EventFields) (n : ℕ) (bytes rest end : List ℕ) → bytes ≡ (128 + n) ∷ rest → n < 16 → end ≡ [] → IsReadSoFar IsEventSoFar f n rest end
     → IfSome r (λ e. event_said e ≡ user_event_of (unwrap_or f.time 0) (unwrap_or (option_copied f.name) []) (unwrap_or (option_copied f.payload) []) (unwrap_or f.coalesce false)) → IfSome r (λ e. unwrap_or f.time 0 < 18446744073709551615)
     → IfSome r (λ e. SpellsMap types.UserEvent (event_said e) bytes)
 event_whole None f n bytes rest end e small none r is lt = tt

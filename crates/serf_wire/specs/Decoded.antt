@@ -1,5 +1,6 @@
 -- What a packet decodes to: its message, or its first fault.
-use Rattle.std.specs.Prelude.{ℕ, List, [], ◌∷◌, Result, Ok, Err}
+use Rattle.std.specs.Prelude.{◌≡◌, ℕ, List, [], ◌∷◌, Option, Some, None, Result, Ok, Err}
+use Rattle.std.specs.Option.{option_map}
 use Rattle.serf_pack.specs.declared.fault.PackFault.{PackFault}
 use Rattle.serf_pack.specs.Tree.{Tree}
 use Rattle.serf_pack.specs.Reading.{whole_at}
@@ -8,8 +9,9 @@ use Rattle.serf_wire.specs.declared.fault.WireFault.TheVariants as faults
 use Rattle.serf_wire.specs.declared.layout.MessageType.{MessageType}
 use Rattle.serf_wire.specs.declared.layout.Class.{Class}
 use Rattle.serf_wire.specs.declared.layout.Class.TheVariants as classes
+use Rattle.serf_wire.specs.declared.parts.UserEventParts.{UserEventParts}
 use Rattle.serf_wire.specs.Layout.{class_of}
-use Rattle.serf_wire.specs.Message.{Message, foreign}
+use Rattle.serf_wire.specs.Message.{Message, event_said, user_event, query, query_response, push_pull, foreign}
 use Rattle.serf_wire.specs.Reading.{read_tree}
 use Rattle.serf_wire.specs.Spells.{shifted}
 
@@ -27,3 +29,16 @@ decoded_behind classes.Unknown kind bytes = Err (faults.UnknownType kind)
 unfoldable pub decoded : List ℕ → Result Message WireFault
 decoded [] = Err faults.Empty
 decoded (kind ∷ bytes) = decoded_behind (class_of kind) kind bytes
+
+-- the user event of an answer, if it is one
+abbrev pub event_in : Result Message WireFault → Option Message
+event_in (Ok (user_event e)) = Some (user_event e)
+event_in (Ok (query q)) = None
+event_in (Ok (query_response r)) = None
+event_in (Ok (push_pull s)) = None
+event_in (Ok (foreign kind)) = None
+event_in (Err f) = None
+
+-- the user event of an answer, or that it is none
+abbrev pub GivesEvent : Option UserEventParts → Result Message WireFault → Type 0
+GivesEvent result answer = option_map event_said result ≡ event_in answer

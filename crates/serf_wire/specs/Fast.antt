@@ -7,10 +7,9 @@ use Rattle.serf_pack.specs.Packs.{Packs, PackPairs, pair_count}
 use Rattle.serf_pack.specs.View.{raw_of, pair_list}
 use Rattle.serf_pack.specs.Canonical.{raw_bytes}
 use Rattle.serf_wire.specs.declared.fast.event.EventFields.{EventFields}
-use Rattle.serf_wire.specs.declared.fast.event.FoundEvent.{FoundEvent}
 use Rattle.serf_wire.specs.declared.fast.state.StateFields.{StateFields}
 use Rattle.serf_wire.specs.Lists.{texts_left, status_left, slots_left}
-use Rattle.serf_wire.specs.Message.{Message, PushPull, user_event_of}
+use Rattle.serf_wire.specs.Message.{Message, PushPull}
 use Rattle.serf_wire.specs.Fields.{text, truth, number, list, status, slot, values_of}
 use Rattle.serf_wire.specs.Spells.{HasRawKeys}
 
@@ -76,10 +75,6 @@ pub record SpansStatusTime (bytes rest : List ℕ) : Type 0 where
 abbrev pub Shows : {A : Type 0} → (Tree → Option A) → Option A → List Tree → Type 0
 Shows meaning None vs = vs ≡ []
 Shows meaning (Some x) vs = (v : Tree) × (vs ≡ v ∷ []) × (meaning v ≡ Some x)
-
--- what a user event that was read says
-abbrev pub event_said : FoundEvent → Message
-event_said e = user_event_of e.time e.name.now e.payload.now e.coalesce
 
 -- what was found of a user event, whose pairs these are
 pub record IsEventSoFar (found : EventFields) (ps : List (Tree × Tree)) : Type 0 where

@@ -1,5 +1,6 @@
 -- What a packet says, wherever its texts lie (Serf's messages.go).
 use Rattle.std.specs.Prelude.{ℕ, ℤ, Bool, List}
+use Rattle.serf_wire.specs.declared.parts.UserEventParts.{UserEventParts}
 use Rattle.serf_wire.specs.declared.message.Message.{Message as Lent}
 use Rattle.serf_wire.specs.declared.message.Message.TheVariants as lent
 use Rattle.serf_wire.specs.Slots.{SlotContent}
@@ -74,3 +75,7 @@ message_of (lent.QueryResponse time id from flags payload) = query_response (rec
 message_of (lent.PushPull member_clock status left event_clock slots last) =
     push_pull (record { member_clock = member_clock; status = status_left status; left = texts_left left; event_clock = event_clock; slots = slots_left slots; query_clock = last })
 message_of (lent.Foreign kind) = foreign kind
+
+-- the message that a user event is whose texts lie in a packet
+abbrev pub event_said : UserEventParts → Message
+event_said e = user_event_of e.time e.name.now e.payload.now e.coalesce

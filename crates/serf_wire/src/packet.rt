@@ -1,17 +1,18 @@
 //! Packets to messages.
 
-ghost use Rattle.std.specs.Prelude.{◌≡◌, ◌<◌, ◌^◌, List, Err, IfOk, IfErr, IfSome, IsOkAnd};
+ghost use Rattle.std.specs.Prelude.{◌≡◌, ◌<◌, ◌^◌, List, Ok, Err, IfOk, IfErr, IfSome, IsOkAnd};
+ghost use Rattle.std.specs.Option.{option_map};
 ghost use Rattle.serf_pack.specs.Breaks.{fault_place};
 ghost use Rattle.serf_pack.specs.Reading.{Gives, whole_at};
 ghost use Rattle.serf_pack.specs.Tree.{Tree};
 ghost use Rattle.serf_pack.specs.View.{tree_of};
 ghost use Rattle.serf_wire.specs.Found.{Finds};
 ghost use Rattle.serf_wire.specs.Layout.{layout_of};
-ghost use Rattle.serf_wire.specs.Message.{Message as Meaning, message_of};
+ghost use Rattle.serf_wire.specs.Message.{Message as Meaning, event_said, message_of};
 ghost use Rattle.serf_wire.specs.declared.fault.WireFault.{WireFault as Fault};
 ghost use Rattle.serf_wire.specs.Reading.{message_in, read_tree};
 ghost use Rattle.serf_wire.specs.Spells.{Spells, SpellsMap, IsFirstFault, shifted};
-ghost use Rattle.serf_wire.specs.Decoded.{read_value, decoded};
+ghost use Rattle.serf_wire.specs.Decoded.{GivesEvent, event_in, read_value, decoded};
 
 use crate::fast::{read_push_pull, read_user_event};
 use crate::fault::WireFault;
@@ -22,6 +23,7 @@ use crate::laws::laws_below;
 use crate::layout::{Class, MessageType, class_for};
 use crate::lists::{SlotViews, StatusTimes, Texts};
 use crate::message::Message;
+use crate::parts::UserEventParts;
 use serf_pack::{Kind, PackFault, View, check};
 
 /// The fault of the bytes behind the type byte, as one of the packet.
@@ -120,6 +122,49 @@ fn read_event_map(bytes: &[u8]) -> Result<Message<'_>, WireFault>
     }
 }
 
+/// The user event that a message is, if it is one.
+fn event_of<'a>(message: &Message<'a>) -> Option<UserEventParts<'a>>
+    ensures { option_map event_said result ≡ event_in (Ok (message_of message.now)) }
+{
+    match *message {
+        Message::UserEvent {
+            time,
+            name,
+            payload,
+            coalesce,
+        } => Some(UserEventParts {
+            time,
+            name,
+            payload,
+            coalesce,
+        }),
+        _ => None,
+    }
+}
+
+/// The user event of a map in any spelling, if it spells one.
+#[inline(never)]
+fn event_checked(bytes: &[u8]) -> Option<UserEventParts<'_>>
+    ensures { GivesEvent result (read_value MessageType.UserEvent (whole_at 8 bytes.now)) }
+{
+    match read_checked(MessageType::UserEvent, bytes) {
+        Ok(message) => event_of(&message),
+        Err(_) => None,
+    }
+}
+
+/// The user event of a map, if it spells one: in one pass where it is spelled compactly.
+#[inline(always)]
+fn event_in_map(bytes: &[u8]) -> Option<UserEventParts<'_>>
+    ensures { GivesEvent result (read_value MessageType.UserEvent (whole_at 8 bytes.now)) }
+{
+    laws_below();
+    match read_user_event(bytes) {
+        Some(event) => Some(event),
+        None => event_checked(bytes),
+    }
+}
+
 /// The state of a map: in one pass where it is spelled compactly.
 fn read_state_map(bytes: &[u8]) -> Result<Message<'_>, WireFault>
     ensures { Gives message_of result (read_value MessageType.PushPull (whole_at 8 bytes.now)) }
@@ -178,4 +223,21 @@ pub fn decode(packet: &[u8]) -> Result<Message<'_>, WireFault>
 {
     laws_below();
     read_packet(packet)
+}
+
+/// The user event that a packet spells, in whatever order of keys and spelling of values, or `None` where it spells none.
+///
+/// It is the event that `decode` gives, with no room for other messages. Takes no memory.
+#[inline(always)]
+#[tactic(auto, unfolding(crate::specs::Decoded::decoded))]
+pub fn decode_user_event(packet: &[u8]) -> Option<UserEventParts<'_>>
+    ensures { GivesEvent result (decoded packet.now) }
+{
+    let [kind, body @ ..] = packet else {
+        return None;
+    };
+    match class_for(*kind) {
+        Class::Read(MessageType::UserEvent) => event_in_map(body),
+        _ => None,
+    }
 }

@@ -1,9 +1,19 @@
-//! What is handed in for writing a query or a push/pull.
+//! What a user event says, as it is read, and what is handed in for writing a query or a push/pull.
 
 use crate::lent_slots::LentEventSlots;
 use crate::lists::StatusTime;
 use crate::texts::Bytes;
 use serf_lamport::Time;
+
+/// What a user event says. Its texts lie in the packet that it was read from.
+#[derive(Clone, Copy)]
+pub struct UserEventParts<'a> {
+    pub time: Time,
+    pub name: &'a [u8],
+    pub payload: &'a [u8],
+    /// Whether agents may coalesce it with others of its name.
+    pub coalesce: bool,
+}
 
 /// What a query says.
 #[derive(Clone, Copy)]
