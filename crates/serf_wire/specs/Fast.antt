@@ -9,7 +9,7 @@ use Rattle.serf_pack.specs.Canonical.{raw_bytes}
 use Rattle.serf_wire.specs.declared.fast.event.EventFields.{EventFields}
 use Rattle.serf_wire.specs.declared.fast.state.StateFields.{StateFields}
 use Rattle.serf_wire.specs.Lists.{texts_left, status_left, slots_left}
-use Rattle.serf_wire.specs.Message.{Message, PushPull}
+use Rattle.serf_wire.specs.Message.{PushPull}
 use Rattle.serf_wire.specs.Fields.{text, truth, number, list, status, slot, values_of}
 use Rattle.serf_wire.specs.Spells.{HasRawKeys}
 
