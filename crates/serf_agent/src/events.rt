@@ -137,6 +137,7 @@ impl<S: Sink> Agent<S> {
     }
 
     /// Takes an event that comes.
+    #[inline(always)]
     pub(crate) fn receive_event(
         &mut self,
         alloc: Global,
