@@ -45,7 +45,7 @@ fn add_turn(
     let line = match world.step(alloc, &action) {
         Ok(line) => line,
         Err(StepFault::OutOfMemory) => return Err(AllocError),
-        Err(StepFault::Spent) => unreachable!(),
+        Err(StepFault::Poisoned) => unreachable!(),
     };
     if !is_common_turn(&action, &line) {
         return Ok(false);

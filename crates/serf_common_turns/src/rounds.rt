@@ -24,7 +24,7 @@ fn keep_common(
     let line = match world.step(alloc, &action) {
         Ok(line) => line,
         Err(StepFault::OutOfMemory) => return Err(AllocError),
-        Err(StepFault::Spent) => unreachable!(),
+        Err(StepFault::Poisoned) => unreachable!(),
     };
     if is_common_turn(&action, &line) {
         kept.push(action)?;

@@ -68,7 +68,7 @@ fn draw_action(
     let line = match world.step(alloc, action) {
         Ok(line) => line,
         Err(StepFault::OutOfMemory) => return Err(AllocError),
-        Err(StepFault::Spent) => unreachable!(),
+        Err(StepFault::Poisoned) => unreachable!(),
     };
     let clock = changed_clock(before, event_clock(world, agent));
     let sender = Sender {

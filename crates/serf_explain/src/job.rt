@@ -70,7 +70,7 @@ fn add_turn(
     let line = match world.step(alloc, action) {
         Ok(line) => line,
         Err(StepFault::OutOfMemory) => return Err(AllocError),
-        Err(StepFault::Spent) => unreachable!(),
+        Err(StepFault::Poisoned) => unreachable!(),
     };
     let told = Told {
         number,

@@ -15,7 +15,7 @@ use Rattle.serf_model.proofs.PresentLife.{own_life}
 use Rattle.serf_model.proofs.OnceLaws.{query-once}
 use Rattle.serf_model.proofs.RunLaws.{IsAfter, after-acts, all-at}
 use Rattle.serf_model.proofs.SendLaws.{Makes, Sends, makes_ack, makes_none, makes_reply, sends-apply}
-use Rattle.serf_model.proofs.HandedQueries.{IsServing, acked_in, serving-more}
+use Rattle.serf_model.proofs.HandedQueries.{HasHanded, acked_in, has-handed-more}
 use Rattle.serf_model.proofs.ReplyLaws.{IsAwaiting, awaiting-more, awaiting-none, replied_in}
 use Rattle.serf_model.proofs.OpenQueryContents.{queries_in}
 use Rattle.serf_model.proofs.StepCases.{step-cases}
@@ -27,7 +27,7 @@ Awaits a ts m = IsAwaiting ts m.handed
 
 -- what each agent has to answer, and where what was sent comes from
 pub record IsServed (configs : List Config) (c : Cluster) (turns : List Turn) : Type 0 where
-  pub each : Each (IsServing configs) c turns
+  pub each : Each (HasHanded configs) c turns
   pub awaiting : Each Awaits c turns
   pub nobody : AreNobodys c turns
   pub made : AnswersMade configs turns
@@ -43,15 +43,15 @@ representable-at c turns b m h at = all-at (λ m. IsRepresentable m.agent) c.nod
 sends-at : Below → (configs : List Config) (c : Cluster) (turns : List Turn) (action : Action) (b : ℕ) (m : IdealNode) → IsAfter c turns → IsServed configs c turns → HasSizes action → slice_get c.nodes b ≡ Some m → Sends m action (apply m c.sent action).done
 sends-at lower configs c turns action b m h served ranged at = sends-apply lower m c.sent action (representable-at c turns b m h at) (served.each b m at).handable ranged
 
-made-applied : (configs : List Config) (c : Cluster) (turns : List Turn) (action : Action) (b : ℕ) (m : IdealNode) → IsServing configs b (turns_by b turns) m → actor_of action ≡ Some b → Makes m action (apply m c.sent action).done
+made-applied : (configs : List Config) (c : Cluster) (turns : List Turn) (action : Action) (b : ℕ) (m : IdealNode) → HasHanded configs b (turns_by b turns) m → actor_of action ≡ Some b → Makes m action (apply m c.sent action).done
     → MadeAt configs turns (applied c action b (apply m c.sent action)).turn
-made-applied configs c turns action b m serving actor (makes_none packets) = subst (All (IsMade configs turns (applied c action b (apply m c.sent action)).turn)) (sym packets) (All-nil (IsMade configs turns (applied c action b (apply m c.sent action)).turn))
-made-applied configs c turns action b m serving actor (makes_ack h handed packets) =
+made-applied configs c turns action b m hands actor (makes_none packets) = subst (All (IsMade configs turns (applied c action b (apply m c.sent action)).turn)) (sym packets) (All-nil (IsMade configs turns (applied c action b (apply m c.sent action)).turn))
+made-applied configs c turns action b m hands actor (makes_ack h handed packets) =
     subst (All (IsMade configs turns (applied c action b (apply m c.sent action)).turn)) (sym packets)
     (All-cons (IsMade configs turns (applied c action b (apply m c.sent action)).turn) _ [] (acked record {
       agent = b;
       actor = actor;
-      from = record { config = m.agent.config; settings = serving.settings; name = refl };
+      from = record { config = m.agent.config; settings = hands.settings; name = refl };
       line = handed_line b (length (apply m c.sent action).node.handed) h;
       hands = ap (λ (d : Option Handed). option_map (handed_line b (length (apply m c.sent action).node.handed)) d) handed;
       to = refl;
@@ -59,11 +59,11 @@ made-applied configs c turns action b m serving actor (makes_ack h handed packet
       ack = refl;
       empty = refl;
     }) (All-nil (IsMade configs turns (applied c action b (apply m c.sent action)).turn)))
-made-applied configs c turns action b m serving actor (makes_reply agent number now payload h respond at replies packets in_time) =
+made-applied configs c turns action b m hands actor (makes_reply agent number now payload h respond at replies packets in_time) =
     let same : Some agent ≡ Some b = ap actor_of (sym respond) ∙ actor in
     let mine : agent ≡ b = cc same in
-    let shown = serving.shown number h at in
-    let handable = serving.handable number h at in
+    let shown = hands.shown number h at in
+    let handable = hands.handable number h at in
     subst (All (IsMade configs turns (applied c action b (apply m c.sent action)).turn)) (sym packets)
     (All-cons (IsMade configs turns (applied c action b (apply m c.sent action)).turn) _ [] (replied record {
       agent = b;
@@ -71,7 +71,7 @@ made-applied configs c turns action b m serving actor (makes_reply agent number 
       now = now;
       action = respond ∙ ap (λ (a : ℕ). actions.Respond a number now payload) mine;
       replied = replies;
-      from = record { config = m.agent.config; settings = serving.settings; name = handable.node_is };
+      from = record { config = m.agent.config; settings = hands.settings; name = handable.node_is };
       line = shown.line;
       handing = shown.handing;
       there = subst (λ l. Contains l shown.handing) (sym (own_life b turns)) shown.there;
@@ -112,8 +112,8 @@ once-after lower c turns action b m h actor at =
 
 pub served-step : Below → (configs : List Config) (r : Run) (action : Action) → HasSizes action → IsAfter r.cluster r.turns → IsServed configs r.cluster r.turns → IsServed configs (after r action).cluster (after r action).turns
 served-step lower configs r action ranged h served = record {
-  each = each-step (IsServing configs) r action served.each
-      (λ b m actor at p. serving-more lower r.cluster configs (turns_by b r.turns) action b m p (sends-at lower configs r.cluster r.turns action b m h served ranged at)
+  each = each-step (HasHanded configs) r action served.each
+      (λ b m actor at p. has-handed-more lower r.cluster configs (turns_by b r.turns) action b m p (sends-at lower configs r.cluster r.turns action b m h served ranged at)
       (keeps-apply lower m r.cluster.sent action (representable-at r.cluster r.turns b m h at).consistent.sound).config
       (once-after lower r.cluster r.turns action b m h actor at));
   awaiting = each-step Awaits r action served.awaiting
@@ -124,7 +124,7 @@ served-step lower configs r action ranged h served = record {
 
 pub served-start : (configs : List Config) → IsServed configs (start configs).cluster []
 served-start configs = record {
-  each = each-start (IsServing configs) configs (λ a config at. record {
+  each = each-start (HasHanded configs) configs (λ a config at. record {
     settings = at;
     handable = λ number h is. absurd (cc is);
     shown = λ number h is. absurd (cc is);

@@ -11,16 +11,12 @@ use Rattle.serf_model.proofs.PerAgent.{Each, AreNobodys, IsRefused, each-step, e
 use Rattle.serf_model.proofs.PresentLife.{last_life, own_life}
 use Rattle.serf_model.proofs.Effects.{effect}
 use Rattle.serf_model.proofs.RunLaws.{IsAfter, all-at, queries_of}
-use Rattle.serf_model.proofs.OpenQueryContents.{IsOpen, IsTallied, Tells, counted_in, tallied-effect, tells-effect}
+use Rattle.serf_model.proofs.OpenQueryContents.{IsOpen, HasCounted, Tells, counted_in, has-counted-effect, tells-effect}
 use Rattle.serf_model.proofs.StepCases.{step-cases}
 use Rattle.serf_model.proofs.TurnLaws.{at_each_nil, at_each_push}
 
--- what each agent's turns counted
-abbrev Tallies : ℕ → List Turn → IdealNode → Type 0
-Tallies a ts m = IsTallied ts m.agent
-
 pub record IsCounting (c : Cluster) (turns : List Turn) : Type 0 where
-  pub each : Each (λ a ts m. IsTallied ts m.agent) c turns
+  pub each : Each (λ a ts m. HasCounted ts m.agent) c turns
   pub nobody : AreNobodys c turns
   pub sent : CountedSent turns
   pub in_time : CountedInTime turns
@@ -90,10 +86,10 @@ in_time-step lower c turns action h =
 
 pub counting-step : Below → (r : Run) (action : Action) → IsAfter r.cluster r.turns → IsCounting r.cluster r.turns → IsCounting (after r action).cluster (after r action).turns
 counting-step lower r action h all = record {
-  each = each-step (λ a ts m. IsTallied ts m.agent) r action all.each
+  each = each-step (λ a ts m. HasCounted ts m.agent) r action all.each
       (λ b m actor at p.
       let o = apply m r.cluster.sent action in
-      tallied-effect (turns_by b r.turns) m action (packet_given r.cluster.sent action) o (line_of r.cluster b o) o.done.packets (effect lower m r.cluster.sent action) refl (representable-at r.cluster r.turns b m h at) (ap queries_of (sym at) ∙ h.queries b) p);
+      has-counted-effect (turns_by b r.turns) m action (packet_given r.cluster.sent action) o (line_of r.cluster b o) o.done.packets (effect lower m r.cluster.sent action) refl (representable-at r.cluster r.turns b m h at) (ap queries_of (sym at) ∙ h.queries b) p);
   nobody = nobodys-step r action all.nobody;
   sent = at_each_push SentAt r.turns (step r.cluster action).turn all.sent (sent-step lower r.cluster r.turns action h all);
   in_time = at_each_push InTimeAt r.turns (step r.cluster action).turn all.in_time (in_time-step lower r.cluster r.turns action all);
@@ -101,7 +97,7 @@ counting-step lower r action h all = record {
 
 pub counting-start : (configs : List Config) → IsCounting (start configs).cluster []
 counting-start configs = record {
-  each = each-start (λ a ts m. IsTallied ts m.agent) configs (λ a config at. record {
+  each = each-start (λ a ts m. HasCounted ts m.agent) configs (λ a config at. record {
     asked = All-nil (IsOpen []);
     past = λ ack. All-nil _;
     once = λ ack i j d lt within. absurd (omega arith);

@@ -87,14 +87,14 @@ have-effect lower P m action given o _ g all carries fired = record { events = A
 fired-push : (turns : List Turn) (turn : Turn) → fired_in (turns ++ turn ∷ []) ≡ fired_in turns ++ fired_by turn.action turn.line.answer
 fired-push turns turn = flat_map-push (λ t. fired_by t.action t.line.answer) turns turn
 
-forged-push : (turns : List Turn) (turn : Turn) → injected_events (turns ++ turn ∷ []) ≡ injected_events turns ++ flat_map events_in_packet (injects_of turn.action)
-forged-push turns turn = ap (flat_map events_in_packet) (flat_map-push (λ t. injects_of t.action) turns turn) ∙ flat_map-append events_in_packet (injected_in turns) (injects_of turn.action)
+injected-push : (turns : List Turn) (turn : Turn) → injected_events (turns ++ turn ∷ []) ≡ injected_events turns ++ flat_map events_in_packet (injects_of turn.action)
+injected-push turns turn = ap (flat_map events_in_packet) (flat_map-push (λ t. injects_of t.action) turns turn) ∙ flat_map-append events_in_packet (injected_in turns) (injects_of turn.action)
 
 was-fired-more : (turns : List Turn) (turn : Turn) (e : TimedEntry EventBody) → WasFired turns e → WasFired (turns ++ turn ∷ []) e
 was-fired-more turns turn e (inl h) = inl (subst (λ (l : List (TimedEntry EventBody)). Contains l e) (sym (fired-push turns turn)) (Contains-append_left (fired_in turns) (fired_by turn.action turn.line.answer) e h))
-was-fired-more turns turn e (inr h) = inr (subst (λ (l : List (TimedEntry EventBody)). Contains l e) (sym (forged-push turns turn)) (Contains-append_left (injected_events turns) (flat_map events_in_packet (injects_of turn.action)) e h))
+was-fired-more turns turn e (inr h) = inr (subst (λ (l : List (TimedEntry EventBody)). Contains l e) (sym (injected-push turns turn)) (Contains-append_left (injected_events turns) (flat_map events_in_packet (injects_of turn.action)) e h))
 
--- what a turn fires was fired, and what it injects is forged
+-- what a turn fires was fired, and what it injects was injected
 fires-now : (turns : List Turn) (turn : Turn) → All (WasFired (turns ++ turn ∷ [])) (fired_by turn.action turn.line.answer)
 fires-now turns turn =
     let es = fired_by turn.action turn.line.answer in
@@ -105,7 +105,7 @@ forges-now : (turns : List Turn) (turn : Turn) → All (WasFired (turns ++ turn 
 forges-now turns turn =
     let es = flat_map events_in_packet (injects_of turn.action) in
     All-weaker (Contains es) (WasFired (turns ++ turn ∷ []))
-    (λ e h. inr (subst (λ (l : List (TimedEntry EventBody)). Contains l e) (sym (forged-push turns turn)) (Contains-append_right (injected_events turns) es e h))) es (All-contains_itself es)
+    (λ e h. inr (subst (λ (l : List (TimedEntry EventBody)). Contains l e) (sym (injected-push turns turn)) (Contains-append_right (injected_events turns) es e h))) es (All-contains_itself es)
 
 -- ---- after a run all that agents entered, and all that packets carry, was fired
 

@@ -103,7 +103,7 @@ acked-push ts t =
     ∙ map-append query_answered (filter is_ack sent) (filter is_ack (answers_in t.packets))
 
 -- what is true of an agent of these settings, where these are its turns
-pub record IsServing (configs : List Config) (a : ℕ) (ts : List Turn) (m : IdealNode) : Type 0 where
+pub record HasHanded (configs : List Config) (a : ℕ) (ts : List Turn) (m : IdealNode) : Type 0 where
   pub settings : slice_get configs a ≡ Some m.agent.config
   pub handable : AreHandable m
   pub shown : (number : ℕ) (h : Handed) → slice_get m.handed number ≡ Some (Some h) → IsShown a ts number h
@@ -122,9 +122,9 @@ adds lower m sent action (makes_reply agent number now payload h respond at repl
 record Slots (a : ℕ) (name : List ℕ) (ts : List Turn) (handed : List (Option Handed)) : Type 0 where
   each : (number : ℕ) (h : Handed) → slice_get handed number ≡ Some (Some h) → IsHandable name h × IsShown a ts number h
 
-slots-more : Below → (c : Cluster) (configs : List Config) (ts : List Turn) (action : Action) (b : ℕ) (m : IdealNode) → IsServing configs b ts m → Sends m action (apply m c.sent action).done
+slots-more : Below → (c : Cluster) (configs : List Config) (ts : List Turn) (action : Action) (b : ℕ) (m : IdealNode) → HasHanded configs b ts m → Sends m action (apply m c.sent action).done
     → (let o = apply m c.sent action in Slots b m.agent.config.name (ts ++ (applied c action b o).turn ∷ []) (with_handed o.done.handed o.node).handed)
-slots-more lower c configs ts action b m serving sends = by (apply m c.sent action).done.handed refl
+slots-more lower c configs ts action b m hands sends = by (apply m c.sent action).done.handed refl
   where
     turn : Turn
     turn = (applied c action b (apply m c.sent action)).turn
@@ -132,7 +132,7 @@ slots-more lower c configs ts action b m serving sends = by (apply m c.sent acti
     old : (number : ℕ) (h : Handed) → slice_get (apply m c.sent action).node.handed number ≡ Some (Some h) → IsHandable m.agent.config.name h × IsShown b (ts ++ (applied c action b (apply m c.sent action)).turn ∷ []) number h
     old number h is =
         let s = stood m action (packet_given c.sent action) (apply m c.sent action) (effect lower m c.sent action) number h is in
-        (serving.handable number h s.at, shown-more b ts (applied c action b (apply m c.sent action)).turn number h s.on (serving.shown number h s.at))
+        (hands.handable number h s.at, shown-more b ts (applied c action b (apply m c.sent action)).turn number h s.on (hands.shown number h s.at))
 
     new : (q : Handed) → (apply m c.sent action).done.handed ≡ Some q → IsShown b (ts ++ (applied c action b (apply m c.sent action)).turn ∷ []) (length (apply m c.sent action).node.handed) q
     new q some =
@@ -160,21 +160,21 @@ slots-more lower c configs ts action b m serving sends = by (apply m c.sent acti
             subst (λ (h : Handed). IsHandable m.agent.config.name h × IsShown b (ts ++ (applied c action b (apply m c.sent action)).turn ∷ []) number h) same
             (sends.hands q some, subst (λ (n : ℕ). IsShown b (ts ++ (applied c action b (apply m c.sent action)).turn ∷ []) n q) here.0 (new q some))
 
-pub serving-more : Below → (c : Cluster) (configs : List Config) (ts : List Turn) (action : Action) (b : ℕ) (m : IdealNode) → IsServing configs b ts m → Sends m action (apply m c.sent action).done → (apply m c.sent action).node.agent.config ≡ m.agent.config
+pub has-handed-more : Below → (c : Cluster) (configs : List Config) (ts : List Turn) (action : Action) (b : ℕ) (m : IdealNode) → HasHanded configs b ts m → Sends m action (apply m c.sent action).done → (apply m c.sent action).node.agent.config ≡ m.agent.config
     → AllPairs (λ x y. x ≢ y) (queries_in (ts ++ (applied c action b (apply m c.sent action)).turn ∷ []))
-    → (let o = apply m c.sent action in IsServing configs b (ts ++ (applied c action b o).turn ∷ []) (with_handed o.done.handed o.node))
-serving-more lower c configs ts action b m serving sends config once =
+    → (let o = apply m c.sent action in HasHanded configs b (ts ++ (applied c action b o).turn ∷ []) (with_handed o.done.handed o.node))
+has-handed-more lower c configs ts action b m hands sends config once =
     let turn : Turn = (applied c action b (apply m c.sent action)).turn in
-    let slots = slots-more lower c configs ts action b m serving sends in
+    let slots = slots-more lower c configs ts action b m hands sends in
     let name : (apply m c.sent action).node.agent.config.name ≡ m.agent.config.name = ap (λ (c : Config). c.name) config in
     let queries : queries_in (ts ++ (applied c action b (apply m c.sent action)).turn ∷ []) ≡ queries_in ts ++ entered_by action (packet_given c.sent action) (apply m c.sent action).done.answer =
     flat_map-push (λ t. entered_by t.action t.given t.line.answer) ts (applied c action b (apply m c.sent action)).turn in
     record {
-      settings = serving.settings ∙ ap Some (sym config);
+      settings = hands.settings ∙ ap Some (sym config);
       handable = λ number h is. subst (λ (n : List ℕ). IsHandable n h) (sym name) (slots.each number h is).0;
       shown = λ number h is. (slots.each number h is).1;
       acked = subst (λ l. IsWithin l (acked_in (ts ++ (applied c action b (apply m c.sent action)).turn ∷ []))) (sym queries)
           (subst (IsWithin (queries_in ts ++ entered_by action (packet_given c.sent action) (apply m c.sent action).done.answer)) (sym (acked-push ts (applied c action b (apply m c.sent action)).turn))
           (within-more (queries_in ts) (acked_in ts) (entered_by action (packet_given c.sent action) (apply m c.sent action).done.answer) (map query_answered (filter is_ack (answers_in (apply m c.sent action).done.packets)))
-          serving.acked (subst (AllPairs (λ x y. x ≢ y)) queries once) (adds lower m c.sent action sends.makes)));
+          hands.acked (subst (AllPairs (λ x y. x ≢ y)) queries once) (adds lower m c.sent action sends.makes)));
     }

@@ -68,7 +68,7 @@ pub record IsOpen (ts : List Turn) (q : ℕ × OpenQuery) : Type 0 where
   pub ids : (ack : Bool) → All (λ r. r.id ≡ q.1.id) (to_time q.0 (counted_in ack ts))
 
 -- what is true of an agent, where these are its turns
-pub record IsTallied (ts : List Turn) (i : IdealAgent) : Type 0 where
+pub record HasCounted (ts : List Turn) (i : IdealAgent) : Type 0 where
   pub asked : All (IsOpen ts) i.asked
   pub past : (ack : Bool) → All (λ r. Contains (queries_in ts) (query_answered r)) (counted_in ack ts)
   pub once : (ack : Bool) → AreNamedOnce (counted_in ack ts)
@@ -84,8 +84,8 @@ open-more ts t q on same h = record {
 }
 
 -- a turn that counts nothing
-tallied-still : (ts : List Turn) (t : Turn) (i j : IdealAgent) → IsTallied ts i → ((ack : Bool) → is_counted ack t.line.answer ≡ false) → All (IsOpen (ts ++ t ∷ [])) j.asked → IsTallied (ts ++ t ∷ []) j
-tallied-still ts t i j h never all = record {
+has-counted-still : (ts : List Turn) (t : Turn) (i j : IdealAgent) → HasCounted ts i → ((ack : Bool) → is_counted ack t.line.answer ≡ false) → All (IsOpen (ts ++ t ∷ [])) j.asked → HasCounted (ts ++ t ∷ []) j
+has-counted-still ts t i j h never all = record {
   asked = all;
   past = λ ack. subst (All (λ r. Contains (queries_in (ts ++ t ∷ [])) (query_answered r))) (sym (counted-still ack ts t (never ack)))
       (All-weaker (λ r. Contains (queries_in ts) (query_answered r)) (λ r. Contains (queries_in (ts ++ t ∷ [])) (query_answered r)) (λ r. queries-more ts t (query_answered r)) (counted_in ack ts) (h.past ack));
@@ -93,8 +93,8 @@ tallied-still ts t i j h never all = record {
 }
 
 -- a turn that counts nothing to any, in the same life
-tallied-on : (ts : List Turn) (t : Turn) (i j : IdealAgent) → IsTallied ts i → is_restarted t.line.answer ≡ false → ((ack : Bool) → is_counted ack t.line.answer ≡ false) → All (IsOpen ts) j.asked → IsTallied (ts ++ t ∷ []) j
-tallied-on ts t i j h on never all = tallied-still ts t i j h never (All-weaker (IsOpen ts) (IsOpen (ts ++ t ∷ [])) (λ q. open-more ts t q on (λ ack. ap (to_time q.0) (counted-still ack ts t (never ack)))) j.asked all)
+has-counted-on : (ts : List Turn) (t : Turn) (i j : IdealAgent) → HasCounted ts i → is_restarted t.line.answer ≡ false → ((ack : Bool) → is_counted ack t.line.answer ≡ false) → All (IsOpen ts) j.asked → HasCounted (ts ++ t ∷ []) j
+has-counted-on ts t i j h on never all = has-counted-still ts t i j h never (All-weaker (IsOpen ts) (IsOpen (ts ++ t ∷ [])) (λ q. open-more ts t q on (λ ack. ap (to_time q.0) (counted-still ack ts t (never ack)))) j.asked all)
 
 -- ---- a query that is fired
 
@@ -105,17 +105,17 @@ flags-ask false true = refl
 flags-ask false false = refl
 
 -- all that was counted is to times below the clock
-past-below : (ts : List Turn) (i : IdealAgent) (ack : Bool) → IsRepresentable i → entries i.queries.history ≡ queries_in ts → IsTallied ts i → All (λ r. r.time < i.queries.clock) (counted_in ack ts)
+past-below : (ts : List Turn) (i : IdealAgent) (ack : Bool) → IsRepresentable i → entries i.queries.history ≡ queries_in ts → HasCounted ts i → All (λ r. r.time < i.queries.clock) (counted_in ack ts)
 past-below ts i ack representable same h =
     let below : All (λ e. e.time < i.queries.clock) (queries_in ts) =
     subst (All (λ e. e.time < i.queries.clock)) same (All-map (λ (e : TimedEntry ℕ). e.time < i.queries.clock) (λ (p : Past ℕ). p.entry) i.queries.history representable.consistent.sound.queries.below_clock) in
     All-weaker (λ r. Contains (queries_in ts) (query_answered r)) (λ r. r.time < i.queries.clock) (λ r c. All-contains (λ (e : TimedEntry ℕ). e.time < i.queries.clock) (queries_in ts) (query_answered r) below c)
     (counted_in ack ts) (h.past ack)
 
-tallied-asks : (ts : List Turn) (t : Turn) (i j : IdealAgent) (agent now id : ℕ) (name payload : List ℕ) (params : QueryParams) → IsRepresentable i → entries i.queries.history ≡ queries_in ts → IsTallied ts i
+has-counted-asks : (ts : List Turn) (t : Turn) (i j : IdealAgent) (agent now id : ℕ) (name payload : List ℕ) (params : QueryParams) → IsRepresentable i → entries i.queries.history ≡ queries_in ts → HasCounted ts i
     → t.action ≡ actions.Query agent now id name payload params → t.line.answer ≡ lines.Queried i.queries.clock
-    → j.asked ≡ i.asked ++ (i.queries.clock, opened_query now (query_at i.queries.clock i.config.name id name payload params)) ∷ [] → IsTallied (ts ++ t ∷ []) j
-tallied-asks ts t i j agent now id name payload params representable same h action answer is =
+    → j.asked ≡ i.asked ++ (i.queries.clock, opened_query now (query_at i.queries.clock i.config.name id name payload params)) ∷ [] → HasCounted (ts ++ t ∷ []) j
+has-counted-asks ts t i j agent now id name payload params representable same h action answer is =
     let on : is_restarted t.line.answer ≡ false = ap is_restarted answer in
     let never : (ack : Bool) → is_counted ack t.line.answer ≡ false = λ ack. ap (is_counted ack) answer in
     let still : (ack : Bool) → counted_in ack (ts ++ t ∷ []) ≡ counted_in ack ts = λ ack. counted-still ack ts t (never ack) in
@@ -132,7 +132,7 @@ tallied-asks ts t i j agent now id name payload params representable same h acti
       responses = ap (map response_held) (sym (none false));
       ids = λ ack. subst (All (λ r. r.id ≡ new.id)) (sym (none ack)) (All-nil (λ (r : QueryResponse). r.id ≡ new.id));
     } in
-    tallied-still ts t i j h never (subst (All (IsOpen (ts ++ t ∷ []))) (sym is)
+    has-counted-still ts t i j h never (subst (All (IsOpen (ts ++ t ∷ []))) (sym is)
     (All-push (IsOpen (ts ++ t ∷ [])) i.asked (i.queries.clock, new) (All-weaker (IsOpen ts) (IsOpen (ts ++ t ∷ [])) (λ q. open-more ts t q on (λ ack. ap (to_time q.0) (still ack))) i.asked h.asked) first))
 
 -- ---- an answer that is counted
@@ -214,9 +214,9 @@ open-counted ts t r q false on more h id = record {
 brings : (given : Option (List ℕ)) (packet : List ℕ) (r : QueryResponse) → given ≡ Some packet → decoded packet ≡ Ok (query_response r) → answers_in (option_to_list given) ≡ r ∷ []
 brings given packet r is says = ap (λ g. answers_in (option_to_list g)) is ∙ ap (λ (d : Result Message WireFault). answer_brought d ++ []) says
 
-tallied-counts : (ts : List Turn) (t : Turn) (i j : IdealAgent) (now : ℕ) (packet : List ℕ) (r : QueryResponse) (q : OpenQuery) → IsRepresentable i → IsTallied ts i → t.given ≡ Some packet → decoded packet ≡ Ok (query_response r)
-    → asked_at r.time i.asked ≡ Some q → answer_ignore_reason now r q ≡ None → t.line.answer ≡ cond (is_ack r) lines.Ack lines.Response → j.asked ≡ with_asked_at r.time (counted r q) i.asked → IsTallied (ts ++ t ∷ []) j
-tallied-counts ts t i j now packet r q representable h given says at none answer is = record {
+has-counted-counts : (ts : List Turn) (t : Turn) (i j : IdealAgent) (now : ℕ) (packet : List ℕ) (r : QueryResponse) (q : OpenQuery) → IsRepresentable i → HasCounted ts i → t.given ≡ Some packet → decoded packet ≡ Ok (query_response r)
+    → asked_at r.time i.asked ≡ Some q → answer_ignore_reason now r q ≡ None → t.line.answer ≡ cond (is_ack r) lines.Ack lines.Response → j.asked ≡ with_asked_at r.time (counted r q) i.asked → HasCounted (ts ++ t ∷ []) j
+has-counted-counts ts t i j now packet r q representable h given says at none answer is = record {
   asked = subst (All (IsOpen (ts ++ t ∷ []))) (sym is)
       (asked-replaced (IsOpen ts) (IsOpen (ts ++ t ∷ [])) r.time (counted r q) i.asked representable.consistent.sound.asked_distinct h.asked
       (λ p other here. open-more ts t p on (λ ack. ap (to_time p.0) (more ack) ∙ to_time-other p.0 (counted_in ack ts) r _ (λ e. other (sym e))) here)
@@ -270,18 +270,18 @@ idle-counts i given lines.Ack ack idle = absurd idle
 idle-counts i given lines.Response ack idle = absurd idle
 idle-counts i given _ ack idle = refl
 
-pub tallied-effect : (ts : List Turn) (m : IdealNode) (action : Action) (given : Option (List ℕ)) (o : Applied) (line : Line) (packets : List (List ℕ)) → Effect m action given o → line.answer ≡ o.done.answer → IsRepresentable m.agent
-    → entries m.agent.queries.history ≡ queries_in ts → IsTallied ts m.agent → IsTallied (ts ++ turn_of action given line packets ∷ []) o.node.agent
-tallied-effect ts m action given o line packets (hears j outs answer heard idle) says representable same h =
-    tallied-on ts (turn_of action given line packets) m.agent j h (ap is_restarted says ∙ (idle-enters m.agent action given answer idle).1) (λ ack. ap (is_counted ack) says ∙ idle-counts m.agent given answer ack idle) (subst (All (IsOpen ts)) (sym heard.asked) h.asked)
-tallied-effect ts m action given o line packets (closes_due agent now) says representable same h =
-    tallied-on ts (turn_of _ given line packets) m.agent _ h (ap is_restarted says) (λ ack. ap (is_counted ack) says) (All-filter (λ q. not (is_due now q)) (IsOpen ts) m.agent.asked h.asked)
-tallied-effect ts m action given o line packets (reopens agent tail) says representable same h = tallied-still ts (turn_of _ given line packets) m.agent _ h (λ ack. ap (is_counted ack) says) (All-nil _)
-tallied-effect ts m action given o line packets (asks agent now id name payload params may) says representable same h =
-    tallied-asks ts (turn_of _ given line packets) m.agent _ agent now id name payload params representable same h refl says refl
-tallied-effect ts m action given o line packets (counts to number now packet r q b is at none kind) says representable same h =
-    tallied-counts ts (turn_of _ _ line packets) m.agent _ now packet r q representable h refl is at none (says ∙ ap (λ b. cond b lines.Ack lines.Response) (sym kind)) refl
-tallied-effect ts m action given o line packets _ says representable same h = tallied-on ts (turn_of _ _ line packets) m.agent _ h (ap is_restarted says) (λ ack. ap (is_counted ack) says) h.asked
+pub has-counted-effect : (ts : List Turn) (m : IdealNode) (action : Action) (given : Option (List ℕ)) (o : Applied) (line : Line) (packets : List (List ℕ)) → Effect m action given o → line.answer ≡ o.done.answer → IsRepresentable m.agent
+    → entries m.agent.queries.history ≡ queries_in ts → HasCounted ts m.agent → HasCounted (ts ++ turn_of action given line packets ∷ []) o.node.agent
+has-counted-effect ts m action given o line packets (hears j outs answer heard idle) says representable same h =
+    has-counted-on ts (turn_of action given line packets) m.agent j h (ap is_restarted says ∙ (idle-enters m.agent action given answer idle).1) (λ ack. ap (is_counted ack) says ∙ idle-counts m.agent given answer ack idle) (subst (All (IsOpen ts)) (sym heard.asked) h.asked)
+has-counted-effect ts m action given o line packets (closes_due agent now) says representable same h =
+    has-counted-on ts (turn_of _ given line packets) m.agent _ h (ap is_restarted says) (λ ack. ap (is_counted ack) says) (All-filter (λ q. not (is_due now q)) (IsOpen ts) m.agent.asked h.asked)
+has-counted-effect ts m action given o line packets (reopens agent tail) says representable same h = has-counted-still ts (turn_of _ given line packets) m.agent _ h (λ ack. ap (is_counted ack) says) (All-nil _)
+has-counted-effect ts m action given o line packets (asks agent now id name payload params may) says representable same h =
+    has-counted-asks ts (turn_of _ given line packets) m.agent _ agent now id name payload params representable same h refl says refl
+has-counted-effect ts m action given o line packets (counts to number now packet r q b is at none kind) says representable same h =
+    has-counted-counts ts (turn_of _ _ line packets) m.agent _ now packet r q representable h refl is at none (says ∙ ap (λ b. cond b lines.Ack lines.Response) (sym kind)) refl
+has-counted-effect ts m action given o line packets _ says representable same h = has-counted-on ts (turn_of _ _ line packets) m.agent _ h (ap is_restarted says) (λ ack. ap (is_counted ack) says) h.asked
 
 -- what a turn that counts tells
 pub record Tells (ts : List Turn) (t : Turn) (ack : Bool) : Type 0 where
@@ -297,7 +297,7 @@ pub record Tells (ts : List Turn) (t : Turn) (ack : Bool) : Type 0 where
   pub awaited : IsAwaited (last_life ts) now answer
 
 pub tells-effect : (ts : List Turn) (m : IdealNode) (action : Action) (given : Option (List ℕ)) (o : Applied) (line : Line) (packets : List (List ℕ)) (ack : Bool) → Effect m action given o → line.answer ≡ o.done.answer
-    → IsTallied ts m.agent → is_counted ack line.answer ≡ true → Tells ts (turn_of action given line packets) ack
+    → HasCounted ts m.agent → is_counted ack line.answer ≡ true → Tells ts (turn_of action given line packets) ack
 tells-effect ts m action given o line packets ack (hears j outs answer heard idle) says h counted = absurd (let no : false ≡ true = sym (ap (is_counted ack) says ∙ idle-counts m.agent given answer ack idle) ∙ counted in cc)
 tells-effect ts m action given o line packets ack (counts to number now packet r q b is at none kind) says h counted =
     let here = asked-found (IsOpen ts) r.time m.agent.asked q h.asked at in

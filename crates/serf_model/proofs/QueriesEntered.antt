@@ -1,4 +1,4 @@
--- Each query that enters was fired, or is forged.
+-- Each query that enters was fired, or an injected packet brings it.
 use Rattle.serf_model.proofs.Names.{Ok, ◌≡◌, ℕ, ◌<◌, ◌≤◌, ◌^◌, inl, inr, Bool, true, false, List, [], ◌∷◌, ◌++◌, Option, Some, None, refl, sym, ap, subst, ◌∙◌, arith, length, All, Contains, fold, flat_map, ltb-false, flat_map-append, All-nil, All-cons, All-head, All-tail, All-append, All-contains, All-contains_itself, All-weaker, Contains-append_left, Contains-append_right, canonical, decoded, Query, query, IsRangedQuery, TimedEntry, Config, QueryParams, drawn, IdealAgent, flags_of, is_too_large_query, query_at, query_fault}
 use Rattle.serf_agent.specs.declared.outcome.QueryFault.TheVariants as asks
 use Rattle.serf_model.specs.Below.{Below}
@@ -7,7 +7,7 @@ use Rattle.serf_model.specs.declared.line.Answer.{Answer}
 use Rattle.serf_model.specs.declared.line.Answer.TheVariants as answers
 use Rattle.serf_model.specs.Cluster.{Applied, Cluster, Done, IdealNode, Run, apply, after, run_of, start, step}
 use Rattle.serf_model.specs.Sizes.{HasSizes, IsSized}
-use Rattle.serf_model.specs.Queried.{QueryOnlyFired, WasQueried, queried_by, queries_fired, queries_forged}
+use Rattle.serf_model.specs.Queried.{QueryOnlyFired, WasQueried, queried_by, queries_fired, queries_injected}
 use Rattle.serf_model.specs.Trace.{Turn, entered_by, injected_in, injects_of, packet_given, queried_in, query_brought, query_packets}
 use Rattle.serf_model.proofs.QueryOrigins.{IsAsked, WasAsked, asked-start, asked-step}
 use Rattle.serf_model.proofs.FiredLaws.{all-parts}
@@ -107,13 +107,13 @@ fired-before turns turn q h = subst (λ (l : List (TimedEntry ℕ)). Contains l 
 fired-now : (turns : List Turn) (turn : Turn) (q : TimedEntry ℕ) → Contains (queried_by turn.action turn.line.answer) q → Contains (queries_fired (turns ++ turn ∷ [])) q
 fired-now turns turn q h = subst (λ (l : List (TimedEntry ℕ)). Contains l q) (sym (fired-push turns turn)) (Contains-append_right (queries_fired turns) (queried_by turn.action turn.line.answer) q h)
 
-forged-push : (turns : List Turn) (turn : Turn) → queries_forged (turns ++ turn ∷ []) ≡ queries_forged turns ++ flat_map (λ p. query_brought (decoded p)) (injects_of turn.action)
-forged-push turns turn =
+injected-push : (turns : List Turn) (turn : Turn) → queries_injected (turns ++ turn ∷ []) ≡ queries_injected turns ++ flat_map (λ p. query_brought (decoded p)) (injects_of turn.action)
+injected-push turns turn =
     ap (flat_map (λ p. query_brought (decoded p))) (flat_map-push (λ t. injects_of t.action) turns turn) ∙ flat_map-append (λ p. query_brought (decoded p)) (injected_in turns) (injects_of turn.action)
 
-forged-before : (turns : List Turn) (turn : Turn) (q : TimedEntry ℕ) → Contains (queries_forged turns) q → Contains (queries_forged (turns ++ turn ∷ [])) q
-forged-before turns turn q h =
-    subst (λ (l : List (TimedEntry ℕ)). Contains l q) (sym (forged-push turns turn)) (Contains-append_left (queries_forged turns) (flat_map (λ p. query_brought (decoded p)) (injects_of turn.action)) q h)
+injected-before : (turns : List Turn) (turn : Turn) (q : TimedEntry ℕ) → Contains (queries_injected turns) q → Contains (queries_injected (turns ++ turn ∷ [])) q
+injected-before turns turn q h =
+    subst (λ (l : List (TimedEntry ℕ)). Contains l q) (sym (injected-push turns turn)) (Contains-append_left (queries_injected turns) (flat_map (λ p. query_brought (decoded p)) (injects_of turn.action)) q h)
 
 more-brought : (P Q : TimedEntry ℕ → Type 0) → ((q : TimedEntry ℕ) → P q → Q q) → (ps : List (List ℕ)) → All (Brings P) ps → All (Brings Q) ps
 more-brought P Q up ps all = All-weaker (Brings P) (Brings Q) (λ p h. All-weaker P Q up (query_brought (decoded p)) h) ps all
@@ -127,18 +127,18 @@ own-push turns turn all own =
     (more-brought (Contains (queries_fired turns)) F (fired-before turns turn) (queried_in turns) all)
     (more-brought (Contains (queried_by turn.action turn.line.answer)) F (fired-now turns turn) ps own))
 
--- a packet that was sent as a fired query's own, or injected, brings only what was fired or forged
+-- a packet that was sent as a fired query's own, or injected, brings only what was fired or injected
 asked-brings : (turns : List Turn) (packet : List ℕ) → OwnPackets turns → WasAsked turns packet → Brings (WasQueried turns) packet
 asked-brings turns packet own (inl h) =
     All-weaker (Contains (queries_fired turns)) (WasQueried turns) (λ q c. inl c) (query_brought (decoded packet)) (All-contains (Brings (Contains (queries_fired turns))) (queried_in turns) packet own h)
 asked-brings turns packet own (inr h) =
-    let forged : List (TimedEntry ℕ) = queries_forged turns in
-    let all = all-parts (Contains forged) (λ p. query_brought (decoded p)) (injected_in turns) (All-contains_itself forged) in
-    All-weaker (Contains forged) (WasQueried turns) (λ q c. inr c) (query_brought (decoded packet)) (All-contains (Brings (Contains forged)) (injected_in turns) packet all h)
+    let injected : List (TimedEntry ℕ) = queries_injected turns in
+    let all = all-parts (Contains injected) (λ p. query_brought (decoded p)) (injected_in turns) (All-contains_itself injected) in
+    All-weaker (Contains injected) (WasQueried turns) (λ q c. inr c) (query_brought (decoded packet)) (All-contains (Brings (Contains injected)) (injected_in turns) packet all h)
 
 was-queried-more : (turns : List Turn) (turn : Turn) (q : TimedEntry ℕ) → WasQueried turns q → WasQueried (turns ++ turn ∷ []) q
 was-queried-more turns turn q (inl h) = inl (fired-before turns turn q h)
-was-queried-more turns turn q (inr h) = inr (forged-before turns turn q h)
+was-queried-more turns turn q (inr h) = inr (injected-before turns turn q h)
 
 abbrev OnlyAt : List Turn → Turn → Type 0
 OnlyAt before turn = All (WasQueried (before ++ turn ∷ [])) (entered_by turn.action turn.given turn.line.answer)

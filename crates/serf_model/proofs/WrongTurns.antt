@@ -55,7 +55,7 @@ once-refuses h = h 0 0 1 (record { time = 1; key = event_of [] [] }) (omega arit
 fired-refuses : OnlyFired (turn (actions.Close 0 0) (answers.Closed 0) (handed_event 0 1 ∷ []) None ∷ []) → ⊥
 fired-refuses h = elim (h [] (turn (actions.Close 0 0) (answers.Closed 0) (handed_event 0 1 ∷ []) None) [] refl 0 (handed_event 0 1) (omega arith)) [
   | inl fired ↦ in-none _ fired
-  | inr forged ↦ in-none _ forged
+  | inr brought ↦ in-none _ brought
 ]
 
 -- an agent that was handed an event of time 5 fires one of time 3
@@ -77,7 +77,7 @@ carries-refuses packet e reads h =
     let found : WasFired (turn ∷ []) (record { time = e.time; key = event_of e.name e.payload }) = subst (λ r. All (WasFired (turn ∷ [])) (events_brought r)) reads all 0 (record { time = e.time; key = event_of e.name e.payload }) (omega arith) in
     elim found [
       | inl fired ↦ in-none _ fired
-      | inr forged ↦ in-none _ forged
+      | inr brought ↦ in-none _ brought
     ]
 
 -- a turn hands out to an agent that doesn't act
@@ -117,7 +117,7 @@ query_later-refuses params h =
 query_fired-refuses : (packet : List ℕ) → QueryFired (delivery 0 packet answers.Query None ∷ []) → ⊥
 query_fired-refuses packet h = elim (h [] (delivery 0 packet answers.Query None) [] refl packet refl refl) [
   | inl fired ↦ in-none _ fired
-  | inr forged ↦ in-none _ forged
+  | inr brought ↦ in-none _ brought
 ]
 
 -- a query is handed out that didn't enter: no packet came, and none was fired
@@ -144,7 +144,7 @@ messages-refuses configs params packet q reads name h =
     let first : Turn = turn (actions.Query 0 0 7 (1 ∷ []) [] params) (answers.Queried 1) [] None in
     elim (h (first ∷ []) (delivery 1 packet answers.Query None) [] refl packet refl refl) [
       | inl all ↦ of (slice_get configs 0) (subst (λ l. All (Contains (messages_fired configs (first ∷ []))) l) (ap query_message reads) all 0 q (omega arith))
-      | inr forged ↦ in-none _ forged
+      | inr brought ↦ in-none _ brought
     ]
   where
     of : (r : Option Config) → Contains (map (λ (c : Config). query_at 1 c.name 7 (1 ∷ []) [] params) (option_to_list r) ++ []) q → ⊥
@@ -161,7 +161,7 @@ only_fired-refuses packet q reads h =
     let turn : Turn = delivery 0 packet answers.Query None in
     elim (subst (λ r. All (WasQueried (turn ∷ [])) (query_brought r)) reads (h [] turn [] refl) 0 (record { time = q.time; key = q.id }) (omega arith)) [
       | inl fired ↦ in-none _ fired
-      | inr forged ↦ in-none _ forged
+      | inr brought ↦ in-none _ brought
     ]
 
 -- ---- acks and responses

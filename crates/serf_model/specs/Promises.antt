@@ -20,7 +20,7 @@ Once turns = (a : ℕ) → AllPairs (λ x y. x ≢ y) (events_to a turns)
 abbrev pub WasFired : List Turn → TimedEntry EventBody → Type 0
 WasFired turns e = Contains (fired_in turns) e ⊎ Contains (injected_events turns) e
 
--- Each event that is handed out was fired at its time, at this turn or before it, or is forged.
+-- Each event that is handed out was fired at its time, at this turn or before it, or an injected packet brings it.
 abbrev pub OnlyFired : List Turn → Type 0
 OnlyFired turns = AtEach (λ before turn. All (λ e. WasFired (before ++ turn ∷ []) (event_in e)) turn.line.events) turns
 
@@ -29,7 +29,7 @@ abbrev pub Later : List Turn → Type 0
 Later turns =
     AtEach (λ before turn. (a t : ℕ) → actor_of turn.action ≡ Some a → turn.line.answer ≡ answers.Fired t → All (λ e. e.time < t) (events_to a before)) turns
 
--- Each event that a packet carries, one of an agent's whole state too, was fired at its time, or is forged.
+-- Each event that a packet carries, one of an agent's whole state too, was fired at its time, or an injected packet brings it.
 abbrev pub CarriesOnlyFired : List Turn → Type 0
 CarriesOnlyFired turns = AtEach (λ before turn. All (λ packet. All (WasFired (before ++ turn ∷ [])) (events_in_packet packet)) turn.packets) turns
 

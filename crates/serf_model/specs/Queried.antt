@@ -18,13 +18,13 @@ abbrev pub queries_fired : List Turn → List (TimedEntry ℕ)
 queries_fired turns = flat_map (λ t. queried_by t.action t.line.answer) turns
 
 -- the queries that injected packets bring: these need no agent that fired them
-abbrev pub queries_forged : List Turn → List (TimedEntry ℕ)
-queries_forged turns = flat_map (λ packet. query_brought (decoded packet)) (injected_in turns)
+abbrev pub queries_injected : List Turn → List (TimedEntry ℕ)
+queries_injected turns = flat_map (λ packet. query_brought (decoded packet)) (injected_in turns)
 
 -- some agent fired a query of this ID at this time, or an injected packet brings it
 abbrev pub WasQueried : List Turn → TimedEntry ℕ → Type 0
-WasQueried turns q = Contains (queries_fired turns) q ⊎ Contains (queries_forged turns) q
+WasQueried turns q = Contains (queries_fired turns) q ⊎ Contains (queries_injected turns) q
 
--- Each query that enters, a time and an ID, was fired at this turn or before it, or is forged.
+-- Each query that enters, a time and an ID, was fired at this turn or before it, or an injected packet brings it.
 abbrev pub QueryOnlyFired : List Turn → Type 0
 QueryOnlyFired turns = AtEach (λ before turn. All (WasQueried (before ++ turn ∷ [])) (entered_by turn.action turn.given turn.line.answer)) turns

@@ -83,7 +83,7 @@ impl Player {
         let line = match player.world.step(alloc, &action) {
             Ok(line) => line,
             Err(StepFault::OutOfMemory) => return Err(AllocError),
-            Err(StepFault::Spent) => unreachable!(),
+            Err(StepFault::Poisoned) => unreachable!(),
         };
         player.note(&action, &line);
         Ok((player, action))

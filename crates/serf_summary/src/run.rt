@@ -23,7 +23,7 @@ fn add_action(
     match world.step(alloc, action) {
         Ok(line) => summary.add(alloc, &line),
         Err(StepFault::OutOfMemory) => Err(AllocError),
-        Err(StepFault::Spent) => unreachable!(),
+        Err(StepFault::Poisoned) => unreachable!(),
     }
 }
 

@@ -6,8 +6,8 @@ use thiserror::Error;
 #[derive(Clone, Copy, Debug, PartialEq, Eq, Error)]
 pub enum StepFault {
     /// An earlier action found no memory, and the cluster does no more.
-    #[error("the cluster is spent")]
-    Spent,
+    #[error("the cluster is poisoned")]
+    Poisoned,
     #[error("out of memory")]
     OutOfMemory,
 }

@@ -33,7 +33,7 @@ fn step_to(
     let line = match world.step(alloc, action) {
         Ok(line) => line,
         Err(StepFault::OutOfMemory) => return Err(AllocError),
-        Err(StepFault::Spent) => unreachable!(),
+        Err(StepFault::Poisoned) => unreachable!(),
     };
     match lines.push(line) {
         Ok(()) => Ok(()),

@@ -97,7 +97,7 @@ impl World {
 
     /// Does an action. A refused action is a line too.
     ///
-    /// `OutOfMemory` where it found no memory: the cluster is poisoned then, and answers `Spent` from then on, which
+    /// `OutOfMemory` where it found no memory: the cluster is poisoned then, and answers `Poisoned` from then on, which
     /// changes nothing. The agent may have done the action, with no line of it; what [`World::agent`] lends of a poisoned
     /// cluster is of no run.
     ///
@@ -106,8 +106,8 @@ impl World {
     #[inline(always)]
     pub fn step(&mut self, alloc: Global, action: &Action) -> Result<Line, StepFault>
         ensures step { (c : Cluster) → IsViewed c self.old → AreRepresentable c → IfOk result (TakesStep (step c action.now) self.new) }
-        ensures spent { IsErrOf result StepFault.Spent ↔ IsTrue self.old.poisoned }
-        ensures spent_same { IsErrOf result StepFault.Spent → self.new ≡ self.old }
+        ensures poisoned { IsErrOf result StepFault.Poisoned ↔ IsTrue self.old.poisoned }
+        ensures poisoned_same { IsErrOf result StepFault.Poisoned → self.new ≡ self.old }
         ensures ok { OnOk result (self.new.poisoned ≡ false) }
         ensures err { OnErr result (self.new.poisoned ≡ true) }
         ensures kept { OnErr result (self.new.sent ≡ self.old.sent) }
@@ -120,7 +120,7 @@ impl World {
         turns_shown();
         read_numbers(action);
         if self.poisoned {
-            return Err(StepFault::Spent);
+            return Err(StepFault::Poisoned);
         }
         match self.try_step(alloc, action) {
             Ok(line) => Ok(line),

@@ -133,7 +133,3 @@ moment_in place pieces =
     if nat_lt (length pieces) place then Ok 0
     else if bytes_eq (word_at place pieces) (codes "at") then time_in (place + 1) pieces
     else wrong place wanted.At
-
--- the line ends there, or behind a moment
-unfoldable pub ends_behind_moment : ℕ → List Piece → Result (Unit {0}) Fault
-ends_behind_moment place pieces = ends_behind (place + 1) pieces

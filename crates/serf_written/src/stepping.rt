@@ -43,6 +43,6 @@ pub(crate) fn world_behind(
     match world.step(alloc, action) {
         Ok(_) => Ok(world),
         Err(StepFault::OutOfMemory) => Err(AllocError),
-        Err(StepFault::Spent) => unreachable!(),
+        Err(StepFault::Poisoned) => unreachable!(),
     }
 }
