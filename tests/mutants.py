@@ -294,7 +294,7 @@ def goals_in(said):
     goals, open_goals, answered = {}, [], {}
     for line in said.split("\n"):
         is_open, answer, ended, law = OPEN.match(line), ANSWER.match(line), ENDED.match(line), LAW.match(line)
-        if is_open and MEANING.search(is_open[3]):
+        if is_open and (MEANING.search(is_open[3]) or is_open[4].startswith("invariant_of-")):
             open_goals.append(is_open[4])
         elif answer and answer[2] and not GONE.search(answer[3]):
             # its written answer, which proved the goal before, does not prove what it is now

@@ -8,6 +8,7 @@ ghost use Rattle.serf_replay.specs.Show.{reason_text, refusal_text, answer_text,
 
 use crate::put::{flag, put_hex, put_number, put_with_number, put_with_numbers};
 use crate::wire_words::put_wire_fault;
+use itoa::Buffer;
 use serf_agent::Reason;
 use serf_wire::Bytes;
 use serf_world::{Answer, Boxed, EventLine, HandedLine, Line, Refusal, Trace};
@@ -108,12 +109,20 @@ pub fn put_answer(out: &mut Vec<u8>, answer: Answer) -> Result<(), AllocError>
     }
 }
 
+/// The number of an action with its digits, which all its lines begin with.
+#[derive(Clone, Copy)]
+struct Spelled<'a> {
+    number: u64,
+    digits: &'a [u8],
+    pub ghost spells: { digits.now ≡ decimal number },
+}
+
 #[tactic(auto, unfolding(crate::specs::Show::answer_line))]
 #[inline(always)]
-fn put_answer_line(out: &mut Vec<u8>, number: u64, answer: Answer) -> Result<(), AllocError>
-    ensures { OnOk result (out.new.items ≡ out.old.items ++ answer_line number answer) }
+fn put_answer_line(out: &mut Vec<u8>, action: Spelled, answer: Answer) -> Result<(), AllocError>
+    ensures { OnOk result (out.new.items ≡ out.old.items ++ answer_line action.entry.number answer) }
 {
-    put_number(out, number)?;
+    out.extend_from_slice(action.digits)?;
     out.extend_from_slice(b" ")?;
     put_answer(out, answer)?;
     out.extend_from_slice(b"\n")
@@ -129,10 +138,15 @@ fn packet(sent: &[Bytes], k: u64) -> &[u8]
 }
 
 #[tactic(auto, unfolding(crate::specs::Show::sent_line))]
-fn put_sent_line(out: &mut Vec<u8>, sent: &[Bytes], number: u64, k: u64) -> Result<(), AllocError>
-    ensures { OnOk result (out.new.items ≡ out.old.items ++ sent_line sent.now number k) }
+fn put_sent_line(
+    out: &mut Vec<u8>,
+    sent: &[Bytes],
+    action: Spelled,
+    k: u64,
+) -> Result<(), AllocError>
+    ensures { OnOk result (out.new.items ≡ out.old.items ++ sent_line sent.now action.entry.number k) }
 {
-    put_number(out, number)?;
+    out.extend_from_slice(action.digits)?;
     out.extend_from_slice(b" sent ")?;
     put_number(out, k)?;
     out.extend_from_slice(b" ")?;
@@ -168,10 +182,10 @@ fn put_event_tail(out: &mut Vec<u8>, event: &EventLine) -> Result<(), AllocError
 }
 
 #[tactic(auto, unfolding(crate::specs::Show::event_line))]
-fn put_event_line(out: &mut Vec<u8>, number: u64, event: &EventLine) -> Result<(), AllocError>
-    ensures { OnOk result (out.new.items ≡ out.old.items ++ event_line number event.now) }
+fn put_event_line(out: &mut Vec<u8>, action: Spelled, event: &EventLine) -> Result<(), AllocError>
+    ensures { OnOk result (out.new.items ≡ out.old.items ++ event_line action.entry.number event.now) }
 {
-    put_number(out, number)?;
+    out.extend_from_slice(action.digits)?;
     out.extend_from_slice(b" event ")?;
     put_spaced(out, event.agent)?;
     put_spaced(out, event.time.get())?;
@@ -190,10 +204,10 @@ fn put_identity(out: &mut Vec<u8>, query: &HandedLine) -> Result<(), AllocError>
 }
 
 #[tactic(auto, unfolding(crate::specs::Show::handed_line))]
-fn put_handed_line(out: &mut Vec<u8>, number: u64, query: &HandedLine) -> Result<(), AllocError>
-    ensures { OnOk result (out.new.items ≡ out.old.items ++ handed_line number query.now) }
+fn put_handed_line(out: &mut Vec<u8>, action: Spelled, query: &HandedLine) -> Result<(), AllocError>
+    ensures { OnOk result (out.new.items ≡ out.old.items ++ handed_line action.entry.number query.now) }
 {
-    put_number(out, number)?;
+    out.extend_from_slice(action.digits)?;
     out.extend_from_slice(b" handed ")?;
     put_identity(out, query)?;
     put_texts(out, query.name.as_slice(), query.payload.as_slice())?;
@@ -204,23 +218,27 @@ fn put_handed_line(out: &mut Vec<u8>, number: u64, query: &HandedLine) -> Result
 fn put_sent_lines(
     out: &mut Vec<u8>,
     sent: &[Bytes],
-    number: u64,
+    action: Spelled,
     packets: &[u64],
 ) -> Result<(), AllocError>
-    ensures { OnOk result (out.new.items ≡ out.old.items ++ flat_map (sent_line sent.now number) packets.now) }
+    ensures { OnOk result (out.new.items ≡ out.old.items ++ flat_map (sent_line sent.now action.entry.number) packets.now) }
 {
     for k in packets {
-        put_sent_line(out, sent, number, *k)?;
+        put_sent_line(out, sent, action, *k)?;
     }
     Ok(())
 }
 
 #[inline(always)]
-fn put_event_lines(out: &mut Vec<u8>, number: u64, events: &[EventLine]) -> Result<(), AllocError>
-    ensures { OnOk result (out.new.items ≡ out.old.items ++ flat_map (event_line number) events.now) }
+fn put_event_lines(
+    out: &mut Vec<u8>,
+    action: Spelled,
+    events: &[EventLine],
+) -> Result<(), AllocError>
+    ensures { OnOk result (out.new.items ≡ out.old.items ++ flat_map (event_line action.entry.number) events.now) }
 {
     for event in events {
-        put_event_line(out, number, event)?;
+        put_event_line(out, action, event)?;
     }
     Ok(())
 }
@@ -228,13 +246,13 @@ fn put_event_lines(out: &mut Vec<u8>, number: u64, events: &[EventLine]) -> Resu
 #[inline(always)]
 fn put_handed(
     out: &mut Vec<u8>,
-    number: u64,
+    action: Spelled,
     handed: &Option<Boxed<HandedLine>>,
 ) -> Result<(), AllocError>
-    ensures { OnOk result (out.new.items ≡ out.old.items ++ flat_map (handed_line number) (option_to_list handed.now)) }
+    ensures { OnOk result (out.new.items ≡ out.old.items ++ flat_map (handed_line action.entry.number) (option_to_list handed.now)) }
 {
     match handed {
-        Some(query) => put_handed_line(out, number, query.get()),
+        Some(query) => put_handed_line(out, action, query.get()),
         None => Ok(()),
     }
 }
@@ -251,10 +269,15 @@ pub fn put_action(
 ) -> Result<(), AllocError>
     ensures { OnOk result (out.new.items ≡ out.old.items ++ action_text sent.now number line.now) }
 {
-    put_answer_line(out, number, line.answer)?;
-    put_sent_lines(out, sent, number, line.sent.as_slice())?;
-    put_event_lines(out, number, line.events.as_slice())?;
-    put_handed(out, number, &line.handed)
+    let mut buffer = Buffer::new();
+    let action = Spelled {
+        number,
+        digits: buffer.format(number).as_bytes(),
+    };
+    put_answer_line(out, action, line.answer)?;
+    put_sent_lines(out, sent, action, line.sent.as_slice())?;
+    put_event_lines(out, action, line.events.as_slice())?;
+    put_handed(out, action, &line.handed)
 }
 
 /// The text of a trace: the lines of its actions, which are counted from 1.

@@ -8,18 +8,36 @@ ghost use Rattle.serf_replay.specs.Gives.{Gives};
 use crate::cause::{Cause, LineFault};
 use crate::command::is_word;
 use hex::FromHexError;
+use memchr::memchr;
 use serf_wire::Bytes;
 use serf_world::SinkCall;
 use std::alloc::{AllocError, Global};
 
+/// The bytes from which on a text is searched by vectors of bytes; in a shorter one that takes longer.
+const LONG_TEXT: usize = 64;
+
+#[inline(never)]
+fn place_in_long(text: &[u8], separator: u8) -> Option<usize>
+    ensures place { result ≡ position (λ b. b == separator) text.now }
+    ensures none { IfNone result (All (λ b. (b == separator) ≡ false) text.now) }
+{
+    memchr(separator, text)
+}
+
+#[inline(always)]
 fn place_of(text: &[u8], separator: u8) -> Option<usize>
     ensures place { result ≡ position (λ b. b == separator) text.now }
     ensures none { IfNone result (All (λ b. (b == separator) ≡ false) text.now) }
 {
-    text.iter().position(|b| *b == separator)
+    if text.len() < LONG_TEXT {
+        text.iter().position(|b| *b == separator)
+    } else {
+        place_in_long(text, separator)
+    }
 }
 
 /// The text before the first separator, and what follows the separator where there is one. Takes no memory.
+#[inline(always)]
 pub fn cut(text: &[u8], separator: u8) -> (&[u8], Option<&[u8]>)
     ensures parts { MatchOption result.1
         (slice_split (λ b. b == separator) text.now ≡ result.0.now ∷ [])

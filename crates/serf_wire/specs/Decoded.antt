@@ -39,6 +39,6 @@ event_in (Ok (push_pull s)) = None
 event_in (Ok (foreign kind)) = None
 event_in (Err f) = None
 
--- the user event of an answer, or that it is none
+-- the result is just the user event of what a packet decodes to, and none where that is another message or a fault
 abbrev pub GivesEvent : Option UserEventParts → Result Message WireFault → Type 0
 GivesEvent result answer = option_map event_said result ≡ event_in answer

@@ -227,7 +227,7 @@ pub fn decode(packet: &[u8]) -> Result<Message<'_>, WireFault>
 
 /// The user event that a packet spells, in whatever order of keys and spelling of values, or `None` where it spells none.
 ///
-/// It is the event that `decode` gives, with no room for other messages. Takes no memory.
+/// Where `decode` gives another message or a fault, this is `None` too; what the fault is, `decode` says. Takes no memory.
 #[inline(always)]
 #[tactic(auto, unfolding(crate::specs::Decoded::decoded))]
 pub fn decode_user_event(packet: &[u8]) -> Option<UserEventParts<'_>>
