@@ -167,6 +167,7 @@ fn take_line<'a>(
         None => Ok(()),
         Some(&b"agent") if *turns > 0 => Err(Fault::LateAgent),
         Some(&b"agent") => {
+            world.agents.try_reserve(1)?;
             world.agents.push(read_agent(words)?);
             Ok(())
         }
