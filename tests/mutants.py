@@ -6,14 +6,17 @@ that does nothing and a hole for its proof, and is taken by its statement (`rt c
 goals of each edited function that are open. An edit is refused where one of these is of meaning: a clause of an
 `ensures`, an invariant, or the `requires` of a call. It is not where only a sum may overflow, or a name is gone.
 
-    tests/mutants.py [CRATE..] [--list] [--control] [--over-ci]
+    tests/mutants.py [CRATE..] [--list] [--control] [--over-ci] [--anew]
 
 --list prints each edit with the functions that it turns, and tries none. --control makes the same checks without the
 edits: each function that an edit turns has to be proved there, so that what refuses an edit is the edit. --over-ci takes
-the libraries that `rt ci` left, as the gate does; without it they are built first. The files are as in must-fail/: 'file: src/lib.rt', and then pairs of
-lines 'old: TEXT' and 'new: TEXT', each TEXT standing once in that file. A line 'turns: PATH' names a function whose
-contract has to refuse the edit; without one it is each function in which a text stands. An edit of a definition, in
-specs/, names so the law that a wrong definition breaks.
+the libraries that `rt ci` left, as the gate does; without it they are built first. What a run refused is kept on this
+machine, and not tried again while nothing has changed that its check reads (tools/kept_edits.py); --anew tries all.
+
+The files are as in must-fail/: 'file: src/lib.rt', and then pairs of lines 'old: TEXT' and 'new: TEXT', each TEXT
+standing once in that file. A line 'turns: PATH' names a function whose contract has to refuse the edit; without one it
+is each function in which a text stands. An edit of a definition, in specs/, names so the law that a wrong definition
+breaks.
 """
 
 import os
@@ -30,6 +33,7 @@ from concurrent.futures import ThreadPoolExecutor
 TOP = os.path.dirname(os.path.dirname(os.path.abspath(__file__)))
 sys.path.insert(0, os.path.join(TOP, "tools"))
 sys.dont_write_bytecode = True
+import kept_edits
 import toolchain
 
 # How many crates are tried side by side: a check takes one processor, and up to 3 GB.
@@ -258,11 +262,18 @@ def emptied(crate, file, text, batch):
 def body_at(lines, at):
     """The lines that open and close the body of the function whose head begins at a line, or None where it has none."""
     indent = re.match(r" *", lines[at])[0]
+    open_braces = 0
     for begin in range(at, len(lines)):
-        if lines[begin].endswith((";", "{}")):
+        # a clause may go over several lines
+        is_clause = open_braces or CLAUSE.match(lines[begin])
+        if is_clause:
+            open_braces += lines[begin].count("{") - lines[begin].count("}")
+        if not open_braces and lines[begin].endswith((";", "{}")):
             return None
+        if is_clause:
+            continue
         # a body begins at the head's end, or on a line of its own behind the clauses
-        if lines[begin] == indent + "{" or lines[begin].endswith(" {") and not CLAUSE.match(lines[begin]):
+        if lines[begin] == indent + "{" or lines[begin].endswith(" {"):
             return begin, lines.index(indent + "}", begin)
     return None
 
@@ -374,14 +385,21 @@ def tried(rt, crate, batch, kept, is_control):
     return found, said
 
 
-def try_crate(rt, crate, is_control):
+def try_crate(rt, crate, is_control, is_anew):
     """Tries the edits of a crate: the lines to print, how many went as they should, and how many not."""
     edits = edits_of(crate.name)
     lines, failed = [], 0
+    of_crate = kept_edits.sum_of(crate.name)
     with tempfile.TemporaryDirectory(prefix="mutants-", ignore_cleanup_errors=True) as kept:
         for batch in batches_of(edits):
+            goals = None if is_control or is_anew else kept_edits.goals_of(of_crate, batch)
+            if goals:
+                lines += [f"{line_of(crate, edit, goal, False)} (kept)" for edit, goal in zip(batch, goals)]
+                continue
             began = time.monotonic()
             found, said = tried(rt, crate, batch, kept, is_control)
+            if not is_control and kept_edits.sum_of(crate.name) == of_crate:
+                kept_edits.keep(of_crate, batch, found)
             if os.environ.get("MUTANTS_LOG"):
                 with open(os.path.join(os.environ["MUTANTS_LOG"], f"{crate.name}.log"), "a") as log:
                     log.write(f"==== {time.monotonic() - began:.1f} {[edit.name for edit in batch]}\n{said}\n")
@@ -393,10 +411,10 @@ def try_crate(rt, crate, is_control):
     return lines, len(edits) - failed, failed
 
 
-def try_whole(rt, crate, is_control):
+def try_whole(rt, crate, is_control, is_anew):
     """Tries the edits of a crate. What ends this too early is said in a line and counts as a failure, and the other crates go on."""
     try:
-        return try_crate(rt, crate, is_control)
+        return try_crate(rt, crate, is_control, is_anew)
     except Exception as why:
         where = traceback.extract_tb(why.__traceback__)[-1]
         return [f"FAILED {crate.name}: {why!r:.300}, at {os.path.basename(where.filename)}:{where.lineno}; {free_space()}"], 0, 1
@@ -445,8 +463,9 @@ def main(words):
     began, passed, failed = time.monotonic(), 0, 0
     # the crates with most edits first
     crates = [crate for crate, edits in sorted(listed, key=lambda it: -len(it[1]))]
+    kept_edits.forget_old()
     with ThreadPoolExecutor(LANES) as pool:
-        for lines, refused, not_refused in pool.map(lambda crate: try_whole(rt, crate, "--control" in words), crates):
+        for lines, refused, not_refused in pool.map(lambda crate: try_whole(rt, crate, "--control" in words, "--anew" in words), crates):
             print("\n".join(lines), flush=True)
             passed, failed = passed + refused, failed + not_refused
     used = resource.getrusage(resource.RUSAGE_CHILDREN)

@@ -3,5 +3,29 @@
 use Rattle.std.specs.Prelude.{ℕ, List, false}
 use Rattle.serf_agent.specs.declared.config.Config.{Config}
 
+-- how many slots a buffer has, for events and for queries
+abbrev pub default_slots : ℕ
+default_slots = 512
+
+-- the greatest size of a fired event, in bytes
+abbrev pub default_event_limit : ℕ
+default_event_limit = 512
+
+-- how many names are counted among a query's acks, and among its responses
+abbrev pub default_responders : ℕ
+default_responders = 1024
+
+-- how many events, or queries, of one time are taken
+abbrev pub default_per_time : ℕ
+default_per_time = 1024
+
 abbrev pub default_config : List ℕ → Config
-default_config name = record { name = name; event_buffer = 512; query_buffer = 512; event_limit = 512; responders = 1024; per_time = 1024; ignore_old = false }
+default_config name = record {
+  name = name;
+  event_buffer = default_slots;
+  query_buffer = default_slots;
+  event_limit = default_event_limit;
+  responders = default_responders;
+  per_time = default_per_time;
+  ignore_old = false;
+}

@@ -15,7 +15,7 @@ ghost use Rattle.serf_agent.specs.States.{after_event, joined};
 ghost use Rattle.serf_agent.specs.View.{view_of};
 ghost use Rattle.serf_explain.specs.Judging.{IsJudging, both_verdicts};
 
-use serf_agent::{Agent, Reason};
+use serf_agent::{Agent, LONGEST_TEXTS, Reason};
 use serf_lamport::Time;
 use serf_snap::MemSink;
 use serf_window::{EventWindow, Verdict, Window, slot_laws};
@@ -29,9 +29,6 @@ pub(crate) struct Judge {
     pub(crate) minimum: u64,
     entered: EventWindow,
 }
-
-/// The greatest number of bytes that the texts of an event have together.
-const LONGEST_TEXTS: u64 = 9216;
 
 /// How many events of a time these slots hold.
 fn count_of(slots: LentEventSlots, time: u64) -> usize
@@ -119,7 +116,7 @@ impl Judge {
         ensures not_full { result ≡ None → count_in self.now.entered.slots time < self.now.entered.per_time }
     {
         slot_laws();
-        let texts = (event.name.len() as u64).saturating_add(event.payload.len() as u64);
+        let texts = event.name.len().saturating_add(event.payload.len());
         if texts > LONGEST_TEXTS {
             return Some(Reason::Oversize);
         }

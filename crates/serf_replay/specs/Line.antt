@@ -3,6 +3,7 @@ use Rattle.std.specs.Prelude.{◌^◌, ◌-◌, ℕ, pos, ◌==◌, ◌+◌, ◌
 use Rattle.serf_agent.specs.declared.config.Config.{Config}
 use Rattle.serf_agent.specs.declared.outcome.QueryParams.{QueryParams}
 use Rattle.serf_agent.specs.Config.{is_sound}
+use Rattle.serf_agent.specs.Defaults.{default_per_time}
 use Rattle.serf_model.specs.declared.action.Action.{Action}
 use Rattle.serf_model.specs.declared.action.Action.TheVariants as actions
 use Rattle.serf_world.specs.Runs.{has_name}
@@ -23,9 +24,9 @@ pub record Parsed : Type 0 where
 
 -- Agents
 
--- how many events of one time an agent takes: the number of the eighth word, 1,024 where there is none
+-- how many events of one time an agent takes: the number of the eighth word, or the default where there is none
 unfoldable pub per_time_in : List (List ℕ) → Result ℕ Cause
-per_time_in words = if length words == 8 then number_in 8 words else Ok 1024
+per_time_in words = if length words == 8 then number_in 8 words else Ok default_per_time
 
 -- the agent that seven or eight words describe
 unfoldable pub agent_of : List (List ℕ) → Result Config Cause

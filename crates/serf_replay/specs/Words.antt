@@ -1,5 +1,5 @@
 -- The words of a line, and what they stand for.
-use Rattle.std.specs.Prelude.{ℕ, ◌==◌, ◌-◌, ◌&&◌, nat_lt, nat_le, Bool, true, false, if◌then◌else◌, List, [], length, codes, filter, unwrap_or, slice_get, slice_index, Option, Some, None, Result, Ok, Err}
+use Rattle.std.specs.Prelude.{ℕ, ◌==◌, ◌-◌, ◌^◌, ◌&&◌, nat_lt, nat_le, Bool, true, false, if◌then◌else◌, List, [], length, codes, filter, unwrap_or, slice_get, slice_index, Option, Some, None, Result, Ok, Err}
 use Rattle.std.specs.List.{list_all, slice_split}
 use Rattle.std.specs.Char.{is_ascii_digit}
 use Rattle.std.specs.Str.{bytes_eq}
@@ -22,7 +22,7 @@ word_at place words = unwrap_or (slice_get words (place - 1)) []
 -- a number below 2^64 in decimal digits
 abbrev pub number_of : List ℕ → Option ℕ
 number_of word =
-    if nat_lt 0 (length word) && list_all is_ascii_digit word && nat_lt (digits_value 10 word) 18446744073709551616
+    if nat_lt 0 (length word) && list_all is_ascii_digit word && nat_lt (digits_value 10 word) (2 ^ 64)
     then Some (digits_value 10 word) else None
 
 -- a number, where it is between these two or one of them

@@ -12,13 +12,10 @@ use crate::command::Verb;
 use crate::words::{
     FIXED_WORDS, bytes, bytes_at, choice_at, cut, number_at, number_from_to, sink_call_at,
 };
-use serf_agent::{BytesList, Config, QueryParams};
+use serf_agent::{BytesList, Config, DEFAULT_PER_TIME, QueryParams};
 use serf_wire::Bytes;
 use serf_world::{Action, BoxedBytes, BoxedParams};
 use std::alloc::Global;
-
-/// How many events of one time an agent takes where its line doesn't say.
-const PER_TIME: u64 = 1_024;
 
 /// The greatest timeout of a query, in nanoseconds.
 const MAX_TIMEOUT: u64 = i64::MAX as u64;
@@ -34,7 +31,7 @@ fn per_time(words: &[&[u8]]) -> Result<u64, LineFault>
     if words.len() == 8 {
         number_at(words, 8)
     } else {
-        Ok(PER_TIME)
+        Ok(DEFAULT_PER_TIME)
     }
 }
 

@@ -1,5 +1,5 @@
 -- The canonical packet of each message spells it.
-use Rattle.serf_wire.proofs.Names.{◌≡◌, ℕ, ◌+◌, ◌<◌, List, [], ◌∷◌, ◌++◌, map, length, lit<, false, ◌||◌, Option, Some, codes, refl, sym, ap, subst, ◌∙◌, arith, append_assoc, append-nil, list_any, AllByRecursion, Tree, nil, pairs, Packs, map_head, raw_bytes, uint_bytes, int_bytes, flag_bytes, item_list, pair_list}
+use Rattle.serf_wire.proofs.Names.{◌≡◌, ℕ, ◌+◌, ◌<◌, List, [], ◌∷◌, ◌++◌, map, length, lit<, false, ◌||◌, Option, Some, codes, refl, sym, ap, subst, ◌∙◌, arith, append_assoc, append-nil, list_any, AllByRecursion, Tree, nil, pairs, Packs, map_head, raw_bytes, uint_bytes, int_bytes, flag_bytes, item_list, pair_list, greatest_clock}
 use Rattle.serf_wire.specs.Below.{Below}
 use Rattle.serf_wire.specs.declared.texts.EventBody.{EventBody}
 use Rattle.serf_wire.specs.Slots.{SlotContent, empty, held}
@@ -53,7 +53,7 @@ regroup_five h a b c d e = simp (append_assoc, append-nil)
 response_fields : (r : QueryResponse) → IsRangedResponse r → (p : ℕ) → IsQueryResponse r (pair_list (pairs_from (λ x. x) p (response_entries r)))
 response_fields r g p = record {
   keys = (refl, (refl, (refl, (refl, (refl, tt)))));
-  time = within 0xffff_ffff_ffff_ffff r.time (omega (arith, g.time));
+  time = within greatest_clock r.time (omega (arith, g.time));
   id = within 0xffff_ffff r.id (omega (arith, g.id));
   from = refl;
   flags = within 0xffff_ffff r.flags (omega (arith, g.flags));
@@ -226,7 +226,7 @@ status_is_part below ps times none lt =
 status_read : (ps : List (List ℕ × ℕ)) → AllByRecursion (λ p. p.1 < 18446744073709551616) ps → (q : ℕ) → all status_time (pair_list (pairs_from status_entry q ps)) ≡ Some ps
 status_read [] times q = refl
 status_read (p ∷ ps) times q =
-    rw (within 0xffff_ffff_ffff_ffff p.1 (omega (arith, times.0)), status_read ps times.1 (q + length (raw_bytes p.0) + length (uint_bytes p.1))) refl
+    rw (within greatest_clock p.1 (omega (arith, times.0)), status_read ps times.1 (q + length (raw_bytes p.0) + length (uint_bytes p.1))) refl
 
 abbrev push_pull_entries : PushPull → List Entry
 push_pull_entries m =
@@ -239,12 +239,12 @@ regroup_six h a b c d e f = simp (append_assoc, append-nil)
 push_pull_fields : (m : PushPull) → IsRangedPushPull m → (p : ℕ) → IsPushPull (record m { slots = map without_events m.slots }) (pair_list (pairs_from (λ x. x) p (push_pull_entries m)))
 push_pull_fields m g p = record {
   keys = (refl, (refl, (refl, (refl, (refl, (refl, tt))))));
-  member_clock = within 0xffff_ffff_ffff_ffff m.member_clock (omega (arith, g.member_clock));
+  member_clock = within greatest_clock m.member_clock (omega (arith, g.member_clock));
   status = status_read m.status g.status _;
   left = texts_read m.left _;
-  event_clock = within 0xffff_ffff_ffff_ffff m.event_clock (omega (arith, g.event_clock));
+  event_clock = within greatest_clock m.event_clock (omega (arith, g.event_clock));
   slots = all_read slot slot_part without_events IsTimed slot_read m.slots g.slots _;
-  query_clock = within 0xffff_ffff_ffff_ffff m.query_clock (omega (arith, g.query_clock));
+  query_clock = within greatest_clock m.query_clock (omega (arith, g.query_clock));
 }
 
 record IsShortPushPull (m : PushPull) : Type 0 where

@@ -1,5 +1,5 @@
 -- What stands at the front of bytes.
-use Rattle.serf_wire.proofs.Names.{◌≡◌, ℕ, suc, ℤ, pos, negsuc, ◌+◌, ◌-◌, ◌<◌, ◌≤◌, List, [], ◌∷◌, ◌++◌, length, take, drop, get_or, Bool, true, false, cond, nat_lt, nat_le, Option, Some, None, IfSome, Ok, refl, sym, ap, subst, ◌∙◌, arith, append_assoc, take-append-drop, nat_tests, drop_more, take_rest, length-take-le, big_number, Head, Field, Whole, Number, row_of, meaning_of, head_at, Tree, nil, flag, int, raw, array, pairs, Packs, IsHead, raw_of}
+use Rattle.serf_wire.proofs.Names.{◌≡◌, ℕ, suc, ℤ, pos, negsuc, ◌+◌, ◌-◌, ◌<◌, ◌≤◌, List, [], ◌∷◌, ◌++◌, length, take, drop, get_or, Bool, true, false, cond, nat_lt, nat_le, Option, Some, None, IfSome, Ok, refl, sym, ap, subst, ◌∙◌, arith, append_assoc, take-append-drop, nat_tests, drop_more, take_rest, length-take-le, big_number, Head, Field, Whole, Number, row_of, meaning_of, head_at, Tree, nil, flag, int, raw, array, pairs, Packs, IsHead, raw_of, greatest_clock}
 use Rattle.serf_pack.specs.declared.head.Head.TheVariants as heads
 use Rattle.serf_pack.specs.declared.head.Field.TheVariants as fields
 use Rattle.serf_wire.specs.Below.{Below}
@@ -95,9 +95,9 @@ after_byte b bytes le is = starts (b ∷ []) bytes le (is, tt)
 is_small : (b : ℕ) → b < 128 → nat_lt b 128 ≡ true
 is_small b lt = grind (arith, nat_tests)
 
-pub small_number : Below → (b : ℕ) (bytes rest : List ℕ) → bytes ≡ b ∷ rest → b < 128 → Reads (number 0xffff_ffff_ffff_ffff) b bytes rest
+pub small_number : Below → (b : ℕ) (bytes rest : List ℕ) → bytes ≡ b ∷ rest → b < 128 → Reads (number greatest_clock) b bytes rest
 small_number below b bytes rest e lt =
-    reads_number below 0xffff_ffff_ffff_ffff b bytes rest (omega arith) (ap (head_at 0) e ∙ whole_head b (heads.Int (pos b)) rest (rw (is_small b lt) refl))
+    reads_number below greatest_clock b bytes rest (omega arith) (ap (head_at 0) e ∙ whole_head b (heads.Int (pos b)) rest (rw (is_small b lt) refl))
 
 pub nil_front : Below → {A : Type 0} (meaning : Tree → Option A) (x : A) (bytes rest : List ℕ) → ((p : ℕ) → meaning (nil p) ≡ Some x) → bytes ≡ 0xc0 ∷ rest → Reads meaning x bytes rest
 nil_front below meaning x bytes rest means e = reads_nil below meaning x bytes rest means (ap (head_at 0) e ∙ whole_head 0xc0 heads.Nil rest refl)
@@ -107,10 +107,10 @@ flag_front below b k bytes rest row e = reads_flag below b bytes rest (ap (head_
 
 pub wide_number : Below → {X : Type 0} (r : Option X) (value : X → ℕ) (behind : X → List ℕ) (b w limit : ℕ) (bytes rest : List ℕ) → limit ≤ 18446744073709551616 → bytes ≡ b ∷ rest → row_of b ≡ Number fields.Unsigned w
     → IfSome r (λ x. w ≤ length rest) → IfSome r (λ x. value x ≡ big_number w rest) → IfSome r (λ x. value x < limit) → IfSome r (λ x. behind x ≡ drop w rest)
-    → IfSome r (λ x. Reads (number 0xffff_ffff_ffff_ffff) (value x) bytes (behind x))
+    → IfSome r (λ x. Reads (number greatest_clock) (value x) bytes (behind x))
 wide_number below None value behind b w limit bytes rest high e row room is small drops = tt
 wide_number below (Some x) value behind b w limit bytes rest high e row room is small drops =
-    reads_number below 0xffff_ffff_ffff_ffff (value x) bytes (behind x) (omega arith)
+    reads_number below greatest_clock (value x) bytes (behind x) (omega arith)
     (ap (head_at 0) e ∙ wide_head b w fields.Unsigned rest row room ∙ rw (is, drops) refl)
 
 -- a text of a length that its format byte says

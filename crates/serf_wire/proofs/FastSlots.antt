@@ -1,5 +1,5 @@
 -- Events and slots at the front of bytes.
-use Rattle.serf_wire.proofs.Names.{◌≡◌, ℕ, ◌+◌, ◌≤◌, ◌<◌, List, [], ◌∷◌, ◌++◌, length, lit<, codes, Option, Some, refl, sym, ap, ◌∙◌, arith, append_assoc, Tree, raw, raw_bytes}
+use Rattle.serf_wire.proofs.Names.{◌≡◌, ℕ, ◌+◌, ◌≤◌, ◌<◌, List, [], ◌∷◌, ◌++◌, length, lit<, codes, Option, Some, refl, sym, ap, ◌∙◌, arith, append_assoc, Tree, raw, raw_bytes, greatest_clock}
 use Rattle.serf_wire.specs.Below.{Below}
 use Rattle.serf_wire.specs.declared.texts.EventBody.{EventBody}
 use Rattle.serf_wire.specs.Slots.{SlotContent, empty, held}
@@ -13,8 +13,8 @@ use Rattle.serf_wire.proofs.FastReading.{anywhere, narrower}
 pub pair_reads : {A : Type 0} (limit : ℕ) (meaning : Tree → Option A) (name : List ℕ) (x : A) (bytes behind rest : List ℕ) → bytes ≡ raw_bytes name ++ behind → Reads meaning x behind rest → ReadsPair limit meaning name x bytes rest
 pair_reads limit meaning name x bytes behind rest e r = record { behind = behind; bytes_are = e; reads = anywhere limit meaning x behind rest r }
 
-pub time_reads : (n : ℕ) (bytes rest : List ℕ) → n ≤ 18446744073709551614 → Reads (number 0xffff_ffff_ffff_ffff) n bytes rest → Reads time n bytes rest
-time_reads n bytes rest le r = record { front = r.front; tree = r.tree; bytes_are = r.bytes_are; packs = r.packs; means = λ p. narrower (r.tree p) 0xffff_ffff_ffff_ffff n 18446744073709551614 (r.means p) le }
+pub time_reads : (n : ℕ) (bytes rest : List ℕ) → n ≤ 18446744073709551614 → Reads (number greatest_clock) n bytes rest → Reads time n bytes rest
+time_reads n bytes rest le r = record { front = r.front; tree = r.tree; bytes_are = r.bytes_are; packs = r.packs; means = λ p. narrower (r.tree p) greatest_clock n 18446744073709551614 (r.means p) le }
 
 -- ---- a map of two
 

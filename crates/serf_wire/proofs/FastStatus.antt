@@ -1,5 +1,5 @@
 -- Names with their times at the front of bytes.
-use Rattle.serf_wire.proofs.Names.{◌≡◌, ℕ, ◌+◌, List, [], ◌∷◌, ◌++◌, map, length, Some, Ok, refl, sym, ap, subst, ◌∙◌, arith, append_assoc, flat_map, head_at, pairs, IsHead, raw_of, pair_list}
+use Rattle.serf_wire.proofs.Names.{◌≡◌, ℕ, ◌+◌, List, [], ◌∷◌, ◌++◌, map, length, Some, Ok, refl, sym, ap, subst, ◌∙◌, arith, append_assoc, flat_map, head_at, pairs, IsHead, raw_of, pair_list, greatest_clock}
 use Rattle.serf_pack.specs.declared.head.Head.TheVariants as heads
 use Rattle.serf_wire.specs.Below.{Below}
 use Rattle.serf_wire.specs.Fields.{number, all, status, status_time}
@@ -8,9 +8,9 @@ use Rattle.serf_wire.proofs.Spelling.{Part, pairs_by, count_pairs, pairs_pack, a
 use Rattle.serf_wire.proofs.FastReading.{anywhere}
 use Rattle.serf_wire.proofs.FastLists.{item_of, part_of}
 
-pub status_time_spans : (name : List ℕ) (time : ℕ) (bytes mid rest : List ℕ) → Reads raw_of name bytes mid → Reads (number 0xffff_ffff_ffff_ffff) time mid rest → SpansStatusTime bytes rest
+pub status_time_spans : (name : List ℕ) (time : ℕ) (bytes mid rest : List ℕ) → Reads raw_of name bytes mid → Reads (number greatest_clock) time mid rest → SpansStatusTime bytes rest
 status_time_spans name time bytes mid rest r s = record {
-  part = record { name = item_of 9 raw_of name bytes mid (anywhere 9 raw_of name bytes mid r); time = item_of 9 (number 0xffff_ffff_ffff_ffff) time mid rest (anywhere 9 (number 0xffff_ffff_ffff_ffff) time mid rest s) };
+  part = record { name = item_of 9 raw_of name bytes mid (anywhere 9 raw_of name bytes mid r); time = item_of 9 (number greatest_clock) time mid rest (anywhere 9 (number greatest_clock) time mid rest s) };
   bytes_are = r.bytes_are ∙ ap (λ t. r.front ++ t) s.bytes_are ∙ sym (append_assoc r.front s.front rest);
 }
 
@@ -18,7 +18,7 @@ abbrev name_part : StatusPart → Part
 name_part t = part_of 9 raw_of t.name
 
 abbrev time_part : StatusPart → Part
-time_part t = part_of 9 (number 0xffff_ffff_ffff_ffff) t.time
+time_part t = part_of 9 (number greatest_clock) t.time
 
 status_read : (ts : List StatusPart) (p : ℕ) → all status_time (pair_list (pairs_by name_part time_part p ts)) ≡ Some (map (λ t. (t.name.value, t.time.value)) ts)
 status_read [] p = refl

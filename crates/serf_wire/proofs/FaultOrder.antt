@@ -1,5 +1,5 @@
 -- The faults of a map stand in reading order.
-use Rattle.serf_wire.proofs.Names.{◌≡◌, ℕ, zero, suc, ◌+◌, ◌≤◌, ℤ, pos, negsuc, List, [], ◌∷◌, ◌++◌, length, Bool, true, false, cond, ◌==◌, Option, Some, None, refl, ap, arith, length-append, Tree, nil, flag, int, raw, array, pairs, Items, no_items, item, Pairs, no_pairs, pair, Packs, PackItems, PackPairs, raw_of, place_of, item_list, pair_list}
+use Rattle.serf_wire.proofs.Names.{◌≡◌, ℕ, zero, suc, ◌+◌, ◌≤◌, ℤ, pos, negsuc, List, [], ◌∷◌, ◌++◌, length, Bool, true, false, cond, ◌==◌, Option, Some, None, refl, ap, arith, length-append, Tree, nil, flag, int, raw, array, pairs, Items, no_items, item, Pairs, no_pairs, pair, Packs, PackItems, PackPairs, raw_of, place_of, item_list, pair_list, greatest_clock}
 use Rattle.serf_wire.specs.declared.fault.WireFault.{WireFault}
 use Rattle.serf_wire.specs.declared.fault.WireFault.TheVariants.{BadKey, Twice, WrongKind, OutOfRange, GreatestTime}
 use Rattle.serf_wire.specs.declared.layout.Layout.{Layout}
@@ -133,9 +133,9 @@ status_pairs : (ps : Pairs) (d p : ℕ) (bytes : List ℕ) → PackPairs ps d p 
 status_pairs no_pairs d p bytes packs = omega arith
 status_pairs (pair k v ps) d p bytes (key, value, others, e, one, two, more) =
     let name = single_order (p + 1) (at k) (p + length key + 1) (name_faults k (raw_of k)) (unless_single (raw_of k) (BadKey (at k))) (omega (arith, place_is k d p key one)) (omega (arith, place_is k d p key one)) in
-    let time = single_ordered (number_faults 0xffff_ffff_ffff_ffff) (number_single 0xffff_ffff_ffff_ffff) v d (p + length key) value two in
+    let time = single_ordered (number_faults greatest_clock) (number_single greatest_clock) v d (p + length key) value two in
     next_pair p key value others bytes (status_time_faults (k, v)) (items_faults status_time_faults (pair_list ps)) e
-    (append (p + 1) (p + length key + 1) (p + length key + length value + 1) (name_faults k (raw_of k)) (number_faults 0xffff_ffff_ffff_ffff v) name time) (status_pairs ps d (p + length key + length value) others more)
+    (append (p + 1) (p + length key + 1) (p + length key + length value + 1) (name_faults k (raw_of k)) (number_faults greatest_clock v) name time) (status_pairs ps d (p + length key + length value) others more)
 
 status_ordered : Ordered status_faults
 status_ordered (nil q) d p bytes packs = omega arith

@@ -1,5 +1,5 @@
 -- Kinds of fields: a value without faults has a meaning, and one with a meaning has no faults.
-use Rattle.serf_wire.proofs.Names.{◌≡◌, ℕ, ℤ, pos, List, [], ◌∷◌, ◌++◌, map, Bool, true, false, ◌&&◌, cond, is_some, Option, Some, None, unwrap_or, refl, ap, ◌∙◌, Tree, nil, flag, int, raw, array, pairs, item_list, pair_list, raw_of}
+use Rattle.serf_wire.proofs.Names.{◌≡◌, ℕ, ℤ, pos, List, [], ◌∷◌, ◌++◌, map, Bool, true, false, ◌&&◌, cond, is_some, Option, Some, None, unwrap_or, refl, ap, ◌∙◌, Tree, nil, flag, int, raw, array, pairs, item_list, pair_list, raw_of, greatest_clock}
 use Rattle.serf_wire.specs.declared.fault.WireFault.{WireFault}
 use Rattle.serf_wire.specs.declared.layout.Layout.{Layout}
 use Rattle.serf_wire.specs.declared.layout.Kind.{Kind}
@@ -162,12 +162,12 @@ name_there (pairs p ps) e = absurd cc
 status_time_there : (p : Tree × Tree) → status_time_faults p ≡ [] → status_time p ≡ Some (status_time_in p)
 status_time_there p e =
     let parts = both_empty (name_faults p.0 (raw_of p.0)) _ e in
-    rw (name_there p.0 parts.0, number_there 0xffff_ffff_ffff_ffff p.1 parts.1) refl
+    rw (name_there p.0 parts.0, number_there greatest_clock p.1 parts.1) refl
 
 status_time_sound : (p : Tree × Tree) (x : List ℕ × ℕ) → status_time p ≡ Some x → status_time_faults p ≡ []
 status_time_sound p x e =
-    let b = both_from (λ name time. (name, time)) (raw_of p.0) (number 0xffff_ffff_ffff_ffff p.1) x e in
-    rw (b.one_is, number_sound 0xffff_ffff_ffff_ffff p.1 b.other b.other_is) refl
+    let b = both_from (λ name time. (name, time)) (raw_of p.0) (number greatest_clock p.1) x e in
+    rw (b.one_is, number_sound greatest_clock p.1 b.other b.other_is) refl
 
 status_time_exact : IsExact status_time status_time_in status_time_faults
 status_time_exact = record { there = status_time_there; sound = status_time_sound }

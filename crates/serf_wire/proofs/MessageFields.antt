@@ -1,5 +1,5 @@
 -- Messages, slots and their events: the fields of a map without faults, and back.
-use Rattle.serf_wire.proofs.Names.{◌≡◌, ℕ, zero, suc, ℤ, List, [], ◌∷◌, Bool, false, Option, Some, codes, refl, sym, ◌∙◌, Tree, nil, flag, int, raw, array, pairs}
+use Rattle.serf_wire.proofs.Names.{◌≡◌, ℕ, zero, suc, ℤ, List, [], ◌∷◌, Bool, false, Option, Some, codes, refl, sym, ◌∙◌, Tree, nil, flag, int, raw, array, pairs, greatest_clock}
 use Rattle.serf_wire.specs.declared.layout.Layout.{Layout}
 use Rattle.serf_wire.specs.declared.layout.Layout.TheVariants as layouts
 use Rattle.serf_wire.specs.declared.layout.Kind.{Kind}
@@ -180,7 +180,7 @@ query_is q ps h = same_query ps (query_in ps) q (query_there ps (query_clean q p
 pub response_there : (ps : Pairs) → faults_behind (value_faults 2) layouts.QueryResponse [] ps ≡ [] → IsQueryResponse (response_in ps) ps
 response_there ps none = record {
   keys = raw_keys (value_faults 2) layouts.QueryResponse [] ps none;
-  time = field_there (number 0xffff_ffff_ffff_ffff) (number_in 0xffff_ffff_ffff_ffff) 2 (kinds.Natural 0xffff_ffff_ffff_ffff) (number_exact 0xffff_ffff_ffff_ffff) layouts.QueryResponse (codes "LTime") refl ps none;
+  time = field_there (number greatest_clock) (number_in greatest_clock) 2 (kinds.Natural greatest_clock) (number_exact greatest_clock) layouts.QueryResponse (codes "LTime") refl ps none;
   id = field_there (number 0xffff_ffff) (number_in 0xffff_ffff) 2 (kinds.Natural 0xffff_ffff) (number_exact 0xffff_ffff) layouts.QueryResponse (codes "ID") refl ps none;
   from = field_there text text_in 2 kinds.Text text_exact layouts.QueryResponse (codes "From") refl ps none;
   flags = field_there (number 0xffff_ffff) (number_in 0xffff_ffff) 2 (kinds.Natural 0xffff_ffff) (number_exact 0xffff_ffff) layouts.QueryResponse (codes "Flags") refl ps none;
@@ -190,7 +190,7 @@ response_there ps none = record {
 pub response_clean : (r : QueryResponse) (ps : Pairs) → IsQueryResponse r ps → faults_behind (value_faults 2) layouts.QueryResponse [] ps ≡ []
 response_clean r ps h =
     clean (value_faults 2) layouts.QueryResponse [] ps h.keys (each_known (λ n k. IsSole (value_faults 2) k false (values_of n ps)) (fields_of layouts.QueryResponse)
-    (sole_there (number 0xffff_ffff_ffff_ffff) (number_in 0xffff_ffff_ffff_ffff) 2 (kinds.Natural 0xffff_ffff_ffff_ffff) (number_exact 0xffff_ffff_ffff_ffff) _ _ h.time, (sole_there (number 0xffff_ffff) (number_in 0xffff_ffff) 2 (kinds.Natural 0xffff_ffff) (number_exact 0xffff_ffff) _ _ h.id, (sole_there text text_in 2 kinds.Text text_exact _ _ h.from, (sole_there (number 0xffff_ffff) (number_in 0xffff_ffff) 2 (kinds.Natural 0xffff_ffff) (number_exact 0xffff_ffff) _ _ h.flags, (sole_there text text_in 2 kinds.Text text_exact _ _ h.payload, tt))))))
+    (sole_there (number greatest_clock) (number_in greatest_clock) 2 (kinds.Natural greatest_clock) (number_exact greatest_clock) _ _ h.time, (sole_there (number 0xffff_ffff) (number_in 0xffff_ffff) 2 (kinds.Natural 0xffff_ffff) (number_exact 0xffff_ffff) _ _ h.id, (sole_there text text_in 2 kinds.Text text_exact _ _ h.from, (sole_there (number 0xffff_ffff) (number_in 0xffff_ffff) 2 (kinds.Natural 0xffff_ffff) (number_exact 0xffff_ffff) _ _ h.flags, (sole_there text text_in 2 kinds.Text text_exact _ _ h.payload, tt))))))
 
 same_response : (ps : Pairs) (d e : QueryResponse) → IsQueryResponse d ps → IsQueryResponse e ps → d ≡ e
 same_response ps d e h g =
@@ -211,18 +211,18 @@ response_is r ps h = same_response ps (response_in ps) r (response_there ps (res
 pub push_pull_there : (ps : Pairs) → faults_behind (value_faults 2) layouts.PushPull [] ps ≡ [] → IsPushPull (push_pull_in ps) ps
 push_pull_there ps none = record {
   keys = raw_keys (value_faults 2) layouts.PushPull [] ps none;
-  member_clock = field_there (number 0xffff_ffff_ffff_ffff) (number_in 0xffff_ffff_ffff_ffff) 2 (kinds.Natural 0xffff_ffff_ffff_ffff) (number_exact 0xffff_ffff_ffff_ffff) layouts.PushPull (codes "LTime") refl ps none;
+  member_clock = field_there (number greatest_clock) (number_in greatest_clock) 2 (kinds.Natural greatest_clock) (number_exact greatest_clock) layouts.PushPull (codes "LTime") refl ps none;
   status = field_there status status_in 2 kinds.Status status_exact layouts.PushPull (codes "StatusLTimes") refl ps none;
   left = field_there (list text) (list_in text_in) 2 kinds.Texts texts_exact layouts.PushPull (codes "LeftMembers") refl ps none;
-  event_clock = field_there (number 0xffff_ffff_ffff_ffff) (number_in 0xffff_ffff_ffff_ffff) 2 (kinds.Natural 0xffff_ffff_ffff_ffff) (number_exact 0xffff_ffff_ffff_ffff) layouts.PushPull (codes "EventLTime") refl ps none;
+  event_clock = field_there (number greatest_clock) (number_in greatest_clock) 2 (kinds.Natural greatest_clock) (number_exact greatest_clock) layouts.PushPull (codes "EventLTime") refl ps none;
   slots = field_there (list slot) (list_in slot_in) 2 (kinds.Maps layouts.Slot) slots_exact layouts.PushPull (codes "Events") refl ps none;
-  query_clock = field_there (number 0xffff_ffff_ffff_ffff) (number_in 0xffff_ffff_ffff_ffff) 2 (kinds.Natural 0xffff_ffff_ffff_ffff) (number_exact 0xffff_ffff_ffff_ffff) layouts.PushPull (codes "QueryLTime") refl ps none;
+  query_clock = field_there (number greatest_clock) (number_in greatest_clock) 2 (kinds.Natural greatest_clock) (number_exact greatest_clock) layouts.PushPull (codes "QueryLTime") refl ps none;
 }
 
 pub push_pull_clean : (q : PushPull) (ps : Pairs) → IsPushPull q ps → faults_behind (value_faults 2) layouts.PushPull [] ps ≡ []
 push_pull_clean q ps h =
     clean (value_faults 2) layouts.PushPull [] ps h.keys (each_known (λ n k. IsSole (value_faults 2) k false (values_of n ps)) (fields_of layouts.PushPull)
-    (sole_there (number 0xffff_ffff_ffff_ffff) (number_in 0xffff_ffff_ffff_ffff) 2 (kinds.Natural 0xffff_ffff_ffff_ffff) (number_exact 0xffff_ffff_ffff_ffff) _ _ h.member_clock, (sole_there status status_in 2 kinds.Status status_exact _ _ h.status, (sole_there (list text) (list_in text_in) 2 kinds.Texts texts_exact _ _ h.left, (sole_there (number 0xffff_ffff_ffff_ffff) (number_in 0xffff_ffff_ffff_ffff) 2 (kinds.Natural 0xffff_ffff_ffff_ffff) (number_exact 0xffff_ffff_ffff_ffff) _ _ h.event_clock, (sole_there (list slot) (list_in slot_in) 2 (kinds.Maps layouts.Slot) slots_exact _ _ h.slots, (sole_there (number 0xffff_ffff_ffff_ffff) (number_in 0xffff_ffff_ffff_ffff) 2 (kinds.Natural 0xffff_ffff_ffff_ffff) (number_exact 0xffff_ffff_ffff_ffff) _ _ h.query_clock, tt)))))))
+    (sole_there (number greatest_clock) (number_in greatest_clock) 2 (kinds.Natural greatest_clock) (number_exact greatest_clock) _ _ h.member_clock, (sole_there status status_in 2 kinds.Status status_exact _ _ h.status, (sole_there (list text) (list_in text_in) 2 kinds.Texts texts_exact _ _ h.left, (sole_there (number greatest_clock) (number_in greatest_clock) 2 (kinds.Natural greatest_clock) (number_exact greatest_clock) _ _ h.event_clock, (sole_there (list slot) (list_in slot_in) 2 (kinds.Maps layouts.Slot) slots_exact _ _ h.slots, (sole_there (number greatest_clock) (number_in greatest_clock) 2 (kinds.Natural greatest_clock) (number_exact greatest_clock) _ _ h.query_clock, tt)))))))
 
 same_push_pull : (ps : Pairs) (d e : PushPull) → IsPushPull d ps → IsPushPull e ps → d ≡ e
 same_push_pull ps d e h g =

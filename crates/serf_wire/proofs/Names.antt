@@ -16,6 +16,7 @@ pub use Rattle.std.specs.List.{AllByRecursion, Contains, flat_map, list_all, lis
 pub use Rattle.std.specs.Option.{option_copied, option_map}
 pub use Rattle.std.specs.Str.{bytes_eq}
 pub use Rattle.byteorder.specs.Endian.{big_number}
+pub use Rattle.serf_lamport.specs.Clock.{greatest_clock}
 pub use Rattle.serf_pack.specs.Canonical.{array_head, flag_bytes, int_bytes, map_head, raw_bytes, raw_head, uint_bytes}
 pub use Rattle.serf_pack.specs.Packs.{IsHead, PackItems, PackPairs, Packs, item_count, pair_count}
 pub use Rattle.serf_pack.specs.Reading.{Gives, whole_at}

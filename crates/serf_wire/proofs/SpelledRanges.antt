@@ -1,5 +1,5 @@
 -- The numbers of a message that a packet spells are in range.
-use Rattle.serf_wire.proofs.Names.{◌≡◌, ℕ, ◌<◌, ◌≤◌, nat_le, nat_lt, Bool, true, false, cond, List, [], ◌∷◌, Option, Some, None, Ok, ℤ, pos, negsuc, refl, sym, subst, arith, AllByRecursion, leb-true, same_Some, cond_some, Tree, nil, flag, int, raw, array, pairs, raw_of, item_list, pair_list}
+use Rattle.serf_wire.proofs.Names.{◌≡◌, ℕ, ◌<◌, ◌≤◌, nat_le, nat_lt, Bool, true, false, cond, List, [], ◌∷◌, Option, Some, None, Ok, ℤ, pos, negsuc, refl, sym, subst, arith, AllByRecursion, leb-true, same_Some, cond_some, Tree, nil, flag, int, raw, array, pairs, raw_of, item_list, pair_list, greatest_clock}
 use Rattle.std.specs.Prelude.{codes}
 use Rattle.serf_wire.specs.Below.{Below}
 use Rattle.serf_wire.specs.declared.layout.MessageType.{MessageType}
@@ -83,7 +83,7 @@ abbrev HasTime : List ℕ × ℕ → Type 0
 HasTime p = p.1 < 18446744073709551616
 
 status_time_timed : (p : Tree × Tree) (x : List ℕ × ℕ) → status_time p ≡ Some x → HasTime x
-status_time_timed p x e = both_has HasTime (λ name time. (name, time)) (raw_of p.0) (number 0xffff_ffff_ffff_ffff p.1) x (λ name time named timed. let le = number_within 0xffff_ffff_ffff_ffff p.1 time timed in omega arith) e
+status_time_timed p x e = both_has HasTime (λ name time. (name, time)) (raw_of p.0) (number greatest_clock p.1) x (λ name time named timed. let le = number_within greatest_clock p.1 time timed in omega arith) e
 
 status_timed : (v : Tree) (xs : List (List ℕ × ℕ)) → status v ≡ Some xs → AllByRecursion HasTime xs
 status_timed (nil p) xs e = subst (AllByRecursion HasTime) (same_Some [] xs e) tt
@@ -126,14 +126,14 @@ fields_ranged types.Query (query q) ps h =
       timeout = sole_has IsFitting signed signed_fits (values_of (codes "Timeout") ps) q.timeout h.timeout;
     }
 fields_ranged types.QueryResponse (query_response r) ps h =
-    let time = field_within 0xffff_ffff_ffff_ffff r.time (codes "LTime") ps h.time in
+    let time = field_within greatest_clock r.time (codes "LTime") ps h.time in
     let id = field_within 0xffff_ffff r.id (codes "ID") ps h.id in
     let flags = field_within 0xffff_ffff r.flags (codes "Flags") ps h.flags in
     record { time = omega arith; id = omega arith; flags = omega arith }
 fields_ranged types.PushPull (push_pull m) ps h =
-    let member_clock = field_within 0xffff_ffff_ffff_ffff m.member_clock (codes "LTime") ps h.member_clock in
-    let event_clock = field_within 0xffff_ffff_ffff_ffff m.event_clock (codes "EventLTime") ps h.event_clock in
-    let query_clock = field_within 0xffff_ffff_ffff_ffff m.query_clock (codes "QueryLTime") ps h.query_clock in
+    let member_clock = field_within greatest_clock m.member_clock (codes "LTime") ps h.member_clock in
+    let event_clock = field_within greatest_clock m.event_clock (codes "EventLTime") ps h.event_clock in
+    let query_clock = field_within greatest_clock m.query_clock (codes "QueryLTime") ps h.query_clock in
     record {
       member_clock = omega arith;
       status = sole_has (AllByRecursion HasTime) status status_timed (values_of (codes "StatusLTimes") ps) m.status h.status;

@@ -73,7 +73,7 @@ abbrev pub name_faults : Tree → Option (List ℕ) → List WireFault
 name_faults v name = unless name (BadKey (at v))
 
 abbrev pub status_time_faults : Tree × Tree → List WireFault
-status_time_faults p = name_faults p.0 (raw_of p.0) ++ number_faults 0xffff_ffff_ffff_ffff p.1
+status_time_faults p = name_faults p.0 (raw_of p.0) ++ number_faults greatest_clock p.1
 
 abbrev pub status_faults : Tree → List WireFault
 status_faults (nil p) = []

@@ -28,7 +28,7 @@ IsTimed (held t es) = t < greatest_clock
 
 pub record IsRangedPushPull (m : PushPull) : Type 0 where
   pub member_clock : m.member_clock < 2 ^ 64
-  pub status : AllByRecursion (λ p. p.1 < 18446744073709551616) m.status
+  pub status : AllByRecursion (λ p. p.1 < 2 ^ 64) m.status
   pub event_clock : m.event_clock < 2 ^ 64
   pub slots : AllByRecursion IsTimed m.slots
   pub query_clock : m.query_clock < 2 ^ 64

@@ -1,5 +1,6 @@
 -- A sound map's message, and the first fault of another.
 use Rattle.std.specs.Prelude.{List, Result, Ok, Err, Option, Some, None, codes}
+use Rattle.serf_lamport.specs.Clock.{greatest_clock}
 use Rattle.serf_pack.specs.Tree.{Tree, nil, flag, int, raw, array, pairs}
 use Rattle.serf_pack.specs.View.{pair_list}
 use Rattle.serf_wire.specs.declared.fault.WireFault.{WireFault}
@@ -35,7 +36,7 @@ query_in ps = record {
 
 abbrev pub response_in : List (Tree × Tree) → QueryResponse
 response_in ps = record {
-  time = number_in 0xffff_ffff_ffff_ffff (value_of_key (codes "LTime") ps);
+  time = number_in greatest_clock (value_of_key (codes "LTime") ps);
   id = number_in 0xffff_ffff (value_of_key (codes "ID") ps);
   from = text_in (value_of_key (codes "From") ps);
   flags = number_in 0xffff_ffff (value_of_key (codes "Flags") ps);
@@ -44,12 +45,12 @@ response_in ps = record {
 
 abbrev pub push_pull_in : List (Tree × Tree) → PushPull
 push_pull_in ps = record {
-  member_clock = number_in 0xffff_ffff_ffff_ffff (value_of_key (codes "LTime") ps);
+  member_clock = number_in greatest_clock (value_of_key (codes "LTime") ps);
   status = status_in (value_of_key (codes "StatusLTimes") ps);
   left = list_in text_in (value_of_key (codes "LeftMembers") ps);
-  event_clock = number_in 0xffff_ffff_ffff_ffff (value_of_key (codes "EventLTime") ps);
+  event_clock = number_in greatest_clock (value_of_key (codes "EventLTime") ps);
   slots = list_in slot_in (value_of_key (codes "Events") ps);
-  query_clock = number_in 0xffff_ffff_ffff_ffff (value_of_key (codes "QueryLTime") ps);
+  query_clock = number_in greatest_clock (value_of_key (codes "QueryLTime") ps);
 }
 
 abbrev pub message_in : MessageType → List (Tree × Tree) → Message

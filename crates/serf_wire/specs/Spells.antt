@@ -1,5 +1,6 @@
 -- Which bytes spell which message, and what else they are.
 use Rattle.std.specs.Prelude.{◌≡◌, ◌+◌, ℕ, List, [], ◌∷◌, Some, codes, IsSome}
+use Rattle.serf_lamport.specs.Clock.{greatest_clock}
 use Rattle.serf_pack.specs.declared.fault.PackFault.{PackFault}
 use Rattle.serf_pack.specs.declared.fault.PackFault.TheVariants as pack
 use Rattle.serf_pack.specs.Tree.{Tree, pairs, Pairs}
@@ -46,7 +47,7 @@ pub record IsQuery (q : Query) (ps : List (Tree × Tree)) : Type 0 where
 
 pub record IsQueryResponse (r : QueryResponse) (ps : List (Tree × Tree)) : Type 0 where
   pub keys : HasRawKeys ps
-  pub time : field (number 0xffff_ffff_ffff_ffff) (codes "LTime") ps ≡ Some r.time
+  pub time : field (number greatest_clock) (codes "LTime") ps ≡ Some r.time
   pub id : field (number 0xffff_ffff) (codes "ID") ps ≡ Some r.id
   pub from : field text (codes "From") ps ≡ Some r.from
   pub flags : field (number 0xffff_ffff) (codes "Flags") ps ≡ Some r.flags
@@ -54,12 +55,12 @@ pub record IsQueryResponse (r : QueryResponse) (ps : List (Tree × Tree)) : Type
 
 pub record IsPushPull (m : PushPull) (ps : List (Tree × Tree)) : Type 0 where
   pub keys : HasRawKeys ps
-  pub member_clock : field (number 0xffff_ffff_ffff_ffff) (codes "LTime") ps ≡ Some m.member_clock
+  pub member_clock : field (number greatest_clock) (codes "LTime") ps ≡ Some m.member_clock
   pub status : field status (codes "StatusLTimes") ps ≡ Some m.status
   pub left : field (list text) (codes "LeftMembers") ps ≡ Some m.left
-  pub event_clock : field (number 0xffff_ffff_ffff_ffff) (codes "EventLTime") ps ≡ Some m.event_clock
+  pub event_clock : field (number greatest_clock) (codes "EventLTime") ps ≡ Some m.event_clock
   pub slots : field (list slot) (codes "Events") ps ≡ Some m.slots
-  pub query_clock : field (number 0xffff_ffff_ffff_ffff) (codes "QueryLTime") ps ≡ Some m.query_clock
+  pub query_clock : field (number greatest_clock) (codes "QueryLTime") ps ≡ Some m.query_clock
 
 -- the map's fields are the message's
 abbrev pub HasFields : MessageType → Message → List (Tree × Tree) → Type 0

@@ -2,9 +2,10 @@
 //!
 //! Each reader gives up, by `None`, at what is not spelled so.
 
-ghost use Rattle.std.specs.Prelude.{◌≡◌, ◌≤◌, ◌<◌, ◌+◌, ◌-◌, ◌∷◌, [], take, drop, length, unwrap_or, None, Ok, IfSome};
+ghost use Rattle.std.specs.Prelude.{◌≡◌, ◌≤◌, ◌<◌, ◌+◌, ◌-◌, ◌^◌, ◌∷◌, [], take, drop, length, unwrap_or, None, Ok, IfSome};
 ghost use Rattle.std.specs.Option.{option_copied, option_map};
 ghost use Rattle.byteorder.specs.Endian.{big_number};
+ghost use Rattle.serf_lamport.specs.Clock.{greatest_clock};
 ghost use Rattle.serf_pack.specs.declared.head.Head.TheVariants as heads;
 ghost use Rattle.serf_pack.specs.Packs.{Packs};
 ghost use Rattle.serf_pack.specs.Reading.{head_at};
@@ -68,7 +69,7 @@ fn four_bytes(bytes: &[u8]) -> Option<(u64, &[u8])>
 fn eight_bytes(bytes: &[u8]) -> Option<(u64, &[u8])>
     ensures room { IfSome result (λ x. 8 ≤ length bytes.now) }
     ensures value { IfSome result (λ x. x.0 ≡ big_number 8 bytes.now) }
-    ensures small { IfSome result (λ x. x.0 < 18446744073709551616) }
+    ensures small { IfSome result (λ x. x.0 < 2 ^ 64) }
     ensures rest { IfSome result (λ x. x.1.now ≡ drop 8 bytes.now) }
 {
     let (high, middle) = four_bytes(bytes)?;
@@ -79,7 +80,7 @@ fn eight_bytes(bytes: &[u8]) -> Option<(u64, &[u8])>
 /// The number of 64 bits at the front, and what follows it.
 #[inline(always)]
 pub fn read_number(bytes: &[u8]) -> Option<(u64, &[u8])>
-    ensures { IfSome result (λ x. Reads (number 0xffff_ffff_ffff_ffff) x.0 bytes.now x.1.now) }
+    ensures { IfSome result (λ x. Reads (number greatest_clock) x.0 bytes.now x.1.now) }
 {
     laws_below();
     let [head, rest @ ..] = bytes else {
@@ -230,7 +231,7 @@ fn read_flag(bytes: &[u8]) -> Option<(bool, &[u8])>
 #[inline(always)]
 pub fn once_number(found: Option<u64>, bytes: &[u8]) -> Option<(u64, &[u8])>
     ensures none { IfSome result (λ x. found ≡ None) }
-    ensures reads { IfSome result (λ x. Reads (number 0xffff_ffff_ffff_ffff) x.0 bytes.now x.1.now) }
+    ensures reads { IfSome result (λ x. Reads (number greatest_clock) x.0 bytes.now x.1.now) }
 {
     match found {
         Some(_) => None,

@@ -105,7 +105,7 @@ pub fn put_texts_field(out: &mut Vec<u8>, name: &[u8], texts: &[&[u8]]) -> Resul
 fn put_status_times(out: &mut Vec<u8>, status: &[StatusTime]) -> Result<(), AllocError>
     requires { list_any (λ s. is_long s.name.now) status.now ≡ false }
     ensures bytes { OnOk result (out.new.items ≡ out.old.items ++ flat_map (λ s. status_time_bytes (status_of s)) status.now) }
-    ensures times { OnOk result (list_all (λ s. nat_lt s.time 18446744073709551616) status.now ≡ true) }
+    ensures times { OnOk result (list_all (λ s. nat_lt s.time (2 ^ 64)) status.now ≡ true) }
 {
     for entry in status {
         put_number_field(out, entry.name, entry.time)?;
@@ -123,7 +123,7 @@ pub fn put_status_field(
     requires list { length status.now < 2 ^ 32 }
     requires items { list_any (λ s. is_long s.name.now) status.now ≡ false }
     ensures bytes { OnOk result (out.new.items ≡ out.old.items ++ entry name.now (map_head (length status.now) ++ flat_map (λ s. status_time_bytes (status_of s)) status.now)) }
-    ensures times { OnOk result (list_all (λ s. nat_lt s.time 18446744073709551616) status.now ≡ true) }
+    ensures times { OnOk result (list_all (λ s. nat_lt s.time (2 ^ 64)) status.now ≡ true) }
 {
     put_raw(out, name)?;
     put_map(out, status.len() as u32)?;

@@ -3,6 +3,7 @@ use Rattle.std.specs.Prelude.{◌^◌, ◌-◌, ℕ, ◌==◌, ◌+◌, ◌++◌
 use Rattle.std.specs.Str.{bytes_eq}
 use Rattle.serf_agent.specs.declared.config.Config.{Config}
 use Rattle.serf_agent.specs.Config.{is_sound}
+use Rattle.serf_agent.specs.Defaults.{default_config}
 use Rattle.serf_model.specs.declared.action.Action.{Action}
 use Rattle.serf_model.specs.declared.action.Action.TheVariants as actions
 use Rattle.serf_world.specs.Runs.{has_name}
@@ -18,10 +19,6 @@ use Rattle.serf_written.specs.Gives.{◌>>=◌, wrong, or_wrong}
 use Rattle.serf_written.specs.Values.{agent_in, bytes_in, bytes_or_none, ends_behind, mode_in, moment_in, number_in, packet_in, piece_at, sink_call_in, word_at, word_of}
 
 -- Agents
-
--- the agent of a name whose line says nothing else
-abbrev pub plain_agent : List ℕ → Config
-plain_agent name = record { name = name; event_buffer = 512; query_buffer = 512; event_limit = 512; responders = 1024; per_time = 1024; ignore_old = false }
 
 -- a number that is set by its key
 abbrev pub set_number : ℕ → Config → List ℕ → Option ℕ → Result Config Fault
@@ -58,7 +55,7 @@ name_of (Some (Text text)) = Some text
 unfoldable pub agent_of : List Piece → Result Config Fault
 agent_of pieces = do
   name ← or_wrong 2 wanted.NewName (name_of (piece_at 2 pieces))
-  settings_from 3 (plain_agent name) (drop 2 pieces)
+  settings_from 3 (default_config name) (drop 2 pieces)
 
 abbrev pub with_agent : List Config → Config → Result (List Config) Fault
 with_agent configs config =

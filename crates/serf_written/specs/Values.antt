@@ -1,5 +1,5 @@
 -- What the pieces of a line stand for.
-use Rattle.std.specs.Prelude.{ℕ, ◌==◌, ◌+◌, ◌-◌, ◌*◌, nat_lt, nat_le, Bool, if◌then◌else◌, List, [], length, take, drop, codes, position, not, slice_get, Option, Some, None, Result, Ok}
+use Rattle.std.specs.Prelude.{ℕ, ◌==◌, ◌+◌, ◌-◌, ◌*◌, ◌^◌, nat_lt, nat_le, Bool, if◌then◌else◌, List, [], length, take, drop, codes, position, not, slice_get, Option, Some, None, Result, Ok}
 use Rattle.std.specs.Char.{is_ascii_digit}
 use Rattle.std.specs.Str.{bytes_eq}
 use Rattle.serf_agent.specs.declared.config.Config.{Config}
@@ -46,7 +46,7 @@ unit_of word =
 abbrev pub times : Option ℕ → Option ℕ → Option ℕ
 times None unit = None
 times (Some n) None = None
-times (Some n) (Some unit) = if nat_lt (n * unit) 18446744073709551616 then Some (n * unit) else None
+times (Some n) (Some unit) = if nat_lt (n * unit) (2 ^ 64) then Some (n * unit) else None
 
 -- digits, and the unit behind them at this place; nanoseconds where there is none
 abbrev pub time_cut : List ℕ → Option ℕ → Option ℕ

@@ -1,8 +1,9 @@
 //! The agents of a written schedule.
 
 ghost use Rattle.std.specs.Prelude.{◌≡◌, ◌==◌, IfOk, Some, drop, position};
+ghost use Rattle.serf_agent.specs.Defaults.{default_config};
 ghost use Rattle.serf_written.specs.Gives.{Gives, or_wrong};
-ghost use Rattle.serf_written.specs.Lines.{agent_behind, agent_of, name_of, plain_agent, set_key, set_number, settings_from, with_agent, with_setting};
+ghost use Rattle.serf_written.specs.Lines.{agent_behind, agent_of, name_of, set_key, set_number, settings_from, with_agent, with_setting};
 ghost use Rattle.std.specs.Option.{option_map};
 ghost use Rattle.serf_written.specs.Values.{piece_at, word_of};
 ghost use Rattle.serf_written.specs.declared.fault.Wanted.TheVariants.{NewName};
@@ -10,7 +11,9 @@ ghost use Rattle.serf_written.specs.declared.fault.Wanted.TheVariants.{NewName};
 use crate::fault::{LineFault, Wanted, bad};
 use crate::piece::Piece;
 use crate::values::{halves, is_word, nth};
-use serf_agent::Config;
+use serf_agent::{
+    Config, DEFAULT_EVENT_LIMIT, DEFAULT_PER_TIME, DEFAULT_RESPONDERS, DEFAULT_SLOTS,
+};
 use serf_replay::number;
 use serf_wire::Bytes;
 use serf_world::{Roster, RosterFault};
@@ -18,15 +21,15 @@ use std::alloc::{AllocError, Global};
 
 /// The agent of a name whose line says nothing else.
 fn plain(name: Bytes) -> Config
-    ensures { result ≡ plain_agent name }
+    ensures { result ≡ default_config name }
 {
     Config {
         name,
-        event_buffer: 512,
-        query_buffer: 512,
-        event_limit: 512,
-        responders: 1_024,
-        per_time: 1_024,
+        event_buffer: DEFAULT_SLOTS,
+        query_buffer: DEFAULT_SLOTS,
+        event_limit: DEFAULT_EVENT_LIMIT,
+        responders: DEFAULT_RESPONDERS,
+        per_time: DEFAULT_PER_TIME,
         ignore_old: false,
     }
 }

@@ -1,4 +1,4 @@
-use Rattle.serf_wire.proofs.Names.{◌++◌, codes, lit<, ap, ◌∙◌, raw_bytes}
+use Rattle.serf_wire.proofs.Names.{◌++◌, codes, lit<, ap, ◌∙◌, raw_bytes, greatest_clock}
 use Rattle.serf_wire.specs.Fields.{text, number, list, status, slot}
 use Rattle.serf_wire.specs.Keys.{state_name}
 use Rattle.serf_wire.specs.Lists.{texts_left, status_left, slots_left}
@@ -10,7 +10,7 @@ use Rattle.serf_wire.proofs.fast.state.read_pair.Goals as goal
 pub returns-in_ok-member_clock-in-Time : goal.returns-in_ok-member_clock-in-Time
 returns-in_ok-member_clock-in-Time c =
     let e = c.in_ok-key.ensures ∙ ap (λ k. raw_bytes (state_name k) ++ c.in_ok-key.value.now) c.in-Time.is in
-    pair_read IsStateSoFar c.args.found.now _ (codes "LTime") (number 0xffff_ffff_ffff_ffff) c.in_ok-member_clock-in-Time.member_clock c.args.bytes.now c.in_ok-key.value.now c.in_ok-member_clock-in-Time.rest.now (lit< tt) e c.in_ok-member_clock-in-Time.ensures.reads (λ p v ps. finds_member c.args.found.now c.in_ok-member_clock-in-Time.member_clock c.in_ok-member_clock-in-Time.ensures.none p v ps)
+    pair_read IsStateSoFar c.args.found.now _ (codes "LTime") (number greatest_clock) c.in_ok-member_clock-in-Time.member_clock c.args.bytes.now c.in_ok-key.value.now c.in_ok-member_clock-in-Time.rest.now (lit< tt) e c.in_ok-member_clock-in-Time.ensures.reads (λ p v ps. finds_member c.args.found.now c.in_ok-member_clock-in-Time.member_clock c.in_ok-member_clock-in-Time.ensures.none p v ps)
 
 pub returns-in_ok-status-in-StatusTimes : goal.returns-in_ok-status-in-StatusTimes
 returns-in_ok-status-in-StatusTimes c =
@@ -25,7 +25,7 @@ returns-in_ok-left-in-LeftMembers c =
 pub returns-in_ok-event_clock-in-EventTime : goal.returns-in_ok-event_clock-in-EventTime
 returns-in_ok-event_clock-in-EventTime c =
     let e = c.in_ok-key.ensures ∙ ap (λ k. raw_bytes (state_name k) ++ c.in_ok-key.value.now) c.in-EventTime.is in
-    pair_read IsStateSoFar c.args.found.now _ (codes "EventLTime") (number 0xffff_ffff_ffff_ffff) c.in_ok-event_clock-in-EventTime.event_clock c.args.bytes.now c.in_ok-key.value.now c.in_ok-event_clock-in-EventTime.rest.now (lit< tt) e c.in_ok-event_clock-in-EventTime.ensures.reads (λ p v ps. finds_event c.args.found.now c.in_ok-event_clock-in-EventTime.event_clock c.in_ok-event_clock-in-EventTime.ensures.none p v ps)
+    pair_read IsStateSoFar c.args.found.now _ (codes "EventLTime") (number greatest_clock) c.in_ok-event_clock-in-EventTime.event_clock c.args.bytes.now c.in_ok-key.value.now c.in_ok-event_clock-in-EventTime.rest.now (lit< tt) e c.in_ok-event_clock-in-EventTime.ensures.reads (λ p v ps. finds_event c.args.found.now c.in_ok-event_clock-in-EventTime.event_clock c.in_ok-event_clock-in-EventTime.ensures.none p v ps)
 
 pub returns-in_ok-slots-in-Events : goal.returns-in_ok-slots-in-Events
 returns-in_ok-slots-in-Events c =
@@ -35,4 +35,4 @@ returns-in_ok-slots-in-Events c =
 pub returns-in_ok-query_clock-in-QueryTime : goal.returns-in_ok-query_clock-in-QueryTime
 returns-in_ok-query_clock-in-QueryTime c =
     let e = c.in_ok-key.ensures ∙ ap (λ k. raw_bytes (state_name k) ++ c.in_ok-key.value.now) c.in-QueryTime.is in
-    pair_read IsStateSoFar c.args.found.now _ (codes "QueryLTime") (number 0xffff_ffff_ffff_ffff) c.in_ok-query_clock-in-QueryTime.query_clock c.args.bytes.now c.in_ok-key.value.now c.in_ok-query_clock-in-QueryTime.rest.now (lit< tt) e c.in_ok-query_clock-in-QueryTime.ensures.reads (λ p v ps. finds_query c.args.found.now c.in_ok-query_clock-in-QueryTime.query_clock c.in_ok-query_clock-in-QueryTime.ensures.none p v ps)
+    pair_read IsStateSoFar c.args.found.now _ (codes "QueryLTime") (number greatest_clock) c.in_ok-query_clock-in-QueryTime.query_clock c.args.bytes.now c.in_ok-key.value.now c.in_ok-query_clock-in-QueryTime.rest.now (lit< tt) e c.in_ok-query_clock-in-QueryTime.ensures.reads (λ p v ps. finds_query c.args.found.now c.in_ok-query_clock-in-QueryTime.query_clock c.in_ok-query_clock-in-QueryTime.ensures.none p v ps)
