@@ -52,10 +52,12 @@ impl<S: Sink> Model for Agent<S> {
 /// Two tracks that have nothing. Takes no memory.
 fn new_tracks(alloc: Global, config: &Config) -> (EventTrack, QueryTrack)
     requires { is_sound config.now ≡ true }
-    ensures events { concrete_of result.0 ≡ record { clock = 1; minimum = 1; slots = slots_of config.now.event_buffer [] } }
+    ensures events { concrete_of result.0
+        ≡ record { clock = 1; minimum = 1; slots = slots_of config.now.event_buffer [] } }
     ensures event_size { length result.0.window.slots ≡ config.now.event_buffer }
     ensures event_per_time { result.0.window.per_time ≡ config.now.per_time }
-    ensures queries { concrete_of result.1 ≡ record { clock = 1; minimum = 1; slots = slots_of config.now.query_buffer [] } }
+    ensures queries { concrete_of result.1
+        ≡ record { clock = 1; minimum = 1; slots = slots_of config.now.query_buffer [] } }
     ensures query_size { length result.1.window.slots ≡ config.now.query_buffer }
     ensures query_per_time { result.1.window.per_time ≡ config.now.per_time }
 {
@@ -90,26 +92,38 @@ impl<S: Sink> Agent<S> {
 
         // For each agent whose times the text has, it is that agent in its next life.
         ensures restarted { (i : IdealAgent) → IsSound i → i.config ≡ config → IsInText i text.now
-            → IfOk result (λ a. (a.concrete ≡ view_of (restarted (opened text.now (S.device sink)) i)) × IsSound (restarted (opened text.now (S.device sink)) i)) }
+            → IfOk result (λ a.
+            (a.concrete ≡ view_of (restarted (opened text.now (S.device sink)) i))
+            × IsSound (restarted (opened text.now (S.device sink)) i)) }
         ensures device { IfOk result (λ a. a.device ≡ opened_device text.now (S.device sink)) }
         ensures ok { OnOk result (is_sound config ≡ true) }
         ensures opens { is_sound config ≡ true → is_whole text.now ≡ true → IsOk result }
 
         // On any text it is the next life of an agent that has entered nothing, and which is sound.
-        ensures first { IfOk result (λ a. let o = opened text.now (S.device sink) in (a.concrete ≡ view_of (restarted o (unopened config o))) × IsSound (restarted o (unopened config o))) }
+        ensures first { IfOk result (λ a. let o = opened text.now (S.device sink) in
+            (a.concrete ≡ view_of (restarted o (unopened config o)))
+            × IsSound (restarted o (unopened config o))) }
 
         // A whole text needs no call of the sink; a sink with a plan fails just where the plan says.
-        ensures whole { IfErr result (λ e. is_whole text.now ≡ true → e.fault ≢ OpenFault.SinkFault) }
-        ensures ok_planned { OnOk result (is_whole text.now ≡ false → IfSome (S.device sink).plan (λ p. note_fails p ≡ false)) }
-        ensures planned { IfErr result (λ e. e.fault ≡ OpenFault.SinkFault → IfSome (S.device sink).plan (λ p. note_fails p ≡ true)) }
+        ensures whole { IfErr result (λ e. is_whole text.now ≡ true
+            → e.fault ≢ OpenFault.SinkFault) }
+        ensures ok_planned { OnOk result (is_whole text.now ≡ false
+            → IfSome (S.device sink).plan (λ p. note_fails p ≡ false)) }
+        ensures planned { IfErr result (λ e. e.fault ≡ OpenFault.SinkFault
+            → IfSome (S.device sink).plan (λ p. note_fails p ≡ true)) }
 
         // What is handed back.
         ensures config { IfErr result (λ e. e.config ≡ config) }
-        ensures bad { IfErr result (λ e. (e.fault ≡ OpenFault.BadConfig) ↔ (is_sound config ≡ false)) }
-        ensures untouched { IfErr result (λ e. e.fault ≢ OpenFault.SinkFault → S.device e.sink ≡ S.device sink) }
-        ensures cause { IfErr result (λ e. e.fault ≡ OpenFault.SinkFault → Fails (S.device sink) (S.device e.sink) seal_line) }
-        ensures called { IfErr result (λ e. e.fault ≡ OpenFault.SinkFault → HasTriedNote (S.device sink).calls (S.device e.sink).calls) }
-        ensures decremented { IfErr result (λ e. e.fault ≡ OpenFault.SinkFault → (S.device e.sink).plan ≡ option_map note_decremented (S.device sink).plan) }
+        ensures bad { IfErr result (λ e. (e.fault ≡ OpenFault.BadConfig)
+            ↔ (is_sound config ≡ false)) }
+        ensures untouched { IfErr result (λ e. e.fault ≢ OpenFault.SinkFault
+            → S.device e.sink ≡ S.device sink) }
+        ensures cause { IfErr result (λ e. e.fault ≡ OpenFault.SinkFault
+            → Fails (S.device sink) (S.device e.sink) seal_line) }
+        ensures called { IfErr result (λ e. e.fault ≡ OpenFault.SinkFault
+            → HasTriedNote (S.device sink).calls (S.device e.sink).calls) }
+        ensures decremented { IfErr result (λ e. e.fault ≡ OpenFault.SinkFault
+            → (S.device e.sink).plan ≡ option_map note_decremented (S.device sink).plan) }
     {
         sound_snapshots();
         if !config.is_sound() {
@@ -143,10 +157,12 @@ impl<S: Sink> Agent<S> {
         snapshot: Snapshot<S>,
     ) -> Self
         requires config_sound { is_sound config ≡ true }
-        requires events { concrete_of events ≡ record { clock = 1; minimum = 1; slots = slots_of config.event_buffer [] } }
+        requires events { concrete_of events
+            ≡ record { clock = 1; minimum = 1; slots = slots_of config.event_buffer [] } }
         requires event_size { length events.window.slots ≡ config.event_buffer }
         requires event_per_time { events.window.per_time ≡ config.per_time }
-        requires queries { concrete_of queries ≡ record { clock = 1; minimum = 1; slots = slots_of config.query_buffer [] } }
+        requires queries { concrete_of queries
+            ≡ record { clock = 1; minimum = 1; slots = slots_of config.query_buffer [] } }
         requires query_size { length queries.window.slots ≡ config.query_buffer }
         requires query_per_time { queries.window.per_time ≡ config.per_time }
 

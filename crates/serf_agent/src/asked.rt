@@ -81,14 +81,16 @@ impl Asked {
 
     /// Takes out the query that was added last. Takes no memory.
     pub(crate) fn pop(&mut self)
-        ensures { (front : List (ℕ × OpenQuery)) (last : ℕ × OpenQuery) → self.old ≡ front ++ last ∷ [] → self.new ≡ front }
+        ensures { (front : List (ℕ × OpenQuery)) (last : ℕ × OpenQuery)
+            → self.old ≡ front ++ last ∷ [] → self.new ≡ front }
     {
         self.queries.pop();
     }
 
     /// Counts an answer to the query of its time, or changes nothing where there is no memory for it.
     pub(crate) fn count(&mut self, alloc: Global, answer: &Answer) -> Result<(), AllocError>
-        ensures ok { OnOk result (IfSome (asked_at answer.now.time self.old) (λ q. self.new ≡ with_asked_at answer.now.time (counted (response_in answer.now) q) self.old)) }
+        ensures ok { OnOk result (IfSome (asked_at answer.now.time self.old) (λ q. self.new
+            ≡ with_asked_at answer.now.time (counted (response_in answer.now) q) self.old)) }
         ensures err { OnErr result (self.new ≡ self.old) }
     {
         match self.queries.get_mut(&answer.time) {
@@ -116,7 +118,8 @@ impl Asked {
     fn take_if_due(&mut self, alloc: Global, now: u64, index: usize) -> Option<(u64, OpenQuery)>
         ensures taken { IfSome result (λ q. IsTaken now index q self.old self.new) }
         ensures stays { IfNone result (self.new ≡ self.old) }
-        ensures not_due { IfNone result (IfSome (slice_get self.old index) (λ q. is_due now q ≡ false)) }
+        ensures not_due { IfNone result (IfSome (slice_get self.old index) (λ q.
+            is_due now q ≡ false)) }
     {
         let (time, query) = self.queries.get_index(index)?;
         if query.deadline >= now {

@@ -29,7 +29,8 @@ impl Config {
     /// time. `AllocError` where there is no memory for the name.
     pub fn new(alloc: Global, name: &[u8]) -> Result<Config, AllocError>
         ensures config { IfOk result (λ config. config ≡ default_config name.now) }
-        ensures sound { IfOk result (λ config. is_sound config ≡ is_between 1 longest_name (length name.now)) }
+        ensures sound { IfOk result (λ config. is_sound config
+            ≡ is_between 1 longest_name (length name.now)) }
     {
         Ok(Config {
             name: Bytes::copy_of(alloc, name)?,

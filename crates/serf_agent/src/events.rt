@@ -55,7 +55,8 @@ fn packet_of(
     coalesce: bool,
 ) -> Result<Bytes, AllocError>
     requires { length name.now + length payload.now ≤ longest_texts }
-    ensures { IfOk result (λ packet. packet ≡ event_packet time (event_of name.now payload.now) coalesce) }
+    ensures { IfOk result (λ packet. packet
+        ≡ event_packet time (event_of name.now payload.now) coalesce) }
 {
     match encode_user_event(alloc, time, name, payload, coalesce) {
         Ok(packet) => Ok(Bytes::from_vec(packet)),
@@ -89,18 +90,26 @@ impl<S: Sink> Agent<S> {
         payload: &[u8],
         coalesce: bool,
     ) -> Result<Fired, FireFault>
-        ensures step { (i : IdealAgent) → IsSound i → self.old.concrete ≡ view_of i → result ≢ Err FireFault.OutOfMemory
-            → Steps i (fire i (event_of name.now payload.now) coalesce) result self.old.device self.new }
+        ensures step { (i : IdealAgent) → IsSound i → self.old.concrete ≡ view_of i
+            → result ≢ Err FireFault.OutOfMemory
+            → Steps i (fire i (event_of name.now payload.now) coalesce)
+            result self.old.device self.new }
 
         // What becomes of the sink, whatever it tells of its bytes.
-        ensures ok_device { IfOk result (λ f. self.new.device ≡ device_noted kinds.Event f.handed.time self.old.concrete.snapshot self.old.device) }
-        ensures fault_device { IsErrOf result FireFault.SinkFault → FailsLine self.old.device self.new.device (clock_line kinds.Event self.old.concrete.events.clock) }
+        ensures ok_device { IfOk result (λ f. self.new.device
+            ≡ device_noted kinds.Event f.handed.time self.old.concrete.snapshot self.old.device) }
+        ensures fault_device { IsErrOf result FireFault.SinkFault
+            → FailsLine self.old.device self.new.device
+            (clock_line kinds.Event self.old.concrete.events.clock) }
         ensures refused { OnErr result (result ≢ Err FireFault.SinkFault → self.new ≡ self.old) }
 
         // Memory is wanted only where the event is fired, and its want changes nothing.
-        ensures only_fired { (i : IdealAgent) → IsSound i → self.old.concrete ≡ view_of i → IsErrOf result FireFault.OutOfMemory → AsksSink (fire i (event_of name.now payload.now) coalesce) }
+        ensures only_fired { (i : IdealAgent) → IsSound i → self.old.concrete ≡ view_of i
+            → IsErrOf result FireFault.OutOfMemory
+            → AsksSink (fire i (event_of name.now payload.now) coalesce) }
         ensures memory { IsErrOf result FireFault.OutOfMemory → self.new ≡ self.old }
-        ensures cause { IsErrOf result FireFault.SinkFault → HasFailed self.old.device.failures self.new.device.failures }
+        ensures cause { IsErrOf result FireFault.SinkFault
+            → HasFailed self.old.device.failures self.new.device.failures }
     {
         sound_snapshots();
         if self.snapshot.is_stopped() {
@@ -125,9 +134,11 @@ impl<S: Sink> Agent<S> {
 
     /// Why an event is ignored, if it is. Takes no memory.
     pub(crate) fn admission(&self, time: Time, name: &[u8], payload: &[u8]) -> Option<Reason>
-        ensures reason { (i : IdealAgent) → IsSound i → self.now.concrete ≡ view_of i → result ≡ admission i time (event_of name.now payload.now) }
+        ensures reason { (i : IdealAgent) → IsSound i → self.now.concrete ≡ view_of i
+            → result ≡ admission i time (event_of name.now payload.now) }
         ensures not_later { result ≡ None → time_in self.now.concrete.events.slots time ≤ time }
-        ensures not_full { result ≡ None → count_in self.now.concrete.events.slots time < self.now.concrete.config.per_time }
+        ensures not_full { result ≡ None
+            → count_in self.now.concrete.events.slots time < self.now.concrete.config.per_time }
         ensures small { result ≡ None → time < greatest_clock }
     {
         if name.len() > LONGEST_TEXTS || payload.len() > LONGEST_TEXTS - name.len() {
@@ -147,12 +158,17 @@ impl<S: Sink> Agent<S> {
         coalesce: bool,
     ) -> Result<Outcome, ReceiveFault>
         requires { self.old.concrete.snapshot.stopped ≡ false }
-        ensures step { (i : IdealAgent) → IsSound i → self.old.concrete ≡ view_of i → result ≢ Err ReceiveFault.OutOfMemory
-            → Steps i (receive_event i time (event_of name.now payload.now) coalesce) result self.old.device self.new }
-        ensures only_new { (i : IdealAgent) → IsSound i → self.old.concrete ≡ view_of i → IsErrOf result ReceiveFault.OutOfMemory → AsksSink (receive_event i time (event_of name.now payload.now) coalesce) }
+        ensures step { (i : IdealAgent) → IsSound i → self.old.concrete ≡ view_of i
+            → result ≢ Err ReceiveFault.OutOfMemory
+            → Steps i (receive_event i time (event_of name.now payload.now) coalesce)
+            result self.old.device self.new }
+        ensures only_new { (i : IdealAgent) → IsSound i → self.old.concrete ≡ view_of i
+            → IsErrOf result ReceiveFault.OutOfMemory
+            → AsksSink (receive_event i time (event_of name.now payload.now) coalesce) }
         ensures memory { IsErrOf result ReceiveFault.OutOfMemory → self.new ≡ self.old }
         ensures refused { OnErr result (result ≢ Err ReceiveFault.SinkFault → self.new ≡ self.old) }
-        ensures cause { IsErrOf result ReceiveFault.SinkFault → HasFailed self.old.device.failures self.new.device.failures }
+        ensures cause { IsErrOf result ReceiveFault.SinkFault
+            → HasFailed self.old.device.failures self.new.device.failures }
         ensures no_answer { (result ≢ Ok Outcome.Ack) × (result ≢ Ok Outcome.Response) }
     {
         sound_snapshots();
@@ -180,20 +196,30 @@ impl<S: Sink> Agent<S> {
     ) -> Result<EventOut, LineFault>
         requires runs { self.old.concrete.snapshot.stopped ≡ false }
         requires not_later { time_in self.old.concrete.events.slots time ≤ time }
-        requires not_full { count_in self.old.concrete.events.slots time < self.old.concrete.config.per_time }
+        requires not_full { count_in self.old.concrete.events.slots time
+            < self.old.concrete.config.per_time }
 
-        ensures out { IfOk result (λ out. out ≡ event_out time (event_of name.now payload.now) coalesce) }
+        ensures out { IfOk result (λ out. out
+            ≡ event_out time (event_of name.now payload.now) coalesce) }
         ensures entered { OnOk result ((i : IdealAgent) → self.old.concrete ≡ view_of i
-            → self.new.concrete ≡ view_of (with_snapshot (noted kinds.Event time i.snapshot Kept) (event_entered time (event_of name.now payload.now) i))) }
+            → self.new.concrete ≡ view_of (with_snapshot (noted kinds.Event time i.snapshot Kept)
+            (event_entered time (event_of name.now payload.now) i))) }
         ensures allowed { OnOk result (MayNote kinds.Event time self.old.concrete.snapshot Kept) }
-        ensures device { OnOk result (self.new.device ≡ device_noted kinds.Event time self.old.concrete.snapshot self.old.device) }
+        ensures device { OnOk result (self.new.device
+            ≡ device_noted kinds.Event time self.old.concrete.snapshot self.old.device) }
         ensures runs { OnOk result (self.new.concrete.snapshot.stopped ≡ false) }
         ensures calm { OnOk result (self.new.device.failures ≡ self.old.device.failures) }
 
-        ensures failed { IsErrOf result LineFault.SinkFault → self.new.concrete ≡ concrete_with (written kinds.Event time self.old.concrete.snapshot (Failed self.new.concrete.snapshot.durable)) self.old.concrete }
-        ensures fault_allowed { IsErrOf result LineFault.SinkFault → MayNote kinds.Event time self.old.concrete.snapshot (Failed self.new.concrete.snapshot.durable) }
-        ensures fault_device { IsErrOf result LineFault.SinkFault → FailsLine self.old.device self.new.device (clock_line kinds.Event time) }
-        ensures cause { IsErrOf result LineFault.SinkFault → HasFailed self.old.device.failures self.new.device.failures }
+        ensures failed { IsErrOf result LineFault.SinkFault
+            → self.new.concrete ≡ concrete_with (written kinds.Event time self.old.concrete.snapshot
+            (Failed self.new.concrete.snapshot.durable)) self.old.concrete }
+        ensures fault_allowed { IsErrOf result LineFault.SinkFault
+            → MayNote kinds.Event time self.old.concrete.snapshot
+            (Failed self.new.concrete.snapshot.durable) }
+        ensures fault_device { IsErrOf result LineFault.SinkFault
+            → FailsLine self.old.device self.new.device (clock_line kinds.Event time) }
+        ensures cause { IsErrOf result LineFault.SinkFault
+            → HasFailed self.old.device.failures self.new.device.failures }
         ensures memory { IsErrOf result LineFault.OutOfMemory → self.new ≡ self.old }
     {
         let Ok(handed) = handed_out(alloc, time, name, payload, coalesce) else {
@@ -215,19 +241,28 @@ impl<S: Sink> Agent<S> {
     ) -> Result<(), LineFault>
         requires runs { self.old.concrete.snapshot.stopped ≡ false }
         requires not_later { time_in self.old.concrete.events.slots time ≤ time }
-        requires not_full { count_in self.old.concrete.events.slots time < self.old.concrete.config.per_time }
+        requires not_full { count_in self.old.concrete.events.slots time
+            < self.old.concrete.config.per_time }
 
         ensures entered { OnOk result ((i : IdealAgent) → self.old.concrete ≡ view_of i
-            → self.new.concrete ≡ view_of (with_snapshot (noted kinds.Event time i.snapshot Kept) (event_entered time (event_of name.now payload.now) i))) }
+            → self.new.concrete ≡ view_of (with_snapshot (noted kinds.Event time i.snapshot Kept)
+            (event_entered time (event_of name.now payload.now) i))) }
         ensures allowed { OnOk result (MayNote kinds.Event time self.old.concrete.snapshot Kept) }
-        ensures device { OnOk result (self.new.device ≡ device_noted kinds.Event time self.old.concrete.snapshot self.old.device) }
+        ensures device { OnOk result (self.new.device
+            ≡ device_noted kinds.Event time self.old.concrete.snapshot self.old.device) }
         ensures runs { OnOk result (self.new.concrete.snapshot.stopped ≡ false) }
         ensures calm { OnOk result (self.new.device.failures ≡ self.old.device.failures) }
 
-        ensures failed { IsErrOf result LineFault.SinkFault → self.new.concrete ≡ concrete_with (written kinds.Event time self.old.concrete.snapshot (Failed self.new.concrete.snapshot.durable)) self.old.concrete }
-        ensures fault_allowed { IsErrOf result LineFault.SinkFault → MayNote kinds.Event time self.old.concrete.snapshot (Failed self.new.concrete.snapshot.durable) }
-        ensures fault_device { IsErrOf result LineFault.SinkFault → FailsLine self.old.device self.new.device (clock_line kinds.Event time) }
-        ensures cause { IsErrOf result LineFault.SinkFault → HasFailed self.old.device.failures self.new.device.failures }
+        ensures failed { IsErrOf result LineFault.SinkFault
+            → self.new.concrete ≡ concrete_with (written kinds.Event time self.old.concrete.snapshot
+            (Failed self.new.concrete.snapshot.durable)) self.old.concrete }
+        ensures fault_allowed { IsErrOf result LineFault.SinkFault
+            → MayNote kinds.Event time self.old.concrete.snapshot
+            (Failed self.new.concrete.snapshot.durable) }
+        ensures fault_device { IsErrOf result LineFault.SinkFault
+            → FailsLine self.old.device self.new.device (clock_line kinds.Event time) }
+        ensures cause { IsErrOf result LineFault.SinkFault
+            → HasFailed self.old.device.failures self.new.device.failures }
         ensures memory { IsErrOf result LineFault.OutOfMemory → self.new ≡ self.old }
     {
         let event = EventView { name, payload };

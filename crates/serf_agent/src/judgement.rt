@@ -19,7 +19,8 @@ impl<S: Sink> Agent<S> {
     /// Why a user event that comes now would be ignored; `None` where it is new. A stopped agent takes nothing, and is
     /// judged as if it ran.
     pub fn judge_event(&self, time: Time, name: &[u8], payload: &[u8]) -> Option<Reason>
-        ensures { (i : IdealAgent) → IsSound i → self.now.concrete ≡ view_of i → result ≡ admission i time (event_of name.now payload.now) }
+        ensures { (i : IdealAgent) → IsSound i → self.now.concrete ≡ view_of i
+            → result ≡ admission i time (event_of name.now payload.now) }
     {
         self.admission(time, name, payload)
     }
@@ -27,7 +28,8 @@ impl<S: Sink> Agent<S> {
     /// Why a query that comes now would be ignored; `None` where it is new, whether or not its filters let this node
     /// pass. A stopped agent takes nothing, and is judged as if it ran.
     pub fn judge_query(&self, time: Time, id: u32) -> Option<Reason>
-        ensures { (i : IdealAgent) → IsSound i → self.now.concrete ≡ view_of i → result ≡ query_admission i time id }
+        ensures { (i : IdealAgent) → IsSound i → self.now.concrete ≡ view_of i
+            → result ≡ query_admission i time id }
     {
         self.query_admission(time, id)
     }
@@ -42,7 +44,9 @@ impl<S: Sink> Agent<S> {
         from: &[u8],
         flags: u32,
     ) -> Option<Reason>
-        ensures { (payload : List ℕ) → result ≡ answer_reason now (record { time = time; id = id; from = from.now; flags = flags; payload = payload }) (asked_at time self.now.concrete.asked) }
+        ensures { (payload : List ℕ) → result ≡ answer_reason now
+            (record { time = time; id = id; from = from.now; flags = flags; payload = payload })
+            (asked_at time self.now.concrete.asked) }
     {
         let answer = Answer {
             time,

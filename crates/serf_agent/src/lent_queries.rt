@@ -66,7 +66,8 @@ impl<S: Sink> Agent<S> {
     /// The least deadline of the open queries, in nanoseconds, if there is one: `close_due` closes a query at each moment
     /// after it, and at no other. Takes no memory.
     pub fn next_deadline(&self) -> Option<u64>
-        ensures { (now : ℕ) → IsSomeAnd result (λ deadline. deadline < now) ↔ (0 < length (filter (is_due now) self.now.concrete.asked)) }
+        ensures { (now : ℕ) → IsSomeAnd result (λ deadline. deadline < now)
+            ↔ (0 < length (filter (is_due now) self.now.concrete.asked)) }
     {
         least_deadline(self.asked.values())
     }

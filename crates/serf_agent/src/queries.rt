@@ -62,8 +62,10 @@ pub(crate) fn pass(
     passed: bool,
 ) -> Result<Passed, AllocError>
     requires { length node.now ≤ longest_name }
-    ensures handed { IfOk result (λ p. p.handed ≡ (if passed then Some (handed_query node.now now (query_of query.now)) else None)) }
-    ensures ack { IfOk result (λ p. p.ack ≡ (if passed then (if has_flag 1 query.now.flags then Some (ack_packet node.now (query_of query.now)) else None) else None)) }
+    ensures handed { IfOk result (λ p. p.handed
+        ≡ (if passed then Some (handed_query node.now now (query_of query.now)) else None)) }
+    ensures ack { IfOk result (λ p. p.ack ≡ (if passed then (if has_flag 1 query.now.flags
+        then Some (ack_packet node.now (query_of query.now)) else None) else None)) }
 {
     if !passed {
         return Ok(Passed {
@@ -106,12 +108,17 @@ impl<S: Sink> Agent<S> {
         filters: Texts,
     ) -> Result<Outcome, ReceiveFault>
         requires { self.old.concrete.snapshot.stopped ≡ false }
-        ensures step { (i : IdealAgent) → IsSound i → self.old.concrete ≡ view_of i → result ≢ Err ReceiveFault.OutOfMemory
-            → Steps i (receive_query i now (query_in query.now (texts_left filters.entry))) result self.old.device self.new }
-        ensures only_new { (i : IdealAgent) → IsSound i → self.old.concrete ≡ view_of i → IsErrOf result ReceiveFault.OutOfMemory → AsksSink (receive_query i now (query_in query.now (texts_left filters.entry))) }
+        ensures step { (i : IdealAgent) → IsSound i → self.old.concrete ≡ view_of i
+            → result ≢ Err ReceiveFault.OutOfMemory
+            → Steps i (receive_query i now (query_in query.now (texts_left filters.entry)))
+            result self.old.device self.new }
+        ensures only_new { (i : IdealAgent) → IsSound i → self.old.concrete ≡ view_of i
+            → IsErrOf result ReceiveFault.OutOfMemory
+            → AsksSink (receive_query i now (query_in query.now (texts_left filters.entry))) }
         ensures memory { IsErrOf result ReceiveFault.OutOfMemory → self.new ≡ self.old }
         ensures refused { OnErr result (result ≢ Err ReceiveFault.SinkFault → self.new ≡ self.old) }
-        ensures cause { IsErrOf result ReceiveFault.SinkFault → HasFailed self.old.device.failures self.new.device.failures }
+        ensures cause { IsErrOf result ReceiveFault.SinkFault
+            → HasFailed self.old.device.failures self.new.device.failures }
         ensures no_answer { (result ≢ Ok Outcome.Ack) × (result ≢ Ok Outcome.Response) }
     {
         sound_snapshots();
@@ -137,9 +144,11 @@ impl<S: Sink> Agent<S> {
 
     /// Why a query is ignored, if it is. Takes no memory.
     pub(crate) fn query_admission(&self, time: Time, id: u32) -> Option<Reason>
-        ensures reason { (i : IdealAgent) → IsSound i → self.now.concrete ≡ view_of i → result ≡ query_admission i time id }
+        ensures reason { (i : IdealAgent) → IsSound i → self.now.concrete ≡ view_of i
+            → result ≡ query_admission i time id }
         ensures not_later { result ≡ None → time_in self.now.concrete.queries.slots time ≤ time }
-        ensures not_full { result ≡ None → count_in self.now.concrete.queries.slots time < self.now.concrete.config.per_time }
+        ensures not_full { result ≡ None
+            → count_in self.now.concrete.queries.slots time < self.now.concrete.config.per_time }
         ensures small { time < greatest_clock }
     {
         self.queries.reason(time, &id)
@@ -154,20 +163,36 @@ impl<S: Sink> Agent<S> {
         passed: bool,
     ) -> Result<Passed, LineFault>
         requires runs { self.old.concrete.snapshot.stopped ≡ false }
-        requires not_later { time_in self.old.concrete.queries.slots query.now.time ≤ query.now.time }
-        requires not_full { count_in self.old.concrete.queries.slots query.now.time < self.old.concrete.config.per_time }
+        requires not_later { time_in self.old.concrete.queries.slots query.now.time
+            ≤ query.now.time }
+        requires not_full { count_in self.old.concrete.queries.slots query.now.time
+            < self.old.concrete.config.per_time }
 
-        ensures handed { IfOk result (λ p. p.handed ≡ (if passed then Some (handed_query self.old.concrete.config.name now (query_of query.now)) else None)) }
-        ensures ack { IfOk result (λ p. p.ack ≡ (if passed then (if has_flag 1 query.now.flags then Some (ack_packet self.old.concrete.config.name (query_of query.now)) else None) else None)) }
+        ensures handed { IfOk result (λ p. p.handed ≡ (if passed then Some
+            (handed_query self.old.concrete.config.name now (query_of query.now)) else None)) }
+        ensures ack { IfOk result (λ p. p.ack ≡ (if passed then (if has_flag 1 query.now.flags
+            then Some (ack_packet self.old.concrete.config.name (query_of query.now)) else None)
+            else None)) }
         ensures entered { OnOk result ((i : IdealAgent) → self.old.concrete ≡ view_of i
-            → self.new.concrete ≡ view_of (with_snapshot (noted kinds.Query query.now.time i.snapshot Kept) (query_entered query.now.time query.now.id i))) }
-        ensures allowed { OnOk result (MayNote kinds.Query query.now.time self.old.concrete.snapshot Kept) }
-        ensures device { OnOk result (self.new.device ≡ device_noted kinds.Query query.now.time self.old.concrete.snapshot self.old.device) }
+            → self.new.concrete
+            ≡ view_of (with_snapshot (noted kinds.Query query.now.time i.snapshot Kept)
+            (query_entered query.now.time query.now.id i))) }
+        ensures allowed { OnOk result
+            (MayNote kinds.Query query.now.time self.old.concrete.snapshot Kept) }
+        ensures device { OnOk result (self.new.device
+            ≡ device_noted kinds.Query query.now.time self.old.concrete.snapshot self.old.device) }
 
-        ensures failed { IsErrOf result LineFault.SinkFault → self.new.concrete ≡ concrete_with (written kinds.Query query.now.time self.old.concrete.snapshot (Failed self.new.concrete.snapshot.durable)) self.old.concrete }
-        ensures fault_allowed { IsErrOf result LineFault.SinkFault → MayNote kinds.Query query.now.time self.old.concrete.snapshot (Failed self.new.concrete.snapshot.durable) }
-        ensures fault_device { IsErrOf result LineFault.SinkFault → FailsLine self.old.device self.new.device (clock_line kinds.Query query.now.time) }
-        ensures cause { IsErrOf result LineFault.SinkFault → HasFailed self.old.device.failures self.new.device.failures }
+        ensures failed { IsErrOf result LineFault.SinkFault
+            → self.new.concrete
+            ≡ concrete_with (written kinds.Query query.now.time self.old.concrete.snapshot
+            (Failed self.new.concrete.snapshot.durable)) self.old.concrete }
+        ensures fault_allowed { IsErrOf result LineFault.SinkFault
+            → MayNote kinds.Query query.now.time self.old.concrete.snapshot
+            (Failed self.new.concrete.snapshot.durable) }
+        ensures fault_device { IsErrOf result LineFault.SinkFault
+            → FailsLine self.old.device self.new.device (clock_line kinds.Query query.now.time) }
+        ensures cause { IsErrOf result LineFault.SinkFault
+            → HasFailed self.old.device.failures self.new.device.failures }
         ensures memory { IsErrOf result LineFault.OutOfMemory → self.new ≡ self.old }
     {
         let node = self.config.name.as_slice();
@@ -184,17 +209,26 @@ impl<S: Sink> Agent<S> {
     fn enter_query(&mut self, alloc: Global, time: Time, id: u32) -> Result<(), LineFault>
         requires runs { self.old.concrete.snapshot.stopped ≡ false }
         requires not_later { time_in self.old.concrete.queries.slots time ≤ time }
-        requires not_full { count_in self.old.concrete.queries.slots time < self.old.concrete.config.per_time }
+        requires not_full { count_in self.old.concrete.queries.slots time
+            < self.old.concrete.config.per_time }
 
         ensures entered { OnOk result ((i : IdealAgent) → self.old.concrete ≡ view_of i
-            → self.new.concrete ≡ view_of (with_snapshot (noted kinds.Query time i.snapshot Kept) (query_entered time id i))) }
+            → self.new.concrete ≡ view_of
+            (with_snapshot (noted kinds.Query time i.snapshot Kept) (query_entered time id i))) }
         ensures allowed { OnOk result (MayNote kinds.Query time self.old.concrete.snapshot Kept) }
-        ensures device { OnOk result (self.new.device ≡ device_noted kinds.Query time self.old.concrete.snapshot self.old.device) }
+        ensures device { OnOk result (self.new.device
+            ≡ device_noted kinds.Query time self.old.concrete.snapshot self.old.device) }
 
-        ensures failed { IsErrOf result LineFault.SinkFault → self.new.concrete ≡ concrete_with (written kinds.Query time self.old.concrete.snapshot (Failed self.new.concrete.snapshot.durable)) self.old.concrete }
-        ensures fault_allowed { IsErrOf result LineFault.SinkFault → MayNote kinds.Query time self.old.concrete.snapshot (Failed self.new.concrete.snapshot.durable) }
-        ensures fault_device { IsErrOf result LineFault.SinkFault → FailsLine self.old.device self.new.device (clock_line kinds.Query time) }
-        ensures cause { IsErrOf result LineFault.SinkFault → HasFailed self.old.device.failures self.new.device.failures }
+        ensures failed { IsErrOf result LineFault.SinkFault
+            → self.new.concrete ≡ concrete_with (written kinds.Query time self.old.concrete.snapshot
+            (Failed self.new.concrete.snapshot.durable)) self.old.concrete }
+        ensures fault_allowed { IsErrOf result LineFault.SinkFault
+            → MayNote kinds.Query time self.old.concrete.snapshot
+            (Failed self.new.concrete.snapshot.durable) }
+        ensures fault_device { IsErrOf result LineFault.SinkFault
+            → FailsLine self.old.device self.new.device (clock_line kinds.Query time) }
+        ensures cause { IsErrOf result LineFault.SinkFault
+            → HasFailed self.old.device.failures self.new.device.failures }
         ensures memory { IsErrOf result LineFault.OutOfMemory → self.new ≡ self.old }
     {
         let Ok(entry) = self.queries.prepare(alloc, time, &id) else {
@@ -217,14 +251,22 @@ impl<S: Sink> Agent<S> {
         now: u64,
         answer: &Answer,
     ) -> Result<Outcome, ReceiveFault>
-        ensures step { (i : IdealAgent) → IsSound i → self.old.concrete ≡ view_of i → result ≢ Err ReceiveFault.OutOfMemory
-            → Steps i (receive_response i now (response_in answer.now)) result self.old.device self.new }
-        ensures only_counted { (i : IdealAgent) → IsSound i → self.old.concrete ≡ view_of i → IsErrOf result ReceiveFault.OutOfMemory → TakesMemory (receive_response i now (response_in answer.now)) }
+        ensures step { (i : IdealAgent) → IsSound i → self.old.concrete ≡ view_of i
+            → result ≢ Err ReceiveFault.OutOfMemory
+            → Steps i (receive_response i now (response_in answer.now))
+            result self.old.device self.new }
+        ensures only_counted { (i : IdealAgent) → IsSound i → self.old.concrete ≡ view_of i
+            → IsErrOf result ReceiveFault.OutOfMemory
+            → TakesMemory (receive_response i now (response_in answer.now)) }
         ensures memory { IsErrOf result ReceiveFault.OutOfMemory → self.new ≡ self.old }
         ensures refused { OnErr result (result ≢ Err ReceiveFault.SinkFault → self.new ≡ self.old) }
         ensures no_fault { result ≢ Err ReceiveFault.SinkFault }
-        ensures ack { result ≡ Ok Outcome.Ack → (is_ack (response_in answer.now) ≡ true) × Counts (response_in answer.now) self.old.concrete.asked self.new.concrete.asked }
-        ensures response { result ≡ Ok Outcome.Response → (is_ack (response_in answer.now) ≡ false) × Counts (response_in answer.now) self.old.concrete.asked self.new.concrete.asked }
+        ensures ack { result ≡ Ok Outcome.Ack
+            → (is_ack (response_in answer.now) ≡ true)
+            × Counts (response_in answer.now) self.old.concrete.asked self.new.concrete.asked }
+        ensures response { result ≡ Ok Outcome.Response
+            → (is_ack (response_in answer.now) ≡ false)
+            × Counts (response_in answer.now) self.old.concrete.asked self.new.concrete.asked }
     {
         let Some(query) = self.asked.get(answer.time) else {
             return Ok(Outcome::Ignored(Reason::NotOpen));
@@ -246,7 +288,9 @@ impl<S: Sink> Agent<S> {
     /// order. [`Agent::take_due`] hands them out. Works on a stopped agent too. Takes no memory.
     pub fn close_due(&mut self, now: u64) -> usize
         ensures step { (i : IdealAgent) → IsSound i → self.old.concrete ≡ view_of i
-            → (result ≡ (close_due i now).answer) × (self.new.concrete ≡ view_of (close_due i now).agent) × IsSound (close_due i now).agent }
+            → (result ≡ (close_due i now).answer)
+            × (self.new.concrete ≡ view_of (close_due i now).agent)
+            × IsSound (close_due i now).agent }
         ensures device { self.new.device ≡ self.old.device }
     {
         self.asked.close_due(now)
@@ -258,10 +302,13 @@ impl<S: Sink> Agent<S> {
     ///
     /// Memory is wanted for their list alone, and none where no query is due; its want changes nothing.
     pub fn take_due(&mut self, alloc: Global, now: u64) -> Result<Vec<(u64, OpenQuery)>, AllocError>
-        ensures closed { IfOk result (λ closed. closed.items ≡ filter (is_due now) self.old.concrete.asked) }
-        ensures left { OnOk result (self.new.concrete.asked ≡ filter (λ q. not (is_due now q)) self.old.concrete.asked) }
+        ensures closed { IfOk result (λ closed. closed.items
+            ≡ filter (is_due now) self.old.concrete.asked) }
+        ensures left { OnOk result (self.new.concrete.asked
+            ≡ filter (λ q. not (is_due now q)) self.old.concrete.asked) }
         ensures step { (i : IdealAgent) → IsSound i → self.old.concrete ≡ view_of i
-            → OnOk result ((self.new.concrete ≡ view_of (close_due i now).agent) × IsSound (close_due i now).agent) }
+            → OnOk result ((self.new.concrete ≡ view_of (close_due i now).agent)
+            × IsSound (close_due i now).agent) }
         ensures device { self.new.device ≡ self.old.device }
         ensures memory { OnErr result (self.new ≡ self.old) }
         ensures none_due { filter (is_due now) self.old.concrete.asked ≡ [] → IsOk result }

@@ -99,15 +99,25 @@ fn note_asked<S: Sink>(
 ) -> Result<(), LineFault>
     requires later { All (λ q. q.0 < time) asked.old }
     requires runs { snapshot.old.snapshot.stopped ≡ false }
-    ensures ok { OnOk result ((asked.new ≡ asked.old ++ (time, query) ∷ []) × (snapshot.new.snapshot ≡ noted kinds.Query time snapshot.old.snapshot Kept)) }
-    ensures ok_allowed { OnOk result (snapshot.old.snapshot.query_clock < time → MayWrite snapshot.old.snapshot (clock_line kinds.Query time) Kept) }
+    ensures ok { OnOk result ((asked.new ≡ asked.old ++ (time, query) ∷ [])
+        × (snapshot.new.snapshot ≡ noted kinds.Query time snapshot.old.snapshot Kept)) }
+    ensures ok_allowed { OnOk result (snapshot.old.snapshot.query_clock < time
+        → MayWrite snapshot.old.snapshot (clock_line kinds.Query time) Kept) }
     ensures asked { OnErr result (asked.new ≡ asked.old) }
-    ensures fault { IsErrOf result LineFault.SinkFault → snapshot.new.snapshot ≡ written kinds.Query time snapshot.old.snapshot (Failed snapshot.new.snapshot.durable) }
-    ensures fault_allowed { IsErrOf result LineFault.SinkFault → MayWrite snapshot.old.snapshot (clock_line kinds.Query time) (Failed snapshot.new.snapshot.durable) }
-    ensures fault_above { IsErrOf result LineFault.SinkFault → snapshot.old.snapshot.query_clock < time }
-    ensures fault_cause { IsErrOf result LineFault.SinkFault → HasFailed snapshot.old.device.failures snapshot.new.device.failures }
-    ensures device { OnOk result (snapshot.new.device ≡ device_noted kinds.Query time snapshot.old.snapshot snapshot.old.device) }
-    ensures fault_device { IsErrOf result LineFault.SinkFault → FailsLine snapshot.old.device snapshot.new.device (clock_line kinds.Query time) }
+    ensures fault { IsErrOf result LineFault.SinkFault
+        → snapshot.new.snapshot
+        ≡ written kinds.Query time snapshot.old.snapshot (Failed snapshot.new.snapshot.durable) }
+    ensures fault_allowed { IsErrOf result LineFault.SinkFault
+        → MayWrite snapshot.old.snapshot (clock_line kinds.Query time)
+        (Failed snapshot.new.snapshot.durable) }
+    ensures fault_above { IsErrOf result LineFault.SinkFault
+        → snapshot.old.snapshot.query_clock < time }
+    ensures fault_cause { IsErrOf result LineFault.SinkFault
+        → HasFailed snapshot.old.device.failures snapshot.new.device.failures }
+    ensures device { OnOk result (snapshot.new.device
+        ≡ device_noted kinds.Query time snapshot.old.snapshot snapshot.old.device) }
+    ensures fault_device { IsErrOf result LineFault.SinkFault
+        → FailsLine snapshot.old.device snapshot.new.device (clock_line kinds.Query time) }
     ensures memory { IsErrOf result LineFault.OutOfMemory → snapshot.new ≡ snapshot.old }
 {
     if asked.push(time.get(), query).is_err() {
@@ -165,7 +175,8 @@ impl QueryParams {
 impl<S: Sink> Agent<S> {
     /// Whether the packet of a query is too large to be fired.
     fn query_is_too_large(&self, id: u32, name: &[u8], payload: &[u8], params: &QueryParams) -> bool
-        ensures { result ≡ is_too_large_query self.now.concrete.config.name self.now.concrete.queries.clock id name.now payload.now params.now }
+        ensures { result ≡ is_too_large_query self.now.concrete.config.name
+            self.now.concrete.queries.clock id name.now payload.now params.now }
     {
         let time = self.queries.measured();
         let query = params.parts(time, self.config.name.as_slice(), id, name, payload);
@@ -190,18 +201,26 @@ impl<S: Sink> Agent<S> {
         payload: &[u8],
         params: &QueryParams,
     ) -> Result<FiredQuery, QueryFault>
-        ensures step { (i : IdealAgent) → IsSound i → self.old.concrete ≡ view_of i → result ≢ Err QueryFault.OutOfMemory
-            → Steps i (fire_query i now id name.now payload.now params.now) result self.old.device self.new }
+        ensures step { (i : IdealAgent) → IsSound i → self.old.concrete ≡ view_of i
+            → result ≢ Err QueryFault.OutOfMemory
+            → Steps i (fire_query i now id name.now payload.now params.now)
+            result self.old.device self.new }
 
         // What becomes of the sink, whatever it tells of its bytes.
-        ensures ok_device { IfOk result (λ f. self.new.device ≡ device_noted kinds.Query f.time self.old.concrete.snapshot self.old.device) }
-        ensures fault_device { IsErrOf result QueryFault.SinkFault → FailsLine self.old.device self.new.device (clock_line kinds.Query self.old.concrete.queries.clock) }
+        ensures ok_device { IfOk result (λ f. self.new.device
+            ≡ device_noted kinds.Query f.time self.old.concrete.snapshot self.old.device) }
+        ensures fault_device { IsErrOf result QueryFault.SinkFault
+            → FailsLine self.old.device self.new.device
+            (clock_line kinds.Query self.old.concrete.queries.clock) }
         ensures refused { OnErr result (result ≢ Err QueryFault.SinkFault → self.new ≡ self.old) }
 
         // Memory is wanted only where the query is fired, and its want changes nothing.
-        ensures only_fired { (i : IdealAgent) → IsSound i → self.old.concrete ≡ view_of i → IsErrOf result QueryFault.OutOfMemory → AsksSink (fire_query i now id name.now payload.now params.now) }
+        ensures only_fired { (i : IdealAgent) → IsSound i → self.old.concrete ≡ view_of i
+            → IsErrOf result QueryFault.OutOfMemory
+            → AsksSink (fire_query i now id name.now payload.now params.now) }
         ensures memory { IsErrOf result QueryFault.OutOfMemory → self.new ≡ self.old }
-        ensures cause { IsErrOf result QueryFault.SinkFault → HasFailed self.old.device.failures self.new.device.failures }
+        ensures cause { IsErrOf result QueryFault.SinkFault
+            → HasFailed self.old.device.failures self.new.device.failures }
     {
         sound_snapshots();
         if self.snapshot.is_stopped() {
@@ -237,19 +256,31 @@ impl<S: Sink> Agent<S> {
         requires runs { self.old.concrete.snapshot.stopped ≡ false }
         requires at { time ≡ self.old.concrete.queries.clock }
         requires not_later { time_in self.old.concrete.queries.slots time ≤ time }
-        requires not_full { count_in self.old.concrete.queries.slots time < self.old.concrete.config.per_time }
-        requires short { length (canonical (query (query_at time self.old.concrete.config.name id name.now payload.now params.now))) ≤ longest_query }
+        requires not_full { count_in self.old.concrete.queries.slots time
+            < self.old.concrete.config.per_time }
+        requires short { length (canonical (query (query_at time self.old.concrete.config.name id
+            name.now payload.now params.now))) ≤ longest_query }
 
-        ensures fired { IfOk result (λ f. f ≡ fired_query self.old.concrete.config.name now (query_at time self.old.concrete.config.name id name.now payload.now params.now)) }
+        ensures fired { IfOk result (λ f. f ≡ fired_query self.old.concrete.config.name now
+            (query_at time self.old.concrete.config.name id name.now payload.now params.now)) }
         ensures entered { OnOk result ((i : IdealAgent) → self.old.concrete ≡ view_of i
-            → self.new.concrete ≡ view_of (with_snapshot (noted kinds.Query time i.snapshot Kept) (query_asked now (query_at time self.old.concrete.config.name id name.now payload.now params.now) i))) }
+            → self.new.concrete
+            ≡ view_of (with_snapshot (noted kinds.Query time i.snapshot Kept) (query_asked now
+            (query_at time self.old.concrete.config.name id name.now payload.now params.now) i))) }
         ensures allowed { OnOk result (MayNote kinds.Query time self.old.concrete.snapshot Kept) }
-        ensures device { OnOk result (self.new.device ≡ device_noted kinds.Query time self.old.concrete.snapshot self.old.device) }
+        ensures device { OnOk result (self.new.device
+            ≡ device_noted kinds.Query time self.old.concrete.snapshot self.old.device) }
 
-        ensures failed { IsErrOf result LineFault.SinkFault → self.new.concrete ≡ concrete_with (written kinds.Query time self.old.concrete.snapshot (Failed self.new.concrete.snapshot.durable)) self.old.concrete }
-        ensures fault_allowed { IsErrOf result LineFault.SinkFault → MayNote kinds.Query time self.old.concrete.snapshot (Failed self.new.concrete.snapshot.durable) }
-        ensures fault_device { IsErrOf result LineFault.SinkFault → FailsLine self.old.device self.new.device (clock_line kinds.Query time) }
-        ensures cause { IsErrOf result LineFault.SinkFault → HasFailed self.old.device.failures self.new.device.failures }
+        ensures failed { IsErrOf result LineFault.SinkFault
+            → self.new.concrete ≡ concrete_with (written kinds.Query time self.old.concrete.snapshot
+            (Failed self.new.concrete.snapshot.durable)) self.old.concrete }
+        ensures fault_allowed { IsErrOf result LineFault.SinkFault
+            → MayNote kinds.Query time self.old.concrete.snapshot
+            (Failed self.new.concrete.snapshot.durable) }
+        ensures fault_device { IsErrOf result LineFault.SinkFault
+            → FailsLine self.old.device self.new.device (clock_line kinds.Query time) }
+        ensures cause { IsErrOf result LineFault.SinkFault
+            → HasFailed self.old.device.failures self.new.device.failures }
         ensures memory { IsErrOf result LineFault.OutOfMemory → self.new ≡ self.old }
     {
         let node = self.config.name.as_slice();
@@ -269,17 +300,26 @@ impl<S: Sink> Agent<S> {
         requires runs { self.old.concrete.snapshot.stopped ≡ false }
         requires at { time ≡ self.old.concrete.queries.clock }
         requires not_later { time_in self.old.concrete.queries.slots time ≤ time }
-        requires not_full { count_in self.old.concrete.queries.slots time < self.old.concrete.config.per_time }
+        requires not_full { count_in self.old.concrete.queries.slots time
+            < self.old.concrete.config.per_time }
 
         ensures entered { OnOk result ((i : IdealAgent) → self.old.concrete ≡ view_of i
-            → self.new.concrete ≡ view_of (with_snapshot (noted kinds.Query time i.snapshot Kept) (with_asked (i.asked ++ (time, query) ∷ []) (query_entered time query.id i)))) }
+            → self.new.concrete ≡ view_of (with_snapshot (noted kinds.Query time i.snapshot Kept)
+            (with_asked (i.asked ++ (time, query) ∷ []) (query_entered time query.id i)))) }
         ensures allowed { OnOk result (MayNote kinds.Query time self.old.concrete.snapshot Kept) }
-        ensures device { OnOk result (self.new.device ≡ device_noted kinds.Query time self.old.concrete.snapshot self.old.device) }
+        ensures device { OnOk result (self.new.device
+            ≡ device_noted kinds.Query time self.old.concrete.snapshot self.old.device) }
 
-        ensures failed { IsErrOf result LineFault.SinkFault → self.new.concrete ≡ concrete_with (written kinds.Query time self.old.concrete.snapshot (Failed self.new.concrete.snapshot.durable)) self.old.concrete }
-        ensures fault_allowed { IsErrOf result LineFault.SinkFault → MayNote kinds.Query time self.old.concrete.snapshot (Failed self.new.concrete.snapshot.durable) }
-        ensures fault_device { IsErrOf result LineFault.SinkFault → FailsLine self.old.device self.new.device (clock_line kinds.Query time) }
-        ensures cause { IsErrOf result LineFault.SinkFault → HasFailed self.old.device.failures self.new.device.failures }
+        ensures failed { IsErrOf result LineFault.SinkFault
+            → self.new.concrete ≡ concrete_with (written kinds.Query time self.old.concrete.snapshot
+            (Failed self.new.concrete.snapshot.durable)) self.old.concrete }
+        ensures fault_allowed { IsErrOf result LineFault.SinkFault
+            → MayNote kinds.Query time self.old.concrete.snapshot
+            (Failed self.new.concrete.snapshot.durable) }
+        ensures fault_device { IsErrOf result LineFault.SinkFault
+            → FailsLine self.old.device self.new.device (clock_line kinds.Query time) }
+        ensures cause { IsErrOf result LineFault.SinkFault
+            → HasFailed self.old.device.failures self.new.device.failures }
         ensures memory { IsErrOf result LineFault.OutOfMemory → self.new ≡ self.old }
     {
         let id = query.id;

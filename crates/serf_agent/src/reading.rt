@@ -71,7 +71,9 @@ impl<S: Sink> Agent<S> {
     /// least half of them. Never on a stopped agent, which can't compact, and never at a limit of 2^64 - 1. Serf's own
     /// limit is [`DEFAULT_SNAPSHOT_LIMIT`](crate::DEFAULT_SNAPSHOT_LIMIT).
     pub fn should_compact(&self, limit: u64) -> bool
-        ensures exact { self.now.concrete.snapshot.stopped ≡ false → limit < 2 ^ 64 - 1 → IfSome self.now.concrete.snapshot.durable (λ text. result ≡ is_worth_compacting limit self.now.concrete.snapshot text) }
+        ensures exact { self.now.concrete.snapshot.stopped ≡ false → limit < 2 ^ 64 - 1
+            → IfSome self.now.concrete.snapshot.durable (λ text. result
+            ≡ is_worth_compacting limit self.now.concrete.snapshot text) }
         ensures stopped { self.now.concrete.snapshot.stopped ≡ true → result ≡ false }
         ensures never { limit ≡ 2 ^ 64 - 1 → result ≡ false }
     {

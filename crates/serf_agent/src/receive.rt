@@ -32,18 +32,25 @@ impl<S: Sink> Agent<S> {
         now: u64,
         packet: &[u8],
     ) -> Result<Outcome, ReceiveFault>
-        ensures step { (i : IdealAgent) → IsSound i → self.old.concrete ≡ view_of i → result ≢ Err ReceiveFault.OutOfMemory
+        ensures step { (i : IdealAgent) → IsSound i → self.old.concrete ≡ view_of i
+            → result ≢ Err ReceiveFault.OutOfMemory
             → Steps i (receive i now packet.now) result self.old.device self.new }
 
         // Memory is wanted only where an event or a query is new, or an answer is counted; its want changes nothing.
-        ensures only_new { (i : IdealAgent) → IsSound i → self.old.concrete ≡ view_of i → IsErrOf result ReceiveFault.OutOfMemory → TakesMemory (receive i now packet.now) }
+        ensures only_new { (i : IdealAgent) → IsSound i → self.old.concrete ≡ view_of i
+            → IsErrOf result ReceiveFault.OutOfMemory → TakesMemory (receive i now packet.now) }
         ensures memory { IsErrOf result ReceiveFault.OutOfMemory → self.new ≡ self.old }
         ensures refused { OnErr result (result ≢ Err ReceiveFault.SinkFault → self.new ≡ self.old) }
-        ensures cause { IsErrOf result ReceiveFault.SinkFault → HasFailed self.old.device.failures self.new.device.failures }
+        ensures cause { IsErrOf result ReceiveFault.SinkFault
+            → HasFailed self.old.device.failures self.new.device.failures }
 
         // What was counted is just the answer that the packet is, which `Answer::of_packet` lends.
-        ensures ack { result ≡ Ok Outcome.Ack → CountsAnswer true (answer_in packet.now) self.old.concrete.asked self.new.concrete.asked }
-        ensures response { result ≡ Ok Outcome.Response → CountsAnswer false (answer_in packet.now) self.old.concrete.asked self.new.concrete.asked }
+        ensures ack { result ≡ Ok Outcome.Ack
+            → CountsAnswer true (answer_in packet.now)
+            self.old.concrete.asked self.new.concrete.asked }
+        ensures response { result ≡ Ok Outcome.Response
+            → CountsAnswer false (answer_in packet.now)
+            self.old.concrete.asked self.new.concrete.asked }
     {
         if self.snapshot.is_stopped() {
             return Err(ReceiveFault::Stopped);
@@ -66,14 +73,21 @@ impl<S: Sink> Agent<S> {
         packet: &[u8],
     ) -> Result<Outcome, ReceiveFault>
         requires { self.old.concrete.snapshot.stopped ≡ false }
-        ensures step { (i : IdealAgent) → IsSound i → self.old.concrete ≡ view_of i → result ≢ Err ReceiveFault.OutOfMemory
+        ensures step { (i : IdealAgent) → IsSound i → self.old.concrete ≡ view_of i
+            → result ≢ Err ReceiveFault.OutOfMemory
             → Steps i (receive i now packet.now) result self.old.device self.new }
-        ensures only_new { (i : IdealAgent) → IsSound i → self.old.concrete ≡ view_of i → IsErrOf result ReceiveFault.OutOfMemory → TakesMemory (receive i now packet.now) }
+        ensures only_new { (i : IdealAgent) → IsSound i → self.old.concrete ≡ view_of i
+            → IsErrOf result ReceiveFault.OutOfMemory → TakesMemory (receive i now packet.now) }
         ensures memory { IsErrOf result ReceiveFault.OutOfMemory → self.new ≡ self.old }
         ensures refused { OnErr result (result ≢ Err ReceiveFault.SinkFault → self.new ≡ self.old) }
-        ensures cause { IsErrOf result ReceiveFault.SinkFault → HasFailed self.old.device.failures self.new.device.failures }
-        ensures ack { result ≡ Ok Outcome.Ack → CountsAnswer true (answer_in packet.now) self.old.concrete.asked self.new.concrete.asked }
-        ensures response { result ≡ Ok Outcome.Response → CountsAnswer false (answer_in packet.now) self.old.concrete.asked self.new.concrete.asked }
+        ensures cause { IsErrOf result ReceiveFault.SinkFault
+            → HasFailed self.old.device.failures self.new.device.failures }
+        ensures ack { result ≡ Ok Outcome.Ack
+            → CountsAnswer true (answer_in packet.now)
+            self.old.concrete.asked self.new.concrete.asked }
+        ensures response { result ≡ Ok Outcome.Response
+            → CountsAnswer false (answer_in packet.now)
+            self.old.concrete.asked self.new.concrete.asked }
     {
         match &decode(packet) {
             Ok(message) => self.receive_message(alloc, now, message),
@@ -90,14 +104,23 @@ impl<S: Sink> Agent<S> {
         message: &Message,
     ) -> Result<Outcome, ReceiveFault>
         requires { self.old.concrete.snapshot.stopped ≡ false }
-        ensures step { (i : IdealAgent) → IsSound i → self.old.concrete ≡ view_of i → result ≢ Err ReceiveFault.OutOfMemory
-            → Steps i (receive_message i now (message_of message.now)) result self.old.device self.new }
-        ensures only_new { (i : IdealAgent) → IsSound i → self.old.concrete ≡ view_of i → IsErrOf result ReceiveFault.OutOfMemory → TakesMemory (receive_message i now (message_of message.now)) }
+        ensures step { (i : IdealAgent) → IsSound i → self.old.concrete ≡ view_of i
+            → result ≢ Err ReceiveFault.OutOfMemory
+            → Steps i (receive_message i now (message_of message.now))
+            result self.old.device self.new }
+        ensures only_new { (i : IdealAgent) → IsSound i → self.old.concrete ≡ view_of i
+            → IsErrOf result ReceiveFault.OutOfMemory
+            → TakesMemory (receive_message i now (message_of message.now)) }
         ensures memory { IsErrOf result ReceiveFault.OutOfMemory → self.new ≡ self.old }
         ensures refused { OnErr result (result ≢ Err ReceiveFault.SinkFault → self.new ≡ self.old) }
-        ensures cause { IsErrOf result ReceiveFault.SinkFault → HasFailed self.old.device.failures self.new.device.failures }
-        ensures ack { result ≡ Ok Outcome.Ack → CountsAnswer true (answer_of (message_of message.now)) self.old.concrete.asked self.new.concrete.asked }
-        ensures response { result ≡ Ok Outcome.Response → CountsAnswer false (answer_of (message_of message.now)) self.old.concrete.asked self.new.concrete.asked }
+        ensures cause { IsErrOf result ReceiveFault.SinkFault
+            → HasFailed self.old.device.failures self.new.device.failures }
+        ensures ack { result ≡ Ok Outcome.Ack
+            → CountsAnswer true (answer_of (message_of message.now))
+            self.old.concrete.asked self.new.concrete.asked }
+        ensures response { result ≡ Ok Outcome.Response
+            → CountsAnswer false (answer_of (message_of message.now))
+            self.old.concrete.asked self.new.concrete.asked }
     {
         match *message {
             Message::UserEvent {

@@ -86,10 +86,13 @@ impl<S: Sink> Agent<S> {
         status: &'a [StatusTime<'a>],
         left: &'a [&'a [u8]],
     ) -> Result<Bytes, PushPullFault>
-        ensures state { result ≢ Err PushPullFault.OutOfMemory → result ≡ send_state self.now.concrete (map status_of status.now) (map (λ t. t.now) left.now) }
+        ensures state { result ≢ Err PushPullFault.OutOfMemory → result
+            ≡ send_state self.now.concrete (map status_of status.now) (map (λ t. t.now) left.now) }
 
         // Memory is wanted only where there is a packet to send.
-        ensures memory { IsErrOf result PushPullFault.OutOfMemory → IsOk (send_state self.now.concrete (map status_of status.now) (map (λ t. t.now) left.now)) }
+        ensures memory { IsErrOf result PushPullFault.OutOfMemory
+            → IsOk (send_state self.now.concrete (map status_of status.now)
+            (map (λ t. t.now) left.now)) }
     {
         if self.snapshot.is_stopped() {
             return Err(PushPullFault::Stopped);
@@ -116,14 +119,23 @@ impl<S: Sink> Agent<S> {
     /// flushed. Where the last such line says the same or more this is Ok, there is no call of the sink, and it takes no
     /// memory.
     pub fn save_member_clock(&mut self, alloc: Global) -> Result<(), NoteFault>
-        ensures step { (i : IdealAgent) → IsSound i → self.old.concrete ≡ view_of i → result ≢ Err NoteFault.OutOfMemory → Steps i (save i) result self.old.device self.new }
-        ensures only_noted { (i : IdealAgent) → self.old.concrete ≡ view_of i → IsErrOf result NoteFault.OutOfMemory → AsksSink (save i) }
+        ensures step { (i : IdealAgent) → IsSound i → self.old.concrete ≡ view_of i
+            → result ≢ Err NoteFault.OutOfMemory
+            → Steps i (save i) result self.old.device self.new }
+        ensures only_noted { (i : IdealAgent) → self.old.concrete ≡ view_of i
+            → IsErrOf result NoteFault.OutOfMemory → AsksSink (save i) }
         ensures memory { IsErrOf result NoteFault.OutOfMemory → self.new ≡ self.old }
-        ensures ok_device { OnOk result (self.new.device ≡ device_noted kinds.Member (self.old.concrete.member_clock - 1) self.old.concrete.snapshot self.old.device) }
-        ensures fault_device { IsErrOf result NoteFault.SinkFault → FailsLine self.old.device self.new.device (clock_line kinds.Member (self.old.concrete.member_clock - 1)) }
+        ensures ok_device { OnOk result (self.new.device ≡ device_noted kinds.Member
+            (self.old.concrete.member_clock - 1) self.old.concrete.snapshot self.old.device) }
+        ensures fault_device { IsErrOf result NoteFault.SinkFault
+            → FailsLine self.old.device self.new.device
+            (clock_line kinds.Member (self.old.concrete.member_clock - 1)) }
         ensures refused { OnErr result (result ≢ Err NoteFault.SinkFault → self.new ≡ self.old) }
-        ensures quiet { self.old.concrete.snapshot.stopped ≡ false → self.old.concrete.member_clock - 1 ≤ self.old.concrete.snapshot.member_clock → (result ≡ Ok tt) × (self.new ≡ self.old) }
-        ensures cause { IsErrOf result NoteFault.SinkFault → HasFailed self.old.device.failures self.new.device.failures }
+        ensures quiet { self.old.concrete.snapshot.stopped ≡ false
+            → self.old.concrete.member_clock - 1 ≤ self.old.concrete.snapshot.member_clock
+            → (result ≡ Ok tt) × (self.new ≡ self.old) }
+        ensures cause { IsErrOf result NoteFault.SinkFault
+            → HasFailed self.old.device.failures self.new.device.failures }
     {
         sound_snapshots();
         let Some(time) = Time::new(self.member_clock.time().saturating_sub(1)) else {
@@ -136,8 +148,10 @@ impl<S: Sink> Agent<S> {
     /// events too.
     fn join(&mut self, state: &PushPull, is_join: bool)
         ensures joined { (i : IdealAgent) → IsSound i → self.old.concrete ≡ view_of i
-            → (self.new.concrete ≡ view_of (joined (push_pull_in state.now) is_join i)) × IsSound (joined (push_pull_in state.now) is_join i) }
-        ensures snapshot { (self.new.concrete.snapshot ≡ self.old.concrete.snapshot) × (self.new.device ≡ self.old.device) }
+            → (self.new.concrete ≡ view_of (joined (push_pull_in state.now) is_join i))
+            × IsSound (joined (push_pull_in state.now) is_join i) }
+        ensures snapshot { (self.new.concrete.snapshot ≡ self.old.concrete.snapshot)
+            × (self.new.device ≡ self.old.device) }
     {
         let minimum = if is_join && self.config.ignore_old {
             state.event_clock
@@ -166,12 +180,16 @@ impl<S: Sink> Agent<S> {
         is_join: bool,
         out: &mut Vec<EventOut>,
     ) -> Result<PushPull<'a>, MergeFault>
-        ensures refused { (fault : Fault) → merge_refusal self.old.concrete.snapshot (decoded packet.now) ≡ Some fault
+        ensures refused { (fault : Fault)
+            → merge_refusal self.old.concrete.snapshot (decoded packet.now) ≡ Some fault
             → (result ≡ Err fault) × (out.new.items ≡ out.old.items) × (self.new ≡ self.old) }
-        ensures merged { (i : IdealAgent) (m : State) → IsSound i → self.old.concrete ≡ view_of i → i.snapshot.stopped ≡ false → decoded packet.now ≡ Ok (push_pull m)
-            → Merges i m is_join out.old.items out.new.items self.old.device self.new (fault_in result) }
+        ensures merged { (i : IdealAgent) (m : State) → IsSound i → self.old.concrete ≡ view_of i
+            → i.snapshot.stopped ≡ false → decoded packet.now ≡ Ok (push_pull m)
+            → Merges i m is_join out.old.items out.new.items self.old.device self.new
+            (fault_in result) }
         ensures lent { IfOk result (λ p. decoded packet.now ≡ Ok (push_pull (push_pull_in p))) }
-        ensures cause { IsErrOf result MergeFault.SinkFault → HasFailed self.old.device.failures self.new.device.failures }
+        ensures cause { IsErrOf result MergeFault.SinkFault
+            → HasFailed self.old.device.failures self.new.device.failures }
     {
         if self.snapshot.is_stopped() {
             return Err(MergeFault::Stopped);
@@ -191,11 +209,16 @@ impl<S: Sink> Agent<S> {
         out: &mut Vec<EventOut>,
     ) -> Result<PushPull<'a>, MergeFault>
         requires { self.old.concrete.snapshot.stopped ≡ false }
-        ensures refused { ((m : State) → message_of message.now ≢ push_pull m) → (result ≡ Err MergeFault.NotPushPull) × (out.new.items ≡ out.old.items) × (self.new ≡ self.old) }
-        ensures merged { (i : IdealAgent) (m : State) → IsSound i → self.old.concrete ≡ view_of i → message_of message.now ≡ push_pull m
-            → Merges i m is_join out.old.items out.new.items self.old.device self.new (fault_in result) }
+        ensures refused { ((m : State) → message_of message.now ≢ push_pull m)
+            → (result ≡ Err MergeFault.NotPushPull) × (out.new.items ≡ out.old.items)
+            × (self.new ≡ self.old) }
+        ensures merged { (i : IdealAgent) (m : State) → IsSound i → self.old.concrete ≡ view_of i
+            → message_of message.now ≡ push_pull m
+            → Merges i m is_join out.old.items out.new.items self.old.device self.new
+            (fault_in result) }
         ensures lent { IfOk result (λ p. message_of message.now ≡ push_pull (push_pull_in p)) }
-        ensures cause { IsErrOf result MergeFault.SinkFault → HasFailed self.old.device.failures self.new.device.failures }
+        ensures cause { IsErrOf result MergeFault.SinkFault
+            → HasFailed self.old.device.failures self.new.device.failures }
     {
         let Some(state) = push_pull_of(message) else {
             return Err(MergeFault::NotPushPull);
@@ -215,8 +238,11 @@ impl<S: Sink> Agent<S> {
         out: &mut Vec<EventOut>,
     ) -> Result<(), MergeFault>
         requires { self.old.concrete.snapshot.stopped ≡ false }
-        ensures received { (i : IdealAgent) → IsSound i → self.old.concrete ≡ view_of i → Received i (events_of (slots_left slots.entry)) out.old.items out.new.items self.old.device self.new result }
-        ensures cause { IsErrOf result MergeFault.SinkFault → HasFailed self.old.device.failures self.new.device.failures }
+        ensures received { (i : IdealAgent) → IsSound i → self.old.concrete ≡ view_of i
+            → Received i (events_of (slots_left slots.entry))
+            out.old.items out.new.items self.old.device self.new result }
+        ensures cause { IsErrOf result MergeFault.SinkFault
+            → HasFailed self.old.device.failures self.new.device.failures }
     {
         for slot in slots {
             match self.receive_slot(alloc, &slot, out) {
@@ -235,10 +261,13 @@ impl<S: Sink> Agent<S> {
         out: &mut Vec<EventOut>,
     ) -> Result<(), MergeFault>
         requires { self.old.concrete.snapshot.stopped ≡ false }
-        ensures received { (i : IdealAgent) → IsSound i → self.old.concrete ≡ view_of i → Received i (events_of_slot (slot_of_view slot.now)) out.old.items out.new.items self.old.device self.new result }
+        ensures received { (i : IdealAgent) → IsSound i → self.old.concrete ≡ view_of i
+            → Received i (events_of_slot (slot_of_view slot.now))
+            out.old.items out.new.items self.old.device self.new result }
         ensures runs { OnOk result (self.new.concrete.snapshot.stopped ≡ false) }
         ensures calm { OnOk result (self.new.device.failures ≡ self.old.device.failures) }
-        ensures cause { IsErrOf result MergeFault.SinkFault → HasFailed self.old.device.failures self.new.device.failures }
+        ensures cause { IsErrOf result MergeFault.SinkFault
+            → HasFailed self.old.device.failures self.new.device.failures }
     {
         match *slot {
             SlotView::Empty => Ok(()),
@@ -255,10 +284,13 @@ impl<S: Sink> Agent<S> {
         out: &mut Vec<EventOut>,
     ) -> Result<(), MergeFault>
         requires { self.old.concrete.snapshot.stopped ≡ false }
-        ensures received { (i : IdealAgent) → IsSound i → self.old.concrete ≡ view_of i → Received i (at_time time (events_left events.entry)) out.old.items out.new.items self.old.device self.new result }
+        ensures received { (i : IdealAgent) → IsSound i → self.old.concrete ≡ view_of i
+            → Received i (at_time time (events_left events.entry))
+            out.old.items out.new.items self.old.device self.new result }
         ensures runs { OnOk result (self.new.concrete.snapshot.stopped ≡ false) }
         ensures calm { OnOk result (self.new.device.failures ≡ self.old.device.failures) }
-        ensures cause { IsErrOf result MergeFault.SinkFault → HasFailed self.old.device.failures self.new.device.failures }
+        ensures cause { IsErrOf result MergeFault.SinkFault
+            → HasFailed self.old.device.failures self.new.device.failures }
     {
         for event in events {
             match self.receive_one(alloc, time, &event, out) {
@@ -279,10 +311,12 @@ impl<S: Sink> Agent<S> {
     ) -> Result<(), MergeFault>
         requires { self.old.concrete.snapshot.stopped ≡ false }
         ensures received { (i : IdealAgent) → IsSound i → self.old.concrete ≡ view_of i
-            → Received i (record { time = time; key = event_of_view event.now } ∷ []) out.old.items out.new.items self.old.device self.new result }
+            → Received i (record { time = time; key = event_of_view event.now } ∷ []) out.old.items
+            out.new.items self.old.device self.new result }
         ensures runs { OnOk result (self.new.concrete.snapshot.stopped ≡ false) }
         ensures calm { OnOk result (self.new.device.failures ≡ self.old.device.failures) }
-        ensures cause { IsErrOf result MergeFault.SinkFault → HasFailed self.old.device.failures self.new.device.failures }
+        ensures cause { IsErrOf result MergeFault.SinkFault
+            → HasFailed self.old.device.failures self.new.device.failures }
     {
         match self.admission(time, event.name, event.payload) {
             Some(_) => {
@@ -303,13 +337,17 @@ impl<S: Sink> Agent<S> {
     ) -> Result<(), MergeFault>
         requires runs { self.old.concrete.snapshot.stopped ≡ false }
         requires not_later { time_in self.old.concrete.events.slots time ≤ time }
-        requires not_full { count_in self.old.concrete.events.slots time < self.old.concrete.config.per_time }
+        requires not_full { count_in self.old.concrete.events.slots time
+            < self.old.concrete.config.per_time }
         requires small { time < greatest_clock }
-        ensures received { (i : IdealAgent) → IsSound i → self.old.concrete ≡ view_of i → admission i time (event_of_view event.now) ≡ None
-            → Received i (record { time = time; key = event_of_view event.now } ∷ []) out.old.items out.new.items self.old.device self.new result }
+        ensures received { (i : IdealAgent) → IsSound i → self.old.concrete ≡ view_of i
+            → admission i time (event_of_view event.now) ≡ None
+            → Received i (record { time = time; key = event_of_view event.now } ∷ []) out.old.items
+            out.new.items self.old.device self.new result }
         ensures runs { OnOk result (self.new.concrete.snapshot.stopped ≡ false) }
         ensures calm { OnOk result (self.new.device.failures ≡ self.old.device.failures) }
-        ensures cause { IsErrOf result MergeFault.SinkFault → HasFailed self.old.device.failures self.new.device.failures }
+        ensures cause { IsErrOf result MergeFault.SinkFault
+            → HasFailed self.old.device.failures self.new.device.failures }
     {
         sound_snapshots();
         if out.reserve(1).is_err() {
@@ -333,16 +371,26 @@ impl<S: ReplaceSink> Agent<S> {
     /// the counts of the sink's calls too; `OutOfMemory` leaves the agent as it was, and its sink but for a call that is
     /// counted; `SinkFault` stops the agent, and what is durable is then the old text or the new one.
     pub fn compact(&mut self, alloc: Global) -> Result<(), NoteFault>
-        ensures step { (i : IdealAgent) → IsSound i → self.old.concrete ≡ view_of i → result ≢ Err NoteFault.OutOfMemory → Steps i (compact i) result self.old.device self.new }
-        ensures only_replaced { (i : IdealAgent) → self.old.concrete ≡ view_of i → IsErrOf result NoteFault.OutOfMemory → AsksSink (compact i) }
-        ensures memory { IsErrOf result NoteFault.OutOfMemory → self.new.concrete ≡ self.old.concrete }
-        ensures memory_device { IsErrOf result NoteFault.OutOfMemory → (self.new.device ≡ self.old.device) ⊎ (self.new.device ≡ unreplaced self.old.device) }
-        ensures cause { IsErrOf result NoteFault.SinkFault → HasFailed self.old.device.failures self.new.device.failures }
-        ensures ok_device { OnOk result (self.new.device ≡ replaced (compaction_of self.old.concrete.snapshot) self.old.device) }
-        ensures fault_device { IsErrOf result NoteFault.SinkFault → FailsText self.old.device self.new.device (compaction_of self.old.concrete.snapshot) }
+        ensures step { (i : IdealAgent) → IsSound i → self.old.concrete ≡ view_of i
+            → result ≢ Err NoteFault.OutOfMemory
+            → Steps i (compact i) result self.old.device self.new }
+        ensures only_replaced { (i : IdealAgent) → self.old.concrete ≡ view_of i
+            → IsErrOf result NoteFault.OutOfMemory → AsksSink (compact i) }
+        ensures memory { IsErrOf result NoteFault.OutOfMemory
+            → self.new.concrete ≡ self.old.concrete }
+        ensures memory_device { IsErrOf result NoteFault.OutOfMemory
+            → (self.new.device ≡ self.old.device) ⊎ (self.new.device ≡ unreplaced self.old.device) }
+        ensures cause { IsErrOf result NoteFault.SinkFault
+            → HasFailed self.old.device.failures self.new.device.failures }
+        ensures ok_device { OnOk result (self.new.device
+            ≡ replaced (compaction_of self.old.concrete.snapshot) self.old.device) }
+        ensures fault_device { IsErrOf result NoteFault.SinkFault
+            → FailsText self.old.device self.new.device (compaction_of self.old.concrete.snapshot) }
         ensures stopped { IsErrOf result NoteFault.Stopped → self.new ≡ self.old }
-        ensures called { OnOk result (self.new.device.calls ≡ replace_called self.old.device.calls) }
-        ensures fault_called { IsErrOf result NoteFault.SinkFault → self.new.device.calls ≡ replace_called self.old.device.calls }
+        ensures called { OnOk result (self.new.device.calls
+            ≡ replace_called self.old.device.calls) }
+        ensures fault_called { IsErrOf result NoteFault.SinkFault
+            → self.new.device.calls ≡ replace_called self.old.device.calls }
     {
         sound_snapshots();
         self.snapshot.compact(alloc)

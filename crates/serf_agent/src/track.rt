@@ -101,17 +101,20 @@ impl<K: Drop> Track<K> {
     pub(crate) fn next_time(&self) -> Option<Time>
         ensures some { SomeIff result (self.now.clock < greatest_clock) self.now.clock }
         ensures not_later { time_in self.now.window.slots self.now.clock ≤ self.now.clock }
-        ensures not_full { count_in self.now.window.slots self.now.clock < self.now.window.per_time }
+        ensures not_full { count_in self.now.window.slots self.now.clock
+            < self.now.window.per_time }
     {
         Time::new(self.clock.time())
     }
 
     /// Why what comes is ignored, if it is.
     pub(crate) fn reason<L: LentKey<K>>(&self, time: Time, key: &L) -> Option<Reason>
-        ensures reason { (track : ideal.Track K) (n life last : ℕ) → IsTrackSound track life last → concrete_of self.now ≡ view_of_track n life track
-            → result ≡ track_reason L.same n self.now.window.per_time life track time (L.key key.now) }
+        ensures reason { (track : ideal.Track K) (n life last : ℕ) → IsTrackSound track life last
+            → concrete_of self.now ≡ view_of_track n life track → result
+            ≡ track_reason L.same n self.now.window.per_time life track time (L.key key.now) }
         ensures not_later { result ≡ None → time_in self.now.window.slots time ≤ time }
-        ensures not_full { result ≡ None → count_in self.now.window.slots time < self.now.window.per_time }
+        ensures not_full { result ≡ None
+            → count_in self.now.window.slots time < self.now.window.per_time }
         ensures small { time < greatest_clock }
     {
         let clock_after = self.clock.time().max(time.get() + 1);
@@ -158,8 +161,10 @@ impl<K: Drop> Track<K> {
         requires room { 0 < room_for self.old.window time }
         requires not_later { time_in self.old.window.slots time ≤ time }
         requires not_full { count_in self.old.window.slots time < self.old.window.per_time }
-        ensures slots { (entries : List (TimedEntry K)) → self.old.window.slots ≡ slots_of (length self.old.window.slots) entries
-            → self.new.window.slots ≡ slots_of (length self.old.window.slots) (entries ++ entry ∷ []) }
+        ensures slots { (entries : List (TimedEntry K))
+            → self.old.window.slots ≡ slots_of (length self.old.window.slots) entries
+            → self.new.window.slots ≡ slots_of (length self.old.window.slots) (entries
+            ++ entry ∷ []) }
         ensures clock { self.new.clock ≡ observed self.old.clock time }
         ensures minimum { self.new.minimum ≡ self.old.minimum }
         ensures size { length self.new.window.slots ≡ length self.old.window.slots }

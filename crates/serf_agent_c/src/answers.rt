@@ -31,7 +31,9 @@ pub(crate) fn read_answer(
     from: &mut [u8],
     payload: &mut [u8],
 ) -> Code
-    ensures { ReadsAnswer (answer_in packet.now) (λ r. (answer.new ≡ answer_head r) × (from.new ≡ copied r.from from.old) × (payload.new ≡ copied r.payload payload.old)) result }
+    ensures { ReadsAnswer (answer_in packet.now)
+        (λ r. (answer.new ≡ answer_head r) × (from.new ≡ copied r.from from.old)
+        × (payload.new ≡ copied r.payload payload.old)) result }
 {
     let Some(said) = Answer::of_packet(packet) else {
         return Code::Nothing;

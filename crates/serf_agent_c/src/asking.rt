@@ -68,7 +68,9 @@ fn respond_in(
     payload: &[u8],
 ) -> Option<Result<Reply, RespondFault>>
     ensures none { slot.old ≡ None → result ≡ None }
-    ensures some { (q : Handed) → slot.old ≡ Some q → result ≢ Some (Err RespondFault.OutOfMemory) → (result ≡ Some (reply_of q now payload.now)) × (slot.new ≡ left_of q (reply_of q now payload.now)) }
+    ensures some { (q : Handed) → slot.old ≡ Some q → result ≢ Some (Err RespondFault.OutOfMemory)
+        → (result ≡ Some (reply_of q now payload.now))
+        × (slot.new ≡ left_of q (reply_of q now payload.now)) }
     ensures memory { result ≡ Some (Err RespondFault.OutOfMemory) → slot.new ≡ slot.old }
 {
     let query = slot.take()?;
@@ -90,8 +92,10 @@ fn respond_at(
     payload: &[u8],
 ) -> Option<Result<Reply, RespondFault>>
     ensures none { waiting_at number waiting.old.items ≡ None → result ≡ None }
-    ensures some { (q : Handed) → waiting_at number waiting.old.items ≡ Some q → result ≢ Some (Err RespondFault.OutOfMemory)
-        → (result ≡ Some (reply_of q now payload.now)) × (waiting.new.items ≡ slice_set waiting.old.items (number - 1) (left_of q (reply_of q now payload.now))) }
+    ensures some { (q : Handed) → waiting_at number waiting.old.items ≡ Some q
+        → result ≢ Some (Err RespondFault.OutOfMemory)
+        → (result ≡ Some (reply_of q now payload.now)) × (waiting.new.items
+        ≡ slice_set waiting.old.items (number - 1) (left_of q (reply_of q now payload.now))) }
 {
     if number == 0 || number > waiting.len() as u64 {
         return None;
@@ -133,8 +137,10 @@ impl Session {
         ensures memory { Forgoes self.old self.new result }
         ensures tells { Tells self.old self.new result }
         ensures gives { Gives (λ r. Gave.Asked r) query_code self.old self.new result }
-        ensures forgets { is_ready self.old ≡ true → result ≢ Code.OutOfMemory → self.new.filters ≡ [] }
-        ensures takes { Takes (λ r. Gave.Asked r) (λ i. fire_query i now id name.now payload.now (params_of self.old.filters addr.now params.now)) self.old self.new result }
+        ensures forgets { is_ready self.old ≡ true → result ≢ Code.OutOfMemory
+            → self.new.filters ≡ [] }
+        ensures takes { Takes (λ r. Gave.Asked r) (λ i. fire_query i now id name.now payload.now
+            (params_of self.old.filters addr.now params.now)) self.old self.new result }
     {
         match self.begin() {
             Ok(()) => {}

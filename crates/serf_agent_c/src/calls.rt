@@ -40,7 +40,9 @@ impl Session {
     #[inline(always)]
     pub(crate) fn give(&mut self, gave: Gave)
         ensures gave { self.new.gave ≡ gave }
-        ensures rest { (self.new.agent ≡ self.old.agent) × (self.new.written ≡ self.old.written) × (self.new.replaces ≡ self.old.replaces) × (self.new.waiting ≡ self.old.waiting) × (self.new.filters ≡ self.old.filters) }
+        ensures rest { (self.new.agent ≡ self.old.agent) × (self.new.written ≡ self.old.written)
+            × (self.new.replaces ≡ self.old.replaces) × (self.new.waiting ≡ self.old.waiting)
+            × (self.new.filters ≡ self.old.filters) }
     {
         self.gave = gave;
     }
@@ -57,7 +59,8 @@ impl Session {
         ensures memory { Forgoes self.old self.new result }
         ensures tells { Tells self.old self.new result }
         ensures gives { Gives (λ r. Gave.Fired r) fire_code self.old self.new result }
-        ensures takes { Takes (λ r. Gave.Fired r) (λ i. fire i (event_of name.now payload.now) coalesce) self.old self.new result }
+        ensures takes { Takes (λ r. Gave.Fired r)
+            (λ i. fire i (event_of name.now payload.now) coalesce) self.old self.new result }
     {
         match self.begin() {
             Ok(()) => {}
@@ -75,7 +78,8 @@ impl Session {
         ensures memory { Forgoes self.old self.new result }
         ensures tells { Tells self.old self.new result }
         ensures gives { Gives (λ r. Gave.Received r) receive_code self.old self.new result }
-        ensures takes { Takes (λ r. Gave.Received r) (λ i. receive i now packet.now) self.old self.new result }
+        ensures takes { Takes (λ r. Gave.Received r) (λ i. receive i now packet.now)
+            self.old self.new result }
     {
         match self.begin() {
             Ok(()) => {}

@@ -60,7 +60,8 @@ impl Gave {
 impl Session {
     /// A query that the last call closed.
     pub(crate) fn read_closed(&self, index: usize, head: &mut ClosedHead) -> Code
-        ensures { ReadsAs (is_ready self.now) (slice_get (closed_in self.now.gave) index) (λ q. head.new ≡ closed_head q) result }
+        ensures { ReadsAs (is_ready self.now) (slice_get (closed_in self.now.gave) index)
+            (λ q. head.new ≡ closed_head q) result }
     {
         if !self.is_ready() {
             return Code::Unwritten;
@@ -80,7 +81,9 @@ impl Session {
         len: &mut usize,
         to: &mut [u8],
     ) -> Code
-        ensures { ReadsAs (is_ready self.now) (ack_of number (slice_get (closed_in self.now.gave) index)) (λ name. (len.new ≡ length name) × (to.new ≡ copied name to.old)) result }
+        ensures { ReadsAs (is_ready self.now)
+            (ack_of number (slice_get (closed_in self.now.gave) index))
+            (λ name. (len.new ≡ length name) × (to.new ≡ copied name to.old)) result }
     {
         if !self.is_ready() {
             return Code::Unwritten;
@@ -102,7 +105,10 @@ impl Session {
         from: &mut [u8],
         payload: &mut [u8],
     ) -> Code
-        ensures { ReadsAs (is_ready self.now) (response_of number (slice_get (closed_in self.now.gave) index)) (λ r. (head.new ≡ response_head r) × (from.new ≡ copied r.from from.old) × (payload.new ≡ copied r.payload payload.old)) result }
+        ensures { ReadsAs (is_ready self.now)
+            (response_of number (slice_get (closed_in self.now.gave) index))
+            (λ r. (head.new ≡ response_head r) × (from.new ≡ copied r.from from.old)
+            × (payload.new ≡ copied r.payload payload.old)) result }
     {
         if !self.is_ready() {
             return Code::Unwritten;
@@ -119,7 +125,9 @@ impl Session {
     /// Whether the host's file is worth a compaction.
     pub(crate) fn read_should_compact(&self, limit: u64, should: &mut bool) -> Code
         ensures waits { is_ready self.now ≡ false → result ≡ Code.Unwritten }
-        ensures tells { is_ready self.now ≡ true → (result ≡ Code.Done) × TellsCompaction limit self.now.agent.concrete.snapshot should.new }
+        ensures tells { is_ready self.now ≡ true
+            → (result ≡ Code.Done)
+            × TellsCompaction limit self.now.agent.concrete.snapshot should.new }
     {
         if !self.is_ready() {
             return Code::Unwritten;

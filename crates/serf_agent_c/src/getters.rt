@@ -27,7 +27,9 @@ use std::alloc::Global;
 /// What the last call gave.
 #[unsafe(no_mangle)]
 pub extern "C" fn serf_agent_gave(alloc: Global, handle: &mut Handle, gave: &mut GaveHead) -> u32
-    ensures { Reads (λ s code. (code ≡ Code.Done) × (gave.new ≡ record { kind = kind_of s.gave; reason = reason_of s.gave; handed = if is_some (handed_in s.gave) then length s.waiting.items + 1 else 0; events = length (events_in s.gave); foreign = foreign_of s.gave; rebroadcast = rebroadcast_of s.gave })) handle.old.place.value handle.new.place.value result }
+    ensures { Reads (λ s code. (code ≡ Code.Done) × (gave.new
+        ≡ record { kind = kind_of s.gave; reason = reason_of s.gave; handed = if is_some (handed_in s.gave) then length s.waiting.items + 1 else 0; events = length (events_in s.gave); foreign = foreign_of s.gave; rebroadcast = rebroadcast_of s.gave }))
+        handle.old.place.value handle.new.place.value result }
 {
     let Some(session) = handle.take(alloc) else {
         return Code::Empty.number();
@@ -47,7 +49,10 @@ pub extern "C" fn serf_agent_event(
     name: &mut [u8],
     payload: &mut [u8],
 ) -> u32
-    ensures { Reads (λ s code. ReadsAs (is_ready s) (slice_get (events_in s.gave) index) (λ o. (event.new ≡ event_head o) × (name.new ≡ copied o.name name.old) × (payload.new ≡ copied o.payload payload.old)) code) handle.old.place.value handle.new.place.value result }
+    ensures { Reads (λ s code. ReadsAs (is_ready s) (slice_get (events_in s.gave) index)
+        (λ o. (event.new ≡ event_head o) × (name.new ≡ copied o.name name.old)
+        × (payload.new ≡ copied o.payload payload.old)) code)
+        handle.old.place.value handle.new.place.value result }
 {
     let Some(session) = handle.take(alloc) else {
         return Code::Empty.number();
@@ -65,7 +70,9 @@ pub extern "C" fn serf_agent_answer(
     from: &mut [u8],
     payload: &mut [u8],
 ) -> u32
-    ensures { (code : Code) × (result ≡ number_of code) × ReadsAnswer (answer_in packet.now) (λ r. (answer.new ≡ answer_head r) × (from.new ≡ copied r.from from.old) × (payload.new ≡ copied r.payload payload.old)) code }
+    ensures { (code : Code) × (result ≡ number_of code)
+        × ReadsAnswer (answer_in packet.now) (λ r. (answer.new ≡ answer_head r)
+        × (from.new ≡ copied r.from from.old) × (payload.new ≡ copied r.payload payload.old)) code }
 {
     read_answer(packet, answer, from, payload).number()
 }
@@ -74,7 +81,8 @@ pub extern "C" fn serf_agent_answer(
 /// message it says `NOTHING`, and the fault stays as it was.
 #[unsafe(no_mangle)]
 pub extern "C" fn serf_agent_packet_fault(packet: &[u8], fault: &mut FaultHead) -> u32
-    ensures { (code : Code) × (result ≡ number_of code) × ReadsFault (decoded packet.now) fault.old fault.new code }
+    ensures { (code : Code) × (result ≡ number_of code)
+        × ReadsFault (decoded packet.now) fault.old fault.new code }
 {
     read_fault(packet, fault).number()
 }
@@ -87,7 +95,8 @@ pub extern "C" fn serf_agent_packet(
     len: &mut usize,
     to: &mut [u8],
 ) -> u32
-    ensures { Reads (λ s code. ReadsAs (is_ready s) (packet_in s.gave) (λ p. (len.new ≡ length p) × (to.new ≡ copied p to.old)) code) handle.old.place.value handle.new.place.value result }
+    ensures { Reads (λ s code. ReadsAs (is_ready s) (packet_in s.gave) (λ p. (len.new ≡ length p)
+        × (to.new ≡ copied p to.old)) code) handle.old.place.value handle.new.place.value result }
 {
     let Some(session) = handle.take(alloc) else {
         return Code::Empty.number();
@@ -105,7 +114,8 @@ pub extern "C" fn serf_agent_ack(
     len: &mut usize,
     to: &mut [u8],
 ) -> u32
-    ensures { Reads (λ s code. ReadsAs (is_ready s) (ack_in s.gave) (λ p. (len.new ≡ length p) × (to.new ≡ copied p to.old)) code) handle.old.place.value handle.new.place.value result }
+    ensures { Reads (λ s code. ReadsAs (is_ready s) (ack_in s.gave) (λ p. (len.new ≡ length p)
+        × (to.new ≡ copied p to.old)) code) handle.old.place.value handle.new.place.value result }
 {
     let Some(session) = handle.take(alloc) else {
         return Code::Empty.number();
@@ -127,7 +137,11 @@ pub extern "C" fn serf_agent_handed(
     source: &mut [u8],
     addr: &mut [u8],
 ) -> u32
-    ensures { Reads (λ s code. ReadsQuery (is_ready s) (waiting_at number (settled s)) (λ q. (handed.new ≡ handed_head q) × (name.new ≡ copied q.name name.old) × (payload.new ≡ copied q.payload payload.old) × (source.new ≡ copied q.source source.old) × (addr.new ≡ copied q.addr addr.old)) code) handle.old.place.value handle.new.place.value result }
+    ensures { Reads (λ s code. ReadsQuery (is_ready s) (waiting_at number (settled s))
+        (λ q. (handed.new ≡ handed_head q) × (name.new ≡ copied q.name name.old)
+        × (payload.new ≡ copied q.payload payload.old) × (source.new ≡ copied q.source source.old)
+        × (addr.new ≡ copied q.addr addr.old)) code)
+        handle.old.place.value handle.new.place.value result }
 {
     let Some(session) = handle.take(alloc) else {
         return Code::Empty.number();
@@ -144,7 +158,8 @@ pub extern "C" fn serf_agent_clocks(
     handle: &mut Handle,
     clocks: &mut ClocksHead,
 ) -> u32
-    ensures { Reads (λ s code. ReadsAs (is_ready s) (Some (clocks_head s.agent.concrete)) (λ head. clocks.new ≡ head) code) handle.old.place.value handle.new.place.value result }
+    ensures { Reads (λ s code. ReadsAs (is_ready s) (Some (clocks_head s.agent.concrete))
+        (λ head. clocks.new ≡ head) code) handle.old.place.value handle.new.place.value result }
 {
     let Some(session) = handle.take(alloc) else {
         return Code::Empty.number();
@@ -161,7 +176,9 @@ pub extern "C" fn serf_agent_next_deadline(
     handle: &mut Handle,
     deadline: &mut u64,
 ) -> u32
-    ensures { Reads (λ s code. (is_ready s ≡ false → code ≡ Code.Unwritten) × (is_ready s ≡ true → TellsDeadline s.agent.concrete deadline.new code)) handle.old.place.value handle.new.place.value result }
+    ensures { Reads (λ s code. (is_ready s ≡ false → code ≡ Code.Unwritten)
+        × (is_ready s ≡ true → TellsDeadline s.agent.concrete deadline.new code))
+        handle.old.place.value handle.new.place.value result }
 {
     let Some(session) = handle.take(alloc) else {
         return Code::Empty.number();
@@ -178,7 +195,9 @@ pub extern "C" fn serf_agent_open_queries(
     handle: &mut Handle,
     total: &mut usize,
 ) -> u32
-    ensures { Reads (λ s code. ReadsAs (is_ready s) (Some (min (length s.agent.concrete.asked) (2 ^ 64 - 1))) (λ n. total.new ≡ n) code) handle.old.place.value handle.new.place.value result }
+    ensures { Reads (λ s code. ReadsAs (is_ready s)
+        (Some (min (length s.agent.concrete.asked) (2 ^ 64 - 1))) (λ n. total.new ≡ n) code)
+        handle.old.place.value handle.new.place.value result }
 {
     let Some(session) = handle.take(alloc) else {
         return Code::Empty.number();
@@ -196,7 +215,9 @@ pub extern "C" fn serf_agent_closed(
     index: usize,
     closed: &mut ClosedHead,
 ) -> u32
-    ensures { Reads (λ s code. ReadsAs (is_ready s) (slice_get (closed_in s.gave) index) (λ q. closed.new ≡ closed_head q) code) handle.old.place.value handle.new.place.value result }
+    ensures { Reads (λ s code. ReadsAs (is_ready s) (slice_get (closed_in s.gave) index)
+        (λ q. closed.new ≡ closed_head q) code)
+        handle.old.place.value handle.new.place.value result }
 {
     let Some(session) = handle.take(alloc) else {
         return Code::Empty.number();
@@ -216,7 +237,10 @@ pub extern "C" fn serf_agent_closed_ack(
     len: &mut usize,
     to: &mut [u8],
 ) -> u32
-    ensures { Reads (λ s code. ReadsAs (is_ready s) (ack_of number (slice_get (closed_in s.gave) index)) (λ name. (len.new ≡ length name) × (to.new ≡ copied name to.old)) code) handle.old.place.value handle.new.place.value result }
+    ensures { Reads
+        (λ s code. ReadsAs (is_ready s) (ack_of number (slice_get (closed_in s.gave) index))
+        (λ name. (len.new ≡ length name) × (to.new ≡ copied name to.old)) code)
+        handle.old.place.value handle.new.place.value result }
 {
     let Some(session) = handle.take(alloc) else {
         return Code::Empty.number();
@@ -237,7 +261,11 @@ pub extern "C" fn serf_agent_closed_response(
     from: &mut [u8],
     payload: &mut [u8],
 ) -> u32
-    ensures { Reads (λ s code. ReadsAs (is_ready s) (response_of number (slice_get (closed_in s.gave) index)) (λ r. (response.new ≡ response_head r) × (from.new ≡ copied r.from from.old) × (payload.new ≡ copied r.payload payload.old)) code) handle.old.place.value handle.new.place.value result }
+    ensures { Reads
+        (λ s code. ReadsAs (is_ready s) (response_of number (slice_get (closed_in s.gave) index))
+        (λ r. (response.new ≡ response_head r) × (from.new ≡ copied r.from from.old)
+        × (payload.new ≡ copied r.payload payload.old)) code)
+        handle.old.place.value handle.new.place.value result }
 {
     let Some(session) = handle.take(alloc) else {
         return Code::Empty.number();
@@ -255,7 +283,9 @@ pub extern "C" fn serf_agent_should_compact(
     limit: u64,
     should: &mut bool,
 ) -> u32
-    ensures { Reads (λ s code. (is_ready s ≡ false → code ≡ Code.Unwritten) × (is_ready s ≡ true → (code ≡ Code.Done) × TellsCompaction limit s.agent.concrete.snapshot should.new)) handle.old.place.value handle.new.place.value result }
+    ensures { Reads (λ s code. (is_ready s ≡ false → code ≡ Code.Unwritten) × (is_ready s ≡ true
+        → (code ≡ Code.Done) × TellsCompaction limit s.agent.concrete.snapshot should.new))
+        handle.old.place.value handle.new.place.value result }
 {
     let Some(session) = handle.take(alloc) else {
         return Code::Empty.number();

@@ -71,12 +71,17 @@ pub extern "C" fn serf_agent_open(
     settings: &Settings,
     text: &[u8],
 ) -> u32
-    ensures in_use { IfSome handle.old.place.value (λ s. (handle.new.place.value ≡ Some s) × (result ≡ 2)) }
+    ensures in_use { IfSome handle.old.place.value (λ s. (handle.new.place.value ≡ Some s)
+        × (result ≡ 2)) }
     ensures code { handle.old.place.value ≡ None → is_some handle.new.place.value ≡ (result == 0) }
-    ensures config { handle.old.place.value ≡ None → result ≡ 6 → is_sound (config_of name.now settings.now) ≡ false }
-    ensures goes_on { handle.old.place.value ≡ None → IfSome handle.new.place.value (λ t. GoesOn name.now settings.now text.now t) }
-    ensures first { handle.old.place.value ≡ None → IfSome handle.new.place.value (λ t. IsFirst name.now settings.now text.now t) }
-    ensures fresh { handle.old.place.value ≡ None → IfSome handle.new.place.value (λ t. IsFresh text.now t) }
+    ensures config { handle.old.place.value ≡ None → result ≡ 6
+        → is_sound (config_of name.now settings.now) ≡ false }
+    ensures goes_on { handle.old.place.value ≡ None
+        → IfSome handle.new.place.value (λ t. GoesOn name.now settings.now text.now t) }
+    ensures first { handle.old.place.value ≡ None
+        → IfSome handle.new.place.value (λ t. IsFirst name.now settings.now text.now t) }
+    ensures fresh { handle.old.place.value ≡ None
+        → IfSome handle.new.place.value (λ t. IsFresh text.now t) }
 {
     if let Some(session) = handle.take(alloc) {
         *handle = Handle::of(session);
@@ -117,7 +122,10 @@ pub extern "C" fn serf_agent_unwritten(
     bytes: &mut BytesHead,
     to: &mut [u8],
 ) -> u32
-    ensures { Reads (λ s code. (code ≡ Code.Done) × (bytes.new ≡ record { len = length (lacking s.agent.device s.written); replaces = s.replaces }) × (to.new ≡ copied (lacking s.agent.device s.written) to.old)) handle.old.place.value handle.new.place.value result }
+    ensures { Reads (λ s code. (code ≡ Code.Done) × (bytes.new
+        ≡ record { len = length (lacking s.agent.device s.written); replaces = s.replaces })
+        × (to.new ≡ copied (lacking s.agent.device s.written) to.old))
+        handle.old.place.value handle.new.place.value result }
 {
     let Some(session) = handle.take(alloc) else {
         return Code::Empty.number();
@@ -130,7 +138,10 @@ pub extern "C" fn serf_agent_unwritten(
 /// Says that the host's file has the bytes that it lacked, and was flushed.
 #[unsafe(no_mangle)]
 pub extern "C" fn serf_agent_written(alloc: Global, handle: &mut Handle) -> u32
-    ensures { Through (λ s t code. (code ≡ Code.Done) × (t.written ≡ length (text_of s.agent.device)) × (t.replaces ≡ false) × (t.agent ≡ s.agent) × (t.gave ≡ s.gave) × (t.waiting ≡ s.waiting) × (t.filters ≡ s.filters)) handle.old.place.value handle.new.place.value result }
+    ensures { Through (λ s t code. (code ≡ Code.Done)
+        × (t.written ≡ length (text_of s.agent.device)) × (t.replaces ≡ false) × (t.agent ≡ s.agent)
+        × (t.gave ≡ s.gave) × (t.waiting ≡ s.waiting)
+        × (t.filters ≡ s.filters)) handle.old.place.value handle.new.place.value result }
 {
     let Some(mut session) = handle.take(alloc) else {
         return Code::Empty.number();
@@ -149,11 +160,17 @@ pub extern "C" fn serf_agent_fire(
     payload: &[u8],
     coalesce: bool,
 ) -> u32
-    ensures waits { Through (λ s t code. Waits s t code) handle.old.place.value handle.new.place.value result }
-    ensures memory { Through (λ s t code. Forgoes s t code) handle.old.place.value handle.new.place.value result }
-    ensures tells { Through (λ s t code. Tells s t code) handle.old.place.value handle.new.place.value result }
-    ensures gives { Through (λ s t code. Gives (λ r. Gave.Fired r) fire_code s t code) handle.old.place.value handle.new.place.value result }
-    ensures takes { Through (λ s t code. Takes (λ r. Gave.Fired r) (λ i. fire i (event_of name.now payload.now) coalesce) s t code) handle.old.place.value handle.new.place.value result }
+    ensures waits { Through (λ s t code. Waits s t code)
+        handle.old.place.value handle.new.place.value result }
+    ensures memory { Through (λ s t code. Forgoes s t code)
+        handle.old.place.value handle.new.place.value result }
+    ensures tells { Through (λ s t code. Tells s t code)
+        handle.old.place.value handle.new.place.value result }
+    ensures gives { Through (λ s t code. Gives (λ r. Gave.Fired r) fire_code s t code)
+        handle.old.place.value handle.new.place.value result }
+    ensures takes { Through (λ s t code. Takes (λ r. Gave.Fired r)
+        (λ i. fire i (event_of name.now payload.now) coalesce) s t code)
+        handle.old.place.value handle.new.place.value result }
 {
     let Some(mut session) = handle.take(alloc) else {
         return Code::Empty.number();
@@ -171,11 +188,17 @@ pub extern "C" fn serf_agent_receive(
     now: u64,
     packet: &[u8],
 ) -> u32
-    ensures waits { Through (λ s t code. Waits s t code) handle.old.place.value handle.new.place.value result }
-    ensures memory { Through (λ s t code. Forgoes s t code) handle.old.place.value handle.new.place.value result }
-    ensures tells { Through (λ s t code. Tells s t code) handle.old.place.value handle.new.place.value result }
-    ensures gives { Through (λ s t code. Gives (λ r. Gave.Received r) receive_code s t code) handle.old.place.value handle.new.place.value result }
-    ensures takes { Through (λ s t code. Takes (λ r. Gave.Received r) (λ i. receive i now packet.now) s t code) handle.old.place.value handle.new.place.value result }
+    ensures waits { Through (λ s t code. Waits s t code)
+        handle.old.place.value handle.new.place.value result }
+    ensures memory { Through (λ s t code. Forgoes s t code)
+        handle.old.place.value handle.new.place.value result }
+    ensures tells { Through (λ s t code. Tells s t code)
+        handle.old.place.value handle.new.place.value result }
+    ensures gives { Through (λ s t code. Gives (λ r. Gave.Received r) receive_code s t code)
+        handle.old.place.value handle.new.place.value result }
+    ensures takes { Through
+        (λ s t code. Takes (λ r. Gave.Received r) (λ i. receive i now packet.now) s t code)
+        handle.old.place.value handle.new.place.value result }
 {
     let Some(mut session) = handle.take(alloc) else {
         return Code::Empty.number();
@@ -193,10 +216,14 @@ pub extern "C" fn serf_agent_merge(
     packet: &[u8],
     is_join: bool,
 ) -> u32
-    ensures waits { Through (λ s t code. Waits s t code) handle.old.place.value handle.new.place.value result }
-    ensures tells { Through (λ s t code. Tells s t code) handle.old.place.value handle.new.place.value result }
-    ensures refused { Through (λ s t code. IsUnmerged packet.now s t code) handle.old.place.value handle.new.place.value result }
-    ensures merges { Through (λ s t code. MergesFrom packet.now is_join s t code) handle.old.place.value handle.new.place.value result }
+    ensures waits { Through (λ s t code. Waits s t code)
+        handle.old.place.value handle.new.place.value result }
+    ensures tells { Through (λ s t code. Tells s t code)
+        handle.old.place.value handle.new.place.value result }
+    ensures refused { Through (λ s t code. IsUnmerged packet.now s t code)
+        handle.old.place.value handle.new.place.value result }
+    ensures merges { Through (λ s t code. MergesFrom packet.now is_join s t code)
+        handle.old.place.value handle.new.place.value result }
 {
     let Some(mut session) = handle.take(alloc) else {
         return Code::Empty.number();
@@ -210,7 +237,9 @@ pub extern "C" fn serf_agent_merge(
 /// them.
 #[unsafe(no_mangle)]
 pub extern "C" fn serf_agent_local_state(alloc: Global, handle: &mut Handle) -> u32
-    ensures { Through (λ s t code. Waits s t code × Forgoes s t code × Tells s t code × Gives (λ r. Gave.State r) state_code s t code × SendsState s t code) handle.old.place.value handle.new.place.value result }
+    ensures { Through (λ s t code. Waits s t code × Forgoes s t code × Tells s t code
+        × Gives (λ r. Gave.State r) state_code s t code × SendsState s t code)
+        handle.old.place.value handle.new.place.value result }
 {
     let Some(mut session) = handle.take(alloc) else {
         return Code::Empty.number();
@@ -228,7 +257,8 @@ pub extern "C" fn serf_agent_add_status(
     name: &[u8],
     status_time: u64,
 ) -> u32
-    ensures { Through (λ s t code. Waits s t code × AddsStatus name.now status_time s t code) handle.old.place.value handle.new.place.value result }
+    ensures { Through (λ s t code. Waits s t code × AddsStatus name.now status_time s t code)
+        handle.old.place.value handle.new.place.value result }
 {
     let Some(mut session) = handle.take(alloc) else {
         return Code::Empty.number();
@@ -241,7 +271,8 @@ pub extern "C" fn serf_agent_add_status(
 /// Adds a member that left to what the next state names.
 #[unsafe(no_mangle)]
 pub extern "C" fn serf_agent_add_left(alloc: Global, handle: &mut Handle, name: &[u8]) -> u32
-    ensures { Through (λ s t code. Waits s t code × AddsLeft name.now s t code) handle.old.place.value handle.new.place.value result }
+    ensures { Through (λ s t code. Waits s t code × AddsLeft name.now s t code)
+        handle.old.place.value handle.new.place.value result }
 {
     let Some(mut session) = handle.take(alloc) else {
         return Code::Empty.number();
@@ -254,7 +285,8 @@ pub extern "C" fn serf_agent_add_left(alloc: Global, handle: &mut Handle, name: 
 /// Adds a filter of the next query.
 #[unsafe(no_mangle)]
 pub extern "C" fn serf_agent_add_filter(alloc: Global, handle: &mut Handle, filter: &[u8]) -> u32
-    ensures { Through (λ s t code. Waits s t code × AddsFilter filter.now s t code) handle.old.place.value handle.new.place.value result }
+    ensures { Through (λ s t code. Waits s t code × AddsFilter filter.now s t code)
+        handle.old.place.value handle.new.place.value result }
 {
     let Some(mut session) = handle.take(alloc) else {
         return Code::Empty.number();
@@ -276,12 +308,19 @@ pub extern "C" fn serf_agent_query(
     addr: &[u8],
     params: &Params,
 ) -> u32
-    ensures waits { Through (λ s t code. Waits s t code) handle.old.place.value handle.new.place.value result }
-    ensures memory { Through (λ s t code. Forgoes s t code) handle.old.place.value handle.new.place.value result }
-    ensures tells { Through (λ s t code. Tells s t code) handle.old.place.value handle.new.place.value result }
-    ensures gives { Through (λ s t code. Gives (λ r. Gave.Asked r) query_code s t code) handle.old.place.value handle.new.place.value result }
-    ensures forgets { Through (λ s t code. is_ready s ≡ true → code ≢ Code.OutOfMemory → t.filters ≡ []) handle.old.place.value handle.new.place.value result }
-    ensures takes { Through (λ s t code. Takes (λ r. Gave.Asked r) (λ i. fire_query i now id name.now payload.now (params_of s.filters addr.now params.now)) s t code) handle.old.place.value handle.new.place.value result }
+    ensures waits { Through (λ s t code. Waits s t code)
+        handle.old.place.value handle.new.place.value result }
+    ensures memory { Through (λ s t code. Forgoes s t code)
+        handle.old.place.value handle.new.place.value result }
+    ensures tells { Through (λ s t code. Tells s t code)
+        handle.old.place.value handle.new.place.value result }
+    ensures gives { Through (λ s t code. Gives (λ r. Gave.Asked r) query_code s t code)
+        handle.old.place.value handle.new.place.value result }
+    ensures forgets { Through (λ s t code. is_ready s ≡ true → code ≢ Code.OutOfMemory
+        → t.filters ≡ []) handle.old.place.value handle.new.place.value result }
+    ensures takes { Through (λ s t code. Takes (λ r. Gave.Asked r)
+        (λ i. fire_query i now id name.now payload.now (params_of s.filters addr.now params.now))
+        s t code) handle.old.place.value handle.new.place.value result }
 {
     let Some(mut session) = handle.take(alloc) else {
         return Code::Empty.number();
@@ -300,7 +339,9 @@ pub extern "C" fn serf_agent_respond(
     number: u64,
     payload: &[u8],
 ) -> u32
-    ensures { Through (λ s t code. Waits s t code × (t.agent ≡ s.agent) × Responds number now payload.now s t code) handle.old.place.value handle.new.place.value result }
+    ensures { Through (λ s t code. Waits s t code × (t.agent ≡ s.agent)
+        × Responds number now payload.now s t code)
+        handle.old.place.value handle.new.place.value result }
 {
     let Some(mut session) = handle.take(alloc) else {
         return Code::Empty.number();
@@ -318,7 +359,9 @@ pub extern "C" fn serf_agent_close_due(
     now: u64,
     closed: &mut usize,
 ) -> u32
-    ensures { Through (λ s t code. Waits s t code × Forgoes s t code × Tells s t code × Closes now closed.new s t code × Spares now s code) handle.old.place.value handle.new.place.value result }
+    ensures { Through (λ s t code. Waits s t code × Forgoes s t code × Tells s t code
+        × Closes now closed.new s t code × Spares now s code)
+        handle.old.place.value handle.new.place.value result }
 {
     let Some(mut session) = handle.take(alloc) else {
         return Code::Empty.number();
@@ -331,11 +374,16 @@ pub extern "C" fn serf_agent_close_due(
 /// Notes the member clock, so that a restart goes on from there.
 #[unsafe(no_mangle)]
 pub extern "C" fn serf_agent_save_member_clock(alloc: Global, handle: &mut Handle) -> u32
-    ensures waits { Through (λ s t code. Waits s t code) handle.old.place.value handle.new.place.value result }
-    ensures memory { Through (λ s t code. Forgoes s t code) handle.old.place.value handle.new.place.value result }
-    ensures tells { Through (λ s t code. Tells s t code) handle.old.place.value handle.new.place.value result }
-    ensures gives { Through (λ s t code. Gives (λ r. Gave.Noted r) note_code s t code) handle.old.place.value handle.new.place.value result }
-    ensures takes { Through (λ s t code. Takes (λ r. Gave.Noted r) (λ i. save i) s t code) handle.old.place.value handle.new.place.value result }
+    ensures waits { Through (λ s t code. Waits s t code)
+        handle.old.place.value handle.new.place.value result }
+    ensures memory { Through (λ s t code. Forgoes s t code)
+        handle.old.place.value handle.new.place.value result }
+    ensures tells { Through (λ s t code. Tells s t code)
+        handle.old.place.value handle.new.place.value result }
+    ensures gives { Through (λ s t code. Gives (λ r. Gave.Noted r) note_code s t code)
+        handle.old.place.value handle.new.place.value result }
+    ensures takes { Through (λ s t code. Takes (λ r. Gave.Noted r) (λ i. save i) s t code)
+        handle.old.place.value handle.new.place.value result }
 {
     let Some(mut session) = handle.take(alloc) else {
         return Code::Empty.number();
@@ -348,10 +396,14 @@ pub extern "C" fn serf_agent_save_member_clock(alloc: Global, handle: &mut Handl
 /// Makes the text that replaces the file's: one line of each clock.
 #[unsafe(no_mangle)]
 pub extern "C" fn serf_agent_compact(alloc: Global, handle: &mut Handle) -> u32
-    ensures waits { Through (λ s t code. Waits s t code) handle.old.place.value handle.new.place.value result }
-    ensures gives { Through (λ s t code. Gives (λ r. Gave.Noted r) note_code s t code) handle.old.place.value handle.new.place.value result }
-    ensures takes { Through (λ s t code. Takes (λ r. Gave.Noted r) (λ i. compact i) s t code) handle.old.place.value handle.new.place.value result }
-    ensures replaces { Through (λ s t code. Compacts s t code) handle.old.place.value handle.new.place.value result }
+    ensures waits { Through (λ s t code. Waits s t code)
+        handle.old.place.value handle.new.place.value result }
+    ensures gives { Through (λ s t code. Gives (λ r. Gave.Noted r) note_code s t code)
+        handle.old.place.value handle.new.place.value result }
+    ensures takes { Through (λ s t code. Takes (λ r. Gave.Noted r) (λ i. compact i) s t code)
+        handle.old.place.value handle.new.place.value result }
+    ensures replaces { Through (λ s t code. Compacts s t code)
+        handle.old.place.value handle.new.place.value result }
 {
     let Some(mut session) = handle.take(alloc) else {
         return Code::Empty.number();

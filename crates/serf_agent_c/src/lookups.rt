@@ -73,7 +73,11 @@ impl Session {
         source: &mut [u8],
         addr: &mut [u8],
     ) -> Code
-        ensures { ReadsQuery (is_ready self.now) (waiting_at number (settled self.now)) (λ q. (head.new ≡ handed_head q) × (name.new ≡ copied q.name name.old) × (payload.new ≡ copied q.payload payload.old) × (source.new ≡ copied q.source source.old) × (addr.new ≡ copied q.addr addr.old)) result }
+        ensures { ReadsQuery (is_ready self.now) (waiting_at number (settled self.now))
+            (λ q. (head.new ≡ handed_head q) × (name.new ≡ copied q.name name.old)
+            × (payload.new ≡ copied q.payload payload.old)
+            × (source.new ≡ copied q.source source.old)
+            × (addr.new ≡ copied q.addr addr.old)) result }
     {
         if !self.is_ready() {
             return Code::Unwritten;
@@ -92,7 +96,8 @@ impl Session {
     /// The least deadline of the open queries.
     pub(crate) fn read_next_deadline(&self, deadline: &mut u64) -> Code
         ensures waits { is_ready self.now ≡ false → result ≡ Code.Unwritten }
-        ensures tells { is_ready self.now ≡ true → TellsDeadline self.now.agent.concrete deadline.new result }
+        ensures tells { is_ready self.now ≡ true
+            → TellsDeadline self.now.agent.concrete deadline.new result }
     {
         if !self.is_ready() {
             return Code::Unwritten;
@@ -108,7 +113,9 @@ impl Session {
 
     /// How many queries of the agent's own still take answers.
     pub(crate) fn read_open_queries(&self, total: &mut usize) -> Code
-        ensures { ReadsAs (is_ready self.now) (Some (min (length self.now.agent.concrete.asked) (2 ^ 64 - 1))) (λ n. total.new ≡ n) result }
+        ensures { ReadsAs (is_ready self.now)
+            (Some (min (length self.now.agent.concrete.asked) (2 ^ 64 - 1)))
+            (λ n. total.new ≡ n) result }
     {
         if !self.is_ready() {
             return Code::Unwritten;

@@ -91,7 +91,8 @@ impl Session {
 
     /// The packet of the agent's whole state, with the members that were named.
     pub(crate) fn state(&self, alloc: Global) -> Result<Bytes, PushPullFault>
-        ensures { result ≢ Err PushPullFault.OutOfMemory → result ≡ send_state self.now.agent.concrete (map named self.now.status.items) self.now.left }
+        ensures { result ≢ Err PushPullFault.OutOfMemory → result
+            ≡ send_state self.now.agent.concrete (map named self.now.status.items) self.now.left }
     {
         let Ok(status) = lend_status(alloc, self.status.as_slice()) else {
             return Err(PushPullFault::OutOfMemory);
@@ -106,7 +107,9 @@ impl Session {
     /// Forgets the members that were named.
     pub(crate) fn forget_members(&mut self, alloc: Global)
         ensures members { (self.new.status.items ≡ []) × (self.new.left ≡ []) }
-        ensures rest { (self.new.agent ≡ self.old.agent) × (self.new.gave ≡ self.old.gave) × (self.new.written ≡ self.old.written) × (self.new.replaces ≡ self.old.replaces) × (self.new.waiting ≡ self.old.waiting) × (self.new.filters ≡ self.old.filters) }
+        ensures rest { (self.new.agent ≡ self.old.agent) × (self.new.gave ≡ self.old.gave)
+            × (self.new.written ≡ self.old.written) × (self.new.replaces ≡ self.old.replaces)
+            × (self.new.waiting ≡ self.old.waiting) × (self.new.filters ≡ self.old.filters) }
     {
         self.status = Vec::new(alloc);
         self.left = BytesList::new(alloc);

@@ -59,8 +59,11 @@ fn merge_into(
     is_join: bool,
     events: &mut Vec<EventOut>,
 ) -> Option<MergeFault>
-    ensures refused { (f : MergeFault) → merge_refusal agent.old.concrete.snapshot (decoded packet.now) ≡ Some f → (result ≡ Some f) × (events.new.items ≡ events.old.items) × (agent.new ≡ agent.old) }
-    ensures merged { (i : IdealAgent) (m : PushPull) → IsSound i → agent.old.concrete ≡ view_of i → i.snapshot.stopped ≡ false → decoded packet.now ≡ Ok (push_pull m)
+    ensures refused { (f : MergeFault)
+        → merge_refusal agent.old.concrete.snapshot (decoded packet.now) ≡ Some f
+        → (result ≡ Some f) × (events.new.items ≡ events.old.items) × (agent.new ≡ agent.old) }
+    ensures merged { (i : IdealAgent) (m : PushPull) → IsSound i → agent.old.concrete ≡ view_of i
+        → i.snapshot.stopped ≡ false → decoded packet.now ≡ Ok (push_pull m)
         → Merges i m is_join events.old.items events.new.items agent.old.device agent.new result }
 {
     match agent.merge_remote_state(alloc, packet, is_join, events) {
@@ -128,7 +131,8 @@ impl Session {
     fn note_replaced(&mut self, is_replaced: bool)
         ensures written { self.new.written ≡ (if is_replaced then 0 else self.old.written) }
         ensures replaces { self.new.replaces ≡ (if is_replaced then true else self.old.replaces) }
-        ensures rest { (self.new.agent ≡ self.old.agent) × (self.new.gave ≡ self.old.gave) × (self.new.waiting ≡ self.old.waiting) × (self.new.filters ≡ self.old.filters) }
+        ensures rest { (self.new.agent ≡ self.old.agent) × (self.new.gave ≡ self.old.gave)
+            × (self.new.waiting ≡ self.old.waiting) × (self.new.filters ≡ self.old.filters) }
     {
         if is_replaced {
             self.written = 0;

@@ -45,8 +45,10 @@ impl Session {
         ensures first { IfOk result (λ s. IsFirst name.now settings.now text.now s) }
         ensures fresh { IfOk result (λ s. IsFresh text.now s) }
         ensures ok { OnOk result (is_sound (config_of name.now settings.now) ≡ true) }
-        ensures bad { IfErr result (λ fault. fault ≡ OpenFault.BadConfig → is_sound (config_of name.now settings.now) ≡ false) }
-        ensures sound { IfErr result (λ fault. is_sound (config_of name.now settings.now) ≡ false → fault ≢ OpenFault.SinkFault) }
+        ensures bad { IfErr result (λ fault. fault ≡ OpenFault.BadConfig
+            → is_sound (config_of name.now settings.now) ≡ false) }
+        ensures sound { IfErr result (λ fault. is_sound (config_of name.now settings.now) ≡ false
+            → fault ≢ OpenFault.SinkFault) }
     {
         let Ok(config) = config_of(alloc, name, settings) else {
             return Err(OpenFault::OutOfMemory);

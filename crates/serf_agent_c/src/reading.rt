@@ -113,7 +113,8 @@ impl Gave {
 impl Session {
     /// What the last call gave.
     pub(crate) fn read_gave(&self, gave: &mut GaveHead)
-        ensures { gave.new ≡ record { kind = kind_of self.now.gave; reason = reason_of self.now.gave; handed = if is_some (handed_in self.now.gave) then length self.now.waiting.items + 1 else 0; events = length (events_in self.now.gave); foreign = foreign_of self.now.gave; rebroadcast = rebroadcast_of self.now.gave } }
+        ensures { gave.new
+            ≡ record { kind = kind_of self.now.gave; reason = reason_of self.now.gave; handed = if is_some (handed_in self.now.gave) then length self.now.waiting.items + 1 else 0; events = length (events_in self.now.gave); foreign = foreign_of self.now.gave; rebroadcast = rebroadcast_of self.now.gave } }
     {
         let handed = if self.gave.handed().is_some() {
             self.waiting.len() as u64 + 1
@@ -132,7 +133,8 @@ impl Session {
 
     /// The bytes that the host's file lacks.
     pub(crate) fn read_lacking(&self, bytes: &mut BytesHead, to: &mut [u8])
-        ensures head { bytes.new ≡ record { len = length (lacking self.now.agent.device self.now.written); replaces = self.now.replaces } }
+        ensures head { bytes.new
+            ≡ record { len = length (lacking self.now.agent.device self.now.written); replaces = self.now.replaces } }
         ensures copied { to.new ≡ copied (lacking self.now.agent.device self.now.written) to.old }
     {
         let lacking = self.lacking();
@@ -151,7 +153,9 @@ impl Session {
         name: &mut [u8],
         payload: &mut [u8],
     ) -> Code
-        ensures { ReadsAs (is_ready self.now) (slice_get (events_in self.now.gave) index) (λ o. (event.new ≡ event_head o) × (name.new ≡ copied o.name name.old) × (payload.new ≡ copied o.payload payload.old)) result }
+        ensures { ReadsAs (is_ready self.now) (slice_get (events_in self.now.gave) index)
+            (λ o. (event.new ≡ event_head o) × (name.new ≡ copied o.name name.old)
+            × (payload.new ≡ copied o.payload payload.old)) result }
     {
         if !self.is_ready() {
             return Code::Unwritten;
@@ -167,7 +171,8 @@ impl Session {
 
     /// The packet that the last call gave to send.
     pub(crate) fn read_packet(&self, len: &mut usize, to: &mut [u8]) -> Code
-        ensures { ReadsAs (is_ready self.now) (packet_in self.now.gave) (λ p. (len.new ≡ length p) × (to.new ≡ copied p to.old)) result }
+        ensures { ReadsAs (is_ready self.now) (packet_in self.now.gave)
+            (λ p. (len.new ≡ length p) × (to.new ≡ copied p to.old)) result }
     {
         if !self.is_ready() {
             return Code::Unwritten;
@@ -181,7 +186,8 @@ impl Session {
 
     /// The ack that the last call gave to send.
     pub(crate) fn read_ack(&self, len: &mut usize, to: &mut [u8]) -> Code
-        ensures { ReadsAs (is_ready self.now) (ack_in self.now.gave) (λ p. (len.new ≡ length p) × (to.new ≡ copied p to.old)) result }
+        ensures { ReadsAs (is_ready self.now) (ack_in self.now.gave)
+            (λ p. (len.new ≡ length p) × (to.new ≡ copied p to.old)) result }
     {
         if !self.is_ready() {
             return Code::Unwritten;
@@ -195,7 +201,8 @@ impl Session {
 
     /// The agent's clocks.
     pub(crate) fn read_clocks(&self, clocks: &mut ClocksHead) -> Code
-        ensures { ReadsAs (is_ready self.now) (Some (clocks_head self.now.agent.concrete)) (λ head. clocks.new ≡ head) result }
+        ensures { ReadsAs (is_ready self.now) (Some (clocks_head self.now.agent.concrete))
+            (λ head. clocks.new ≡ head) result }
     {
         if !self.is_ready() {
             return Code::Unwritten;

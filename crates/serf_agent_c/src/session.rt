@@ -68,7 +68,8 @@ impl Session {
     pub(crate) fn note_written(&mut self)
         ensures written { self.new.written ≡ length (text_of self.old.agent.device) }
         ensures replaces { self.new.replaces ≡ false }
-        ensures rest { (self.new.agent ≡ self.old.agent) × (self.new.gave ≡ self.old.gave) × (self.new.waiting ≡ self.old.waiting) × (self.new.filters ≡ self.old.filters) }
+        ensures rest { (self.new.agent ≡ self.old.agent) × (self.new.gave ≡ self.old.gave)
+            × (self.new.waiting ≡ self.old.waiting) × (self.new.filters ≡ self.old.filters) }
         ensures members { (self.new.status ≡ self.old.status) × (self.new.left ≡ self.old.left) }
     {
         self.written = self.agent.sink().durable().len();
@@ -77,10 +78,13 @@ impl Session {
 
     /// Puts the query that the last call handed out with those that wait for an answer, and forgets what else it gave.
     fn settle(&mut self) -> Result<(), AllocError>
-        ensures ok { OnOk result ((self.new.waiting.items ≡ settled self.old) × (self.new.gave ≡ Gave.Nothing)) }
-        ensures rest { (self.new.agent ≡ self.old.agent) × (self.new.written ≡ self.old.written) × (self.new.replaces ≡ self.old.replaces) × (self.new.filters ≡ self.old.filters) }
+        ensures ok { OnOk result ((self.new.waiting.items ≡ settled self.old)
+            × (self.new.gave ≡ Gave.Nothing)) }
+        ensures rest { (self.new.agent ≡ self.old.agent) × (self.new.written ≡ self.old.written)
+            × (self.new.replaces ≡ self.old.replaces) × (self.new.filters ≡ self.old.filters) }
         ensures members { (self.new.status ≡ self.old.status) × (self.new.left ≡ self.old.left) }
-        ensures err { OnErr result ((self.new.waiting.items ≡ self.old.waiting.items) × (self.new.gave ≡ self.old.gave)) }
+        ensures err { OnErr result ((self.new.waiting.items ≡ self.old.waiting.items)
+            × (self.new.gave ≡ self.old.gave)) }
         ensures none_handed { handed_in self.old.gave ≡ None → IsOk result }
     {
         if self.gave.handed().is_none() {
@@ -98,13 +102,16 @@ impl Session {
 
     /// Makes ready for a call of the agent: the host's file has all of its text, and what the last call gave is settled.
     pub(crate) fn begin(&mut self) -> Result<(), Code>
-        ensures ok { OnOk result ((is_ready self.old ≡ true) × Begins self.old self.new × (self.new.gave ≡ Gave.Nothing)) }
+        ensures ok { OnOk result ((is_ready self.old ≡ true) × Begins self.old self.new
+            × (self.new.gave ≡ Gave.Nothing)) }
         ensures agent { self.new.agent ≡ self.old.agent }
         ensures filters { self.new.filters ≡ self.old.filters }
         ensures members { (self.new.status ≡ self.old.status) × (self.new.left ≡ self.old.left) }
-        ensures unwritten { is_ready self.old ≡ false → (result ≡ Err Code.Unwritten) × (self.new ≡ self.old) }
+        ensures unwritten { is_ready self.old ≡ false
+            → (result ≡ Err Code.Unwritten) × (self.new ≡ self.old) }
         ensures refused { is_ready self.old ≡ true → OnErr result (result ≡ Err Code.OutOfMemory) }
-        ensures none_handed { is_ready self.old ≡ true → handed_in self.old.gave ≡ None → IsOk result }
+        ensures none_handed { is_ready self.old ≡ true
+            → handed_in self.old.gave ≡ None → IsOk result }
     {
         if !self.is_ready() {
             return Err(Code::Unwritten);

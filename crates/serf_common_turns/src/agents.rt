@@ -26,7 +26,8 @@ pub(crate) fn add_agents(
     text: &mut Vec<u8>,
     agents: Roster,
 ) -> Result<Roster, AllocError>
-    ensures text { IfOk result (λ added. text.new.items ≡ text.old.items ++ flat_map agent_text added) }
+    ensures text { IfOk result (λ added. text.new.items ≡ text.old.items
+        ++ flat_map agent_text added) }
     ensures short { OnOk result (IsShort text.old.items → IsShort text.new.items) }
 {
     let before = text.len();

@@ -12,7 +12,8 @@ use std::alloc::{AllocError, Global};
 
 /// Appends an action and its line, and says whether it did: not where the text would be too long.
 fn add_line(text: &mut Vec<u8>, kept: &mut Vec<Action>, action: Action) -> Result<bool, AllocError>
-    ensures { IfOk result (λ added. MayAdd added action text.old.items text.new.items kept.old.items kept.new.items) }
+    ensures { IfOk result (λ added.
+        MayAdd added action text.old.items text.new.items kept.old.items kept.new.items) }
 {
     let before = text.len();
     put_action(text, &action)?;
@@ -34,7 +35,8 @@ fn add_turn(
     action: Action,
 ) -> Result<bool, AllocError>
     requires { world.old.poisoned ≡ false }
-    ensures along { (configs : List Config) (first : List ℕ) → IsAlong configs first text.old.items kept.old.items world.old
+    ensures along { (configs : List Config) (first : List ℕ)
+        → IsAlong configs first text.old.items kept.old.items world.old
         → IfOk result (λ more. GoesOn more configs first text.new.items kept.new.items world.new) }
     ensures few { OnOk result (length kept.new.items ≤ length kept.old.items + 1) }
     ensures unpoisoned { OnOk result (world.new.poisoned ≡ false) }

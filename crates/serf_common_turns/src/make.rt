@@ -23,8 +23,10 @@ use std::alloc::{AllocError, Global};
 pub fn common_schedule(alloc: Global, ask: &Ask) -> Result<Made, AllocError>
     // Each turn of its run is common.
     ensures common { IfOk result (λ made. AreCommon (parsed_of made.schedule)) }
-    ensures reads_back { IfOk result (λ made. schedule_of made.text.items ≡ Ok (parsed_of made.schedule)) }
-    ensures text { IfOk result (λ made. made.text.items ≡ comment_text ask.now ++ schedule_text (parsed_of made.schedule)) }
+    ensures reads_back { IfOk result (λ made. schedule_of made.text.items
+        ≡ Ok (parsed_of made.schedule)) }
+    ensures text { IfOk result (λ made. made.text.items ≡ comment_text ask.now
+        ++ schedule_text (parsed_of made.schedule)) }
     ensures few { IfOk result (λ made. length made.schedule.actions.items ≤ ask.now.actions) }
     ensures short { IfOk result (λ made. length made.text.items ≤ MAX_SCHEDULE_BYTES) }
 {

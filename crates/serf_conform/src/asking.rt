@@ -62,8 +62,10 @@ pub(crate) fn ask<R: Read, W: Write>(
     given: &[u8],
     wanted: &Reply,
 ) -> Result<Asked, ConformFault>
-    ensures written { OnOk result (Appends (W.contents writer.old) (W.contents writer.new) line.now) }
-    ensures asked { IfOk result (λ asked. IfSome (R.remaining reader.old) (λ input. IsAsked (asked_of given.now (said_in wanted.now) input) asked (R.remaining reader.new))) }
+    ensures written { OnOk result
+        (Appends (W.contents writer.old) (W.contents writer.new) line.now) }
+    ensures asked { IfOk result (λ asked. IfSome (R.remaining reader.old) (λ input.
+        IsAsked (asked_of given.now (said_in wanted.now) input) asked (R.remaining reader.new))) }
 {
     if write_output(writer, line).is_err() {
         return Err(ConformFault::WriteFault);
@@ -122,8 +124,11 @@ fn make_call<R: Read, W: Write>(
     given: &[u8],
     packets: &[Bytes],
 ) -> Result<Asked, ConformFault>
-    ensures written { OnOk result (Appends (W.contents writer.old) (W.contents writer.new) (call_line action.now given.now)) }
-    ensures asked { IfOk result (λ asked. IfSome (R.remaining reader.old) (λ input. IsAsked (asked_of given.now (wanted_of line.now given.now packets.now) input) asked (R.remaining reader.new))) }
+    ensures written { OnOk result
+        (Appends (W.contents writer.old) (W.contents writer.new) (call_line action.now given.now)) }
+    ensures asked { IfOk result (λ asked. IfSome (R.remaining reader.old) (λ input.
+        IsAsked (asked_of given.now (wanted_of line.now given.now packets.now) input) asked
+        (R.remaining reader.new))) }
 {
     let Ok(text) = call_text(alloc, action, given) else {
         return Err(ConformFault::OutOfMemory);
@@ -147,9 +152,10 @@ pub(crate) fn take_turn<R: Read, W: Write>(
     before: &[Bytes],
     packets: &[Bytes],
 ) -> Result<Asked, ConformFault>
-    ensures { IfOk result (λ asked. IfSome (R.remaining reader.old) (λ input. IsTaken
-        (taken_of (is_serf rules) agent (record { action = action.now; line = line.now; given = packet_given before.now action.now; packets = packets.now }) input)
-        asked (R.remaining reader.new) (W.contents writer.old) (W.contents writer.new))) }
+    ensures { IfOk result (λ asked.
+        IfSome (R.remaining reader.old) (λ input. IsTaken (taken_of (is_serf rules) agent
+        (record { action = action.now; line = line.now; given = packet_given before.now action.now; packets = packets.now })
+        input) asked (R.remaining reader.new) (W.contents writer.old) (W.contents writer.new))) }
 {
     if !is_of(action, agent) {
         return Ok(Asked::Skipped);

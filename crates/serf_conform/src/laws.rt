@@ -13,8 +13,10 @@ use serf_model::{agents_alone, turns_shown};
 /// Nothing is lost where agents are held one by one: the turns of an agent in the trace of a run are those of that agent
 /// alone on its calls, each with its packet by its bytes. Does nothing.
 pub fn projection()
-    ensures { (configs : List Config) (actions : List Action) (a : ℕ) (config : Config) (m : IdealNode) → AreConfigs configs → slice_get configs a ≡ Some config
-        → slice_get (run_of configs actions).cluster.nodes a ≡ Some m → IsAlone config a (turns_by a (turns_of actions (trace_of (run_of configs actions)))) m }
+    ensures { (configs : List Config) (actions : List Action) (a : ℕ) (config : Config)
+        (m : IdealNode) → AreConfigs configs → slice_get configs a ≡ Some config
+        → slice_get (run_of configs actions).cluster.nodes a ≡ Some m
+        → IsAlone config a (turns_by a (turns_of actions (trace_of (run_of configs actions)))) m }
 {
     agents_alone();
     turns_shown();

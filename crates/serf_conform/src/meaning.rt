@@ -27,7 +27,8 @@ fn put_held(out: &mut Vec<u8>, slot: &SlotView) -> Result<(), AllocError>
 }
 
 fn put_held_slots(out: &mut Vec<u8>, slots: SlotViews) -> Result<(), AllocError>
-    ensures { OnOk result (out.new.items ≡ out.old.items ++ flat_map held_lines (slots_left slots.entry)) }
+    ensures { OnOk result (out.new.items ≡ out.old.items
+        ++ flat_map held_lines (slots_left slots.entry)) }
 {
     for slot in slots {
         put_held(out, &slot)?;
@@ -46,7 +47,9 @@ fn put_state(
     slots: SlotViews,
     query_clock: u64,
 ) -> Result<(), AllocError>
-    ensures { OnOk result (out.new.items ≡ out.old.items ++ state_lines member_clock (status_left status.entry) (texts_left left.entry) event_clock (slots_left slots.entry) query_clock) }
+    ensures { OnOk result (out.new.items ≡ out.old.items
+        ++ state_lines member_clock (status_left status.entry) (texts_left left.entry)
+        event_clock (slots_left slots.entry) query_clock) }
 {
     put_members(out, member_clock, status, left)?;
     put_number_line(out, b"EventLTime", event_clock)?;
@@ -84,7 +87,8 @@ fn put_meaning(out: &mut Vec<u8>, message: &Message) -> Result<(), AllocError>
 
 /// What a packet means, where it spells a message.
 fn meaning(alloc: Global, packet: &[u8]) -> Result<Option<Vec<u8>>, AllocError>
-    ensures { IfOk result (λ found. option_map (λ v. v.items) found ≡ meaning_of (decoded packet.now)) }
+    ensures { IfOk result (λ found. option_map (λ v. v.items) found
+        ≡ meaning_of (decoded packet.now)) }
 {
     match decode(packet) {
         Ok(message) => {

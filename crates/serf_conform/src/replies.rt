@@ -145,7 +145,8 @@ fn add_handed(
     lines: &mut Vec<ReplyLine>,
     handed: &Option<Boxed<HandedLine>>,
 ) -> Result<(), AllocError>
-    ensures { OnOk result (lines.new.items ≡ lines.old.items ++ map handed_said (option_to_list handed.now)) }
+    ensures { OnOk result (lines.new.items ≡ lines.old.items
+        ++ map handed_said (option_to_list handed.now)) }
 {
     match handed {
         Some(query) => {

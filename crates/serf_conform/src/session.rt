@@ -33,8 +33,10 @@ fn open<R: Read, W: Write>(
     writer: &mut W,
     config: &Config,
 ) -> Result<Asked, ConformFault>
-    ensures written { OnOk result (Appends (W.contents writer.old) (W.contents writer.new) (open_line config.now [])) }
-    ensures asked { IfOk result (λ asked. IfSome (R.remaining reader.old) (λ input. IsAsked (asked_of [] opening_of input) asked (R.remaining reader.new))) }
+    ensures written { OnOk result
+        (Appends (W.contents writer.old) (W.contents writer.new) (open_line config.now [])) }
+    ensures asked { IfOk result (λ asked. IfSome (R.remaining reader.old) (λ input.
+        IsAsked (asked_of [] opening_of input) asked (R.remaining reader.new))) }
 {
     let Ok(text) = open_text(alloc, config) else {
         return Err(ConformFault::OutOfMemory);
@@ -71,8 +73,9 @@ fn hold_on<R: Read, W: Write>(
     lines: &[Line],
     sent: &[Bytes],
 ) -> Result<Verdict, ConformFault>
-    ensures { (w : List ℕ) (held : Option (List ℕ)) → Appends held (W.contents writer.old) w → IfOk result (λ verdict. IfSome (R.remaining reader.old) (λ input. Concludes
-        (session_from (is_serf rules) agent 1 1 w (turns_from 0 sent.now actions.now lines.now) input)
+    ensures { (w : List ℕ) (held : Option (List ℕ)) → Appends held (W.contents writer.old) w
+        → IfOk result (λ verdict. IfSome (R.remaining reader.old) (λ input. Concludes (session_from
+        (is_serf rules) agent 1 1 w (turns_from 0 sent.now actions.now lines.now) input)
         verdict (R.remaining reader.new) held (W.contents writer.new))) }
 {
     let mut actions = actions;
@@ -127,8 +130,8 @@ pub fn hold<R: Read, W: Write>(
     trace: &Trace,
 ) -> Result<Verdict, ConformFault>
     // The verdict, what was written, and what is left to read, are those of what the agent writes.
-    ensures { IfOk result (λ verdict. IfSome (R.remaining reader.old) (λ input. Concludes
-        (session (is_serf rules) agent config.now (turns_of actions.now (outcome_of trace.now)) input)
+    ensures { IfOk result (λ verdict. IfSome (R.remaining reader.old) (λ input. Concludes (session
+        (is_serf rules) agent config.now (turns_of actions.now (outcome_of trace.now)) input)
         verdict (R.remaining reader.new) (W.contents writer.old) (W.contents writer.new))) }
 {
     let asked = open(alloc, reader, writer, config)?;

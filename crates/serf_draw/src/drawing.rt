@@ -24,7 +24,8 @@ fn row(
     event_clock: Option<u64>,
     line: &Line,
 ) -> Result<Row, AllocError>
-    ensures { IfOk result (λ row. row ≡ row_with action agent words.items arrow event_clock line.now) }
+    ensures { IfOk result (λ row. row
+        ≡ row_with action agent words.items arrow event_clock line.now) }
 {
     Ok(Row {
         action,
@@ -58,7 +59,10 @@ fn draw_action(
     action: &Action,
 ) -> Result<(), AllocError>
     requires { world.old.poisoned ≡ false }
-    ensures drawn { (d : Drawing) → IsDrawn asked.now d world.old packets.old.items rows.old.items → number ≡ length d.rows + 1 → OnOk result (IsDrawn asked.now (drawn d action.now) world.new packets.new.items rows.new.items) }
+    ensures drawn { (d : Drawing) → IsDrawn asked.now d world.old packets.old.items rows.old.items
+        → number ≡ length d.rows + 1
+        → OnOk result (IsDrawn asked.now (drawn d action.now)
+        world.new packets.new.items rows.new.items) }
     ensures unpoisoned { OnOk result (world.new.poisoned ≡ false) }
 {
     let agent = action.actor();
@@ -110,7 +114,9 @@ fn rows_of(
     actions: &[Action],
     asked: &Asked,
 ) -> Result<(Vec<Row>, Vec<Packet>), AllocError>
-    ensures { IfOk result (λ made. (made.0.items ≡ shown_rows asked.now (drawing_of agents actions.now).rows) × (made.1.items ≡ (drawing_of agents actions.now).packets)) }
+    ensures { IfOk result (λ made.
+        (made.0.items ≡ shown_rows asked.now (drawing_of agents actions.now).rows)
+        × (made.1.items ≡ (drawing_of agents actions.now).packets)) }
 {
     let mut world = World::new(alloc, agents)?;
     let mut packets = Vec::new(alloc);
@@ -133,7 +139,8 @@ fn rows_of(
 
 /// Adds a lane, where it is asked for.
 fn add_lane(lanes: &mut Vec<Lane>, asked: &Asked, lane: Lane) -> Result<(), AllocError>
-    ensures { OnOk result (lanes.new.items ≡ lanes.old.items ++ filter (λ l. is_chosen asked.now.agents.items l.agent) (lane ∷ [])) }
+    ensures { OnOk result (lanes.new.items ≡ lanes.old.items
+        ++ filter (λ l. is_chosen asked.now.agents.items l.agent) (lane ∷ [])) }
 {
     if asked.is_chosen(lane.agent) {
         lanes.push(lane)?;

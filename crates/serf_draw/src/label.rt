@@ -54,7 +54,8 @@ fn put_time(out: &mut Vec<u8>, time: u64) -> Result<(), AllocError>
 
 /// Appends what a message says.
 fn put_message_words(out: &mut Vec<u8>, message: &Message, length: usize) -> Result<(), AllocError>
-    ensures { OnOk result (out.new.items ≡ out.old.items ++ message_words length (Ok (message_of message.now))) }
+    ensures { OnOk result (out.new.items ≡ out.old.items
+        ++ message_words length (Ok (message_of message.now))) }
 {
     match message {
         Message::UserEvent {
@@ -106,7 +107,8 @@ fn put_packet_words(out: &mut Vec<u8>, packet: &[u8]) -> Result<(), AllocError>
 }
 
 fn put_given_words(out: &mut Vec<u8>, given: Option<&[u8]>) -> Result<(), AllocError>
-    ensures { OnOk result (out.new.items ≡ out.old.items ++ given_words (option_copied given.entry)) }
+    ensures { OnOk result (out.new.items ≡ out.old.items
+        ++ given_words (option_copied given.entry)) }
 {
     match given {
         Some(packet) => put_packet_words(out, packet),
@@ -120,7 +122,8 @@ fn put_action_words(
     action: &Action,
     given: Option<&[u8]>,
 ) -> Result<(), AllocError>
-    ensures { OnOk result (out.new.items ≡ out.old.items ++ action_words action.now (option_copied given.entry)) }
+    ensures { OnOk result (out.new.items ≡ out.old.items
+        ++ action_words action.now (option_copied given.entry)) }
 {
     match action {
         Action::Fire { name, payload, .. } => put_texts(out, name.as_slice(), payload.as_slice()),
@@ -141,7 +144,8 @@ pub(crate) fn first_words(
     action: &Action,
     given: Option<&[u8]>,
 ) -> Result<Vec<u8>, AllocError>
-    ensures { IfOk result (λ words. words.items ≡ action_words action.now (option_copied given.entry)) }
+    ensures { IfOk result (λ words. words.items
+        ≡ action_words action.now (option_copied given.entry)) }
 {
     let mut out = Vec::new(alloc);
     put_action_words(&mut out, action, given)?;

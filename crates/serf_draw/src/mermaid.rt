@@ -156,7 +156,8 @@ fn put_row_line(out: &mut Vec<u8>, lanes: &[Lane], row: &Row) -> Result<(), Allo
 }
 
 fn put_row_lines(out: &mut Vec<u8>, lanes: &[Lane], rows: &[Row]) -> Result<(), AllocError>
-    ensures { OnOk result (out.new.items ≡ out.old.items ++ flat_map (row_line lanes.now) rows.now) }
+    ensures { OnOk result (out.new.items ≡ out.old.items
+        ++ flat_map (row_line lanes.now) rows.now) }
 {
     for row in rows {
         put_row_line(out, lanes, row)?;

@@ -73,7 +73,8 @@ pub(crate) fn add_packets(
     sender: Sender,
     numbers: &[u64],
 ) -> Result<(), AllocError>
-    ensures { OnOk result (packets.new.items ≡ packets.old.items ++ replicate (length numbers.now) (packet_of sender)) }
+    ensures { OnOk result (packets.new.items ≡ packets.old.items
+        ++ replicate (length numbers.now) (packet_of sender)) }
 {
     for _number in numbers {
         packets.push(Packet {

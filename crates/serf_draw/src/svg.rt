@@ -112,7 +112,8 @@ fn put_placed(
     action: u64,
     behind: &[u8],
 ) -> Result<(), AllocError>
-    ensures { OnOk result (out.new.items ≡ out.old.items ++ placed_text before.now lanes.now agent action behind.now) }
+    ensures { OnOk result (out.new.items ≡ out.old.items
+        ++ placed_text before.now lanes.now agent action behind.now) }
 {
     out.extend_from_slice(before)?;
     put_place(out, lanes, agent, action)?;
@@ -180,7 +181,8 @@ fn put_arrow_line(
     agent: Option<u64>,
     action: u64,
 ) -> Result<(), AllocError>
-    ensures { OnOk result (out.new.items ≡ out.old.items ++ arrow_line lanes.now row.now agent action) }
+    ensures { OnOk result (out.new.items ≡ out.old.items
+        ++ arrow_line lanes.now row.now agent action) }
 {
     put_class(out, b"<path class='", row.tone, b"' d='M")?;
     put_place(out, lanes, agent, action)?;
@@ -200,7 +202,8 @@ fn put_arrow(out: &mut Vec<u8>, lanes: &[Lane], row: &Row) -> Result<(), AllocEr
 }
 
 fn put_arrows(out: &mut Vec<u8>, lanes: &[Lane], rows: &[Row]) -> Result<(), AllocError>
-    ensures { OnOk result (out.new.items ≡ out.old.items ++ flat_map (arrow_text lanes.now) rows.now) }
+    ensures { OnOk result (out.new.items ≡ out.old.items
+        ++ flat_map (arrow_text lanes.now) rows.now) }
 {
     for row in rows {
         put_arrow(out, lanes, row)?;
@@ -223,7 +226,8 @@ fn put_cross(out: &mut Vec<u8>, lanes: &[Lane], sender: Sender) -> Result<(), Al
 }
 
 fn put_crosses(out: &mut Vec<u8>, lanes: &[Lane], lost: &[Sender]) -> Result<(), AllocError>
-    ensures { OnOk result (out.new.items ≡ out.old.items ++ flat_map (cross_text lanes.now) lost.now) }
+    ensures { OnOk result (out.new.items ≡ out.old.items
+        ++ flat_map (cross_text lanes.now) lost.now) }
 {
     for sender in lost {
         put_cross(out, lanes, *sender)?;
@@ -299,7 +303,8 @@ fn put_row(out: &mut Vec<u8>, lanes: &[Lane], row: &Row) -> Result<(), AllocErro
 }
 
 fn put_rows(out: &mut Vec<u8>, lanes: &[Lane], rows: &[Row]) -> Result<(), AllocError>
-    ensures { OnOk result (out.new.items ≡ out.old.items ++ flat_map (row_text lanes.now) rows.now) }
+    ensures { OnOk result (out.new.items ≡ out.old.items
+        ++ flat_map (row_text lanes.now) rows.now) }
 {
     for row in rows {
         put_row(out, lanes, row)?;

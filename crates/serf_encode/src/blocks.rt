@@ -110,12 +110,17 @@ pub fn encode_blocks<R: Read, W: Write>(
     writer: &mut W,
 ) -> Result<Blocks, StreamFault<NeverBad>>
     // Just the answers to all blocks were written, each of which is its block's own.
-    ensures done { IfOk result (λ blocks. (bytes text : List ℕ) × Consumes (R.remaining reader.old) (R.remaining reader.new) bytes × IsAtEnd (R.remaining reader.new)
-        × (text_behind line_answer [] (lines_of bytes) ≡ Ok text) × Appends (W.contents writer.old) (W.contents writer.new) text
-        × (blocks.is_refused ≡ (reading_of (lines_of bytes)).is_refused) × (IsTrue blocks.is_cut ↔ 0 < length (reading_of (lines_of bytes)).block)) }
+    ensures done { IfOk result (λ blocks. (bytes text : List ℕ)
+        × Consumes (R.remaining reader.old) (R.remaining reader.new) bytes
+        × IsAtEnd (R.remaining reader.new) × (text_behind line_answer [] (lines_of bytes) ≡ Ok text)
+        × Appends (W.contents writer.old) (W.contents writer.new) text
+        × (blocks.is_refused ≡ (reading_of (lines_of bytes)).is_refused)
+        × (IsTrue blocks.is_cut ↔ 0 < length (reading_of (lines_of bytes)).block)) }
     // Of the lines that were read some were answered; what else is said of them depends on the fault.
-    ensures stopped { IfErr result (λ fault. (bytes : List ℕ) × Consumes (R.remaining reader.old) (R.remaining reader.new) bytes
-        × IsStopped line_answer fault (lines_of bytes) (W.contents writer.old) (W.contents writer.new)) }
+    ensures stopped { IfErr result (λ fault. (bytes : List ℕ)
+        × Consumes (R.remaining reader.old) (R.remaining reader.new) bytes
+        × IsStopped line_answer fault (lines_of bytes) (W.contents writer.old)
+        (W.contents writer.new)) }
 {
     let mut job = BlockLines {
         block: Vec::new(alloc),

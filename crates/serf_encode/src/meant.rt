@@ -91,7 +91,8 @@ fn take_text(
     row: &Row,
     name: &[u8],
 ) -> Result<(), AllocError>
-    ensures { OnOk result (texts.new.items ≡ texts.old.items ++ texts_at name.now (row_seen row.now ∷ [])) }
+    ensures { OnOk result (texts.new.items ≡ texts.old.items
+        ++ texts_at name.now (row_seen row.now ∷ [])) }
 {
     if !is_named(row, name) {
         return Ok(());

@@ -71,7 +71,8 @@ fn encode_answer(alloc: Global, rows: &[Row]) -> Result<Vec<u8>, EncodeFault>
 
 #[tactic(auto, unfolding(serf_wire::specs::Canonical::canonical, serf_wire::specs::Canonical::has_long))]
 fn encode_foreign(alloc: Global, rows: &[Row]) -> Result<Vec<u8>, EncodeFault>
-    ensures { IsPacketOf (λ p. p.items) result (foreign (number_at 255 (codes "foreign") (map row_seen rows.now))) }
+    ensures { IsPacketOf (λ p. p.items) result
+        (foreign (number_at 255 (codes "foreign") (map row_seen rows.now))) }
 {
     let kind = number_field(rows, b"foreign", 255) as u8;
     Ok(Vec::from_slice(alloc, &[kind])?)
@@ -81,7 +82,8 @@ fn encode_foreign(alloc: Global, rows: &[Row]) -> Result<Vec<u8>, EncodeFault>
 #[tactic(auto, unfolding(crate::specs::Meant::meant_by))]
 fn encode_kind(alloc: Global, kind: &[u8], rows: &[Row]) -> Option<Result<Vec<u8>, EncodeFault>>
     ensures { MatchOption result (meant_by kind.now (map row_seen rows.now) ≡ None)
-        (λ packet. (m : Message) × (meant_by kind.now (map row_seen rows.now) ≡ Some m) × IsPacketOf (λ p. p.items) packet m) }
+        (λ packet. (m : Message) × (meant_by kind.now (map row_seen rows.now) ≡ Some m)
+        × IsPacketOf (λ p. p.items) packet m) }
 {
     if kind == b"userEvent".as_slice() {
         Some(encode_event(alloc, rows))

@@ -26,7 +26,8 @@ pub(crate) struct Member {
 
 /// Puts the member that a line says behind the others.
 fn take_member(alloc: Global, members: &mut Vec<Member>, row: &Row) -> Result<(), AllocError>
-    ensures { OnOk result (map member_held members.new.items ≡ map member_held members.old.items ++ members_of (row_seen row.now ∷ [])) }
+    ensures { OnOk result (map member_held members.new.items ≡ map member_held members.old.items
+        ++ members_of (row_seen row.now ∷ [])) }
 {
     if !is_named(row, b"status") {
         return Ok(());
@@ -38,7 +39,8 @@ fn take_member(alloc: Global, members: &mut Vec<Member>, row: &Row) -> Result<()
 }
 
 fn members_in(alloc: Global, rows: &[Row]) -> Result<Vec<Member>, AllocError>
-    ensures { IfOk result (λ members. map member_held members.items ≡ members_of (map row_seen rows.now)) }
+    ensures { IfOk result (λ members. map member_held members.items
+        ≡ members_of (map row_seen rows.now)) }
 {
     let mut members = Vec::new(alloc);
     for row in rows {
@@ -48,7 +50,8 @@ fn members_in(alloc: Global, rows: &[Row]) -> Result<Vec<Member>, AllocError>
 }
 
 fn lend_members<'a>(alloc: Global, members: &'a [Member]) -> Result<Vec<StatusTime<'a>>, AllocError>
-    ensures { IfOk result (λ status. map status_of status.items ≡ map member_held members.entry.now) }
+    ensures { IfOk result (λ status. map status_of status.items
+        ≡ map member_held members.entry.now) }
 {
     let mut status = Vec::new(alloc);
     for member in members {
@@ -73,7 +76,8 @@ fn lend_texts<'a>(alloc: Global, texts: &'a [Bytes]) -> Result<Vec<&'a [u8]>, Al
 /// Puts an event into the last slot, where there is one.
 #[tactic(auto, using(crate::proofs::SlotLaws::last_changed))]
 fn add_event(slots: &mut Vec<Slot>, event: EventBody) -> Result<(), AllocError>
-    ensures { OnOk result (map slot_content slots.new.items ≡ on_last (with_event event) (map slot_content slots.old.items)) }
+    ensures { OnOk result (map slot_content slots.new.items
+        ≡ on_last (with_event event) (map slot_content slots.old.items)) }
 {
     let Some(mut slot) = slots.pop() else {
         return Ok(());
@@ -86,7 +90,8 @@ fn add_event(slots: &mut Vec<Slot>, event: EventBody) -> Result<(), AllocError>
 
 /// Takes what a line says of the slots.
 fn take_slot(alloc: Global, slots: &mut Vec<Slot>, row: &Row) -> Result<(), AllocError>
-    ensures { OnOk result (map slot_content slots.new.items ≡ after_row (map slot_content slots.old.items) (row_seen row.now)) }
+    ensures { OnOk result (map slot_content slots.new.items
+        ≡ after_row (map slot_content slots.old.items) (row_seen row.now)) }
 {
     if is_named(row, b"slot") {
         let time = time_in(row.second);
@@ -105,7 +110,8 @@ fn take_slot(alloc: Global, slots: &mut Vec<Slot>, row: &Row) -> Result<(), Allo
 }
 
 fn slots_in(alloc: Global, rows: &[Row]) -> Result<Vec<Slot>, AllocError>
-    ensures { IfOk result (λ slots. map slot_content slots.items ≡ slots_meant (map row_seen rows.now)) }
+    ensures { IfOk result (λ slots. map slot_content slots.items
+        ≡ slots_meant (map row_seen rows.now)) }
 {
     let mut slots = Vec::new(alloc);
     for row in rows {
@@ -123,7 +129,8 @@ fn write_push_pull(alloc: Global, parts: &PushPullParts) -> Result<Vec<u8>, Enco
 /// The packet of a push/pull.
 #[tactic(auto, unfolding(crate::specs::Meant::push_pull_meant))]
 pub(crate) fn encode_state(alloc: Global, rows: &[Row]) -> Result<Vec<u8>, EncodeFault>
-    ensures { IsPacketOf (λ p. p.items) result (push_pull (push_pull_meant (map row_seen rows.now))) }
+    ensures { IsPacketOf (λ p. p.items) result
+        (push_pull (push_pull_meant (map row_seen rows.now))) }
 {
     let members = members_in(alloc, rows)?;
     let status = lend_members(alloc, members.as_slice())?;

@@ -78,7 +78,8 @@ impl HandOut {
 
     /// Whether this event was handed to this agent.
     fn hands(&self, agent: u64, event: &Event) -> bool
-        ensures { result ≡ is_note agent event.now.time (event_of event.now.name.now event.now.payload.now) (note_in self.now) }
+        ensures { result ≡ is_note agent event.now.time
+            (event_of event.now.name.now event.now.payload.now) (note_in self.now) }
     {
         let (name, payload) = self.texts();
         self.agent == agent
@@ -98,7 +99,8 @@ pub(crate) struct HandOuts {
 
 /// The place of the first that hands this event to this agent.
 fn first_place(outs: &[HandOut], agent: u64, event: &Event) -> Option<usize>
-    ensures { result ≡ position (λ h. is_note agent event.now.time (event_of event.now.name.now event.now.payload.now) (note_in h)) outs.now }
+    ensures { result ≡ position (λ h. is_note agent event.now.time
+        (event_of event.now.name.now event.now.payload.now) (note_in h)) outs.now }
 {
     outs.iter().position(|out| out.hands(agent, event))
 }
@@ -126,7 +128,8 @@ impl HandOuts {
 
     /// Remembers an event that an action handed out.
     fn note(&mut self, alloc: Global, action: u64, event: &EventLine) -> Result<(), AllocError>
-        ensures { OnOk result (notes_in self.new.outs.items ≡ notes_in self.old.outs.items ++ note_of action event.now ∷ []) }
+        ensures { OnOk result (notes_in self.new.outs.items ≡ notes_in self.old.outs.items
+            ++ note_of action event.now ∷ []) }
     {
         let moment = Moment {
             agent: event.agent,
@@ -146,7 +149,8 @@ impl HandOuts {
         action: u64,
         line: &Line,
     ) -> Result<(), AllocError>
-        ensures { OnOk result (notes_in self.new.outs.items ≡ notes_in self.old.outs.items ++ map (note_of action) line.now.events) }
+        ensures { OnOk result (notes_in self.new.outs.items ≡ notes_in self.old.outs.items
+            ++ map (note_of action) line.now.events) }
     {
         for event in line.events.as_slice() {
             self.note(alloc, action, event)?;
@@ -156,7 +160,8 @@ impl HandOuts {
 
     /// The action that handed this event to this agent, if the hand-out at this place is that.
     fn action_at(&self, place: usize, agent: u64, event: &Event) -> Option<u64>
-        ensures { IfSome result (λ n. NotedAt (notes_in self.now.outs.items) n agent event.now.time (event_of event.now.name.now event.now.payload.now)) }
+        ensures { IfSome result (λ n. NotedAt (notes_in self.now.outs.items) n agent event.now.time
+            (event_of event.now.name.now event.now.payload.now)) }
     {
         match hand_out_at(&self.outs, place) {
             Some(out) => {
@@ -172,7 +177,8 @@ impl HandOuts {
 
     /// The last action that handed this event to this agent, found by its time.
     pub(crate) fn last_of(&self, agent: u64, event: &Event) -> Option<u64>
-        ensures { IfSome result (λ n. NotedAt (notes_in self.now.outs.items) n agent event.now.time (event_of event.now.name.now event.now.payload.now)) }
+        ensures { IfSome result (λ n. NotedAt (notes_in self.now.outs.items) n agent event.now.time
+            (event_of event.now.name.now event.now.payload.now)) }
     {
         let moment = Moment {
             agent,
@@ -192,7 +198,8 @@ impl HandOuts {
 
     /// The first action that handed this event to this agent, found in the list of all.
     fn first_of(&self, agent: u64, event: &Event) -> Option<u64>
-        ensures { IsNoted (notes_in self.now.outs.items) agent event.now.time (event_of event.now.name.now event.now.payload.now) result }
+        ensures { IsNoted (notes_in self.now.outs.items)
+            agent event.now.time (event_of event.now.name.now event.now.payload.now) result }
     {
         match first_place(&self.outs, agent, event) {
             Some(place) => match hand_out_at(&self.outs, place) {
@@ -205,8 +212,11 @@ impl HandOuts {
 
     /// An action that handed this event to this agent.
     pub(crate) fn action_of(&self, agent: u64, event: &Event) -> u64
-        requires { list_any (is_note agent event.now.time (event_of event.now.name.now event.now.payload.now)) (notes_in self.now.outs.items) ≡ true }
-        ensures { NotedAt (notes_in self.now.outs.items) result agent event.now.time (event_of event.now.name.now event.now.payload.now) }
+        requires { list_any
+            (is_note agent event.now.time (event_of event.now.name.now event.now.payload.now))
+            (notes_in self.now.outs.items) ≡ true }
+        ensures { NotedAt (notes_in self.now.outs.items) result agent event.now.time
+            (event_of event.now.name.now event.now.payload.now) }
     {
         match self.last_of(agent, event) {
             Some(action) => action,

@@ -36,7 +36,8 @@ impl History {
         action: &Action,
         line: &Line,
     ) -> Result<(), AllocError>
-        ensures { OnOk result (notes_in self.new.hand_outs.outs.items ≡ notes_in self.old.hand_outs.outs.items ++ map (note_of number) line.now.events) }
+        ensures { OnOk result (notes_in self.new.hand_outs.outs.items
+            ≡ notes_in self.old.hand_outs.outs.items ++ map (note_of number) line.now.events) }
     {
         self.memory.note(alloc, world, number, action, line)?;
         self.hand_outs.note_all(alloc, number, line)

@@ -25,8 +25,12 @@ use std::io::{Read, Write};
 
 /// Appends an action's lines and those of its reasons.
 fn put_shown(alloc: Global, out: &mut Vec<u8>, told: &Told) -> Result<(), AllocError>
-    requires { KnowsSeen (notes_in told.now.past.now.outs.items) told.now.world.now.sent told.now.action.now told.now.line.now }
-    ensures { OnOk result (AddsTurn (TellsAll true (reasons_in told.now.carried.now) (notes_in told.now.past.now.outs.items) told.now.world.now told.now.action.now told.now.line.now) true told.now.world.now.sent told.now.number told.now.line.now out.old.items out.new.items) }
+    requires { KnowsSeen (notes_in told.now.past.now.outs.items)
+        told.now.world.now.sent told.now.action.now told.now.line.now }
+    ensures { OnOk result (AddsTurn
+        (TellsAll true (reasons_in told.now.carried.now) (notes_in told.now.past.now.outs.items)
+        told.now.world.now told.now.action.now told.now.line.now) true told.now.world.now.sent
+        told.now.number told.now.line.now out.old.items out.new.items) }
 {
     put_action(out, told.world.sent(), told.number, told.line)?;
     put_reasons(alloc, out, told)
@@ -34,13 +38,20 @@ fn put_shown(alloc: Global, out: &mut Vec<u8>, told: &Told) -> Result<(), AllocE
 
 /// Appends nothing.
 fn put_nothing(out: &mut Vec<u8>, told: &Told)
-    ensures { AddsTurn (TellsAll false (reasons_in told.now.carried.now) (notes_in told.now.past.now.outs.items) told.now.world.now told.now.action.now told.now.line.now) false told.now.world.now.sent told.now.number told.now.line.now out.old.items out.new.items }
+    ensures { AddsTurn
+        (TellsAll false (reasons_in told.now.carried.now) (notes_in told.now.past.now.outs.items)
+        told.now.world.now told.now.action.now told.now.line.now) false told.now.world.now.sent
+        told.now.number told.now.line.now out.old.items out.new.items }
 {}
 
 /// Appends what is shown of an action: its lines and those of its reasons, or nothing.
 fn put_turn(alloc: Global, out: &mut Vec<u8>, is_shown: bool, told: &Told) -> Result<(), AllocError>
-    requires { KnowsSeen (notes_in told.now.past.now.outs.items) told.now.world.now.sent told.now.action.now told.now.line.now }
-    ensures { OnOk result (AddsTurn (TellsAll is_shown (reasons_in told.now.carried.now) (notes_in told.now.past.now.outs.items) told.now.world.now told.now.action.now told.now.line.now) is_shown told.now.world.now.sent told.now.number told.now.line.now out.old.items out.new.items) }
+    requires { KnowsSeen (notes_in told.now.past.now.outs.items)
+        told.now.world.now.sent told.now.action.now told.now.line.now }
+    ensures { OnOk result (AddsTurn
+        (TellsAll is_shown (reasons_in told.now.carried.now) (notes_in told.now.past.now.outs.items)
+        told.now.world.now told.now.action.now told.now.line.now) is_shown told.now.world.now.sent
+        told.now.number told.now.line.now out.old.items out.new.items) }
 {
     match is_shown {
         true => put_shown(alloc, out, told),
@@ -61,8 +72,14 @@ fn add_turn(
     number: u64,
     action: &Action,
 ) -> Result<(), AllocError>
-    requires { (configs : List Config) × (done : List Action) × HasTold range.now configs done world.old (notes_in history.old.hand_outs.outs.items) out.old.items }
-    ensures { (configs : List Config) (done : List Action) → HasTold range.now configs done world.old (notes_in history.old.hand_outs.outs.items) out.old.items → number ≡ length done + 1 → OnOk result (HasTold range.now configs (done ++ action.now ∷ []) world.new (notes_in history.new.hand_outs.outs.items) out.new.items) }
+    requires { (configs : List Config) × (done : List Action)
+        × HasTold range.now configs done world.old
+        (notes_in history.old.hand_outs.outs.items) out.old.items }
+    ensures { (configs : List Config) (done : List Action) → HasTold range.now configs done
+        world.old (notes_in history.old.hand_outs.outs.items) out.old.items
+        → number ≡ length done + 1
+        → OnOk result (HasTold range.now configs (done ++ action.now ∷ []) world.new
+        (notes_in history.new.hand_outs.outs.items) out.new.items) }
 {
     lines_stay();
     run_promises();
@@ -95,8 +112,14 @@ fn take_turn(
     number: u64,
     action: Action,
 ) -> Result<(), AllocError>
-    requires { (configs : List Config) × (done : List Action) × HasTold range.now configs done world.old (notes_in history.old.hand_outs.outs.items) out.old.items }
-    ensures { (configs : List Config) (done : List Action) → HasTold range.now configs done world.old (notes_in history.old.hand_outs.outs.items) out.old.items → number ≡ length done + 1 → OnOk result (HasTold range.now configs (done ++ action ∷ []) world.new (notes_in history.new.hand_outs.outs.items) out.new.items) }
+    requires { (configs : List Config) × (done : List Action)
+        × HasTold range.now configs done world.old
+        (notes_in history.old.hand_outs.outs.items) out.old.items }
+    ensures { (configs : List Config) (done : List Action) → HasTold range.now configs done
+        world.old (notes_in history.old.hand_outs.outs.items) out.old.items
+        → number ≡ length done + 1
+        → OnOk result (HasTold range.now configs (done ++ action ∷ []) world.new
+        (notes_in history.new.hand_outs.outs.items) out.new.items) }
 {
     add_turn(alloc, world, history, out, range, number, &action)
 }
@@ -108,7 +131,8 @@ fn run_text<T: Watch>(
     range: &Range,
     watch: &mut T,
 ) -> Result<Vec<u8>, AllocError>
-    ensures { IfOk result (λ text. TellsRun range.now schedule.agents schedule.actions.items text.items) }
+    ensures { IfOk result (λ text.
+        TellsRun range.now schedule.agents schedule.actions.items text.items) }
 {
     let Schedule { agents, actions } = schedule;
     let count = agents.as_slice().len();
@@ -141,7 +165,9 @@ fn output_text<T: Watch>(
     watch: &mut T,
 ) -> Result<(Vec<u8>, u64), ScheduleFault>
     ensures text { IfOk result (λ made. Explains range.now input.items made.0.items made.1) }
-    ensures bad_line { (line : ℕ) (cause : Cause) → IsErrOf result (ScheduleFault.BadLine line cause) → output_of input.items ≡ Err (record { line = line; cause = cause }) }
+    ensures bad_line { (line : ℕ) (cause : Cause)
+        → IsErrOf result (ScheduleFault.BadLine line cause)
+        → output_of input.items ≡ Err (record { line = line; cause = cause }) }
 {
     let schedule = parse_schedule(alloc, &input)?;
     drop(input);
@@ -181,9 +207,11 @@ pub fn explain<R: Read, W: Write, T: Watch>(
         → IfSome (R.remaining reader.old) (λ input. (text : List ℕ) × (count : ℕ)
         × Explains range.now input text count × (length input ≤ MAX_SCHEDULE_BYTES)
         × AppendsFront (W.contents writer.old) (W.contents writer.new) text) }
-    ensures nothing { IfErr result (λ fault. (fault ≡ ReplayFault.WriteFault → ⊥) → writer.new ≡ writer.old) }
+    ensures nothing { IfErr result (λ fault. (fault ≡ ReplayFault.WriteFault → ⊥)
+        → writer.new ≡ writer.old) }
     // At most one byte more than the greatest length is read.
-    ensures bounded { (bytes : List ℕ) × Consumes (R.remaining reader.old) (R.remaining reader.new) bytes
+    ensures bounded { (bytes : List ℕ)
+        × Consumes (R.remaining reader.old) (R.remaining reader.new) bytes
         × (length bytes ≤ MAX_SCHEDULE_BYTES + 1) }
 {
     let input = read_input(alloc, reader).map_err(|fault| match fault {

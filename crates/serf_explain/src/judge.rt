@@ -84,8 +84,8 @@ impl Judge {
         clock: u64,
         is_join: bool,
     ) -> Result<Judge, AllocError>
-        ensures { (i : IdealAgent) (m : PushPull) → IsSound i → agent.now.concrete ≡ view_of i → m.event_clock ≡ clock
-            → IfOk result (IsJudging i (joined m is_join i)) }
+        ensures { (i : IdealAgent) (m : PushPull) → IsSound i → agent.now.concrete ≡ view_of i
+            → m.event_clock ≡ clock → IfOk result (IsJudging i (joined m is_join i)) }
     {
         let config = agent.config();
         let Ok(entered) = Window::new(alloc, config.event_buffer, config.per_time) else {
@@ -102,7 +102,9 @@ impl Judge {
 
     /// Whether as many events of a time as are taken entered before the merge and in it.
     fn is_full(&self, agent: &Agent<MemSink>, time: u64) -> bool
-        ensures { result ≡ nat_le (agent.now.concrete.config.per_time - count_in agent.now.concrete.events.slots time) (count_in self.now.entered.slots time) }
+        ensures { result ≡ nat_le
+            (agent.now.concrete.config.per_time - count_in agent.now.concrete.events.slots time)
+            (count_in self.now.entered.slots time) }
     {
         let before = count_of(agent.slots(), time) as u64;
         let left = agent.config().per_time.saturating_sub(before);
@@ -111,9 +113,11 @@ impl Judge {
 
     /// Why the next event of the merge is ignored; `None` where it is new.
     fn reason(&self, agent: &Agent<MemSink>, time: Time, event: &EventView) -> Option<Reason>
-        ensures reason { (i j : IdealAgent) → IsSound i → agent.now.concrete ≡ view_of i → IsJudging i j self.now → result ≡ admission j time (event_of_view event.now) }
+        ensures reason { (i j : IdealAgent) → IsSound i → agent.now.concrete ≡ view_of i
+            → IsJudging i j self.now → result ≡ admission j time (event_of_view event.now) }
         ensures not_later { result ≡ None → time_in self.now.entered.slots time ≤ time }
-        ensures not_full { result ≡ None → count_in self.now.entered.slots time < self.now.entered.per_time }
+        ensures not_full { result ≡ None
+            → count_in self.now.entered.slots time < self.now.entered.per_time }
     {
         slot_laws();
         let texts = event.name.len().saturating_add(event.payload.len());
@@ -134,8 +138,11 @@ impl Judge {
         time: Time,
         event: &EventView,
     ) -> Result<Option<Reason>, AllocError>
-        ensures { (i j : IdealAgent) → IsSound i → agent.now.concrete ≡ view_of i → IsJudging i j self.old
-            → IfOk result (λ reason. (reason ≡ admission j time (event_of_view event.now)) × IsJudging i (after_event j (record { time = time; key = event_of_view event.now })) self.new) }
+        ensures { (i j : IdealAgent) → IsSound i → agent.now.concrete ≡ view_of i
+            → IsJudging i j self.old
+            → IfOk result (λ reason. (reason ≡ admission j time (event_of_view event.now))
+            × IsJudging i (after_event j (record { time = time; key = event_of_view event.now }))
+            self.new) }
     {
         slot_laws();
         match self.reason(agent, time, event) {
@@ -165,8 +172,10 @@ impl Judge {
         ensures clock { OnOk result (self.new.clock ≡ observed self.old.clock time) }
         ensures minimum { OnOk result (self.new.minimum ≡ self.old.minimum) }
         ensures per_time { OnOk result (self.new.entered.per_time ≡ self.old.entered.per_time) }
-        ensures slots { OnOk result ((entries : List (TimedEntry EventBody)) → self.old.entered.slots ≡ slots_of (length self.old.entered.slots) entries
-            → self.new.entered.slots ≡ slots_of (length self.old.entered.slots) (entries ++ record { time = time; key = event_of_view event.now } ∷ [])) }
+        ensures slots { OnOk result ((entries : List (TimedEntry EventBody))
+            → self.old.entered.slots ≡ slots_of (length self.old.entered.slots) entries
+            → self.new.entered.slots ≡ slots_of (length self.old.entered.slots) (entries
+            ++ record { time = time; key = event_of_view event.now } ∷ [])) }
     {
         let entry = self.entered.prepare(alloc, time, event)?;
         self.entered.enter(entry);

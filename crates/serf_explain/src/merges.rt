@@ -74,7 +74,8 @@ fn put_carried(
     verdict: Option<Reason>,
     detail: &[u8],
 ) -> Result<(), AllocError>
-    ensures { OnOk result (out.new.items ≡ out.old.items ++ carried_words slot time (event_of_view event.now) verdict detail.now) }
+    ensures { OnOk result (out.new.items ≡ out.old.items
+        ++ carried_words slot time (event_of_view event.now) verdict detail.now) }
 {
     put_slot_words(out, slot)?;
     put_event(out, time, event.name, event.payload)?;
@@ -150,7 +151,9 @@ fn add_carried(
     verdict: Option<Reason>,
     detail: &[u8],
 ) -> Result<(), AllocError>
-    ensures { (e : IdealAgent) → verdict ≡ admission e time (event_of_view event.now) → OnOk result (AddsLines (record { time = time; key = event_of_view event.now } ∷ []) e lines.old.items lines.new.items) }
+    ensures { (e : IdealAgent) → verdict ≡ admission e time (event_of_view event.now)
+        → OnOk result (AddsLines (record { time = time; key = event_of_view event.now } ∷ []) e
+        lines.old.items lines.new.items) }
 {
     let mut reason = Vec::with_capacity(alloc, 96)?;
     put_carried(&mut reason, slot, time, event, verdict, detail)?;
@@ -171,8 +174,14 @@ fn add_event(
     time: Time,
     event: &EventView,
 ) -> Result<(), AllocError>
-    ensures lines { (i j : IdealAgent) → IsSound i → merging.now.agent.now.concrete ≡ view_of i → IsJudging i j judge.old → OnOk result (AddsLines (record { time = time; key = event_of_view event.now } ∷ []) j lines.old.items lines.new.items) }
-    ensures judging { (i j : IdealAgent) → IsSound i → merging.now.agent.now.concrete ≡ view_of i → IsJudging i j judge.old → OnOk result (IsJudging i (after_event j (record { time = time; key = event_of_view event.now })) judge.new) }
+    ensures lines { (i j : IdealAgent) → IsSound i → merging.now.agent.now.concrete ≡ view_of i
+        → IsJudging i j judge.old
+        → OnOk result (AddsLines (record { time = time; key = event_of_view event.now } ∷ []) j
+        lines.old.items lines.new.items) }
+    ensures judging { (i j : IdealAgent) → IsSound i → merging.now.agent.now.concrete ≡ view_of i
+        → IsJudging i j judge.old
+        → OnOk result (IsJudging i
+        (after_event j (record { time = time; key = event_of_view event.now })) judge.new) }
 {
     let verdict = judge.judge(alloc, merging.agent, time, event)?;
     let lying = Event {
@@ -194,7 +203,10 @@ fn add_events(
     time: Time,
     events: EventViews,
 ) -> Result<(), AllocError>
-    ensures { (i j : IdealAgent) → IsSound i → merging.now.agent.now.concrete ≡ view_of i → IsJudging i j judge.old → OnOk result (HasJudged i j (at_time time (events_left events.entry)) [] lines.old.items lines.new.items judge.new) }
+    ensures { (i j : IdealAgent) → IsSound i → merging.now.agent.now.concrete ≡ view_of i
+        → IsJudging i j judge.old
+        → OnOk result (HasJudged i j (at_time time (events_left events.entry))
+        [] lines.old.items lines.new.items judge.new) }
 {
     for event in events {
         add_event(alloc, merging, judge, lines, slot, time, &event)?;
@@ -211,7 +223,10 @@ fn add_slot(
     slot: u64,
     content: &SlotView,
 ) -> Result<(), AllocError>
-    ensures { (i j : IdealAgent) → IsSound i → merging.now.agent.now.concrete ≡ view_of i → IsJudging i j judge.old → OnOk result (HasJudged i j (events_of_slot (slot_of_view content.now)) [] lines.old.items lines.new.items judge.new) }
+    ensures { (i j : IdealAgent) → IsSound i → merging.now.agent.now.concrete ≡ view_of i
+        → IsJudging i j judge.old
+        → OnOk result (HasJudged i j (events_of_slot (slot_of_view content.now))
+        [] lines.old.items lines.new.items judge.new) }
 {
     match *content {
         SlotView::Held(time, events) => {
@@ -229,7 +244,10 @@ fn add_slots(
     lines: &mut Vec<Carried>,
     slots: SlotViews,
 ) -> Result<(), AllocError>
-    ensures { (i j : IdealAgent) → IsSound i → merging.now.agent.now.concrete ≡ view_of i → IsJudging i j judge.old → OnOk result (HasJudged i j (events_of (slots_left slots.entry)) [] lines.old.items lines.new.items judge.new) }
+    ensures { (i j : IdealAgent) → IsSound i → merging.now.agent.now.concrete ≡ view_of i
+        → IsJudging i j judge.old
+        → OnOk result (HasJudged i j (events_of (slots_left slots.entry))
+        [] lines.old.items lines.new.items judge.new) }
 {
     let mut slot: u64 = 0;
     for content in slots {
@@ -247,7 +265,9 @@ pub(crate) fn carried_lines(
     slots: SlotViews,
     is_join: bool,
 ) -> Result<Vec<Carried>, AllocError>
-    ensures { IfOk result (λ lines. (i : IdealAgent) (m : PushPull) → IsSound i → merging.now.agent.now.concrete ≡ view_of i → m.event_clock ≡ event_clock → m.slots ≡ slots_left slots.entry
+    ensures { IfOk result (λ lines. (i : IdealAgent) (m : PushPull) → IsSound i
+        → merging.now.agent.now.concrete ≡ view_of i → m.event_clock ≡ event_clock
+        → m.slots ≡ slots_left slots.entry
         → AreCarried (events_of m.slots) (joined m is_join i) (reasons_in lines.items)) }
 {
     let mut judge = Judge::new(alloc, merging.agent, event_clock, is_join)?;

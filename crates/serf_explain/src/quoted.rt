@@ -108,7 +108,8 @@ pub(crate) fn put_event(
     name: &[u8],
     payload: &[u8],
 ) -> Result<(), AllocError>
-    ensures { OnOk result (out.new.items ≡ out.old.items ++ event_words time (event_of name.now payload.now)) }
+    ensures { OnOk result (out.new.items ≡ out.old.items
+        ++ event_words time (event_of name.now payload.now)) }
 {
     out.extend_from_slice(b"event ")?;
     put_number(out, time)?;

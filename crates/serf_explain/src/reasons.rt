@@ -44,7 +44,8 @@ fn message_lines(
     message: &Message,
     is_join: bool,
 ) -> Result<Vec<Carried>, AllocError>
-    ensures { IfOk result (λ lines. (i : IdealAgent) (p : PushPull) → IsSound i → merging.now.agent.now.concrete ≡ view_of i → message_of message.now ≡ push_pull p
+    ensures { IfOk result (λ lines. (i : IdealAgent) (p : PushPull) → IsSound i
+        → merging.now.agent.now.concrete ≡ view_of i → message_of message.now ≡ push_pull p
         → AreCarried (events_of p.slots) (joined p is_join i) (reasons_in lines.items)) }
 {
     match *message {
@@ -67,7 +68,8 @@ fn packet_lines(
     packet: &[u8],
     is_join: bool,
 ) -> Result<Vec<Carried>, AllocError>
-    ensures { IfOk result (λ lines. (i : IdealAgent) (p : PushPull) → IsSound i → merging.now.agent.now.concrete ≡ view_of i → decoded packet.now ≡ Ok (push_pull p)
+    ensures { IfOk result (λ lines. (i : IdealAgent) (p : PushPull) → IsSound i
+        → merging.now.agent.now.concrete ≡ view_of i → decoded packet.now ≡ Ok (push_pull p)
         → AreCarried (events_of p.slots) (joined p is_join i) (reasons_in lines.items)) }
 {
     match decode(packet) {
@@ -105,7 +107,8 @@ pub(crate) fn lines_before(
     number: u64,
     action: &Action,
 ) -> Result<Vec<Carried>, AllocError>
-    ensures { (c : Cluster) → IsViewed c world.now → AreRepresentable c → IfOk result (λ lines. TellsMerge c action.now (reasons_in lines.items)) }
+    ensures { (c : Cluster) → IsViewed c world.now → AreRepresentable c
+        → IfOk result (λ lines. TellsMerge c action.now (reasons_in lines.items)) }
 {
     let Action::Merge { to, packet, join } = action else {
         return Ok(Vec::new(alloc));
@@ -130,7 +133,8 @@ pub(crate) fn put_lone(alloc: Global, out: &mut Vec<u8>, told: &Told) -> Result<
 
 /// Appends the lines of what is told of events.
 fn put_lines(out: &mut Vec<u8>, number: u64, carried: &[Carried]) -> Result<(), AllocError>
-    ensures { OnOk result (out.new.items ≡ out.old.items ++ flat_map (because_line number) (reasons_in carried.now)) }
+    ensures { OnOk result (out.new.items ≡ out.old.items
+        ++ flat_map (because_line number) (reasons_in carried.now)) }
 {
     for line in carried {
         put_because(out, number, &line.reason)?;
@@ -140,7 +144,8 @@ fn put_lines(out: &mut Vec<u8>, number: u64, carried: &[Carried]) -> Result<(), 
 
 /// Appends a line for each event that a merged state carries; a line that says so where it carries none.
 fn put_merged(out: &mut Vec<u8>, number: u64, carried: &[Carried]) -> Result<(), AllocError>
-    ensures { OnOk result (AddsSuch (TellsMerged (reasons_in carried.now)) number out.old.items out.new.items) }
+    ensures { OnOk result
+        (AddsSuch (TellsMerged (reasons_in carried.now)) number out.old.items out.new.items) }
 {
     if carried.len() == 0 {
         return put_because(out, number, b"the state carries no event");
@@ -209,8 +214,12 @@ fn put_unmerged(alloc: Global, out: &mut Vec<u8>, told: &Told) -> Result<(), All
 
 /// Appends a line for each reason of an action: one at least.
 pub(crate) fn put_reasons(alloc: Global, out: &mut Vec<u8>, told: &Told) -> Result<(), AllocError>
-    requires { KnowsSeen (notes_in told.now.past.now.outs.items) told.now.world.now.sent told.now.action.now told.now.line.now }
-    ensures { OnOk result (AddsSuch (TellsAll true (reasons_in told.now.carried.now) (notes_in told.now.past.now.outs.items) told.now.world.now told.now.action.now told.now.line.now) told.now.number out.old.items out.new.items) }
+    requires { KnowsSeen (notes_in told.now.past.now.outs.items)
+        told.now.world.now.sent told.now.action.now told.now.line.now }
+    ensures { OnOk result (AddsSuch
+        (TellsAll true (reasons_in told.now.carried.now) (notes_in told.now.past.now.outs.items)
+        told.now.world.now told.now.action.now told.now.line.now)
+        told.now.number out.old.items out.new.items) }
 {
     match told.line.answer {
         Answer::Merged => put_merged(out, told.number, told.carried),

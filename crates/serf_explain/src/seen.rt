@@ -63,7 +63,8 @@ fn event_in(packet: &[u8]) -> Option<Event<'_>>
 
 /// The event that an action delivers.
 fn seen_event<'a>(told: &Told<'a>) -> Option<Delivered<'a>>
-    ensures { option_map delivered_as result ≡ event_delivered told.now.world.now.sent told.now.action.now }
+    ensures { option_map delivered_as result
+        ≡ event_delivered told.now.world.now.sent told.now.action.now }
 {
     let Action::Deliver { to, packet, .. } = told.action else {
         return None;
@@ -80,7 +81,8 @@ fn put_noted_words(
     event: &Event,
     number: u64,
 ) -> Result<(), AllocError>
-    ensures { OnOk result (out.new.items ≡ out.old.items ++ noted_words name.now event.now.time (event_of event.now.name.now event.now.payload.now) number) }
+    ensures { OnOk result (out.new.items ≡ out.old.items ++ noted_words name.now event.now.time
+        (event_of event.now.name.now event.now.payload.now) number) }
 {
     put_quoted(out, name)?;
     out.extend_from_slice(b" was handed ")?;
@@ -101,8 +103,11 @@ fn name_of<'a>(told: &Told<'a>, agent: u64) -> &'a [u8]
 
 /// Which action handed this event to its agent before.
 fn seen_reason(alloc: Global, told: &Told, of: &Delivered) -> Result<Vec<u8>, AllocError>
-    requires { list_any (is_note of.now.to of.now.event.time (event_of of.now.event.name.now of.now.event.payload.now)) (notes_in told.now.past.now.outs.items) ≡ true }
-    ensures { IfOk result (λ reason. NamesNote (notes_in told.now.past.now.outs.items) (name_at told.now.world.now of.now.to) of.now.to of.now.event.time (event_of of.now.event.name.now of.now.event.payload.now) reason.items) }
+    requires { list_any (is_note of.now.to of.now.event.time (event_of of.now.event.name.now
+        of.now.event.payload.now)) (notes_in told.now.past.now.outs.items) ≡ true }
+    ensures { IfOk result (λ reason. NamesNote (notes_in told.now.past.now.outs.items)
+        (name_at told.now.world.now of.now.to) of.now.to of.now.event.time
+        (event_of of.now.event.name.now of.now.event.payload.now) reason.items) }
 {
     let number = told.past.action_of(of.to, &of.event);
     let mut reason = Vec::with_capacity(alloc, USUAL_BYTES)?;
@@ -117,8 +122,12 @@ fn put_seen_event(
     told: &Told,
     of: &Delivered,
 ) -> Result<(), AllocError>
-    requires { list_any (is_note of.now.to of.now.event.time (event_of of.now.event.name.now of.now.event.payload.now)) (notes_in told.now.past.now.outs.items) ≡ true }
-    ensures { OnOk result (AddsSuch (λ reasons. (reason : List ℕ) × (reasons ≡ reason ∷ []) × NamesNote (notes_in told.now.past.now.outs.items) (name_at told.now.world.now of.now.to) of.now.to of.now.event.time (event_of of.now.event.name.now of.now.event.payload.now) reason) told.now.number out.old.items out.new.items) }
+    requires { list_any (is_note of.now.to of.now.event.time (event_of of.now.event.name.now
+        of.now.event.payload.now)) (notes_in told.now.past.now.outs.items) ≡ true }
+    ensures { OnOk result (AddsSuch (λ reasons. (reason : List ℕ) × (reasons ≡ reason ∷ [])
+        × NamesNote (notes_in told.now.past.now.outs.items) (name_at told.now.world.now of.now.to)
+        of.now.to of.now.event.time (event_of of.now.event.name.now of.now.event.payload.now)
+        reason) told.now.number out.old.items out.new.items) }
 {
     let reason = seen_reason(alloc, told, of)?;
     put_because(out, told.number, &reason)
@@ -126,8 +135,11 @@ fn put_seen_event(
 
 /// Appends the line of a delivery that was ignored as seen: of an event, which action handed it to its agent before.
 pub(crate) fn put_seen(alloc: Global, out: &mut Vec<u8>, told: &Told) -> Result<(), AllocError>
-    requires { IsKnown (notes_in told.now.past.now.outs.items) told.now.world.now.sent told.now.action.now }
-    ensures { OnOk result (AddsSuch (OfNoted (notes_in told.now.past.now.outs.items) told.now.world.now told.now.action.now) told.now.number out.old.items out.new.items) }
+    requires { IsKnown (notes_in told.now.past.now.outs.items)
+        told.now.world.now.sent told.now.action.now }
+    ensures { OnOk result (AddsSuch
+        (OfNoted (notes_in told.now.past.now.outs.items) told.now.world.now told.now.action.now)
+        told.now.number out.old.items out.new.items) }
 {
     match seen_event(told) {
         Some(of) => put_seen_event(alloc, out, told, &of),

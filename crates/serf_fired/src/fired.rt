@@ -29,7 +29,8 @@ fn content_key(entry: &EventEntry) -> ContentKey<'_>
 
 /// Whether no line up to this one is noted for an event.
 fn is_first(lines: &HashMap<ContentKey, u64>, key: &ContentKey, line: u64) -> bool
-    ensures { MatchOption (get content_key_eq lines.now key.now) (result ≡ true) (λ noted. result ≡ nat_lt line noted) }
+    ensures { MatchOption (get content_key_eq lines.now key.now) (result ≡ true)
+        (λ noted. result ≡ nat_lt line noted) }
 {
     match lines.get(key) {
         Some(noted) => line < *noted,
@@ -42,7 +43,9 @@ fn note<'a>(
     lines: &mut HashMap<ContentKey<'a>, u64>,
     entry: &'a EventEntry,
 ) -> Result<(), AllocError>
-    ensures { (fired : List Entry) (n : ℕ) → NotesLines fired n (λ q. get content_key_eq lines.old q) → slice_get fired n ≡ Some entry.entry.now
+    ensures { (fired : List Entry) (n : ℕ)
+        → NotesLines fired n (λ q. get content_key_eq lines.old q)
+        → slice_get fired n ≡ Some entry.entry.now
         → OnOk result (NotesLines fired (n + 1) (λ q. get content_key_eq lines.new q)) }
 {
     let key = content_key(entry);
@@ -71,7 +74,8 @@ fn first_lines<'a>(
 
 /// Whether an event that was handed out was fired on an earlier line.
 fn is_fired(lines: &HashMap<ContentKey, u64>, event: &EventEntry) -> bool
-    ensures { (fired : List Entry) → AreFirstLines fired lines.now → IsTrue result ↔ IsFiredBefore fired event.now }
+    ensures { (fired : List Entry) → AreFirstLines fired lines.now
+        → IsTrue result ↔ IsFiredBefore fired event.now }
 {
     let key = content_key(event);
     match lines.get(&key) {
@@ -89,7 +93,8 @@ pub fn first_unfired(
     fired: &[EventEntry],
     events: &[EventEntry],
 ) -> Result<Option<usize>, AllocError>
-    ensures { IfOk result (λ place. MatchOption place (AreAllFired fired.now events.now) (IsFirstUnfired fired.now events.now)) }
+    ensures { IfOk result (λ place. MatchOption place (AreAllFired fired.now events.now)
+        (IsFirstUnfired fired.now events.now)) }
 {
     let lines = first_lines(alloc, fired)?;
     for (place, event) in events.iter().enumerate() {

@@ -54,8 +54,8 @@ fn hold_configs<R: Read, W: Write>(
     actions: &[Action],
     trace: &Trace,
 ) -> Result<Held, ConformFault>
-    ensures { IfOk result (λ held. IfSome (R.remaining reader.old) (λ input. Sweeps
-        (sweep_from (is_serf rules) (turns_of actions.now (outcome_of trace.now)) 0 0 [] configs.now input)
+    ensures { IfOk result (λ held. IfSome (R.remaining reader.old) (λ input. Sweeps (sweep_from
+        (is_serf rules) (turns_of actions.now (outcome_of trace.now)) 0 0 [] configs.now input)
         held (R.remaining reader.new) (W.contents writer.old) (W.contents writer.new))) }
 {
     let mut left = configs;
@@ -90,8 +90,10 @@ pub fn hold_each<R: Read, W: Write>(
     rules: Rules,
     case: &Case,
 ) -> Result<Held, ConformFault>
-    ensures { (p : Parsed) → IsRunOf p case.now → IfOk result (λ held. IfSome (R.remaining reader.old) (λ input. Sweeps
-        (sweep (is_serf rules) p input) held (R.remaining reader.new) (W.contents writer.old) (W.contents writer.new))) }
+    ensures { (p : Parsed) → IsRunOf p case.now
+        → IfOk result (λ held.
+        IfSome (R.remaining reader.old) (λ input. Sweeps (sweep (is_serf rules) p input)
+        held (R.remaining reader.new) (W.contents writer.old) (W.contents writer.new))) }
 {
     hold_configs(
         alloc,

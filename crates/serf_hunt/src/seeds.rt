@@ -47,8 +47,9 @@ fn hold_seed<M: Maker, R: Read, W: Write>(
     rules: Rules,
     seed: u64,
 ) -> Result<Held, ConformFault>
-    ensures { IfOk result (λ held. IfSome (R.remaining reader.old) (λ input. HoldsSeed (M.makes maker.now seed) (is_serf rules) input held
-        (R.remaining reader.new) (W.contents writer.old) (W.contents writer.new))) }
+    ensures { IfOk result (λ held.
+        IfSome (R.remaining reader.old) (λ input. HoldsSeed (M.makes maker.now seed) (is_serf rules)
+        input held (R.remaining reader.new) (W.contents writer.old) (W.contents writer.new))) }
 {
     let Ok(schedule) = maker.make(alloc, seed) else {
         return Err(ConformFault::OutOfMemory);

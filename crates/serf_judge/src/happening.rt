@@ -103,7 +103,8 @@ fn event_in(
     count: usize,
 ) -> Result<Happening, LineFault<Cause>>
     requires { (1 ≤ place) × (place + 3 ≤ count) }
-    ensures said { Says happening_view result (of_count count (map (λ w. w.now) words.now) (event_line place (map (λ w. w.now) words.now) (λ e. event e))) }
+    ensures said { Says happening_view result (of_count count (map (λ w. w.now) words.now)
+        (event_line place (map (λ w. w.now) words.now) (λ e. event e))) }
     ensures line { IfOk result (IsAt line) }
 {
     if words.len() != count {
@@ -117,7 +118,8 @@ fn event_in(
 
 /// An event that was fired.
 fn fired_in(alloc: Global, line: u64, words: &[&[u8]]) -> Result<Happening, LineFault<Cause>>
-    ensures said { Says happening_view result (of_count 5 (map (λ w. w.now) words.now) (event_line 2 (map (λ w. w.now) words.now) (λ e. fired e))) }
+    ensures said { Says happening_view result (of_count 5 (map (λ w. w.now) words.now)
+        (event_line 2 (map (λ w. w.now) words.now) (λ e. fired e))) }
     ensures line { IfOk result (IsAt line) }
 {
     if words.len() != 5 {
@@ -141,7 +143,8 @@ fn query_in(
     requires node { (1 ≤ node) × (node ≤ count) }
     requires time { (1 ≤ time) × (time ≤ count) }
     requires id { (1 ≤ id) × (id ≤ count) }
-    ensures said { Says happening_view result (of_count count (map (λ w. w.now) words.now) (query_line node time id (map (λ w. w.now) words.now))) }
+    ensures said { Says happening_view result (of_count count (map (λ w. w.now) words.now)
+        (query_line node time id (map (λ w. w.now) words.now))) }
     ensures line { IfOk result (IsAt line) }
 {
     if words.len() != count {
@@ -207,7 +210,8 @@ pub(crate) fn happening_in(
 }
 
 fn restarted_in(words: &[&[u8]]) -> Result<Happening, LineFault<Cause>>
-    ensures said { Says happening_view result (of_count 2 (map (λ w. w.now) words.now) (Ok nothing)) }
+    ensures said { Says happening_view result
+        (of_count 2 (map (λ w. w.now) words.now) (Ok nothing)) }
     ensures line { IfOk result (λ held. held ≡ Happening.Nothing) }
 {
     if words.len() != 2 {

@@ -14,7 +14,8 @@ fn is_above(entry: &EventEntry, node: &[u8], clock: u64) -> bool
 /// The place of the first event that was handed to this node at a time above this clock. A node that is opened again on
 /// a snapshot which keeps this event clock may be handed that event again. Takes no memory.
 pub fn first_above(entries: &[EventEntry], node: &[u8], clock: u64) -> Option<usize>
-    ensures { result ≡ position (λ e. bytes_eq e.node.items node.now && nat_lt clock e.time) entries.now }
+    ensures { result
+        ≡ position (λ e. bytes_eq e.node.items node.now && nat_lt clock e.time) entries.now }
 {
     entries
         .iter()

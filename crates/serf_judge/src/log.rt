@@ -73,7 +73,8 @@ impl Log {
     /// Puts what a line says behind the others.
     fn add(&mut self, number: u64, happening: Happening) -> Result<(), LineFault<Cause>>
         requires { IsAt number happening }
-        ensures added { OnOk result (log_view self.new ≡ with_happening (log_view self.old) number (happening_view happening)) }
+        ensures added { OnOk result (log_view self.new
+            ≡ with_happening (log_view self.old) number (happening_view happening)) }
         ensures memory { IfErr result (λ fault. fault ≡ LineFault.OutOfMemory) }
     {
         let pushed = match happening {
@@ -148,10 +149,12 @@ impl Write for Nowhere {
 /// A line may have 16,777,216 bytes. A line that is not sound is `BadLine`, with the first such line.
 pub fn read_log<R: Read>(alloc: Global, reader: &mut R) -> Result<Log, StreamFault<Cause>>
     // The log is what all lines say.
-    ensures done { IfOk result (λ log. (bytes : List ℕ) × Consumes (R.remaining reader.old) (R.remaining reader.new) bytes × IsAtEnd (R.remaining reader.new)
-        × (log_view log ≡ (reading_of (lines_of bytes)).log)) }
+    ensures done { IfOk result (λ log. (bytes : List ℕ)
+        × Consumes (R.remaining reader.old) (R.remaining reader.new) bytes
+        × IsAtEnd (R.remaining reader.new) × (log_view log ≡ (reading_of (lines_of bytes)).log)) }
     // The lines before the one that is told were sound.
-    ensures stopped { IfErr result (λ fault. (bytes : List ℕ) × Consumes (R.remaining reader.old) (R.remaining reader.new) bytes
+    ensures stopped { IfErr result (λ fault. (bytes : List ℕ)
+        × Consumes (R.remaining reader.old) (R.remaining reader.new) bytes
         × IsStopped log_answer fault (lines_of bytes) None None) }
 {
     let mut job = LogLines {

@@ -10,7 +10,8 @@ use serf_pairs::first_pair;
 use std::alloc::{AllocError, Global};
 
 fn keys_of<'a>(alloc: Global, entries: &'a [EventEntry]) -> Result<Vec<EventKey<'a>>, AllocError>
-    ensures { IfOk result (λ keys. map key_identity keys.items ≡ map event_identity entries.entry.now) }
+    ensures { IfOk result (λ keys. map key_identity keys.items
+        ≡ map event_identity entries.entry.now) }
 {
     let mut keys = Vec::new(alloc);
     for entry in entries {
@@ -28,7 +29,8 @@ pub fn first_event_twice(
     alloc: Global,
     entries: &[EventEntry],
 ) -> Result<Option<(usize, usize)>, AllocError>
-    ensures { IfOk result (λ pair. MatchOption pair (HasNoTwo (map event_identity entries.now)) (λ places. AreFirstTwo (map event_identity entries.now) places.0 places.1)) }
+    ensures { IfOk result (λ pair. MatchOption pair (HasNoTwo (map event_identity entries.now))
+        (λ places. AreFirstTwo (map event_identity entries.now) places.0 places.1)) }
 {
     let keys = keys_of(alloc, entries)?;
     first_pair(alloc, keys.as_slice())
@@ -38,7 +40,8 @@ fn query_keys_of<'a>(
     alloc: Global,
     entries: &'a [QueryEntry],
 ) -> Result<Vec<QueryKey<'a>>, AllocError>
-    ensures { IfOk result (λ keys. map query_key_identity keys.items ≡ map query_identity entries.entry.now) }
+    ensures { IfOk result (λ keys. map query_key_identity keys.items
+        ≡ map query_identity entries.entry.now) }
 {
     let mut keys = Vec::new(alloc);
     for entry in entries {
@@ -53,7 +56,8 @@ pub fn first_query_twice(
     alloc: Global,
     entries: &[QueryEntry],
 ) -> Result<Option<(usize, usize)>, AllocError>
-    ensures { IfOk result (λ pair. MatchOption pair (HasNoTwo (map query_identity entries.now)) (λ places. AreFirstTwo (map query_identity entries.now) places.0 places.1)) }
+    ensures { IfOk result (λ pair. MatchOption pair (HasNoTwo (map query_identity entries.now))
+        (λ places. AreFirstTwo (map query_identity entries.now) places.0 places.1)) }
 {
     let keys = query_keys_of(alloc, entries)?;
     first_pair(alloc, keys.as_slice())

@@ -31,8 +31,10 @@ pub fn first_not_later(
     fired: &[EventEntry],
     events: &[EventEntry],
 ) -> Result<Option<(usize, usize)>, LaterFault>
-    ensures verdict { IfOk result (λ found. MatchOption found (AreAllLater fired.now events.now) (λ places. IsFirstNotLater fired.now events.now places.0 places.1)) }
-    ensures order { result ≡ Err LaterFault.OutOfOrder → IsInOrder fired.now → IsInOrder events.now → ⊥ }
+    ensures verdict { IfOk result (λ found. MatchOption found (AreAllLater fired.now events.now)
+        (λ places. IsFirstNotLater fired.now events.now places.0 places.1)) }
+    ensures order { result ≡ Err LaterFault.OutOfOrder → IsInOrder fired.now
+        → IsInOrder events.now → ⊥ }
 {
     if !is_in_order(fired) || !is_in_order(events) {
         return Err(LaterFault::OutOfOrder);

@@ -19,7 +19,8 @@ pub(crate) struct Latest {
 
 /// Whether a time is above the one that is noted for a node.
 fn is_latest(latest: &HashMap<&[u8], Latest>, node: &&[u8], time: u64) -> bool
-    ensures { MatchOption (get node_eq latest.now node.now) (result ≡ true) (λ noted. result ≡ nat_lt noted.time time) }
+    ensures { MatchOption (get node_eq latest.now node.now) (result ≡ true)
+        (λ noted. result ≡ nat_lt noted.time time) }
 {
     match latest.get(node) {
         Some(noted) => noted.time < time,
@@ -33,7 +34,8 @@ fn note<'a>(
     event: &'a EventEntry,
     place: usize,
 ) -> Result<(), AllocError>
-    ensures { (events : List Entry) → NotesLatest events place (λ q. get node_eq latest.old q) → slice_get events place ≡ Some event.entry.now
+    ensures { (events : List Entry) → NotesLatest events place (λ q. get node_eq latest.old q)
+        → slice_get events place ≡ Some event.entry.now
         → OnOk result (NotesLatest events (place + 1) (λ q. get node_eq latest.new q)) }
 {
     let node = event.node.as_slice();
@@ -55,9 +57,13 @@ pub(crate) fn note_before<'a>(
     noted: usize,
     line: u64,
 ) -> Result<usize, AllocError>
-    ensures { noted ≤ length events.entry.now → NotesLatest events.entry.now noted (λ q. get node_eq latest.old q) → IsInOrder events.entry.now
+    ensures { noted ≤ length events.entry.now
+        → NotesLatest events.entry.now noted (λ q. get node_eq latest.old q)
+        → IsInOrder events.entry.now
         → ((i : ℕ) (e : Entry) → i < noted → slice_get events.entry.now i ≡ Some e → e.line < line)
-        → IfOk result (λ n. (n ≤ length events.entry.now) × NotesLatest events.entry.now n (λ q. get node_eq latest.new q) × IsCut events.entry.now n line) }
+        → IfOk result (λ n. (n ≤ length events.entry.now)
+        × NotesLatest events.entry.now n (λ q. get node_eq latest.new q)
+        × IsCut events.entry.now n line) }
 {
     let mut place = noted;
     'events: while place < events.len() && events[place].line < line {
@@ -69,7 +75,8 @@ pub(crate) fn note_before<'a>(
 
 /// The place of an event that the node was handed before it fired, which isn't before the time at which it fired.
 pub(crate) fn handed_after(latest: &HashMap<&[u8], Latest>, firing: &EventEntry) -> Option<usize>
-    ensures { (events : List Entry) (n : ℕ) → NotesLatest events n (λ q. get node_eq latest.now q) → IsCut events n firing.now.line
+    ensures { (events : List Entry) (n : ℕ) → NotesLatest events n (λ q. get node_eq latest.now q)
+        → IsCut events n firing.now.line
         → MatchOption result (IsLater events firing.now) (IsNotLater events firing.now) }
 {
     match latest.get(&firing.node.as_slice()) {

@@ -46,43 +46,66 @@ fn laws_below()
 /// `promises` says them all at once, of agents that can make a cluster and of actions whose numbers have their types'
 /// sizes (`HasSizes`). The other clauses say each promise by itself, of what it rests on.
 pub fn run_promises()
-    ensures promises { (configs : List Config) (actions : List Action) → AreConfigs configs → All HasSizes actions
-        → KeepsPromises configs (run_of configs actions) }
+    ensures promises { (configs : List Config) (actions : List Action) → AreConfigs configs
+        → All HasSizes actions → KeepsPromises configs (run_of configs actions) }
     // A run of no action keeps them whatever the settings are.
     ensures start { (configs : List Config) → KeepsPromises configs (start configs) }
 
     // What the turns of every run keep.
-    ensures once { (configs : List Config) (actions : List Action) → AreConfigs configs → Once (run_of configs actions).turns }
-    ensures fired { (configs : List Config) (actions : List Action) → AreConfigs configs → OnlyFired (run_of configs actions).turns }
-    ensures later { (configs : List Config) (actions : List Action) → AreConfigs configs → Later (run_of configs actions).turns }
-    ensures held { (configs : List Config) (actions : List Action) → AreConfigs configs → Held (run_of configs actions).turns }
-    ensures query_once { (configs : List Config) (actions : List Action) → AreConfigs configs → QueryOnce (run_of configs actions).turns }
-    ensures query_later { (configs : List Config) (actions : List Action) → AreConfigs configs → QueryLater (run_of configs actions).turns }
-    ensures query_handed { (configs : List Config) (actions : List Action) → AreConfigs configs → QueryHandedOnce (run_of configs actions).turns }
-    ensures query_fired { (configs : List Config) (actions : List Action) → QueryFired (run_of configs actions).turns }
-    ensures query_only_fired { (configs : List Config) (actions : List Action) → All HasSizes actions → QueryOnlyFired (run_of configs actions).turns }
+    ensures once { (configs : List Config) (actions : List Action) → AreConfigs configs
+        → Once (run_of configs actions).turns }
+    ensures fired { (configs : List Config) (actions : List Action) → AreConfigs configs
+        → OnlyFired (run_of configs actions).turns }
+    ensures later { (configs : List Config) (actions : List Action) → AreConfigs configs
+        → Later (run_of configs actions).turns }
+    ensures held { (configs : List Config) (actions : List Action) → AreConfigs configs
+        → Held (run_of configs actions).turns }
+    ensures query_once { (configs : List Config) (actions : List Action) → AreConfigs configs
+        → QueryOnce (run_of configs actions).turns }
+    ensures query_later { (configs : List Config) (actions : List Action) → AreConfigs configs
+        → QueryLater (run_of configs actions).turns }
+    ensures query_handed { (configs : List Config) (actions : List Action) → AreConfigs configs
+        → QueryHandedOnce (run_of configs actions).turns }
+    ensures query_fired { (configs : List Config) (actions : List Action)
+        → QueryFired (run_of configs actions).turns }
+    ensures query_only_fired { (configs : List Config) (actions : List Action)
+        → All HasSizes actions → QueryOnlyFired (run_of configs actions).turns }
 
     // What they keep of what is handed out, and of queries as messages.
-    ensures only_to_actor { (configs : List Config) (actions : List Action) → OnlyToActor (run_of configs actions).turns }
-    ensures hands_out_given { (configs : List Config) (actions : List Action) → HandsOutGiven (run_of configs actions).turns }
-    ensures new_is_handed { (configs : List Config) (actions : List Action) → NewIsHanded (run_of configs actions).turns }
-    ensures hands_out_entered { (configs : List Config) (actions : List Action) → HandsOutEntered configs (run_of configs actions).turns }
-    ensures messages_fired { (configs : List Config) (actions : List Action) → All HasSizes actions → MessagesFired configs (run_of configs actions).turns }
+    ensures only_to_actor { (configs : List Config) (actions : List Action)
+        → OnlyToActor (run_of configs actions).turns }
+    ensures hands_out_given { (configs : List Config) (actions : List Action)
+        → HandsOutGiven (run_of configs actions).turns }
+    ensures new_is_handed { (configs : List Config) (actions : List Action)
+        → NewIsHanded (run_of configs actions).turns }
+    ensures hands_out_entered { (configs : List Config) (actions : List Action)
+        → HandsOutEntered configs (run_of configs actions).turns }
+    ensures messages_fired { (configs : List Config) (actions : List Action) → All HasSizes actions
+        → MessagesFired configs (run_of configs actions).turns }
 
     // What they keep of acks and responses.
-    ensures counted_once { (configs : List Config) (actions : List Action) → AreConfigs configs → CountedOnce (run_of configs actions).turns }
-    ensures counted_in_time { (configs : List Config) (actions : List Action) → AreConfigs configs → CountedInTime (run_of configs actions).turns }
-    ensures counted_sent { (configs : List Config) (actions : List Action) → AreConfigs configs → CountedSent (run_of configs actions).turns }
-    ensures answers_made { (configs : List Config) (actions : List Action) → All HasSizes actions → AreConfigs configs → AnswersMade configs (run_of configs actions).turns }
-    ensures replied_once { (configs : List Config) (actions : List Action) → All HasSizes actions → AreConfigs configs → RepliedOnce (run_of configs actions).turns }
-    ensures acked_once { (configs : List Config) (actions : List Action) → All HasSizes actions → AreConfigs configs → AckedOnce (run_of configs actions).turns }
+    ensures counted_once { (configs : List Config) (actions : List Action) → AreConfigs configs
+        → CountedOnce (run_of configs actions).turns }
+    ensures counted_in_time { (configs : List Config) (actions : List Action) → AreConfigs configs
+        → CountedInTime (run_of configs actions).turns }
+    ensures counted_sent { (configs : List Config) (actions : List Action) → AreConfigs configs
+        → CountedSent (run_of configs actions).turns }
+    ensures answers_made { (configs : List Config) (actions : List Action) → All HasSizes actions
+        → AreConfigs configs → AnswersMade configs (run_of configs actions).turns }
+    ensures replied_once { (configs : List Config) (actions : List Action) → All HasSizes actions
+        → AreConfigs configs → RepliedOnce (run_of configs actions).turns }
+    ensures acked_once { (configs : List Config) (actions : List Action) → All HasSizes actions
+        → AreConfigs configs → AckedOnce (run_of configs actions).turns }
 
     // What each agent's windows hold, by its settings.
-    ensures events_bounded { (configs : List Config) (actions : List Action) → AreConfigs configs → EventsBounded configs (run_of configs actions).turns }
-    ensures queries_bounded { (configs : List Config) (actions : List Action) → AreConfigs configs → QueriesBounded configs (run_of configs actions).turns }
+    ensures events_bounded { (configs : List Config) (actions : List Action) → AreConfigs configs
+        → EventsBounded configs (run_of configs actions).turns }
+    ensures queries_bounded { (configs : List Config) (actions : List Action) → AreConfigs configs
+        → QueriesBounded configs (run_of configs actions).turns }
 
     // After it the agents' open queries hold what was counted.
-    ensures open_queries { (configs : List Config) (actions : List Action) → AreConfigs configs → OpenQueriesHold (run_of configs actions) }
+    ensures open_queries { (configs : List Config) (actions : List Action) → AreConfigs configs
+        → OpenQueriesHold (run_of configs actions) }
 {
     laws_below();
     slot_laws();
@@ -90,7 +113,8 @@ pub fn run_promises()
 
 /// The turns of a run are what its actions and its trace show, whatever actions come behind. Does nothing.
 pub fn turns_shown()
-    ensures { (configs : List Config) (done left : List Action) → AreConfigs configs → turns_of (done ++ left) (trace_of (run_of configs done)) ≡ (run_of configs done).turns }
+    ensures { (configs : List Config) (done left : List Action) → AreConfigs configs
+        → turns_of (done ++ left) (trace_of (run_of configs done)) ≡ (run_of configs done).turns }
 {
     laws_below();
 }
@@ -98,17 +122,24 @@ pub fn turns_shown()
 /// The turns of one agent in a run show what comes of its calls where it is alone, each call with its packet by its
 /// bytes; and the run leaves it as it is then. So an agent can be held against the model by itself. Does nothing.
 pub fn agents_alone()
-    ensures { (configs : List Config) (actions : List Action) (a : ℕ) (config : Config) (m : IdealNode) → slice_get configs a ≡ Some config → slice_get (run_of configs actions).cluster.nodes a ≡ Some m → IsAlone config a (turns_by a (run_of configs actions).turns) m }
+    ensures { (configs : List Config) (actions : List Action) (a : ℕ) (config : Config)
+        (m : IdealNode) → slice_get configs a ≡ Some config
+        → slice_get (run_of configs actions).cluster.nodes a ≡ Some m
+        → IsAlone config a (turns_by a (run_of configs actions).turns) m }
 {}
 
 /// The agents of a cluster that has done nothing are representable, and an action leaves its agent representable. An
 /// agent before its first life is sound. What a representable agent's sink keeps has the times of all that entered,
 /// whatever tail comes behind. Does nothing.
 pub fn representable_agents()
-    ensures start { (configs : List Config) → AreConfigs configs → AreRepresentable (start configs).cluster }
-    ensures apply { (m : IdealNode) (sent : List (List ℕ)) (action : Action) → IsRepresentable m.agent → IsRepresentable (apply m sent action).node.agent }
-    ensures unopened { (config : Config) → is_sound config ≡ true → IsSound (unopened config (opened [] (fresh_device []))) }
-    ensures text { (m : IdealNode) (tail : List ℕ) → IsRepresentable m.agent → IsInText m.agent (text_after m.agent tail) }
+    ensures start { (configs : List Config) → AreConfigs configs
+        → AreRepresentable (start configs).cluster }
+    ensures apply { (m : IdealNode) (sent : List (List ℕ)) (action : Action)
+        → IsRepresentable m.agent → IsRepresentable (apply m sent action).node.agent }
+    ensures unopened { (config : Config) → is_sound config ≡ true
+        → IsSound (unopened config (opened [] (fresh_device []))) }
+    ensures text { (m : IdealNode) (tail : List ℕ) → IsRepresentable m.agent
+        → IsInText m.agent (text_after m.agent tail) }
 {
     laws_below();
 }
@@ -127,7 +158,8 @@ pub fn merged_agents()
 
 /// A delivery and a merge leave the queries that were handed to their agent. Does nothing.
 pub fn handed_queries()
-    ensures delivers { (m : IdealNode) (now : ℕ) (given : Option (List ℕ)) → (delivers m now given).node.handed ≡ m.handed }
+    ensures delivers { (m : IdealNode) (now : ℕ) (given : Option (List ℕ))
+        → (delivers m now given).node.handed ≡ m.handed }
     ensures merges { (m : IdealNode) (join : Bool) (given : Option (List ℕ))
         → (merges_given m join given).node.handed ≡ m.handed }
 {}

@@ -64,7 +64,8 @@ pub fn put_map(out: &mut Vec<u8>, count: u32) -> Result<(), AllocError>
 pub fn put_array(out: &mut Vec<u8>, count: u32) -> Result<(), AllocError>
     ensures ok { OnOk result (out.new.items ≡ out.old.items ++ array_head count) }
     ensures err { OnErr result (out.new.items ≡ out.old.items) }
-    ensures full { OnErr result (vec_capacity out.old < vec_len out.old + length (array_head count)) }
+    ensures full { OnErr result (vec_capacity out.old
+        < vec_len out.old + length (array_head count)) }
     ensures grows { vec_capacity out.old ≤ vec_capacity out.new }
 {
     if count < 16 {
@@ -101,7 +102,8 @@ pub fn put_raw(out: &mut Vec<u8>, bytes: &[u8]) -> Result<(), AllocError>
     requires { length bytes.now < 2 ^ 32 }
     ensures ok { OnOk result (out.new.items ≡ out.old.items ++ raw_bytes bytes.now) }
     ensures err { OnErr result (out.new.items ≡ out.old.items) }
-    ensures full { OnErr result (vec_capacity out.old < vec_len out.old + length (raw_bytes bytes.now)) }
+    ensures full { OnErr result (vec_capacity out.old
+        < vec_len out.old + length (raw_bytes bytes.now)) }
     ensures grows { vec_capacity out.old ≤ vec_capacity out.new }
 {
     let len = out.len();
@@ -164,7 +166,8 @@ pub fn put_nil(out: &mut Vec<u8>) -> Result<(), AllocError>
 fn put_signed(out: &mut Vec<u8>, format: u8, number: i64, width: usize) -> Result<(), AllocError>
     requires low { 1 ≤ width }
     requires high { width ≤ 8 }
-    ensures ok { OnOk result (out.new.items ≡ out.old.items ++ format ∷ big_bytes width (low_bytes w64 width number)) }
+    ensures ok { OnOk result (out.new.items ≡ out.old.items
+        ++ format ∷ big_bytes width (low_bytes w64 width number)) }
     ensures err { OnErr result (out.new.items ≡ out.old.items) }
     ensures full { OnErr result (vec_capacity out.old < vec_len out.old + (1 + width)) }
     ensures grows { vec_capacity out.old ≤ vec_capacity out.new }

@@ -11,7 +11,8 @@ use crate::head::{Field, Head, Row, read_head, row_for};
 /// its bytes pass the end. So the walk over a packet is one loop with no call.
 #[inline(always)]
 fn skip_short(bytes: &[u8]) -> Option<&[u8]>
-    ensures rest { IfSome result (λ x. (depth_left : ℕ) → (total : ℕ) → rest_of (value_at depth_left total bytes.now) ≡ Ok x.now) }
+    ensures rest { IfSome result (λ x. (depth_left : ℕ) → (total : ℕ)
+        → rest_of (value_at depth_left total bytes.now) ≡ Ok x.now) }
     ensures within { IfSome result (λ x. length x.now ≤ length bytes.now) }
 {
     let [byte, rest @ ..] = bytes else {
@@ -90,7 +91,8 @@ fn skip_any(depth_left: u8, total: usize, bytes: &[u8]) -> Result<&[u8], PackFau
 #[cycle(skip)]
 fn skip_items(depth_left: u8, total: usize, count: u64, bytes: &[u8]) -> Result<&[u8], PackFault>
     requires { length bytes.now ≤ total }
-    ensures rest { Gives (λ x. x.now) result (rest_of (items_at (value_at depth_left total) count bytes.now)) }
+    ensures rest { Gives (λ x. x.now) result
+        (rest_of (items_at (value_at depth_left total) count bytes.now)) }
     ensures within { IfOk result (λ x. length x.now ≤ length bytes.now) }
 {
     let mut rest = bytes;
@@ -104,7 +106,8 @@ fn skip_items(depth_left: u8, total: usize, count: u64, bytes: &[u8]) -> Result<
 #[cycle(skip)]
 fn skip_pairs(depth_left: u8, total: usize, count: u64, bytes: &[u8]) -> Result<&[u8], PackFault>
     requires { length bytes.now ≤ total }
-    ensures rest { Gives (λ x. x.now) result (rest_of (pairs_at (value_at depth_left total) count bytes.now)) }
+    ensures rest { Gives (λ x. x.now) result
+        (rest_of (pairs_at (value_at depth_left total) count bytes.now)) }
     ensures within { IfOk result (λ x. length x.now ≤ length bytes.now) }
 {
     let mut rest = bytes;

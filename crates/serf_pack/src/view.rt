@@ -47,7 +47,8 @@ impl<'a> View<'a> {
     /// The value's head, and what follows it.
     #[inline(always)]
     fn head(&self) -> (Head, &'a [u8])
-        ensures tree { tree_of self.now ≡ tree_by self.now.depth_left self.now.total (place self.now.total self.now.bytes.now) result.0 result.1.now }
+        ensures tree { tree_of self.now ≡ tree_by self.now.depth_left self.now.total
+            (place self.now.total self.now.bytes.now) result.0 result.1.now }
         ensures parts { HasParts self.now.depth_left self.now.total result.0 result.1.now }
         ensures within { length result.1.now ≤ self.now.total }
         ensures int { HasFormatInt result.0 }

@@ -64,7 +64,8 @@ impl<'a> Items<'a> {
         requires within { length rest.now ≤ total }
         requires small { total < 2 ^ 63 }
         requires checked { is_ok (items_at (value_at depth_left total) left rest.now) ≡ true }
-        ensures left { items_left result ≡ item_list (items_or_none (items_at (value_at depth_left total) left rest.now)) }
+        ensures left { items_left result
+            ≡ item_list (items_or_none (items_at (value_at depth_left total) left rest.now)) }
         ensures count { length (items_left result) ≡ left }
     {
         Items {
@@ -100,7 +101,8 @@ impl<'a> Items<'a> {
     pub fn behind(&self, len: usize) -> Option<Items<'a>>
         requires within { len ≤ length (items_bytes self.now) }
         requires packed { (tree : ℕ → Tree) × PacksAlone tree (take len (items_bytes self.now)) }
-        ensures some { IfSome result (λ rest. (tree : ℕ → Tree) → PacksAlone tree (take len (items_bytes self.now))
+        ensures some { IfSome result (λ rest. (tree : ℕ → Tree)
+            → PacksAlone tree (take len (items_bytes self.now))
             → (p : ℕ) × (items_left self.now ≡ tree p ∷ items_left rest)) }
         ensures bytes { IfSome result (λ rest. items_bytes rest ≡ drop len (items_bytes self.now)) }
         ensures none { IfNone result (items_left self.now ≡ []) }
@@ -130,7 +132,8 @@ impl<'a> Pairs<'a> {
         requires within { length rest.now ≤ total }
         requires small { total < 2 ^ 63 }
         requires checked { is_ok (pairs_at (value_at depth_left total) left rest.now) ≡ true }
-        ensures left { pairs_left result ≡ pair_list (pairs_or_none (pairs_at (value_at depth_left total) left rest.now)) }
+        ensures left { pairs_left result
+            ≡ pair_list (pairs_or_none (pairs_at (value_at depth_left total) left rest.now)) }
         ensures count { length (pairs_left result) ≡ left }
     {
         Pairs {

@@ -10,7 +10,8 @@ use std::alloc::{AllocError, Global};
 
 /// Appends the line that stands in the place of a message, and an empty line.
 fn put_refusal(alloc: Global, words: WireWords, out: &mut Vec<u8>) -> Result<(), AllocError>
-    ensures { OnOk result (out.new.items ≡ out.old.items ++ (codes "refused " ++ wire_text words.fault ++ codes "\n\n")) }
+    ensures { OnOk result (out.new.items ≡ out.old.items
+        ++ (codes "refused " ++ wire_text words.fault ++ codes "\n\n")) }
 {
     let text = format!(in alloc; "refused {words}\n\n")?;
     out.extend_from_slice(text.as_bytes())

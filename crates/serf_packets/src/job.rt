@@ -87,12 +87,16 @@ pub fn decode_lines<R: Read, W: Write, N: FramingNotes>(
     notes: &mut N,
 ) -> Result<bool, StreamFault<BadHex>>
     // Just the answers to all lines were written, each of which is its line's own.
-    ensures done { IfOk result (λ is_refused. (bytes text : List ℕ) × Consumes (R.remaining reader.old) (R.remaining reader.new) bytes × IsAtEnd (R.remaining reader.new)
-        × (text_behind line_answer [] (lines_of bytes) ≡ Ok text) × Appends (W.contents writer.old) (W.contents writer.new) text
+    ensures done { IfOk result (λ is_refused. (bytes text : List ℕ)
+        × Consumes (R.remaining reader.old) (R.remaining reader.new) bytes
+        × IsAtEnd (R.remaining reader.new) × (text_behind line_answer [] (lines_of bytes) ≡ Ok text)
+        × Appends (W.contents writer.old) (W.contents writer.new) text
         × (is_refused ≡ list_any refuses_line (lines_of bytes))) }
     // Of the lines that were read some were answered; what else is said of them depends on the fault.
-    ensures stopped { IfErr result (λ fault. (bytes : List ℕ) × Consumes (R.remaining reader.old) (R.remaining reader.new) bytes
-        × IsStopped line_answer fault (lines_of bytes) (W.contents writer.old) (W.contents writer.new)) }
+    ensures stopped { IfErr result (λ fault. (bytes : List ℕ)
+        × Consumes (R.remaining reader.old) (R.remaining reader.new) bytes
+        × IsStopped line_answer fault (lines_of bytes) (W.contents writer.old)
+        (W.contents writer.new)) }
 {
     let mut job = PacketLines {
         notes,

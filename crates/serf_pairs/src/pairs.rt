@@ -15,7 +15,8 @@ pub fn first_pair<K: Eq + Hash + Copy>(
     alloc: Global,
     keys: &[K],
 ) -> Result<Option<(usize, usize)>, AllocError>
-    ensures { IfOk result (λ pair. MatchOption pair (HasNoPair K.eq keys.now) (λ places. IsFirstPair K.eq keys.now places.0 places.1)) }
+    ensures { IfOk result (λ pair. MatchOption pair (HasNoPair K.eq keys.now)
+        (λ places. IsFirstPair K.eq keys.now places.0 places.1)) }
 {
     let mut places = HashMap::new(alloc);
     for (place, key) in keys.iter().enumerate() {

@@ -30,9 +30,12 @@ pub enum ReadFault {
 ///
 /// A read of no bytes is the end of the input. After an error some bytes of a reply may have been read.
 pub fn read_reply_text<R: Read>(alloc: Global, reader: &mut R) -> Result<Vec<u8>, ReadFault>
-    ensures text { IfOk result (λ text. ReadsReply (R.remaining reader.old) (R.remaining reader.new) text.items) }
-    ensures ended { IsErrOf result ReadFault.Ended → IfSome (R.remaining reader.old) (λ input. first_reply input ≡ None) }
-    ensures too_long { IsErrOf result ReadFault.TooLong → IfSome (R.remaining reader.old) (λ input. longest_reply < length input) }
+    ensures text { IfOk result (λ text.
+        ReadsReply (R.remaining reader.old) (R.remaining reader.new) text.items) }
+    ensures ended { IsErrOf result ReadFault.Ended
+        → IfSome (R.remaining reader.old) (λ input. first_reply input ≡ None) }
+    ensures too_long { IsErrOf result ReadFault.TooLong
+        → IfSome (R.remaining reader.old) (λ input. longest_reply < length input) }
     ensures short { IfOk result (λ text. length text.items ≤ longest_reply) }
 {
     let mut text = Vec::new(alloc);

@@ -214,7 +214,9 @@ fn line_of_kind(alloc: Global, kind: LineKind, words: &[&[u8]]) -> Result<ReplyL
 
 /// What the words of a line say.
 fn line_in(alloc: Global, words: &[&[u8]]) -> Result<ReplyLine, LineFault>
-    ensures { Gives (λ l. l) result (counted_words (kind_of (word_at 1 (map (λ w. w.now) words.now)) (word_at 2 (map (λ w. w.now) words.now))) (map (λ w. w.now) words.now)) }
+    ensures { Gives (λ l. l) result (counted_words
+        (kind_of (word_at 1 (map (λ w. w.now) words.now)) (word_at 2 (map (λ w. w.now) words.now)))
+        (map (λ w. w.now) words.now)) }
 {
     let Some(kind) = kind(word_at(words, 1), word_at(words, 2)) else {
         return Err(LineFault::Bad(Cause::UnknownWord));

@@ -41,7 +41,8 @@ pub(crate) fn add_action(
     actions: &mut Vec<Action>,
     action: Action,
 ) -> Result<bool, AllocError>
-    ensures { OnOk result (AddsActions 1 text.old.items text.new.items actions.old.items actions.new.items) }
+    ensures { OnOk result
+        (AddsActions 1 text.old.items text.new.items actions.old.items actions.new.items) }
 {
     if !is_sayable(&action) {
         return Ok(true);

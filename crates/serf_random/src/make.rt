@@ -31,7 +31,8 @@ fn add_actions(
     roster: Roster,
     text: &mut Vec<u8>,
 ) -> Result<Vec<Action>, AllocError>
-    ensures { IfOk result (λ actions. AddsActions ask.now.actions text.old.items text.new.items [] actions.items) }
+    ensures { IfOk result (λ actions.
+        AddsActions ask.now.actions text.old.items text.new.items [] actions.items) }
 {
     let mut player = Player::new(alloc, ask, roster)?;
     let mut actions = Vec::new(alloc);
@@ -60,8 +61,10 @@ fn know_numbers(ask: &Ask)
 /// were made, so that it is never refused. It has at most so many actions as were asked for, and at most 16,777,216
 /// bytes: where the next action's line has no room, it ends. `AllocError` comes where memory runs out.
 pub fn random_schedule(alloc: Global, ask: &Ask) -> Result<Made, AllocError>
-    ensures reads_back { IfOk result (λ made. schedule_of made.text.items ≡ Ok (parsed_of made.schedule)) }
-    ensures text { IfOk result (λ made. made.text.items ≡ comment_text ask.now ++ schedule_text (parsed_of made.schedule)) }
+    ensures reads_back { IfOk result (λ made. schedule_of made.text.items
+        ≡ Ok (parsed_of made.schedule)) }
+    ensures text { IfOk result (λ made. made.text.items ≡ comment_text ask.now
+        ++ schedule_text (parsed_of made.schedule)) }
     ensures few { IfOk result (λ made. length made.schedule.actions.items ≤ ask.now.actions) }
     ensures short { IfOk result (λ made. length made.text.items ≤ MAX_SCHEDULE_BYTES) }
 {

@@ -23,7 +23,9 @@ fn take_events<'a>(
     line: usize,
     events: &'a [EventLine],
 ) -> Result<(), AllocError>
-    ensures { (spots : List Spot) → AreOf keys.old.items places.old.items spots → OnOk result (AreOf keys.new.items places.new.items (spots ++ spots_at line 0 events.entry.now)) }
+    ensures { (spots : List Spot) → AreOf keys.old.items places.old.items spots
+        → OnOk result (AreOf keys.new.items places.new.items (spots
+        ++ spots_at line 0 events.entry.now)) }
 {
     for (event, shown) in events.iter().enumerate() {
         keys.push(key_of(shown))?;
@@ -38,7 +40,8 @@ fn take_lines<'a>(
     places: &mut Vec<Place>,
     lines: &'a [Line],
 ) -> Result<(), AllocError>
-    ensures { AreOf keys.old.items places.old.items [] → OnOk result (AreOf keys.new.items places.new.items (spots_from 0 lines.entry.now)) }
+    ensures { AreOf keys.old.items places.old.items []
+        → OnOk result (AreOf keys.new.items places.new.items (spots_from 0 lines.entry.now)) }
 {
     for (line, shown) in lines.iter().enumerate() {
         take_events(keys, places, line, shown.events.as_slice())?;
@@ -49,7 +52,8 @@ fn take_lines<'a>(
 /// The repeat at two places of the list of all event lines.
 fn repeat_at(places: &[Place], pair: Option<(usize, usize)>) -> Option<Repeat>
     ensures { (lines : List Shown) (keys : List Key) → AreOf keys places.now (spots_from 0 lines)
-        → MatchOption pair (HasNoPair key_eq keys) (λ p. IsFirstPair key_eq keys p.0 p.1) → MatchOption result (HasNoRepeat lines) (IsFirstRepeat lines) }
+        → MatchOption pair (HasNoPair key_eq keys) (λ p. IsFirstPair key_eq keys p.0 p.1)
+        → MatchOption result (HasNoRepeat lines) (IsFirstRepeat lines) }
 {
     let Some((first, second)) = pair else {
         return None;
@@ -72,8 +76,10 @@ fn repeat_at(places: &[Place], pair: Option<(usize, usize)>) -> Option<Repeat>
 /// So it is `None` exactly where the turns that the trace shows keep the promise `Once`. Each event line is looked up
 /// once by its hash. It is an `AllocError` only where there is no memory for that.
 pub fn first_repeat(alloc: Global, trace: &Trace) -> Result<Option<Repeat>, AllocError>
-    ensures first { IfOk result (λ found. MatchOption found (HasNoRepeat trace.now.lines) (IsFirstRepeat trace.now.lines)) }
-    ensures once { (turns : List Turn) → map (λ t. t.line) turns ≡ trace.now.lines → IfOk result (λ found. (found ≡ None) ↔ Once turns) }
+    ensures first { IfOk result (λ found. MatchOption found (HasNoRepeat trace.now.lines)
+        (IsFirstRepeat trace.now.lines)) }
+    ensures once { (turns : List Turn) → map (λ t. t.line) turns ≡ trace.now.lines
+        → IfOk result (λ found. (found ≡ None) ↔ Once turns) }
 {
     once_has_no_repeat();
     let mut keys = Vec::new(alloc);

@@ -34,7 +34,8 @@ pub fn read_input<R: Read>(alloc: Global, reader: &mut R) -> Result<Vec<u8>, Inp
     ensures too_long { IsErrOf result InputFault.ReadTooLong
         → IfSome (R.remaining reader.old) (λ bytes. MAX_SCHEDULE_BYTES < length bytes) }
     // At most one byte more than the greatest length is read.
-    ensures bounded { (bytes : List ℕ) × Consumes (R.remaining reader.old) (R.remaining reader.new) bytes
+    ensures bounded { (bytes : List ℕ)
+        × Consumes (R.remaining reader.old) (R.remaining reader.new) bytes
         × (length bytes ≤ MAX_SCHEDULE_BYTES + 1) }
 {
     let mut input = Vec::new(alloc);

@@ -92,12 +92,14 @@ pub fn replay<R: Read, W: Write, T: Watch>(
         × (output_of input ≡ Err (record { line = line; cause = cause }))) }
     // A write that failed leaves a front of that text, and every other fault nothing.
     ensures front { IsErrOf result ReplayFault.WriteFault
-        → IfSome (R.remaining reader.old) (λ input. (text : List ℕ)
-        × (output_of input ≡ Ok text) × (length input ≤ longest_schedule)
-        × TracesRun input text × AppendsFront (W.contents writer.old) (W.contents writer.new) text) }
-    ensures nothing { IfErr result (λ fault. (fault ≡ ReplayFault.WriteFault → ⊥) → writer.new ≡ writer.old) }
+        → IfSome (R.remaining reader.old) (λ input. (text : List ℕ) × (output_of input ≡ Ok text)
+        × (length input ≤ longest_schedule) × TracesRun input text
+        × AppendsFront (W.contents writer.old) (W.contents writer.new) text) }
+    ensures nothing { IfErr result (λ fault. (fault ≡ ReplayFault.WriteFault → ⊥)
+        → writer.new ≡ writer.old) }
     // At most one byte more than the greatest length is read.
-    ensures bounded { (bytes : List ℕ) × Consumes (R.remaining reader.old) (R.remaining reader.new) bytes
+    ensures bounded { (bytes : List ℕ)
+        × Consumes (R.remaining reader.old) (R.remaining reader.new) bytes
         × (length bytes ≤ longest_schedule + 1) }
 {
     let input = read_input(alloc, reader).map_err(|fault| match fault {

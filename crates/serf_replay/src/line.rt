@@ -176,7 +176,8 @@ fn saving(words: &[&[u8]]) -> Result<Action, LineFault>
 #[tactic(auto, unfolding(crate::specs::Line::lone_of))]
 fn compacting(words: &[&[u8]]) -> Result<Action, LineFault>
     requires { length words.now ≡ 2 }
-    ensures { Gives (λ a. a) result (lone_of (λ agent. Compact agent) (map (λ w. w.now) words.now)) }
+    ensures { Gives (λ a. a) result
+        (lone_of (λ agent. Compact agent) (map (λ w. w.now) words.now)) }
 {
     let agent = number_at(words, 2)?;
     Ok(Action::Compact { agent })

@@ -72,7 +72,8 @@ fn put_handling(
     relay_factor: u8,
     timeout: i64,
 ) -> Result<(), AllocError>
-    ensures { OnOk result (out.new.items ≡ out.old.items ++ handling_lines flags relay_factor timeout) }
+    ensures { OnOk result (out.new.items ≡ out.old.items
+        ++ handling_lines flags relay_factor timeout) }
 {
     put_number_line(out, b"Flags", u64::from(flags))?;
     put_limits(out, relay_factor, timeout)
@@ -80,7 +81,8 @@ fn put_handling(
 
 #[tactic(auto, unfolding(crate::specs::MessageText::answer_lines))]
 fn put_answer(out: &mut Vec<u8>, from: &[u8], flags: u32, payload: &[u8]) -> Result<(), AllocError>
-    ensures { OnOk result (out.new.items ≡ out.old.items ++ answer_lines from.now flags payload.now) }
+    ensures { OnOk result (out.new.items ≡ out.old.items
+        ++ answer_lines from.now flags payload.now) }
 {
     put_hex_line(out, b"From", from)?;
     put_number_line(out, b"Flags", u64::from(flags))?;
@@ -96,7 +98,8 @@ fn put_content(out: &mut Vec<u8>, name: &[u8], payload: &[u8]) -> Result<(), All
 }
 
 fn put_hex_lines(out: &mut Vec<u8>, name: &[u8], texts: Texts) -> Result<(), AllocError>
-    ensures { OnOk result (out.new.items ≡ out.old.items ++ flat_map (hex_line name.now) (texts_left texts.entry)) }
+    ensures { OnOk result (out.new.items ≡ out.old.items
+        ++ flat_map (hex_line name.now) (texts_left texts.entry)) }
 {
     for text in texts {
         put_hex_line(out, name, text)?;
@@ -114,7 +117,8 @@ fn put_status_line(out: &mut Vec<u8>, status: StatusTime) -> Result<(), AllocErr
 }
 
 fn put_status_lines(out: &mut Vec<u8>, status: StatusTimes) -> Result<(), AllocError>
-    ensures { OnOk result (out.new.items ≡ out.old.items ++ flat_map status_line (status_left status.entry)) }
+    ensures { OnOk result (out.new.items ≡ out.old.items
+        ++ flat_map status_line (status_left status.entry)) }
 {
     for entry in status {
         put_status_line(out, entry)?;
@@ -131,7 +135,8 @@ pub fn put_members(
     status: StatusTimes,
     left: Texts,
 ) -> Result<(), AllocError>
-    ensures { OnOk result (out.new.items ≡ out.old.items ++ member_lines time (status_left status.entry) (texts_left left.entry)) }
+    ensures { OnOk result (out.new.items ≡ out.old.items
+        ++ member_lines time (status_left status.entry) (texts_left left.entry)) }
 {
     put_number_line(out, b"LTime", time)?;
     put_status_lines(out, status)?;
@@ -140,7 +145,8 @@ pub fn put_members(
 
 #[tactic(auto, unfolding(crate::specs::MessageText::event_line, crate::specs::TextParts::with_hex))]
 fn put_event_line(out: &mut Vec<u8>, event: EventView) -> Result<(), AllocError>
-    ensures { OnOk result (out.new.items ≡ out.old.items ++ event_line (event_of_view event.entry)) }
+    ensures { OnOk result (out.new.items ≡ out.old.items
+        ++ event_line (event_of_view event.entry)) }
 {
     put_with_hex(out, b"event", event.name)?;
     put_with_hex(out, b"", event.payload)?;
@@ -148,7 +154,8 @@ fn put_event_line(out: &mut Vec<u8>, event: EventView) -> Result<(), AllocError>
 }
 
 fn put_event_lines(out: &mut Vec<u8>, events: EventViews) -> Result<(), AllocError>
-    ensures { OnOk result (out.new.items ≡ out.old.items ++ flat_map event_line (events_left events.entry)) }
+    ensures { OnOk result (out.new.items ≡ out.old.items
+        ++ flat_map event_line (events_left events.entry)) }
 {
     for event in events {
         put_event_line(out, event)?;
@@ -160,7 +167,8 @@ fn put_event_lines(out: &mut Vec<u8>, events: EventViews) -> Result<(), AllocErr
 /// After an `AllocError`, which comes where there is no memory for them, `out` may have a front of them.
 #[tactic(auto, unfolding(crate::specs::MessageText::slot_lines))]
 pub fn put_slot(out: &mut Vec<u8>, number: u64, slot: &SlotView) -> Result<(), AllocError>
-    ensures { OnOk result (out.new.items ≡ out.old.items ++ slot_lines number (slot_of_view slot.now)) }
+    ensures { OnOk result (out.new.items ≡ out.old.items
+        ++ slot_lines number (slot_of_view slot.now)) }
 {
     match slot {
         SlotView::Empty => {
@@ -176,7 +184,8 @@ pub fn put_slot(out: &mut Vec<u8>, number: u64, slot: &SlotView) -> Result<(), A
 }
 
 fn put_slots(out: &mut Vec<u8>, slots: SlotViews) -> Result<(), AllocError>
-    ensures { OnOk result (out.new.items ≡ out.old.items ++ slots_lines 0 (slots_left slots.entry)) }
+    ensures { OnOk result (out.new.items ≡ out.old.items
+        ++ slots_lines 0 (slots_left slots.entry)) }
 {
     let mut number: u64 = 0;
     for slot in slots {
@@ -188,7 +197,8 @@ fn put_slots(out: &mut Vec<u8>, slots: SlotViews) -> Result<(), AllocError>
 
 #[tactic(auto, unfolding(crate::specs::MessageText::buffer_lines))]
 fn put_buffer(out: &mut Vec<u8>, time: u64, slots: SlotViews) -> Result<(), AllocError>
-    ensures { OnOk result (out.new.items ≡ out.old.items ++ buffer_lines time (slots_left slots.entry)) }
+    ensures { OnOk result (out.new.items ≡ out.old.items
+        ++ buffer_lines time (slots_left slots.entry)) }
 {
     put_number_line(out, b"EventLTime", time)?;
     put_slots(out, slots)
@@ -208,7 +218,8 @@ fn put_user_event(
     payload: &[u8],
     coalesce: bool,
 ) -> Result<(), AllocError>
-    ensures { OnOk result (out.new.items ≡ out.old.items ++ message_text (user_event_of time name.now payload.now coalesce)) }
+    ensures { OnOk result (out.new.items ≡ out.old.items
+        ++ message_text (user_event_of time name.now payload.now coalesce)) }
 {
     out.extend_from_slice(b"userEvent\n")?;
     put_number_line(out, b"LTime", time)?;
@@ -226,7 +237,8 @@ fn put_query_head(
     port: u16,
     source: &[u8],
 ) -> Result<(), AllocError>
-    ensures { OnOk result (out.new.items ≡ out.old.items ++ query_head time id addr.now port source.now) }
+    ensures { OnOk result (out.new.items ≡ out.old.items
+        ++ query_head time id addr.now port source.now) }
 {
     out.extend_from_slice(b"query\n")?;
     put_identity(out, time, id)?;
@@ -241,7 +253,8 @@ fn put_response(
     flags: u32,
     payload: &[u8],
 ) -> Result<(), AllocError>
-    ensures { OnOk result (out.new.items ≡ out.old.items ++ message_text (response_of time id from.now flags payload.now)) }
+    ensures { OnOk result (out.new.items ≡ out.old.items
+        ++ message_text (response_of time id from.now flags payload.now)) }
 {
     put_response_name(out)?;
     put_identity(out, time, id)?;
@@ -258,7 +271,8 @@ fn put_push_pull_head(
     event_clock: u64,
     slots: SlotViews,
 ) -> Result<(), AllocError>
-    ensures { OnOk result (out.new.items ≡ out.old.items ++ push_pull_head member_clock (status_left status.entry) (texts_left left.entry) event_clock (slots_left slots.entry)) }
+    ensures { OnOk result (out.new.items ≡ out.old.items ++ push_pull_head member_clock
+        (status_left status.entry) (texts_left left.entry) event_clock (slots_left slots.entry)) }
 {
     out.extend_from_slice(b"pushPull\n")?;
     put_members(out, member_clock, status, left)?;
@@ -335,14 +349,18 @@ fn message_text_of(alloc: Global, message: &Message) -> Result<Vec<u8>, AllocErr
 /// `OutOfMemory` comes only where the packet spells one.
 pub fn decode_text(alloc: Global, packet: &[u8]) -> Result<Vec<u8>, DecodeTextFault>
     // A packet that spells a message has that message's text.
-    ensures text { (m : Meaning) → Spells m packet.now → IfOk result (λ text. text.items ≡ message_text m) }
+    ensures text { (m : Meaning) → Spells m packet.now
+        → IfOk result (λ text. text.items ≡ message_text m) }
     // A packet that spells none is refused with its first fault,
-    ensures refused { (f : Fault) → IsFirstFault packet.now f → result ≡ Err (Refused (record { fault = f })) }
+    ensures refused { (f : Fault) → IsFirstFault packet.now f
+        → result ≡ Err (Refused (record { fault = f })) }
     // and no other is.
-    ensures only_refused { (w : Words) → result ≡ Err (Refused w) → IsFirstFault packet.now w.fault }
+    ensures only_refused { (w : Words) → result ≡ Err (Refused w)
+        → IsFirstFault packet.now w.fault }
     // The same by what the packet decodes to.
     ensures exact { IfOk result (λ text. text_or_fault (decoded packet.now) ≡ Ok text.items) }
-    ensures exact_refused { (f : Fault) → decoded packet.now ≡ Err f → result ≡ Err (Refused (record { fault = f })) }
+    ensures exact_refused { (f : Fault) → decoded packet.now ≡ Err f
+        → result ≡ Err (Refused (record { fault = f })) }
     ensures exact_only { (w : Words) → result ≡ Err (Refused w) → decoded packet.now ≡ Err w.fault }
 {
     match decode(packet) {

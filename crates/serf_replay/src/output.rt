@@ -16,7 +16,8 @@ pub struct WriteFault;
 /// the text was written. Takes no memory.
 pub fn write_output<W: Write>(writer: &mut W, text: &[u8]) -> Result<(), WriteFault>
     ensures done { OnOk result (Appends (W.contents writer.old) (W.contents writer.new) text.now) }
-    ensures front { OnErr result (AppendsFront (W.contents writer.old) (W.contents writer.new) text.now) }
+    ensures front { OnErr result
+        (AppendsFront (W.contents writer.old) (W.contents writer.new) text.now) }
 {
     let mut at = 0;
     while at < text.len() {

@@ -45,7 +45,8 @@ fn read_agent(
     words: &[&[u8]],
     is_whole: bool,
 ) -> Result<(), LineFault>
-    ensures { Gives (λ _. parsed_of parsed.new) result (agent_said (parsed_of parsed.old) is_whole (map (λ w. w.now) words.now)) }
+    ensures { Gives (λ _. parsed_of parsed.new) result
+        (agent_said (parsed_of parsed.old) is_whole (map (λ w. w.now) words.now)) }
 {
     if !parsed.actions.is_empty() {
         return Err(LineFault::Bad(Cause::LateAgent));
@@ -64,7 +65,8 @@ fn read_agent(
 
 #[inline(always)]
 fn add_action(parsed: &mut Schedule, action: Action) -> Result<(), LineFault>
-    ensures { Gives (λ _. parsed_of parsed.new) result (Ok (with_action (parsed_of parsed.old) action)) }
+    ensures { Gives (λ _. parsed_of parsed.new) result
+        (Ok (with_action (parsed_of parsed.old) action)) }
 {
     match parsed.actions.push(action) {
         Ok(()) => Ok(()),
@@ -78,7 +80,8 @@ fn read_action(
     parsed: &mut Schedule,
     words: &[&[u8]],
 ) -> Result<(), LineFault>
-    ensures { Gives (λ _. parsed_of parsed.new) result (action_line verb (parsed_of parsed.old) (map (λ w. w.now) words.now)) }
+    ensures { Gives (λ _. parsed_of parsed.new) result
+        (action_line verb (parsed_of parsed.old) (map (λ w. w.now) words.now)) }
 {
     if words.len() != verb.count() {
         return Err(LineFault::Bad(Cause::WordCount));
@@ -94,7 +97,8 @@ fn read_query(
     rest: &[u8],
 ) -> Result<(), LineFault>
     requires { length words.now ≤ 8 }
-    ensures { Gives (λ _. parsed_of parsed.new) result (query_said (parsed_of parsed.old) (map (λ w. w.now) words.now) (words_of rest.now)) }
+    ensures { Gives (λ _. parsed_of parsed.new) result
+        (query_said (parsed_of parsed.old) (map (λ w. w.now) words.now) (words_of rest.now)) }
 {
     if words.len() < 8 {
         return Err(LineFault::Bad(Cause::WordCount));
@@ -112,7 +116,8 @@ fn read_words(
 ) -> Result<(), LineFault>
     requires { (0 < length words.now) × (length words.now ≤ 8) }
     ensures { Gives (λ _. parsed_of parsed.new) result
-        (parts_said (command_of (word_at 1 (map (λ w. w.now) words.now))) (parsed_of parsed.old) (map (λ w. w.now) words.now) rest.now) }
+        (parts_said (command_of (word_at 1 (map (λ w. w.now) words.now))) (parsed_of parsed.old)
+        (map (λ w. w.now) words.now) rest.now) }
 {
     match command_in(words[0]) {
         Some(Command::Agent) => read_agent(alloc, parsed, words, rest.is_empty()),
@@ -141,7 +146,8 @@ pub(crate) fn read_line<'a>(
     words: &mut Vec<&'a [u8]>,
     line: &'a [u8],
 ) -> Result<(), LineFault>
-    ensures { Gives (λ _. parsed_of parsed.new) result (after_line (parsed_of parsed.old) line.entry.now) }
+    ensures { Gives (λ _. parsed_of parsed.new) result
+        (after_line (parsed_of parsed.old) line.entry.now) }
 {
     if is_comment(line) {
         return Ok(());
@@ -162,7 +168,8 @@ pub fn read_schedule_line(
     schedule: &mut Schedule,
     line: &[u8],
 ) -> Result<(), LineFault>
-    ensures exact { Gives (λ _. parsed_of schedule.new) result (after_line (parsed_of schedule.old) line.entry.now) }
+    ensures exact { Gives (λ _. parsed_of schedule.new) result
+        (after_line (parsed_of schedule.old) line.entry.now) }
     // The agents can make a cluster.
     ensures agents { AreConfigs schedule.new.agents }
 {

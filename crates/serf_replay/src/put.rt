@@ -74,7 +74,8 @@ pub(crate) fn put_with_numbers(
     m: u64,
     n: u64,
 ) -> Result<(), AllocError>
-    ensures { OnOk result (out.new.items ≡ out.old.items ++ with_number (with_number text.now m) n) }
+    ensures { OnOk result (out.new.items ≡ out.old.items
+        ++ with_number (with_number text.now m) n) }
 {
     put_with_number(out, text, m)?;
     out.extend_from_slice(b" ")?;

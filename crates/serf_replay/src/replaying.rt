@@ -37,7 +37,8 @@ fn add_turn(
     text: &mut Vec<u8>,
 ) -> Result<(), AllocError>
     ensures { (r : Run) → StandsAt r world.old → number ≡ length r.turns + 1
-        → OnOk result (Shows (after r action.now) (length r.turns) world.new text.old.items text.new.items) }
+        → OnOk result (Shows (after r action.now) (length r.turns)
+        world.new text.old.items text.new.items) }
 {
     match world.step(alloc, action) {
         Ok(line) => put_action(text, world.sent(), number, &line),
@@ -52,8 +53,10 @@ fn begin(
     schedule: &mut Schedule,
     text: &mut Vec<u8>,
 ) -> Result<Option<Acting>, AllocError>
-    ensures { (said : Parsed) → parsed_of schedule.old ≡ said → length said.actions ≤ 1 → AreConfigs said.configs
-        → IfOk result (λ acting. IsStage schedule.new acting said × (text.new.items ≡ text.old.items ++ text_behind_turns 0 (run_in said))) }
+    ensures { (said : Parsed) → parsed_of schedule.old ≡ said → length said.actions ≤ 1
+        → AreConfigs said.configs
+        → IfOk result (λ acting. IsStage schedule.new acting said
+        × (text.new.items ≡ text.old.items ++ text_behind_turns 0 (run_in said))) }
 {
     match schedule.actions.first() {
         Some(action) => {
@@ -74,9 +77,11 @@ fn go_on(
     acting: &mut Acting,
     text: &mut Vec<u8>,
 ) -> Result<(), AllocError>
-    ensures { (said : Parsed) (first : Action) (turn : Option Action) → schedule.old.actions.items ≡ first ∷ option_to_list turn → HasActed said acting.old
+    ensures { (said : Parsed) (first : Action) (turn : Option Action)
+        → schedule.old.actions.items ≡ first ∷ option_to_list turn → HasActed said acting.old
         → OnOk result (IsStage schedule.new (Some acting.new) (with_turn said turn)
-        × (text.new.items ≡ text.old.items ++ text_behind_turns (length said.actions) (run_in (with_turn said turn)))) }
+        × (text.new.items ≡ text.old.items
+        ++ text_behind_turns (length said.actions) (run_in (with_turn said turn)))) }
 {
     if schedule.actions.len() < 2 {
         return Ok(());
@@ -101,7 +106,9 @@ fn do_action(
     text: &mut Vec<u8>,
 ) -> Result<(), AllocError>
     ensures { (said after : Parsed) → Takes schedule.old acting.old said after
-        → OnOk result (IsStage schedule.new acting.new after × (text.new.items ≡ text.old.items ++ text_behind_turns (length said.actions) (run_in after))) }
+        → OnOk result (IsStage schedule.new acting.new after
+        × (text.new.items ≡ text.old.items
+        ++ text_behind_turns (length said.actions) (run_in after))) }
 {
     match acting {
         Some(acting) => go_on(alloc, schedule, acting, text),
@@ -155,8 +162,10 @@ impl Replaying {
         text: &mut Vec<u8>,
     ) -> Result<(), LineFault>
         ensures done { (lines : List (List ℕ)) → Follows self.old lines
-            → OnOk result (Appended lines line.entry.now text.old.items text.new.items × Follows self.new (lines ++ line.entry.now ∷ [])) }
-        ensures refused { (lines : List (List ℕ)) → Follows self.old lines → IfErr result (λ fault. Fails fault (turn_answer lines line.entry.now)) }
+            → OnOk result (Appended lines line.entry.now text.old.items text.new.items
+            × Follows self.new (lines ++ line.entry.now ∷ [])) }
+        ensures refused { (lines : List (List ℕ)) → Follows self.old lines
+            → IfErr result (λ fault. Fails fault (turn_answer lines line.entry.now)) }
     {
         let mut words = Vec::new(alloc);
         self.take_line_in(alloc, &mut words, line, text)
@@ -172,8 +181,10 @@ impl Replaying {
         text: &mut Vec<u8>,
     ) -> Result<(), LineFault>
         ensures done { (lines : List (List ℕ)) → Follows self.old lines
-            → OnOk result (Appended lines line.entry.now text.old.items text.new.items × Follows self.new (lines ++ line.entry.now ∷ [])) }
-        ensures refused { (lines : List (List ℕ)) → Follows self.old lines → IfErr result (λ fault. Fails fault (turn_answer lines line.entry.now)) }
+            → OnOk result (Appended lines line.entry.now text.old.items text.new.items
+            × Follows self.new (lines ++ line.entry.now ∷ [])) }
+        ensures refused { (lines : List (List ℕ)) → Follows self.old lines
+            → IfErr result (λ fault. Fails fault (turn_answer lines line.entry.now)) }
     {
         if let Err(fault) = read_line(alloc, &mut self.schedule, words, line) {
             return Err(fault);

@@ -63,7 +63,8 @@ fn put_restarted(
     event_clock: u64,
     query_clock: u64,
 ) -> Result<(), AllocError>
-    ensures { OnOk result (out.new.items ≡ out.old.items ++ answer_text (Answer.Restarted member_clock event_clock query_clock)) }
+    ensures { OnOk result (out.new.items ≡ out.old.items
+        ++ answer_text (Answer.Restarted member_clock event_clock query_clock)) }
 {
     put_with_numbers(out, b"restarted", member_clock, event_clock)?;
     out.extend_from_slice(b" ")?;
@@ -120,7 +121,8 @@ struct Spelled<'a> {
 #[tactic(auto, unfolding(crate::specs::Show::answer_line))]
 #[inline(always)]
 fn put_answer_line(out: &mut Vec<u8>, action: Spelled, answer: Answer) -> Result<(), AllocError>
-    ensures { OnOk result (out.new.items ≡ out.old.items ++ answer_line action.entry.number answer) }
+    ensures { OnOk result (out.new.items ≡ out.old.items
+        ++ answer_line action.entry.number answer) }
 {
     out.extend_from_slice(action.digits)?;
     out.extend_from_slice(b" ")?;
@@ -144,7 +146,8 @@ fn put_sent_line(
     action: Spelled,
     k: u64,
 ) -> Result<(), AllocError>
-    ensures { OnOk result (out.new.items ≡ out.old.items ++ sent_line sent.now action.entry.number k) }
+    ensures { OnOk result (out.new.items ≡ out.old.items
+        ++ sent_line sent.now action.entry.number k) }
 {
     out.extend_from_slice(action.digits)?;
     out.extend_from_slice(b" sent ")?;
@@ -183,7 +186,8 @@ fn put_event_tail(out: &mut Vec<u8>, event: &EventLine) -> Result<(), AllocError
 
 #[tactic(auto, unfolding(crate::specs::Show::event_line))]
 fn put_event_line(out: &mut Vec<u8>, action: Spelled, event: &EventLine) -> Result<(), AllocError>
-    ensures { OnOk result (out.new.items ≡ out.old.items ++ event_line action.entry.number event.now) }
+    ensures { OnOk result (out.new.items ≡ out.old.items
+        ++ event_line action.entry.number event.now) }
 {
     out.extend_from_slice(action.digits)?;
     out.extend_from_slice(b" event ")?;
@@ -205,7 +209,8 @@ fn put_identity(out: &mut Vec<u8>, query: &HandedLine) -> Result<(), AllocError>
 
 #[tactic(auto, unfolding(crate::specs::Show::handed_line))]
 fn put_handed_line(out: &mut Vec<u8>, action: Spelled, query: &HandedLine) -> Result<(), AllocError>
-    ensures { OnOk result (out.new.items ≡ out.old.items ++ handed_line action.entry.number query.now) }
+    ensures { OnOk result (out.new.items ≡ out.old.items
+        ++ handed_line action.entry.number query.now) }
 {
     out.extend_from_slice(action.digits)?;
     out.extend_from_slice(b" handed ")?;
@@ -221,7 +226,8 @@ fn put_sent_lines(
     action: Spelled,
     packets: &[u64],
 ) -> Result<(), AllocError>
-    ensures { OnOk result (out.new.items ≡ out.old.items ++ flat_map (sent_line sent.now action.entry.number) packets.now) }
+    ensures { OnOk result (out.new.items ≡ out.old.items
+        ++ flat_map (sent_line sent.now action.entry.number) packets.now) }
 {
     for k in packets {
         put_sent_line(out, sent, action, *k)?;
@@ -235,7 +241,8 @@ fn put_event_lines(
     action: Spelled,
     events: &[EventLine],
 ) -> Result<(), AllocError>
-    ensures { OnOk result (out.new.items ≡ out.old.items ++ flat_map (event_line action.entry.number) events.now) }
+    ensures { OnOk result (out.new.items ≡ out.old.items
+        ++ flat_map (event_line action.entry.number) events.now) }
 {
     for event in events {
         put_event_line(out, action, event)?;
@@ -249,7 +256,8 @@ fn put_handed(
     action: Spelled,
     handed: &Option<Boxed<HandedLine>>,
 ) -> Result<(), AllocError>
-    ensures { OnOk result (out.new.items ≡ out.old.items ++ flat_map (handed_line action.entry.number) (option_to_list handed.now)) }
+    ensures { OnOk result (out.new.items ≡ out.old.items
+        ++ flat_map (handed_line action.entry.number) (option_to_list handed.now)) }
 {
     match handed {
         Some(query) => put_handed_line(out, action, query.get()),

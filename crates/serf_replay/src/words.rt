@@ -41,7 +41,8 @@ fn place_of(text: &[u8], separator: u8) -> Option<usize>
 pub fn cut(text: &[u8], separator: u8) -> (&[u8], Option<&[u8]>)
     ensures parts { MatchOption result.1
         (slice_split (λ b. b == separator) text.now ≡ result.0.now ∷ [])
-        (λ rest. slice_split (λ b. b == separator) text.now ≡ result.0.now ∷ slice_split (λ b. b == separator) rest.now) }
+        (λ rest. slice_split (λ b. b == separator) text.now
+        ≡ result.0.now ∷ slice_split (λ b. b == separator) rest.now) }
     ensures shorter { MatchOption result.1 (length result.0.now ≡ length text.now)
         (λ rest. length result.0.now + 1 + length rest.now ≡ length text.now) }
 {
@@ -59,9 +60,11 @@ pub(crate) const FIXED_WORDS: usize = 8;
 ///
 /// Where there is no memory for the words, `words` has some of them.
 pub fn take_words<'a>(line: &'a [u8], words: &mut Vec<&'a [u8]>) -> Result<&'a [u8], AllocError>
-    ensures joined { IfOk result (λ rest. map (λ w. w.now) words.new.items ++ words_of rest.now ≡ words_of line.entry.now) }
+    ensures joined { IfOk result (λ rest. map (λ w. w.now) words.new.items ++ words_of rest.now
+        ≡ words_of line.entry.now) }
     ensures few { OnOk result (length words.new.items ≤ FIXED_WORDS) }
-    ensures full { IfOk result (λ rest. 0 < length rest.now → (length words.new.items ≡ FIXED_WORDS) × (0 < length (words_of rest.now))) }
+    ensures full { IfOk result (λ rest. 0 < length rest.now
+        → (length words.new.items ≡ FIXED_WORDS) × (0 < length (words_of rest.now))) }
 {
     words.clear();
     let mut rest = line;
@@ -186,7 +189,8 @@ fn keep_between(found: Option<u64>, low: u64, high: u64) -> Option<u64>
 /// A word that is none, or is missing, is a bad word at this place. Takes no memory.
 #[tactic(auto, unfolding(crate::specs::Words::number_between))]
 pub fn number_from_to(words: &[&[u8]], place: usize, low: u64, high: u64) -> Result<u64, LineFault>
-    ensures value { Gives (λ n. n) result (number_between low high place (map (λ w. w.now) words.now)) }
+    ensures value { Gives (λ n. n) result
+        (number_between low high place (map (λ w. w.now) words.now)) }
     ensures range { IfOk result (λ n. (low ≤ n) × (n ≤ high)) }
 {
     match keep_between(number(word_at(words, place)), low, high) {
@@ -218,7 +222,8 @@ pub fn choice_at(
     first: &[u8],
     second: &[u8],
 ) -> Result<bool, LineFault>
-    ensures { Gives (λ b. b) result (choice_in first.now second.now place (map (λ w. w.now) words.now)) }
+    ensures { Gives (λ b. b) result
+        (choice_in first.now second.now place (map (λ w. w.now) words.now)) }
 {
     match choice(word_at(words, place), first, second) {
         Some(found) => Ok(found),

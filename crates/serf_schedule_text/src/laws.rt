@@ -13,7 +13,8 @@ use serf_model::sound_settings;
 /// The text of a schedule stands for just this schedule, and is never refused. Does nothing.
 #[tactic(auto, using(crate::proofs::RoundTrip::reads_back))]
 pub fn text_reads_back()
-    ensures { (p : Parsed) → AreConfigs p.configs → All HasByteName p.configs → All IsSayable p.actions → schedule_of (schedule_text p) ≡ Ok p }
+    ensures { (p : Parsed) → AreConfigs p.configs → All HasByteName p.configs
+        → All IsSayable p.actions → schedule_of (schedule_text p) ≡ Ok p }
 {
     sound_settings();
 }

@@ -39,7 +39,8 @@ fn put_query<'a>(
     payload: &'a [u8],
     params: &QueryParams,
 ) -> Result<(), AllocError>
-    ensures { OnOk result (out.new.items ≡ out.old.items ++ action_text (Query agent now id name.now payload.now params.now)) }
+    ensures { OnOk result (out.new.items ≡ out.old.items
+        ++ action_text (Query agent now id name.now payload.now params.now)) }
 {
     let words = [
         Number(agent),

@@ -55,7 +55,8 @@ pub fn know_read_back(schedule: &Schedule)
 /// Where a line can say each action ([`crate::is_sayable`]), the text stands for just this schedule. `AllocError` where
 /// there is no memory: a front of the text may stand there then.
 pub fn put_schedule(out: &mut Vec<u8>, schedule: &Schedule) -> Result<(), AllocError>
-    ensures text { OnOk result (out.new.items ≡ out.old.items ++ schedule_text (parsed_of schedule.now)) }
+    ensures text { OnOk result (out.new.items ≡ out.old.items
+        ++ schedule_text (parsed_of schedule.now)) }
     ensures reads_back { All IsSayable schedule.now.actions.items
         → schedule_of (schedule_text (parsed_of schedule.now)) ≡ Ok (parsed_of schedule.now) }
 {

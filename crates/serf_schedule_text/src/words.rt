@@ -50,7 +50,8 @@ fn put_command(out: &mut Vec<u8>, command: &[u8], words: &[Word]) -> Result<(), 
 
 /// Appends a line of a command and its words.
 pub fn put_line(out: &mut Vec<u8>, command: &[u8], words: &[Word]) -> Result<(), AllocError>
-    ensures { OnOk result (out.new.items ≡ out.old.items ++ (command_text command.now words.now ++ codes "\n")) }
+    ensures { OnOk result (out.new.items ≡ out.old.items
+        ++ (command_text command.now words.now ++ codes "\n")) }
 {
     put_command(out, command, words)?;
     out.extend_from_slice(b"\n")
@@ -74,7 +75,8 @@ pub(crate) fn put_long_line(
     words: &[Word],
     more: &[Bytes],
 ) -> Result<(), AllocError>
-    ensures { OnOk result (out.new.items ≡ out.old.items ++ line_text (command.now ∷ (map word_text words.now ++ map hex_text more.now))) }
+    ensures { OnOk result (out.new.items ≡ out.old.items
+        ++ line_text (command.now ∷ (map word_text words.now ++ map hex_text more.now))) }
 {
     put_command(out, command, words)?;
     put_hex_words(out, more)?;

@@ -28,7 +28,8 @@ fn add_call(
     sent: &[Bytes],
     count: usize,
 ) -> Result<(), ConformFault>
-    ensures { OnOk result (calls.new.items ≡ calls.old.items ++ calls_by agent (turn_at count sent.now action.now line.now ∷ [])) }
+    ensures { OnOk result (calls.new.items ≡ calls.old.items
+        ++ calls_by agent (turn_at count sent.now action.now line.now ∷ [])) }
 {
     if count > sent.len() {
         return Err(ConformFault::OtherTrace);
@@ -63,7 +64,8 @@ fn calls_in(
     lines: &[Line],
     sent: &[Bytes],
 ) -> Result<Vec<Call>, ConformFault>
-    ensures { IfOk result (λ calls. calls.items ≡ calls_by agent (turns_from 0 sent.now actions.now lines.now)) }
+    ensures { IfOk result (λ calls. calls.items
+        ≡ calls_by agent (turns_from 0 sent.now actions.now lines.now)) }
 {
     let mut calls = Vec::new(alloc);
     let mut actions = actions;
@@ -92,7 +94,8 @@ fn calls_in(
 /// The calls that an agent got in a run, in order, each with its packet by its bytes: those that
 /// [`serf_conform::hold`] makes of it. `OtherTrace` where the trace is not one of these actions.
 pub fn calls_of(alloc: Global, case: &Case, agent: u64) -> Result<Vec<Call>, ConformFault>
-    ensures { (p : Parsed) → IsRunOf p case.now → IfOk result (λ calls. calls.items ≡ calls_by agent (turns_in p)) }
+    ensures { (p : Parsed) → IsRunOf p case.now
+        → IfOk result (λ calls. calls.items ≡ calls_by agent (turns_in p)) }
 {
     calls_in(
         alloc,
@@ -118,7 +121,8 @@ fn add_packet(alloc: Global, actions: &mut Vec<Action>, call: &Call) -> Result<(
 }
 
 fn add_packets(alloc: Global, actions: &mut Vec<Action>, calls: &[Call]) -> Result<(), AllocError>
-    ensures { OnOk result (actions.new.items ≡ actions.old.items ++ flat_map injections_of calls.now) }
+    ensures { OnOk result (actions.new.items ≡ actions.old.items
+        ++ flat_map injections_of calls.now) }
 {
     for call in calls {
         add_packet(alloc, actions, call)?;
@@ -150,7 +154,8 @@ fn add_placed(alloc: Global, actions: &mut Vec<Action>, calls: &[Call]) -> Resul
 }
 
 fn alone_actions(alloc: Global, calls: &[Call]) -> Result<Vec<Action>, AllocError>
-    ensures { IfOk result (λ actions. actions.items ≡ flat_map injections_of calls.now ++ placed_from 0 calls.now) }
+    ensures { IfOk result (λ actions. actions.items ≡ flat_map injections_of calls.now
+        ++ placed_from 0 calls.now) }
 {
     let mut actions = Vec::new(alloc);
     add_packets(alloc, &mut actions, calls)?;

@@ -48,8 +48,9 @@ fn try_without<R: Read, W: Write>(
     requires ordered { from ≤ to }
     requires within { to ≤ length calls.now }
     ensures left { IfOk result (λ t. t.0.items ≡ take from calls.now ++ drop to calls.now) }
-    ensures tried { IfOk result (λ t. IfSome (R.remaining reader.old) (λ input. IsTried (trial (is_serf rules) config.now t.0.items input) t.1
-        (R.remaining reader.new) (W.contents writer.old) (W.contents writer.new))) }
+    ensures tried { IfOk result (λ t. IfSome (R.remaining reader.old) (λ input.
+        IsTried (trial (is_serf rules) config.now t.0.items input) t.1 (R.remaining reader.new)
+        (W.contents writer.old) (W.contents writer.new))) }
 {
     let Ok(left) = without(alloc, calls, from, to) else {
         return Err(ConformFault::OutOfMemory);
@@ -69,8 +70,10 @@ fn narrow_by_one<R: Read, W: Write>(
 ) -> Result<Narrowed, ConformFault>
     ensures fewer { IfOk result (λ n. IsFewer n (length calls.now)) }
     ensures narrows { (whole : List Call) (input : List ℕ) (from : Option (List ℕ))
-        → IsAlong (is_serf rules) config.now whole calls.now [] input (R.remaining reader.old) from (W.contents writer.old)
-        → IfOk result (λ n. NarrowsTo (is_serf rules) config.now whole calls.now true n input (R.remaining reader.new) from (W.contents writer.new)) }
+        → IsAlong (is_serf rules) config.now whole calls.now [] input (R.remaining reader.old)
+        from (W.contents writer.old)
+        → IfOk result (λ n. NarrowsTo (is_serf rules) config.now whole calls.now true n input
+        (R.remaining reader.new) from (W.contents writer.new)) }
 {
     for at in 0..calls.len() {
         let (fewer, outcome) = try_without(
@@ -105,8 +108,10 @@ fn narrow_by_many<R: Read, W: Write>(
     requires { 1 ≤ size }
     ensures fewer { IfOk result (λ n. IsFewer n (length calls.now)) }
     ensures narrows { (whole : List Call) (input : List ℕ) (from : Option (List ℕ))
-        → IsAlong (is_serf rules) config.now whole calls.now [] input (R.remaining reader.old) from (W.contents writer.old)
-        → IfOk result (λ n. NarrowsTo (is_serf rules) config.now whole calls.now false n input (R.remaining reader.new) from (W.contents writer.new)) }
+        → IsAlong (is_serf rules) config.now whole calls.now [] input (R.remaining reader.old)
+        from (W.contents writer.old)
+        → IfOk result (λ n. NarrowsTo (is_serf rules) config.now whole calls.now false n input
+        (R.remaining reader.new) from (W.contents writer.new)) }
 {
     let mut at: usize = 0;
     'chunks: while at < calls.len() {
@@ -134,8 +139,10 @@ pub(crate) fn narrow<R: Read, W: Write>(
 ) -> Result<Narrowed, ConformFault>
     ensures fewer { IfOk result (λ n. IsFewer n (length calls.now)) }
     ensures narrows { (whole : List Call) (input : List ℕ) (from : Option (List ℕ))
-        → IsAlong (is_serf rules) config.now whole calls.now [] input (R.remaining reader.old) from (W.contents writer.old)
-        → IfOk result (λ n. NarrowsTo (is_serf rules) config.now whole calls.now singles n input (R.remaining reader.new) from (W.contents writer.new)) }
+        → IsAlong (is_serf rules) config.now whole calls.now [] input (R.remaining reader.old)
+        from (W.contents writer.old)
+        → IfOk result (λ n. NarrowsTo (is_serf rules) config.now whole calls.now singles n input
+        (R.remaining reader.new) from (W.contents writer.new)) }
 {
     if singles {
         narrow_by_one(alloc, reader, writer, rules, config, calls)

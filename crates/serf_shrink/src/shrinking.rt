@@ -31,8 +31,10 @@ fn settle<R: Read, W: Write>(
     calls: Vec<Call>,
 ) -> Result<Shrunk, ConformFault>
     ensures { (whole : List Call) (input : List ℕ) (from : Option (List ℕ))
-        → IsAlong (is_serf rules) config.now whole calls.items [] input (R.remaining reader.old) from (W.contents writer.old)
-        → IfOk result (λ shrunk. IsShrunk (is_serf rules) config.now whole shrunk input from (W.contents writer.new)) }
+        → IsAlong (is_serf rules) config.now whole calls.items [] input (R.remaining reader.old)
+        from (W.contents writer.old)
+        → IfOk result (λ shrunk.
+        IsShrunk (is_serf rules) config.now whole shrunk input from (W.contents writer.new)) }
 {
     let mut calls = calls;
     let mut size = calls.len() / 2;
@@ -71,8 +73,9 @@ pub fn shrink<R: Read, W: Write>(
     config: &Config,
     calls: Vec<Call>,
 ) -> Result<Option<Shrunk>, ConformFault>
-    ensures { IfOk result (λ shrunk. IfSome (R.remaining reader.old) (λ input. ShrinksTo (is_serf rules) config.now calls.items shrunk input
-        (W.contents writer.old) (W.contents writer.new))) }
+    ensures { IfOk result (λ shrunk.
+        IfSome (R.remaining reader.old) (λ input. ShrinksTo (is_serf rules)
+        config.now calls.items shrunk input (W.contents writer.old) (W.contents writer.new))) }
 {
     match try_calls(alloc, reader, writer, rules, config, &calls)? {
         Outcome::Fails => match settle(alloc, reader, writer, rules, config, calls) {

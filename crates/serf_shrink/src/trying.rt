@@ -45,8 +45,9 @@ pub fn try_calls<R: Read, W: Write>(
     config: &Config,
     calls: &[Call],
 ) -> Result<Outcome, ConformFault>
-    ensures { IfOk result (λ outcome. IfSome (R.remaining reader.old) (λ input. IsTried (trial (is_serf rules) config.now calls.now input) outcome
-        (R.remaining reader.new) (W.contents writer.old) (W.contents writer.new))) }
+    ensures { IfOk result (λ outcome. IfSome (R.remaining reader.old) (λ input.
+        IsTried (trial (is_serf rules) config.now calls.now input) outcome (R.remaining reader.new)
+        (W.contents writer.old) (W.contents writer.new))) }
 {
     let schedule = alone_schedule(alloc, config, calls)?;
     let Ok(case) = case_of(alloc, schedule) else {

@@ -94,7 +94,8 @@ pub fn read_clocks(text: &[u8]) -> Clocks
     ensures member { result.member_clock ≡ last_clock Member text.now }
     ensures event { result.event_clock ≡ last_clock Event text.now }
     ensures query { result.query_clock ≡ last_clock Query text.now }
-    ensures times { (result.member_clock < greatest_clock) × (result.event_clock < greatest_clock) × (result.query_clock < greatest_clock) }
+    ensures times { (result.member_clock < greatest_clock) × (result.event_clock < greatest_clock)
+        × (result.query_clock < greatest_clock) }
 {
     let mut clocks = Clocks {
         member_clock: 0,

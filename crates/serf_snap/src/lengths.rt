@@ -34,7 +34,8 @@ fn line_length(kind: ClockKind, time: u64) -> u64
 
 /// How long the text of these last lines is. Takes no memory.
 fn compacted_length(last: Clocks) -> u64
-    ensures exact { result ≡ length (compacted_text last.member_clock last.event_clock last.query_clock) }
+    ensures exact { result
+        ≡ length (compacted_text last.member_clock last.event_clock last.query_clock) }
     ensures short { result ≤ 102 }
 {
     line_length(ClockKind::Member, last.member_clock)
@@ -46,7 +47,9 @@ fn compacted_length(last: Clocks) -> u64
 /// 2^64 - 1. Takes no memory.
 pub(crate) fn is_worth_compacting(limit: u64, kept: u64, last: Clocks) -> bool
     ensures exact { (text : List ℕ) → limit < 2 ^ 64 - 1 → kept ≡ min (length text) (2 ^ 64 - 1)
-        → result ≡ (nat_lt limit (length text) && nat_le (2 * length (compacted_text last.member_clock last.event_clock last.query_clock)) (length text)) }
+        → result ≡ (nat_lt limit (length text)
+        && nat_le (2 * length (compacted_text last.member_clock last.event_clock last.query_clock))
+        (length text)) }
     ensures never { limit ≡ 2 ^ 64 - 1 → result ≡ false }
 {
     limit < kept && compacted_length(last) <= kept / 2

@@ -115,7 +115,8 @@ impl MemSink {
 
     /// The bytes that were appended since the last flush. Takes no memory.
     pub fn buffered(&self) -> &[u8]
-        ensures { option_map (λ (t : Observable). t.buffered) self.now.device.observed_bytes ≡ Some result.now }
+        ensures { option_map (λ (t : Observable). t.buffered) self.now.device.observed_bytes
+            ≡ Some result.now }
     {
         &self.bytes[self.durable..]
     }

@@ -52,7 +52,8 @@ pub trait Sink {
         ensures room { room self.old ≤ room self.new + length bytes.now }
         ensures ok { OnOk result (device self.new ≡ appended bytes.now (device self.old)) }
         ensures fault { OnErr result (Fails (device self.old) (device self.new) bytes.now) }
-        ensures decremented { (device self.new).plan ≡ option_map append_decremented (device self.old).plan }
+        ensures decremented { (device self.new).plan
+            ≡ option_map append_decremented (device self.old).plan }
         ensures planned { IfSome (device self.old).plan (λ p. is_ok result ≡ not (p.appends == 1)) }
         ensures called { (device self.new).calls ≡ append_called (device self.old).calls };
 
@@ -60,7 +61,8 @@ pub trait Sink {
     fn flush(&mut self) -> Result<(), SinkFault>
         ensures ok { OnOk result (device self.new ≡ flushed (device self.old)) }
         ensures fault { OnErr result (Fails (device self.old) (device self.new) []) }
-        ensures decremented { (device self.new).plan ≡ option_map flush_decremented (device self.old).plan }
+        ensures decremented { (device self.new).plan
+            ≡ option_map flush_decremented (device self.old).plan }
         ensures planned { IfSome (device self.old).plan (λ p. is_ok result ≡ not (p.flushes == 1)) }
         ensures called { (device self.new).calls ≡ flush_called (device self.old).calls };
 }
@@ -73,10 +75,17 @@ pub trait ReplaceSink: Sink {
     fn replace(&mut self, alloc: Global, text: &[u8]) -> Result<(), ReplaceFault>
         requires { IsClean (Self.device self.old) }
         ensures ok { OnOk result (Self.device self.new ≡ replaced text.now (Self.device self.old)) }
-        ensures ok_planned { OnOk result (IfSome (Self.device self.old).plan (λ p. (p.replaces == 1) ≡ false)) }
-        ensures fault { IsErrOf result ReplaceFault.SinkFault → FailsReplace (Self.device self.old) (Self.device self.new) text.now }
-        ensures fault_planned { IsErrOf result ReplaceFault.SinkFault → IfSome (Self.device self.old).plan (λ p. (p.replaces == 1) ≡ true) }
-        ensures fault_decremented { IsErrOf result ReplaceFault.SinkFault → (Self.device self.new).plan ≡ option_map replace_decremented (Self.device self.old).plan }
-        ensures fault_called { IsErrOf result ReplaceFault.SinkFault → (Self.device self.new).calls ≡ replace_called (Self.device self.old).calls }
-        ensures memory { IsErrOf result ReplaceFault.OutOfMemory → Self.device self.new ≡ unreplaced (Self.device self.old) };
+        ensures ok_planned { OnOk result (IfSome (Self.device self.old).plan (λ p.
+            (p.replaces == 1) ≡ false)) }
+        ensures fault { IsErrOf result ReplaceFault.SinkFault
+            → FailsReplace (Self.device self.old) (Self.device self.new) text.now }
+        ensures fault_planned { IsErrOf result ReplaceFault.SinkFault
+            → IfSome (Self.device self.old).plan (λ p. (p.replaces == 1) ≡ true) }
+        ensures fault_decremented { IsErrOf result ReplaceFault.SinkFault
+            → (Self.device self.new).plan
+            ≡ option_map replace_decremented (Self.device self.old).plan }
+        ensures fault_called { IsErrOf result ReplaceFault.SinkFault
+            → (Self.device self.new).calls ≡ replace_called (Self.device self.old).calls }
+        ensures memory { IsErrOf result ReplaceFault.OutOfMemory
+            → Self.device self.new ≡ unreplaced (Self.device self.old) };
 }

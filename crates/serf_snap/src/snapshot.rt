@@ -79,7 +79,8 @@ impl<S: Sink> Model for Snapshot<S> {
 
     ghost invariant = { λ a.
         (a.stopped ≡ false → IsClean (S.device a.sink))
-        × (a.last.member_clock < greatest_clock) × (a.last.event_clock < greatest_clock) × (a.last.query_clock < greatest_clock)
+        × (a.last.member_clock < greatest_clock) × (a.last.event_clock < greatest_clock)
+        × (a.last.query_clock < greatest_clock)
         × (a.stopped ≡ false → IsLengthOf (durable_of (S.device a.sink)) a.kept) };
 }
 
@@ -119,7 +120,8 @@ fn put_line_above_zero(text: &mut Vec<u8>, kind: ClockKind, time: u64) -> Result
 
 /// The text of these last lines.
 fn text_of(alloc: Global, last: Clocks) -> Result<Vec<u8>, AllocError>
-    ensures { IfOk result (λ text. text.items ≡ compacted_text last.member_clock last.event_clock last.query_clock) }
+    ensures { IfOk result (λ text. text.items
+        ≡ compacted_text last.member_clock last.event_clock last.query_clock) }
 {
     let mut text = Vec::new(alloc);
     put_line_above_zero(&mut text, ClockKind::Member, last.member_clock)?;
@@ -134,9 +136,11 @@ fn keep<S: Sink>(sink: &mut S, line: &[u8]) -> Result<(), SinkFault>
     ensures ok { OnOk result (S.device sink.new ≡ flushed (appended line.now (S.device sink.old))) }
     ensures clean { OnOk result (IsClean (S.device sink.new)) }
     ensures fault { OnErr result (Fails (S.device sink.old) (S.device sink.new) line.now) }
-    ensures decremented { OnErr result ((S.device sink.new).plan ≡ option_map note_decremented (S.device sink.old).plan) }
+    ensures decremented { OnErr result ((S.device sink.new).plan
+        ≡ option_map note_decremented (S.device sink.old).plan) }
     ensures planned { IfSome (S.device sink.old).plan (λ p. is_ok result ≡ not (note_fails p)) }
-    ensures called { OnErr result (HasTriedNote (S.device sink.old).calls (S.device sink.new).calls) }
+    ensures called { OnErr result
+        (HasTriedNote (S.device sink.old).calls (S.device sink.new).calls) }
 {
     sink.append(line)?;
     sink.flush()
@@ -146,15 +150,22 @@ fn keep<S: Sink>(sink: &mut S, line: &[u8]) -> Result<(), SinkFault>
 fn seal<S: Sink>(alloc: Global, text: &[u8], sink: &mut S) -> Result<(), OpenFault>
     requires { HasText text.now (S.device sink.old) }
     ensures ok { OnOk result (S.device sink.new ≡ opened_device text.now (S.device sink.old)) }
-    ensures durable { OnOk result (durable_of (S.device sink.new) ≡ option_map (λ (t : Observable). sealed text.now) (S.device sink.old).observed_bytes) }
-    ensures plan { OnOk result ((S.device sink.new).plan ≡ (if is_whole text.now then (S.device sink.old).plan else option_map note_decremented (S.device sink.old).plan)) }
+    ensures durable { OnOk result (durable_of (S.device sink.new)
+        ≡ option_map (λ (t : Observable). sealed text.now) (S.device sink.old).observed_bytes) }
+    ensures plan { OnOk result ((S.device sink.new).plan ≡ (if is_whole text.now
+        then (S.device sink.old).plan else option_map note_decremented (S.device sink.old).plan)) }
     ensures clean { OnOk result (IsClean (S.device sink.new)) }
-    ensures ok_planned { OnOk result (is_whole text.now ≡ false → IfSome (S.device sink.old).plan (λ p. note_fails p ≡ false)) }
+    ensures ok_planned { OnOk result (is_whole text.now ≡ false
+        → IfSome (S.device sink.old).plan (λ p. note_fails p ≡ false)) }
     ensures whole { is_whole text.now ≡ true → IsOk result }
-    ensures fault { IsErrOf result OpenFault.SinkFault → Fails (S.device sink.old) (S.device sink.new) seal_line }
-    ensures fault_called { IsErrOf result OpenFault.SinkFault → HasTriedNote (S.device sink.old).calls (S.device sink.new).calls }
-    ensures fault_planned { IsErrOf result OpenFault.SinkFault → IfSome (S.device sink.old).plan (λ p. note_fails p ≡ true) }
-    ensures fault_decremented { IsErrOf result OpenFault.SinkFault → (S.device sink.new).plan ≡ option_map note_decremented (S.device sink.old).plan }
+    ensures fault { IsErrOf result OpenFault.SinkFault
+        → Fails (S.device sink.old) (S.device sink.new) seal_line }
+    ensures fault_called { IsErrOf result OpenFault.SinkFault
+        → HasTriedNote (S.device sink.old).calls (S.device sink.new).calls }
+    ensures fault_planned { IsErrOf result OpenFault.SinkFault
+        → IfSome (S.device sink.old).plan (λ p. note_fails p ≡ true) }
+    ensures fault_decremented { IsErrOf result OpenFault.SinkFault
+        → (S.device sink.new).plan ≡ option_map note_decremented (S.device sink.old).plan }
     ensures memory { IsErrOf result OpenFault.OutOfMemory → S.device sink.new ≡ S.device sink.old }
 {
     if ends_whole(text) {
@@ -184,13 +195,19 @@ impl<S: Sink> Snapshot<S> {
         ensures ok { IfOk result (λ s. s.snapshot ≡ opened text.now (S.device sink)) }
         ensures device { IfOk result (λ s. s.device ≡ opened_device text.now (S.device sink)) }
         ensures times { IfOk result (λ s. AreTimes s.snapshot) }
-        ensures ok_planned { OnOk result (is_whole text.now ≡ false → IfSome (S.device sink).plan (λ p. note_fails p ≡ false)) }
+        ensures ok_planned { OnOk result (is_whole text.now ≡ false
+            → IfSome (S.device sink).plan (λ p. note_fails p ≡ false)) }
         ensures whole { is_whole text.now ≡ true → IsOk result }
-        ensures fault { IfErr result (λ e. e.1 ≡ OpenFault.SinkFault → Fails (S.device sink) (S.device e.0) seal_line) }
-        ensures fault_called { IfErr result (λ e. e.1 ≡ OpenFault.SinkFault → HasTriedNote (S.device sink).calls (S.device e.0).calls) }
-        ensures fault_planned { IfErr result (λ e. e.1 ≡ OpenFault.SinkFault → IfSome (S.device sink).plan (λ p. note_fails p ≡ true)) }
-        ensures fault_decremented { IfErr result (λ e. e.1 ≡ OpenFault.SinkFault → (S.device e.0).plan ≡ option_map note_decremented (S.device sink).plan) }
-        ensures memory { IfErr result (λ e. e.1 ≡ OpenFault.OutOfMemory → S.device e.0 ≡ S.device sink) }
+        ensures fault { IfErr result (λ e. e.1 ≡ OpenFault.SinkFault
+            → Fails (S.device sink) (S.device e.0) seal_line) }
+        ensures fault_called { IfErr result (λ e. e.1 ≡ OpenFault.SinkFault
+            → HasTriedNote (S.device sink).calls (S.device e.0).calls) }
+        ensures fault_planned { IfErr result (λ e. e.1 ≡ OpenFault.SinkFault
+            → IfSome (S.device sink).plan (λ p. note_fails p ≡ true)) }
+        ensures fault_decremented { IfErr result (λ e. e.1 ≡ OpenFault.SinkFault
+            → (S.device e.0).plan ≡ option_map note_decremented (S.device sink).plan) }
+        ensures memory { IfErr result (λ e. e.1 ≡ OpenFault.OutOfMemory
+            → S.device e.0 ≡ S.device sink) }
     {
         let mut sink = sink;
         if let Err(fault) = seal(alloc, text, &mut sink) {
@@ -213,19 +230,30 @@ impl<S: Sink> Snapshot<S> {
     /// be durable, and each later note is [`NoteFault::Stopped`].
     pub fn note(&mut self, alloc: Global, kind: ClockKind, time: Time) -> Result<(), NoteFault>
         ensures stopped { (result ≡ Err NoteFault.Stopped) ↔ IsTrue self.old.snapshot.stopped }
-        ensures none { self.old.snapshot.stopped ≡ false → time ≤ last_line kind self.old.snapshot → (result ≡ Ok tt) × (self.new ≡ self.old) }
+        ensures none { self.old.snapshot.stopped ≡ false → time ≤ last_line kind self.old.snapshot
+            → (result ≡ Ok tt) × (self.new ≡ self.old) }
 
         // The line is durable, or the sink fails; with a plan exactly where it says.
         ensures ok { OnOk result (self.new.snapshot ≡ noted kind time self.old.snapshot Kept) }
-        ensures ok_allowed { OnOk result (last_line kind self.old.snapshot < time → MayWrite self.old.snapshot (clock_line kind time) Kept) }
-        ensures ok_device { OnOk result (last_line kind self.old.snapshot < time → self.new.device ≡ flushed (appended (clock_line kind time) self.old.device)) }
-        ensures fault { IsErrOf result NoteFault.SinkFault → self.new.snapshot ≡ written kind time self.old.snapshot (Failed self.new.snapshot.durable) }
-        ensures fault_allowed { IsErrOf result NoteFault.SinkFault → MayWrite self.old.snapshot (clock_line kind time) (Failed self.new.snapshot.durable) }
-        ensures fault_above { IsErrOf result NoteFault.SinkFault → last_line kind self.old.snapshot < time }
-        ensures fault_device { IsErrOf result NoteFault.SinkFault → Fails self.old.device self.new.device (clock_line kind time) }
-        ensures fault_cause { IsErrOf result NoteFault.SinkFault → HasFailed self.old.device.failures self.new.device.failures }
-        ensures fault_called { IsErrOf result NoteFault.SinkFault → HasTriedNote self.old.device.calls self.new.device.calls }
-        ensures fault_decremented { IsErrOf result NoteFault.SinkFault → self.new.device.plan ≡ option_map note_decremented self.old.device.plan }
+        ensures ok_allowed { OnOk result (last_line kind self.old.snapshot < time
+            → MayWrite self.old.snapshot (clock_line kind time) Kept) }
+        ensures ok_device { OnOk result (last_line kind self.old.snapshot < time
+            → self.new.device ≡ flushed (appended (clock_line kind time) self.old.device)) }
+        ensures fault { IsErrOf result NoteFault.SinkFault
+            → self.new.snapshot
+            ≡ written kind time self.old.snapshot (Failed self.new.snapshot.durable) }
+        ensures fault_allowed { IsErrOf result NoteFault.SinkFault
+            → MayWrite self.old.snapshot (clock_line kind time) (Failed self.new.snapshot.durable) }
+        ensures fault_above { IsErrOf result NoteFault.SinkFault
+            → last_line kind self.old.snapshot < time }
+        ensures fault_device { IsErrOf result NoteFault.SinkFault
+            → Fails self.old.device self.new.device (clock_line kind time) }
+        ensures fault_cause { IsErrOf result NoteFault.SinkFault
+            → HasFailed self.old.device.failures self.new.device.failures }
+        ensures fault_called { IsErrOf result NoteFault.SinkFault
+            → HasTriedNote self.old.device.calls self.new.device.calls }
+        ensures fault_decremented { IsErrOf result NoteFault.SinkFault
+            → self.new.device.plan ≡ option_map note_decremented self.old.device.plan }
 
         ensures stays { IsErrOf result NoteFault.Stopped → self.new ≡ self.old }
         ensures memory { IsErrOf result NoteFault.OutOfMemory → self.new ≡ self.old }
@@ -281,7 +309,9 @@ impl<S: Sink> Snapshot<S> {
     /// however long the text is. (`snapshot.go`, `appendLine`, which compacts where the file is longer than 128 KiB and
     /// than twice what its nodes are estimated to need.)
     pub fn should_compact(&self, limit: u64) -> bool
-        ensures exact { self.now.snapshot.stopped ≡ false → limit < 2 ^ 64 - 1 → IfSome self.now.snapshot.durable (λ text. result ≡ is_worth_compacting limit self.now.snapshot text) }
+        ensures exact { self.now.snapshot.stopped ≡ false → limit < 2 ^ 64 - 1
+            → IfSome self.now.snapshot.durable (λ text. result
+            ≡ is_worth_compacting limit self.now.snapshot text) }
         ensures stopped { self.now.snapshot.stopped ≡ true → result ≡ false }
         ensures never { limit ≡ 2 ^ 64 - 1 → result ≡ false }
     {
@@ -311,17 +341,26 @@ impl<S: ReplaceSink> Snapshot<S> {
         // The text is replaced, or the sink fails; with a plan exactly where it says.
         ensures ok { OnOk result (self.new.snapshot ≡ compacted self.old.snapshot Kept) }
         ensures ok_allowed { OnOk result (MayReplace self.old.snapshot Kept) }
-        ensures ok_device { OnOk result (self.new.device ≡ replaced (compaction_of self.old.snapshot) self.old.device) }
-        ensures fault { IsErrOf result NoteFault.SinkFault → self.new.snapshot ≡ compacted self.old.snapshot (Failed self.new.snapshot.durable) }
-        ensures fault_allowed { IsErrOf result NoteFault.SinkFault → MayReplace self.old.snapshot (Failed self.new.snapshot.durable) }
-        ensures fault_device { IsErrOf result NoteFault.SinkFault → FailsReplace self.old.device self.new.device (compaction_of self.old.snapshot) }
-        ensures fault_cause { IsErrOf result NoteFault.SinkFault → HasFailed self.old.device.failures self.new.device.failures }
-        ensures fault_called { IsErrOf result NoteFault.SinkFault → self.new.device.calls ≡ replace_called self.old.device.calls }
-        ensures fault_decremented { IsErrOf result NoteFault.SinkFault → self.new.device.plan ≡ option_map replace_decremented self.old.device.plan }
+        ensures ok_device { OnOk result (self.new.device
+            ≡ replaced (compaction_of self.old.snapshot) self.old.device) }
+        ensures fault { IsErrOf result NoteFault.SinkFault
+            → self.new.snapshot ≡ compacted self.old.snapshot (Failed self.new.snapshot.durable) }
+        ensures fault_allowed { IsErrOf result NoteFault.SinkFault
+            → MayReplace self.old.snapshot (Failed self.new.snapshot.durable) }
+        ensures fault_device { IsErrOf result NoteFault.SinkFault
+            → FailsReplace self.old.device self.new.device (compaction_of self.old.snapshot) }
+        ensures fault_cause { IsErrOf result NoteFault.SinkFault
+            → HasFailed self.old.device.failures self.new.device.failures }
+        ensures fault_called { IsErrOf result NoteFault.SinkFault
+            → self.new.device.calls ≡ replace_called self.old.device.calls }
+        ensures fault_decremented { IsErrOf result NoteFault.SinkFault
+            → self.new.device.plan ≡ option_map replace_decremented self.old.device.plan }
 
         ensures stays { IsErrOf result NoteFault.Stopped → self.new ≡ self.old }
-        ensures memory { IsErrOf result NoteFault.OutOfMemory → self.new.snapshot ≡ self.old.snapshot }
-        ensures memory_device { IsErrOf result NoteFault.OutOfMemory → (self.new.device ≡ self.old.device) ⊎ (self.new.device ≡ unreplaced self.old.device) }
+        ensures memory { IsErrOf result NoteFault.OutOfMemory
+            → self.new.snapshot ≡ self.old.snapshot }
+        ensures memory_device { IsErrOf result NoteFault.OutOfMemory
+            → (self.new.device ≡ self.old.device) ⊎ (self.new.device ≡ unreplaced self.old.device) }
         ensures clean { OnOk result (IsClean self.new.device) }
         ensures calm { OnOk result (self.new.device.failures ≡ self.old.device.failures) }
     {

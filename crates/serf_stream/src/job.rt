@@ -25,6 +25,9 @@ pub trait LineJob {
         line: &[u8],
         text: &mut Vec<u8>,
     ) -> Result<(), LineFault<Self::Fault>>
-        ensures done { (lines : List (List ℕ)) → follows self.old lines → text.old.items ≡ [] → OnOk result ((answer lines line.now ≡ Ok text.new.items) × follows self.new (lines ++ line.now ∷ [])) }
-        ensures refused { (lines : List (List ℕ)) → follows self.old lines → IfErr result (IsSaid (answer lines line.now)) };
+        ensures done { (lines : List (List ℕ)) → follows self.old lines → text.old.items ≡ []
+            → OnOk result ((answer lines line.now ≡ Ok text.new.items)
+            × follows self.new (lines ++ line.now ∷ [])) }
+        ensures refused { (lines : List (List ℕ)) → follows self.old lines
+            → IfErr result (IsSaid (answer lines line.now)) };
 }

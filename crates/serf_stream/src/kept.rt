@@ -32,9 +32,12 @@ fn read_one<J: LineJob>(
     text: &mut Vec<u8>,
     waiting: &mut Vec<u8>,
 ) -> Result<(), LineFault<J::Fault>>
-    ensures done { (lines : List (List ℕ)) → J.follows job.old lines → OnOk result ((answered : List ℕ) × (J.answer lines line.now ≡ Ok answered)
-        × (waiting.new.items ≡ waiting.old.items ++ answered) × J.follows job.new (lines ++ line.now ∷ [])) }
-    ensures refused { (lines : List (List ℕ)) → J.follows job.old lines → IfErr result (IsSaid (J.answer lines line.now)) }
+    ensures done { (lines : List (List ℕ)) → J.follows job.old lines
+        → OnOk result ((answered : List ℕ) × (J.answer lines line.now ≡ Ok answered)
+        × (waiting.new.items ≡ waiting.old.items ++ answered)
+        × J.follows job.new (lines ++ line.now ∷ [])) }
+    ensures refused { (lines : List (List ℕ)) → J.follows job.old lines
+        → IfErr result (IsSaid (J.answer lines line.now)) }
     ensures same { OnErr result (waiting.new.items ≡ waiting.old.items) }
 {
     text.clear();
@@ -56,9 +59,12 @@ fn answer_line<J: LineJob>(
     text: &mut Vec<u8>,
     waiting: &mut Vec<u8>,
 ) -> Result<(), StreamFault<J::Fault>>
-    ensures done { (lines : List (List ℕ)) (first now : Option (List ℕ)) → Reached J.follows J.answer job.old number.old waiting.old.items lines first now
-        → OnOk result (Reached J.follows J.answer job.new number.new waiting.new.items (lines ++ line.now ∷ []) first now) }
-    ensures stopped { (lines : List (List ℕ)) (first now : Option (List ℕ)) → Reached J.follows J.answer job.old number.old waiting.old.items lines first now
+    ensures done { (lines : List (List ℕ)) (first now : Option (List ℕ))
+        → Reached J.follows J.answer job.old number.old waiting.old.items lines first now
+        → OnOk result (Reached J.follows J.answer job.new number.new waiting.new.items
+        (lines ++ line.now ∷ []) first now) }
+    ensures stopped { (lines : List (List ℕ)) (first now : Option (List ℕ))
+        → Reached J.follows J.answer job.old number.old waiting.old.items lines first now
         → IfErr result (λ fault. IsLineFault J.answer fault lines line.now) }
     ensures same { OnErr result (waiting.new.items ≡ waiting.old.items) }
 {
@@ -81,7 +87,8 @@ fn answer_line<J: LineJob>(
 /// Puts a piece behind the front of the line that is not over.
 pub(crate) fn hold<F>(number: u64, held: &mut Vec<u8>, piece: &[u8]) -> Result<(), StreamFault<F>>
     ensures done { OnOk result (held.new.items ≡ held.old.items ++ piece.now) }
-    ensures stopped { (answer : List (List ℕ) → List ℕ → Result (List ℕ) F) (lines : List (List ℕ)) → number ≡ number_behind lines
+    ensures stopped { (answer : List (List ℕ) → List ℕ → Result (List ℕ) F) (lines : List (List ℕ))
+        → number ≡ number_behind lines
         → IfErr result (λ fault. IsLineFault answer fault lines (held.old.items ++ piece.now)) }
 {
     if held.len() > MAX_LINE_BYTES || piece.len() > MAX_LINE_BYTES - held.len() {
@@ -116,11 +123,15 @@ pub(crate) fn end_line<J: LineJob>(
     kept: &mut Kept,
     piece: &[u8],
 ) -> Result<(), StreamFault<J::Fault>>
-    ensures done { (lines : List (List ℕ)) (first now : Option (List ℕ)) → Reached J.follows J.answer job.old kept.old.number kept.old.waiting.items lines first now
-        → OnOk result (Reached J.follows J.answer job.new kept.new.number kept.new.waiting.items (lines ++ (kept.old.held.items ++ piece.now) ∷ []) first now) }
+    ensures done { (lines : List (List ℕ)) (first now : Option (List ℕ))
+        → Reached J.follows J.answer job.old kept.old.number kept.old.waiting.items lines first now
+        → OnOk result (Reached J.follows J.answer job.new kept.new.number kept.new.waiting.items
+        (lines ++ (kept.old.held.items ++ piece.now) ∷ []) first now) }
     ensures empty { OnOk result (kept.new.held.items ≡ []) }
-    ensures stopped { (lines : List (List ℕ)) (first now : Option (List ℕ)) → Reached J.follows J.answer job.old kept.old.number kept.old.waiting.items lines first now
-        → IfErr result (λ fault. IsLineFault J.answer fault lines (kept.old.held.items ++ piece.now)) }
+    ensures stopped { (lines : List (List ℕ)) (first now : Option (List ℕ))
+        → Reached J.follows J.answer job.old kept.old.number kept.old.waiting.items lines first now
+        → IfErr result (λ fault.
+        IsLineFault J.answer fault lines (kept.old.held.items ++ piece.now)) }
     ensures same { OnErr result (kept.new.waiting.items ≡ kept.old.waiting.items) }
 {
     if kept.held.is_empty() {

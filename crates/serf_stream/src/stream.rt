@@ -23,10 +23,14 @@ fn take_bytes<J: LineJob>(
     kept: &mut Kept,
     bytes: &[u8],
 ) -> Result<(), StreamFault<J::Fault>>
-    ensures done { (before : List ℕ) (first now : Option (List ℕ)) → HasRead J.follows J.answer job.old kept.old.held.items kept.old.number kept.old.waiting.items before first now
-        → OnOk result (HasRead J.follows J.answer job.new kept.new.held.items kept.new.number kept.new.waiting.items (before ++ bytes.now) first now) }
-    ensures stopped { (before : List ℕ) (first now : Option (List ℕ)) → HasRead J.follows J.answer job.old kept.old.held.items kept.old.number kept.old.waiting.items before first now
-        → IfErr result (λ fault. WaitsFor J.answer fault (lines_of (before ++ bytes.now)) kept.new.waiting.items first now) }
+    ensures done { (before : List ℕ) (first now : Option (List ℕ)) → HasRead J.follows J.answer
+        job.old kept.old.held.items kept.old.number kept.old.waiting.items before first now
+        → OnOk result (HasRead J.follows J.answer job.new kept.new.held.items kept.new.number
+        kept.new.waiting.items (before ++ bytes.now) first now) }
+    ensures stopped { (before : List ℕ) (first now : Option (List ℕ)) → HasRead J.follows J.answer
+        job.old kept.old.held.items kept.old.number kept.old.waiting.items before first now
+        → IfErr result (λ fault.
+        WaitsFor J.answer fault (lines_of (before ++ bytes.now)) kept.new.waiting.items first now) }
 {
     let mut rest = bytes;
     'lines: loop {
@@ -43,9 +47,11 @@ fn take_bytes<J: LineJob>(
 
 /// Writes the answers that wait.
 fn write_waiting<W: Write, F>(writer: &mut W, waiting: &mut Vec<u8>) -> Result<(), StreamFault<F>>
-    ensures done { OnOk result (Appends (W.contents writer.old) (W.contents writer.new) waiting.old.items) }
+    ensures done { OnOk result
+        (Appends (W.contents writer.old) (W.contents writer.new) waiting.old.items) }
     ensures empty { waiting.new.items ≡ [] }
-    ensures front { OnErr result (AppendsFront (W.contents writer.old) (W.contents writer.new) waiting.old.items) }
+    ensures front { OnErr result
+        (AppendsFront (W.contents writer.old) (W.contents writer.new) waiting.old.items) }
     ensures fault { IfErr result (λ fault. fault ≡ StreamFault.WriteFault) }
 {
     let written = write_output(writer, waiting);
@@ -64,11 +70,17 @@ fn step<W: Write, J: LineJob>(
     bytes: &[u8],
     writer: &mut W,
 ) -> Result<(), StreamFault<J::Fault>>
-    ensures done { (before : List ℕ) (first : Option (List ℕ)) → HasRead J.follows J.answer job.old kept.old.held.items kept.old.number kept.old.waiting.items before first (W.contents writer.old)
-        → OnOk result (HasRead J.follows J.answer job.new kept.new.held.items kept.new.number kept.new.waiting.items (before ++ bytes.now) first (W.contents writer.new)) }
+    ensures done { (before : List ℕ) (first : Option (List ℕ))
+        → HasRead J.follows J.answer job.old kept.old.held.items kept.old.number
+        kept.old.waiting.items before first (W.contents writer.old)
+        → OnOk result (HasRead J.follows J.answer job.new kept.new.held.items kept.new.number
+        kept.new.waiting.items (before ++ bytes.now) first (W.contents writer.new)) }
     ensures empty { kept.new.waiting.items ≡ [] }
-    ensures stopped { (before : List ℕ) (first : Option (List ℕ)) → HasRead J.follows J.answer job.old kept.old.held.items kept.old.number kept.old.waiting.items before first (W.contents writer.old)
-        → IfErr result (λ fault. IsStopped J.answer fault (lines_of (before ++ bytes.now)) first (W.contents writer.new)) }
+    ensures stopped { (before : List ℕ) (first : Option (List ℕ))
+        → HasRead J.follows J.answer job.old kept.old.held.items kept.old.number
+        kept.old.waiting.items before first (W.contents writer.old)
+        → IfErr result (λ fault.
+        IsStopped J.answer fault (lines_of (before ++ bytes.now)) first (W.contents writer.new)) }
 {
     let taken = take_bytes(alloc, job, kept, bytes);
     match write_waiting(writer, &mut kept.waiting) {
@@ -84,10 +96,16 @@ fn finish<W: Write, J: LineJob>(
     kept: &mut Kept,
     writer: &mut W,
 ) -> Result<(), StreamFault<J::Fault>>
-    ensures done { (before : List ℕ) (first : Option (List ℕ)) → HasRead J.follows J.answer job.old kept.old.held.items kept.old.number kept.old.waiting.items before first (W.contents writer.old)
-        → OnOk result (IsDone J.follows J.answer job.new (lines_of before) first (W.contents writer.new)) }
-    ensures stopped { (before : List ℕ) (first : Option (List ℕ)) → HasRead J.follows J.answer job.old kept.old.held.items kept.old.number kept.old.waiting.items before first (W.contents writer.old)
-        → IfErr result (λ fault. IsStopped J.answer fault (lines_of before) first (W.contents writer.new)) }
+    ensures done { (before : List ℕ) (first : Option (List ℕ))
+        → HasRead J.follows J.answer job.old kept.old.held.items kept.old.number
+        kept.old.waiting.items before first (W.contents writer.old)
+        → OnOk result (IsDone J.follows J.answer job.new (lines_of before) first
+        (W.contents writer.new)) }
+    ensures stopped { (before : List ℕ) (first : Option (List ℕ))
+        → HasRead J.follows J.answer job.old kept.old.held.items kept.old.number
+        kept.old.waiting.items before first (W.contents writer.old)
+        → IfErr result (λ fault.
+        IsStopped J.answer fault (lines_of before) first (W.contents writer.new)) }
 {
     let ended = end_line(alloc, job, kept, &[]);
     match write_waiting(writer, &mut kept.waiting) {
@@ -109,11 +127,18 @@ pub fn answer_lines<R: Read, W: Write, J: LineJob>(
     job: &mut J,
 ) -> Result<(), StreamFault<J::Fault>>
     // Just the answers to all lines were written.
-    ensures done { J.follows job.old [] → OnOk result ((bytes : List ℕ) × Consumes (R.remaining reader.old) (R.remaining reader.new) bytes × IsAtEnd (R.remaining reader.new)
-        × IsDone J.follows J.answer job.new (lines_of bytes) (W.contents writer.old) (W.contents writer.new)) }
+    ensures done { J.follows job.old []
+        → OnOk result ((bytes : List ℕ)
+        × Consumes (R.remaining reader.old) (R.remaining reader.new) bytes
+        × IsAtEnd (R.remaining reader.new)
+        × IsDone J.follows J.answer job.new (lines_of bytes) (W.contents writer.old)
+        (W.contents writer.new)) }
     // Of the lines that were read some were answered; what else is said of them depends on the fault.
-    ensures stopped { J.follows job.old [] → IfErr result (λ fault. (bytes : List ℕ) × Consumes (R.remaining reader.old) (R.remaining reader.new) bytes
-        × IsStopped J.answer fault (lines_of bytes) (W.contents writer.old) (W.contents writer.new)) }
+    ensures stopped { J.follows job.old []
+        → IfErr result (λ fault. (bytes : List ℕ)
+        × Consumes (R.remaining reader.old) (R.remaining reader.new) bytes
+        × IsStopped J.answer fault (lines_of bytes) (W.contents writer.old)
+        (W.contents writer.new)) }
 {
     let mut kept = Kept::new(alloc);
     let mut chunk = [0u8; CHUNK];

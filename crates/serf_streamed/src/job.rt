@@ -52,10 +52,13 @@ pub fn replay_lines<R: Read, W: Write>(
     writer: &mut W,
 ) -> Result<(), StreamFault<Cause>>
     // Just the text of the trace of the whole was written: it is that of a run which keeps all promises.
-    ensures done { OnOk result ((bytes text : List ℕ) × Consumes (R.remaining reader.old) (R.remaining reader.new) bytes × IsAtEnd (R.remaining reader.new)
-        × (output_of bytes ≡ Ok text) × TracesRun bytes text × Appends (W.contents writer.old) (W.contents writer.new) text) }
+    ensures done { OnOk result ((bytes text : List ℕ)
+        × Consumes (R.remaining reader.old) (R.remaining reader.new) bytes
+        × IsAtEnd (R.remaining reader.new) × (output_of bytes ≡ Ok text) × TracesRun bytes text
+        × Appends (W.contents writer.old) (W.contents writer.new) text) }
     // Of the lines that were read some were done, and the text of their trace was written.
-    ensures stopped { IfErr result (λ fault. (bytes : List ℕ) × Consumes (R.remaining reader.old) (R.remaining reader.new) bytes
+    ensures stopped { IfErr result (λ fault. (bytes : List ℕ)
+        × Consumes (R.remaining reader.old) (R.remaining reader.new) bytes
         × IsHalted fault bytes (W.contents writer.old) (W.contents writer.new)) }
 {
     answered_lines();

@@ -82,7 +82,8 @@ pub(crate) fn label_of(answer: Answer) -> &'static [u8]
 
 /// The event of a line.
 pub(crate) fn key_of(alloc: Global, event: &EventLine) -> Result<EventKey, AllocError>
-    ensures { IfOk result (λ key. (key.time ≡ event.now.time) × (key.name.items ≡ event.now.name) × (key.payload.items ≡ event.now.payload)) }
+    ensures { IfOk result (λ key. (key.time ≡ event.now.time) × (key.name.items ≡ event.now.name)
+        × (key.payload.items ≡ event.now.payload)) }
 {
     let name = Vec::from_slice(alloc, event.name.as_slice())?;
     let payload = Vec::from_slice(alloc, event.payload.as_slice())?;

@@ -17,7 +17,8 @@ fn add_action(
     action: &Action,
 ) -> Result<(), AllocError>
     requires { world.old.poisoned ≡ false }
-    ensures stands { (r : Run) → Stands r world.old summary.old → OnOk result (Stands (after r action.now) world.new summary.new) }
+    ensures stands { (r : Run) → Stands r world.old summary.old
+        → OnOk result (Stands (after r action.now) world.new summary.new) }
     ensures unpoisoned { OnOk result (world.new.poisoned ≡ false) }
 {
     match world.step(alloc, action) {
@@ -37,7 +38,8 @@ pub fn summarize<T: Watch>(
     watch: &mut T,
 ) -> Result<Summary, AllocError>
     // The summary has just what the lines of the schedule's run show.
-    ensures { IfOk result (λ summary. IsSummary summary (map (λ t. t.line) (run_of schedule.agents schedule.actions.items).turns)) }
+    ensures { IfOk result (λ summary. IsSummary summary
+        (map (λ t. t.line) (run_of schedule.agents schedule.actions.items).turns)) }
 {
     let Schedule { agents, actions } = schedule;
     let mut world = World::new(alloc, agents)?;

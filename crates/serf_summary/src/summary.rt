@@ -33,7 +33,8 @@ fn note_event(
     event: &EventLine,
     action: u64,
 ) -> Result<(), AllocError>
-    ensures { (notes : List (Event × ℕ)) → AreHandOuts agents.old events.old notes → OnOk result (AreHandOuts agents.new events.new (notes ++ (event.now, action) ∷ [])) }
+    ensures { (notes : List (Event × ℕ)) → AreHandOuts agents.old events.old notes
+        → OnOk result (AreHandOuts agents.new events.new (notes ++ (event.now, action) ∷ [])) }
 {
     let key = key_of(alloc, event)?;
     note(agents, event.agent, action)?;
@@ -48,7 +49,8 @@ fn note_events(
     lines: &[EventLine],
     action: u64,
 ) -> Result<(), AllocError>
-    ensures { (notes : List (Event × ℕ)) → AreHandOuts agents.old events.old notes → OnOk result (AreHandOuts agents.new events.new (notes ++ events_at action lines.now)) }
+    ensures { (notes : List (Event × ℕ)) → AreHandOuts agents.old events.old notes
+        → OnOk result (AreHandOuts agents.new events.new (notes ++ events_at action lines.now)) }
 {
     for line in lines {
         note_event(alloc, agents, events, line, action)?;
@@ -62,7 +64,8 @@ fn note_answer(
     line: &Line,
     action: u64,
 ) -> Result<(), AllocError>
-    ensures { (notes : List (Shown × ℕ)) → AreAnswers answers.old notes → OnOk result (AreAnswers answers.new (notes ++ (line.now, action) ∷ [])) }
+    ensures { (notes : List (Shown × ℕ)) → AreAnswers answers.old notes
+        → OnOk result (AreAnswers answers.new (notes ++ (line.now, action) ∷ [])) }
 {
     note(answers, label_of(line.answer), action)
 }
@@ -82,7 +85,8 @@ impl Summary {
 
     /// Takes the line of the next action in.
     pub(crate) fn add(&mut self, alloc: Global, line: &Line) -> Result<(), AllocError>
-        ensures { (lines : List Shown) → IsSummary self.old lines → OnOk result (IsSummary self.new (lines ++ line.now ∷ [])) }
+        ensures { (lines : List Shown) → IsSummary self.old lines
+            → OnOk result (IsSummary self.new (lines ++ line.now ∷ [])) }
     {
         let Some(action) = self.actions.checked_add(1) else {
             return Err(AllocError);

@@ -38,7 +38,8 @@ pub(crate) fn note<K: Eq + Hash + Drop>(
     key: K,
     action: u64,
 ) -> Result<(), AllocError>
-    ensures { OnOk result ((q : K) → get K.eq found.new q ≡ noted (K.eq key q) (again action (get K.eq found.old key)) (get K.eq found.old q)) }
+    ensures { OnOk result ((q : K) → get K.eq found.new q
+        ≡ noted (K.eq key q) (again action (get K.eq found.old key)) (get K.eq found.old q)) }
 {
     let spread = once_more(found.get(&key), action);
     match found.insert(key, spread) {

@@ -58,7 +58,8 @@ impl<K> Model for Window<K> {
       per_time = w.per_time;
     } };
 
-    ghost invariant = { λ w. IsWindow w.slot_count w.per_time (map slot_view (all_slots w.slot_count w.made.items)) × (vec_len w.made ≤ w.slot_count) };
+    ghost invariant = { λ w. IsWindow w.slot_count w.per_time
+        (map slot_view (all_slots w.slot_count w.made.items)) × (vec_len w.made ≤ w.slot_count) };
 }
 
 /// The window of events: an event is known by its time, name and payload.
@@ -109,7 +110,8 @@ fn verdict_at<K, L: LentKey<K>>(
     key: &L,
 ) -> Verdict
     requires { 0 < per_time }
-    ensures { result ≡ slot_verdict L.same per_time (slot_view (slice_index_or made.now place unused_slot)) time (L.key key.now) }
+    ensures { result ≡ slot_verdict L.same per_time
+        (slot_view (slice_index_or made.now place unused_slot)) time (L.key key.now) }
 {
     match made.get(place) {
         Some(slot) => verdict_in(slot, per_time, time, key),
@@ -121,7 +123,8 @@ fn verdict_at<K, L: LentKey<K>>(
 fn take_in<K: Drop>(slot: &mut TimeSlot<K>, time: Time, key: K)
     requires room { 0 < slot.old.held.room }
     requires not_later { slot.old.time ≤ time }
-    ensures { slot_view slot.new ≡ slot_after (slot_view slot.old) (record { time = time; key = key }) }
+    ensures { slot_view slot.new
+        ≡ slot_after (slot_view slot.old) (record { time = time; key = key }) }
 {
     if slot.time.get() < time.get() {
         slot.held.clear();
@@ -147,9 +150,11 @@ impl<K: Drop> Window<K> {
     pub fn new(alloc: Global, slot_count: u64, per_time: u64) -> Result<Self, NewWindowFault>
         ensures slots { IfOk result (λ window. window.slots ≡ slots_of slot_count []) }
         ensures size { IfOk result (λ window. length window.slots ≡ slot_count) }
-        ensures below { IfOk result (λ window. (clock : ℕ) → 0 < clock → TimesBelow clock window.slots) }
+        ensures below { IfOk result (λ window. (clock : ℕ) → 0 < clock
+            → TimesBelow clock window.slots) }
         ensures per_time { IfOk result (λ window. window.per_time ≡ per_time) }
-        ensures bad { IsErr result ↔ (IsBadSize greatest_slot_count slot_count ⊎ IsBadSize greatest_per_time per_time) }
+        ensures bad { IsErr result ↔ (IsBadSize greatest_slot_count slot_count
+            ⊎ IsBadSize greatest_per_time per_time) }
     {
         if slot_count == 0 || slot_count > MAX_SLOTS || per_time == 0 || per_time > MAX_PER_TIME {
             return Err(NewWindowFault::BadSize);
@@ -173,9 +178,11 @@ impl<K: Drop> Window<K> {
         time: Time,
         key: &L,
     ) -> Verdict
-        ensures verdict { (entries : List (TimedEntry K)) → self.now.slots ≡ slots_of (length self.now.slots) entries
-            → time < clock_after → TimesBelow clock_after self.now.slots
-            → result ≡ verdict_of L.same (length self.now.slots) self.now.per_time entries clock_after minimum time (L.key key.now) }
+        ensures verdict { (entries : List (TimedEntry K))
+            → self.now.slots ≡ slots_of (length self.now.slots) entries → time < clock_after
+            → TimesBelow clock_after self.now.slots
+            → result ≡ verdict_of L.same (length self.now.slots)
+            self.now.per_time entries clock_after minimum time (L.key key.now) }
 
         // What is new may enter.
         ensures not_later { result ≡ Verdict.New → time_in self.now.slots time ≤ time }
@@ -225,12 +232,15 @@ impl<K: Drop> Window<K> {
         requires not_later { time_in self.old.slots entry.time ≤ entry.time }
         requires not_full { count_in self.old.slots entry.time < self.old.per_time }
 
-        ensures slots { (entries : List (TimedEntry K)) → self.old.slots ≡ slots_of (length self.old.slots) entries
+        ensures slots { (entries : List (TimedEntry K))
+            → self.old.slots ≡ slots_of (length self.old.slots) entries
             → self.new.slots ≡ slots_of (length self.old.slots) (entries ++ entry ∷ []) }
         ensures after { self.new.slots ≡ slots_after self.old.slots entry }
-        ensures below { (clock : ℕ) → entry.time < clock → TimesBelow clock self.old.slots → TimesBelow clock self.new.slots }
+        ensures below { (clock : ℕ) → entry.time < clock → TimesBelow clock self.old.slots
+            → TimesBelow clock self.new.slots }
         ensures size { length self.new.slots ≡ length self.old.slots }
-        ensures others { (t : ℕ) → t % length self.old.slots ≢ entry.time % length self.old.slots → room_for self.new t ≡ room_for self.old t }
+        ensures others { (t : ℕ) → t % length self.old.slots ≢ entry.time % length self.old.slots
+            → room_for self.new t ≡ room_for self.old t }
         ensures per_time { self.new.per_time ≡ self.old.per_time }
     {
         let Entry { time, key } = entry;

@@ -204,8 +204,10 @@ pub fn read_long_map_head(bytes: &[u8]) -> Option<(u64, &[u8])>
 #[inline(always)]
 pub fn view_before<'a>(bytes: &'a [u8], rest: &[u8]) -> View<'a>
     requires within { length rest.now ≤ length bytes.now }
-    requires packed { (v : Tree) × Packs v 0 0 (take (length bytes.now - length rest.now) bytes.now) }
-    ensures { (v : Tree) → Packs v 0 0 (take (length bytes.now - length rest.now) bytes.now) → tree_of result ≡ v }
+    requires packed { (v : Tree)
+        × Packs v 0 0 (take (length bytes.now - length rest.now) bytes.now) }
+    ensures { (v : Tree) → Packs v 0 0 (take (length bytes.now - length rest.now) bytes.now)
+        → tree_of result ≡ v }
 {
     view_packed(&bytes[..bytes.len() - rest.len()])
 }

@@ -57,7 +57,8 @@ fn write_user_event(
 ) -> Result<Vec<u8>, AllocError>
     requires name { length name.now < 2 ^ 32 }
     requires payload { length payload.now < 2 ^ 32 }
-    ensures bytes { IfOk result (λ packet. packet.items ≡ canonical (user_event_of time name.now payload.now coalesce)) }
+    ensures bytes { IfOk result (λ packet. packet.items
+        ≡ canonical (user_event_of time name.now payload.now coalesce)) }
     ensures time { OnOk result (time < greatest_clock) }
 {
     let len = user_event_len(time, name, payload, coalesce);
@@ -78,7 +79,11 @@ fn put_query_route(out: &mut Vec<u8>, parts: &QueryParts) -> Result<(), AllocErr
     requires filters { length parts.now.filters.now < 2 ^ 32 }
     requires each { list_any is_long parts.now.filters.now ≡ false }
     ensures port { OnOk result (parts.now.port < 2 ^ 16) }
-    ensures bytes { OnOk result (out.new.items ≡ out.old.items ++ entry (codes "Addr") (raw_bytes parts.now.addr.now) ++ entry (codes "Port") (uint_bytes parts.now.port) ++ entry (codes "SourceNode") (raw_bytes parts.now.source.now) ++ entry (codes "Filters") (list_bytes raw_bytes parts.now.filters.now)) }
+    ensures bytes { OnOk result (out.new.items ≡ out.old.items
+        ++ entry (codes "Addr") (raw_bytes parts.now.addr.now)
+        ++ entry (codes "Port") (uint_bytes parts.now.port)
+        ++ entry (codes "SourceNode") (raw_bytes parts.now.source.now)
+        ++ entry (codes "Filters") (list_bytes raw_bytes parts.now.filters.now)) }
 {
     put_text_field(out, b"Addr", parts.addr)?;
     put_number_field(out, b"Port", parts.port as u64)?;
@@ -91,7 +96,10 @@ fn put_query_terms(out: &mut Vec<u8>, parts: &QueryParts) -> Result<(), AllocErr
     ensures flags { OnOk result (parts.now.flags < 2 ^ 32) }
     ensures relay_factor { OnOk result (parts.now.relay_factor < 2 ^ 8) }
     ensures timeout { OnOk result (fits parts.now.timeout ≡ Some parts.now.timeout) }
-    ensures bytes { OnOk result (out.new.items ≡ out.old.items ++ entry (codes "Flags") (uint_bytes parts.now.flags) ++ entry (codes "RelayFactor") (uint_bytes parts.now.relay_factor) ++ entry (codes "Timeout") (int_bytes parts.now.timeout)) }
+    ensures bytes { OnOk result (out.new.items ≡ out.old.items
+        ++ entry (codes "Flags") (uint_bytes parts.now.flags)
+        ++ entry (codes "RelayFactor") (uint_bytes parts.now.relay_factor)
+        ++ entry (codes "Timeout") (int_bytes parts.now.timeout)) }
 {
     put_number_field(out, b"Flags", parts.flags as u64)?;
     put_number_field(out, b"RelayFactor", parts.relay_factor as u64)?;
@@ -102,7 +110,9 @@ fn put_query_terms(out: &mut Vec<u8>, parts: &QueryParts) -> Result<(), AllocErr
 fn put_question(out: &mut Vec<u8>, parts: &QueryParts) -> Result<(), AllocError>
     requires name { length parts.now.name.now < 2 ^ 32 }
     requires payload { length parts.now.payload.now < 2 ^ 32 }
-    ensures { OnOk result (out.new.items ≡ out.old.items ++ entry (codes "Name") (raw_bytes parts.now.name.now) ++ entry (codes "Payload") (raw_bytes parts.now.payload.now)) }
+    ensures { OnOk result (out.new.items ≡ out.old.items
+        ++ entry (codes "Name") (raw_bytes parts.now.name.now)
+        ++ entry (codes "Payload") (raw_bytes parts.now.payload.now)) }
 {
     put_text_field(out, b"Name", parts.name)?;
     put_text_field(out, b"Payload", parts.payload)
@@ -136,7 +146,8 @@ fn write_response(
 ) -> Result<Vec<u8>, AllocError>
     requires from { length from.now < 2 ^ 32 }
     requires answer { length answer.now < 2 ^ 32 }
-    ensures { IfOk result (λ packet. packet.items ≡ canonical (response_of time id from.now flags answer.now)) }
+    ensures { IfOk result (λ packet. packet.items
+        ≡ canonical (response_of time id from.now flags answer.now)) }
 {
     let mut out = Vec::new(alloc);
     out.extend_from_slice(&[5])?;
@@ -176,9 +187,12 @@ pub fn encode_user_event(
     payload: &[u8],
     coalesce: bool,
 ) -> Result<Vec<u8>, EncodeFault>
-    ensures canonical { IfOk result (λ packet. packet.items ≡ canonical (user_event_of time name.now payload.now coalesce)) }
-    ensures spells { IfOk result (λ packet. Spells (user_event_of time name.now payload.now coalesce) packet.items) }
-    ensures too_long { (result ≡ Err EncodeFault.TooLong) ↔ IsTrue (has_long (user_event_of time name.now payload.now coalesce)) }
+    ensures canonical { IfOk result (λ packet. packet.items
+        ≡ canonical (user_event_of time name.now payload.now coalesce)) }
+    ensures spells { IfOk result (λ packet.
+        Spells (user_event_of time name.now payload.now coalesce) packet.items) }
+    ensures too_long { (result ≡ Err EncodeFault.TooLong)
+        ↔ IsTrue (has_long (user_event_of time name.now payload.now coalesce)) }
 {
     laws_below();
     if is_long_text(name) || is_long_text(payload) {
@@ -190,9 +204,11 @@ pub fn encode_user_event(
 /// The canonical packet of a query. `TooLong` comes where a text or the list of filters is longer than
 /// 4,294,967,295, and then `OutOfMemory` where the packet couldn't grow.
 pub fn encode_query(alloc: Global, parts: &QueryParts) -> Result<Vec<u8>, EncodeFault>
-    ensures canonical { IfOk result (λ packet. packet.items ≡ canonical (query (query_of parts.now))) }
+    ensures canonical { IfOk result (λ packet. packet.items
+        ≡ canonical (query (query_of parts.now))) }
     ensures spells { IfOk result (λ packet. Spells (query (query_of parts.now)) packet.items) }
-    ensures too_long { (result ≡ Err EncodeFault.TooLong) ↔ IsTrue (has_long (query (query_of parts.now))) }
+    ensures too_long { (result ≡ Err EncodeFault.TooLong)
+        ↔ IsTrue (has_long (query (query_of parts.now))) }
 {
     laws_below();
     if is_long_query(parts) {
@@ -212,9 +228,12 @@ pub fn encode_response(
     flags: u32,
     payload: &[u8],
 ) -> Result<Vec<u8>, EncodeFault>
-    ensures canonical { IfOk result (λ packet. packet.items ≡ canonical (response_of time id from.now flags payload.now)) }
-    ensures spells { IfOk result (λ packet. Spells (response_of time id from.now flags payload.now) packet.items) }
-    ensures too_long { (result ≡ Err EncodeFault.TooLong) ↔ IsTrue (has_long (response_of time id from.now flags payload.now)) }
+    ensures canonical { IfOk result (λ packet. packet.items
+        ≡ canonical (response_of time id from.now flags payload.now)) }
+    ensures spells { IfOk result (λ packet.
+        Spells (response_of time id from.now flags payload.now) packet.items) }
+    ensures too_long { (result ≡ Err EncodeFault.TooLong)
+        ↔ IsTrue (has_long (response_of time id from.now flags payload.now)) }
 {
     laws_below();
     if is_long_text(from) || is_long_text(payload) {
@@ -226,9 +245,12 @@ pub fn encode_response(
 /// The canonical packet of a push/pull, in which a slot without events is nil. `TooLong` comes where a text or
 /// a list is longer than 4,294,967,295, and then `OutOfMemory` where the packet couldn't grow.
 pub fn encode_push_pull(alloc: Global, parts: &PushPullParts) -> Result<Vec<u8>, EncodeFault>
-    ensures canonical { IfOk result (λ packet. packet.items ≡ canonical (push_pull (push_pull_of parts.now))) }
-    ensures spells { IfOk result (λ packet. Spells (without_empty_slots (push_pull (push_pull_of parts.now))) packet.items) }
-    ensures too_long { (result ≡ Err EncodeFault.TooLong) ↔ IsTrue (has_long (push_pull (push_pull_of parts.now))) }
+    ensures canonical { IfOk result (λ packet. packet.items
+        ≡ canonical (push_pull (push_pull_of parts.now))) }
+    ensures spells { IfOk result (λ packet.
+        Spells (without_empty_slots (push_pull (push_pull_of parts.now))) packet.items) }
+    ensures too_long { (result ≡ Err EncodeFault.TooLong)
+        ↔ IsTrue (has_long (push_pull (push_pull_of parts.now))) }
 {
     laws_below();
     if is_long_push_pull(parts) {

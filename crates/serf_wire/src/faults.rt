@@ -154,7 +154,8 @@ fn value_fault(depth_left: u8, kind: Kind, value: &View) -> Option<WireFault>
 
 #[cycle(faults)]
 fn maps_fault(depth_left: u8, layout: Layout, value: &View) -> Option<WireFault>
-    ensures { result ≡ first (list_faults (map_faults (value_faults depth_left) layout) (tree_of value.now)) }
+    ensures { result
+        ≡ first (list_faults (map_faults (value_faults depth_left) layout) (tree_of value.now)) }
 {
     match value.kind() {
         serf_pack::Kind::Nil => None,
@@ -194,9 +195,11 @@ fn find_pair<'a>(
     value: &View<'a>,
 ) -> Option<WireFault>
     ensures fault { (earlier : List (Tree × Tree)) → Finds layout found.old earlier
-        → result ≡ first (key_faults (value_faults depth_left) layout earlier (tree_of key.now, tree_of value.now) (raw_of (tree_of key.now))) }
+        → result ≡ first (key_faults (value_faults depth_left)
+        layout earlier (tree_of key.now, tree_of value.now) (raw_of (tree_of key.now))) }
     ensures found { (earlier : List (Tree × Tree)) → Finds layout found.old earlier
-        → IfNone result (Finds layout found.new (earlier ++ (tree_of key.now, tree_of value.now) ∷ [])) }
+        → IfNone result (Finds layout found.new (earlier
+        ++ (tree_of key.now, tree_of value.now) ∷ [])) }
 {
     let Some(name) = key.raw() else {
         return Some(WireFault::BadKey(key.offset() + 1));
@@ -219,8 +222,10 @@ fn find_fields<'a>(
     map: &View<'a>,
 ) -> Result<FoundFields<'a>, WireFault>
     ensures found { IfOk result (λ found. Finds layout found (pairs_of (tree_of map.now))) }
-    ensures none { OnOk result (first (faults_behind (value_faults depth_left) layout [] (pairs_of (tree_of map.now))) ≡ None) }
-    ensures fault { IfErr result (λ f. first (faults_behind (value_faults depth_left) layout [] (pairs_of (tree_of map.now))) ≡ Some f) }
+    ensures none { OnOk result (first
+        (faults_behind (value_faults depth_left) layout [] (pairs_of (tree_of map.now))) ≡ None) }
+    ensures fault { IfErr result (λ f. first
+        (faults_behind (value_faults depth_left) layout [] (pairs_of (tree_of map.now))) ≡ Some f) }
 {
     let mut found = FoundFields::new();
     'pairs: for (key, value) in map.pairs() {
@@ -233,9 +238,12 @@ fn find_fields<'a>(
 
 /// The values of the fields of a message's map, or the map's first fault.
 pub fn find_message<'a>(message: MessageType, map: &View<'a>) -> Result<FoundFields<'a>, WireFault>
-    ensures found { IfOk result (λ found. Finds (layout_of message) found (pairs_of (tree_of map.now))) }
-    ensures none { OnOk result (first (message_faults message (pairs_of (tree_of map.now))) ≡ None) }
-    ensures fault { IfErr result (λ f. first (message_faults message (pairs_of (tree_of map.now))) ≡ Some f) }
+    ensures found { IfOk result (λ found.
+        Finds (layout_of message) found (pairs_of (tree_of map.now))) }
+    ensures none { OnOk result
+        (first (message_faults message (pairs_of (tree_of map.now))) ≡ None) }
+    ensures fault { IfErr result (λ f.
+        first (message_faults message (pairs_of (tree_of map.now))) ≡ Some f) }
 {
     find_fields(2, layout_for(message), map)
 }

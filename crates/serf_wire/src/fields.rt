@@ -12,7 +12,8 @@ use serf_pack::View;
 
 /// The value of the first pair with this key.
 pub fn find_value<'a>(map: &View<'a>, name: &[u8]) -> Option<View<'a>>
-    ensures { tree_or_nil (option_map tree_of result) ≡ value_of_key name.now (pairs_of (tree_of map.now)) }
+    ensures { tree_or_nil (option_map tree_of result)
+        ≡ value_of_key name.now (pairs_of (tree_of map.now)) }
 {
     for (key, value) in map.pairs() {
         if is_name(&key, name) {

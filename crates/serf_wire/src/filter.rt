@@ -81,7 +81,8 @@ pub fn passes(filter: &[u8], node: &[u8]) -> bool
 fn write_node_filter(alloc: Global, names: &[&[u8]]) -> Result<Vec<u8>, AllocError>
     requires list { length names.now < 2 ^ 32 }
     requires items { list_any (λ t. is_long t.now) names.now ≡ false }
-    ensures { IfOk result (λ filter. filter.items ≡ 0 ∷ list_bytes (λ t. raw_bytes t.now) names.now) }
+    ensures { IfOk result (λ filter. filter.items
+        ≡ 0 ∷ list_bytes (λ t. raw_bytes t.now) names.now) }
 {
     let mut out = Vec::new(alloc);
     out.extend_from_slice(&[NODE_FILTER])?;
@@ -93,9 +94,12 @@ fn write_node_filter(alloc: Global, names: &[&[u8]]) -> Result<Vec<u8>, AllocErr
 /// The filter that lets the nodes of these names pass, and no others. `TooLong` comes where a name is longer than
 /// 4,294,967,295 bytes or there are more names than that, and then `OutOfMemory` where the filter couldn't grow.
 pub fn node_filter(alloc: Global, names: &[&[u8]]) -> Result<Vec<u8>, EncodeFault>
-    ensures canonical { IfOk result (λ filter. filter.items ≡ canonical_filter (map (λ t. t.now) names.now)) }
-    ensures passes { IfOk result (λ filter. (node : List ℕ) → Passes filter.items node ↔ Contains (map (λ t. t.now) names.now) node) }
-    ensures too_long { (result ≡ Err EncodeFault.TooLong) ↔ IsTrue (is_long names.now || list_any (λ t. is_long t.now) names.now) }
+    ensures canonical { IfOk result (λ filter. filter.items
+        ≡ canonical_filter (map (λ t. t.now) names.now)) }
+    ensures passes { IfOk result (λ filter. (node : List ℕ)
+        → Passes filter.items node ↔ Contains (map (λ t. t.now) names.now) node) }
+    ensures too_long { (result ≡ Err EncodeFault.TooLong)
+        ↔ IsTrue (is_long names.now || list_any (λ t. is_long t.now) names.now) }
 {
     laws_below();
     if names.len() > LONGEST || has_long_text(names) {

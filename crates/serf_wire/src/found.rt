@@ -40,7 +40,8 @@ impl<'a> FoundFields<'a> {
     /// Puts the value at this place.
     pub fn put(&mut self, place: usize, value: View<'a>)
         requires { place < MAX_FIELDS }
-        ensures { trees_found self.new ≡ set (trees_found self.old) place (Some (tree_of value.entry)) }
+        ensures { trees_found self.new
+            ≡ set (trees_found self.old) place (Some (tree_of value.entry)) }
     {
         let values = &mut self.values[..];
         values[place] = Some(value);

@@ -93,7 +93,10 @@ fn filters_len(filters: &[Bytes]) -> u128
 
 /// How many bytes the texts of a query take.
 fn query_texts_len(parts: &QueryParts) -> u128
-    ensures value { result ≡ length (raw_bytes parts.now.addr.now) + length (raw_bytes parts.now.source.now) + length (raw_bytes parts.now.name.now) + length (raw_bytes parts.now.payload.now) + length (list_bytes raw_bytes parts.now.filters.now) }
+    ensures value { result
+        ≡ length (raw_bytes parts.now.addr.now) + length (raw_bytes parts.now.source.now)
+        + length (raw_bytes parts.now.name.now) + length (raw_bytes parts.now.payload.now)
+        + length (list_bytes raw_bytes parts.now.filters.now) }
     ensures small { result < 2 ^ 127 + 2 ^ 70 }
 {
     text_len(parts.addr)
@@ -106,7 +109,9 @@ fn query_texts_len(parts: &QueryParts) -> u128
 
 /// How many bytes the numbers of a query take.
 fn query_numbers_len(parts: &QueryParts) -> u128
-    ensures value { result ≡ length (uint_bytes parts.now.time) + length (uint_bytes parts.now.id) + length (uint_bytes parts.now.port) + length (uint_bytes parts.now.flags) + length (uint_bytes parts.now.relay_factor) + length (int_bytes parts.now.timeout) }
+    ensures value { result ≡ length (uint_bytes parts.now.time) + length (uint_bytes parts.now.id)
+        + length (uint_bytes parts.now.port) + length (uint_bytes parts.now.flags)
+        + length (uint_bytes parts.now.relay_factor) + length (int_bytes parts.now.timeout) }
     ensures small { result < 60 }
 {
     number_len(parts.time.get())

@@ -76,7 +76,8 @@ impl<'a, T> LentSlots<'a, T> {
 
     /// The slot of this index, if there is one. Takes no memory.
     pub fn get(&self, index: usize) -> Option<LentSlot<'a, T>>
-        ensures { option_map lent_slot result ≡ slice_get (map slot_in_memory (slots_lent self.now)) index }
+        ensures { option_map lent_slot result
+            ≡ slice_get (map slot_in_memory (slots_lent self.now)) index }
     {
         match self.used.get(index) {
             Some(slot) => Some(lent(slot)),

@@ -65,7 +65,8 @@ impl<'a> Texts<'a> {
     /// The texts of a list, where each item is one.
     #[inline(always)]
     pub(crate) fn of(list: Option<View<'a>>) -> Texts<'a>
-        ensures { texts_left result ≡ list_in text_in (tree_or_nil (option_map tree_of list.entry)) }
+        ensures { texts_left result
+            ≡ list_in text_in (tree_or_nil (option_map tree_of list.entry)) }
     {
         match list {
             None => Texts { items: None },
@@ -107,7 +108,8 @@ impl<'a> EventViews<'a> {
     /// The events of a list, where each item is one.
     #[inline(always)]
     pub(crate) fn of(list: Option<View<'a>>) -> EventViews<'a>
-        ensures { events_left result ≡ list_in event_body_in (tree_or_nil (option_map tree_of list.entry)) }
+        ensures { events_left result
+            ≡ list_in event_body_in (tree_or_nil (option_map tree_of list.entry)) }
     {
         match list {
             None => EventViews { items: None },
@@ -128,7 +130,8 @@ impl<'a> SlotViews<'a> {
     /// The slots of a list, where each item is one.
     #[inline(always)]
     pub(crate) fn of(list: Option<View<'a>>) -> SlotViews<'a>
-        ensures { slots_left result ≡ list_in slot_in (tree_or_nil (option_map tree_of list.entry)) }
+        ensures { slots_left result
+            ≡ list_in slot_in (tree_or_nil (option_map tree_of list.entry)) }
     {
         match list {
             None => SlotViews { items: None },

@@ -41,7 +41,8 @@ fn shift(fault: PackFault) -> PackFault
 
 /// The message of the fields of a sound map.
 fn message_of_fields<'a>(message: MessageType, found: &FoundFields<'a>) -> Message<'a>
-    ensures { (ps : List (Tree × Tree)) → Finds (layout_of message) found.now ps → message_of result ≡ message_in message ps }
+    ensures { (ps : List (Tree × Tree)) → Finds (layout_of message) found.now ps
+        → message_of result ≡ message_in message ps }
 {
     match message {
         MessageType::UserEvent => Message::UserEvent {

@@ -37,7 +37,8 @@ pub fn put_number_field(out: &mut Vec<u8>, name: &[u8], number: u64) -> Result<(
 /// The field of a query's timeout.
 pub fn put_timeout_field(out: &mut Vec<u8>, parts: &QueryParts) -> Result<(), AllocError>
     ensures timeout { OnOk result (fits parts.now.timeout ≡ Some parts.now.timeout) }
-    ensures bytes { OnOk result (out.new.items ≡ out.old.items ++ entry (codes "Timeout") (int_bytes parts.now.timeout)) }
+    ensures bytes { OnOk result (out.new.items ≡ out.old.items
+        ++ entry (codes "Timeout") (int_bytes parts.now.timeout)) }
 {
     put_raw(out, b"Timeout")?;
     put_int(out, parts.timeout)
@@ -71,7 +72,8 @@ pub fn put_filters_field(
     requires name { length name.now < 2 ^ 32 }
     requires list { length filters.now < 2 ^ 32 }
     requires items { list_any is_long filters.now ≡ false }
-    ensures { OnOk result (out.new.items ≡ out.old.items ++ entry name.now (list_bytes raw_bytes filters.now)) }
+    ensures { OnOk result (out.new.items ≡ out.old.items
+        ++ entry name.now (list_bytes raw_bytes filters.now)) }
 {
     put_raw(out, name)?;
     put_array(out, filters.len() as u32)?;
@@ -81,7 +83,8 @@ pub fn put_filters_field(
 /// The items of a list of texts.
 pub fn put_texts(out: &mut Vec<u8>, texts: &[&[u8]]) -> Result<(), AllocError>
     requires { list_any (λ t. is_long t.now) texts.now ≡ false }
-    ensures { OnOk result (out.new.items ≡ out.old.items ++ flat_map (λ t. raw_bytes t.now) texts.now) }
+    ensures { OnOk result (out.new.items ≡ out.old.items
+        ++ flat_map (λ t. raw_bytes t.now) texts.now) }
 {
     for text in texts {
         put_raw(out, text)?;
@@ -94,7 +97,8 @@ pub fn put_texts_field(out: &mut Vec<u8>, name: &[u8], texts: &[&[u8]]) -> Resul
     requires name { length name.now < 2 ^ 32 }
     requires list { length texts.now < 2 ^ 32 }
     requires items { list_any (λ t. is_long t.now) texts.now ≡ false }
-    ensures { OnOk result (out.new.items ≡ out.old.items ++ entry name.now (list_bytes (λ t. raw_bytes t.now) texts.now)) }
+    ensures { OnOk result (out.new.items ≡ out.old.items
+        ++ entry name.now (list_bytes (λ t. raw_bytes t.now) texts.now)) }
 {
     put_raw(out, name)?;
     put_array(out, texts.len() as u32)?;
@@ -104,7 +108,8 @@ pub fn put_texts_field(out: &mut Vec<u8>, name: &[u8], texts: &[&[u8]]) -> Resul
 /// The pairs of a map of names and times.
 fn put_status_times(out: &mut Vec<u8>, status: &[StatusTime]) -> Result<(), AllocError>
     requires { list_any (λ s. is_long s.name.now) status.now ≡ false }
-    ensures bytes { OnOk result (out.new.items ≡ out.old.items ++ flat_map (λ s. status_time_bytes (status_of s)) status.now) }
+    ensures bytes { OnOk result (out.new.items ≡ out.old.items
+        ++ flat_map (λ s. status_time_bytes (status_of s)) status.now) }
     ensures times { OnOk result (list_all (λ s. nat_lt s.time (2 ^ 64)) status.now ≡ true) }
 {
     for entry in status {
@@ -122,7 +127,9 @@ pub fn put_status_field(
     requires name { length name.now < 2 ^ 32 }
     requires list { length status.now < 2 ^ 32 }
     requires items { list_any (λ s. is_long s.name.now) status.now ≡ false }
-    ensures bytes { OnOk result (out.new.items ≡ out.old.items ++ entry name.now (map_head (length status.now) ++ flat_map (λ s. status_time_bytes (status_of s)) status.now)) }
+    ensures bytes { OnOk result (out.new.items ≡ out.old.items
+        ++ entry name.now (map_head (length status.now)
+        ++ flat_map (λ s. status_time_bytes (status_of s)) status.now)) }
     ensures times { OnOk result (list_all (λ s. nat_lt s.time (2 ^ 64)) status.now ≡ true) }
 {
     put_raw(out, name)?;
@@ -154,7 +161,9 @@ fn put_events(out: &mut Vec<u8>, events: &[EventBody]) -> Result<(), AllocError>
 fn put_held(out: &mut Vec<u8>, time: u64, events: &[EventBody]) -> Result<(), AllocError>
     requires list { length events.now < 2 ^ 32 }
     requires items { list_any is_long_event events.now ≡ false }
-    ensures { OnOk result (out.new.items ≡ out.old.items ++ (map_head 2 ++ entry (codes "LTime") (uint_bytes time) ++ entry (codes "Events") (list_bytes event_bytes events.now))) }
+    ensures { OnOk result (out.new.items ≡ out.old.items
+        ++ (map_head 2 ++ entry (codes "LTime") (uint_bytes time)
+        ++ entry (codes "Events") (list_bytes event_bytes events.now))) }
 {
     put_map(out, 2)?;
     put_number_field(out, b"LTime", time)?;
@@ -166,7 +175,8 @@ fn put_held(out: &mut Vec<u8>, time: u64, events: &[EventBody]) -> Result<(), Al
 /// A slot, which is nil where it has no events.
 fn put_slot(out: &mut Vec<u8>, slot: &Slot) -> Result<(), AllocError>
     requires { is_long_slot (slot_content slot.now) ≡ false }
-    ensures bytes { OnOk result (out.new.items ≡ out.old.items ++ slot_bytes (slot_content slot.now)) }
+    ensures bytes { OnOk result (out.new.items ≡ out.old.items
+        ++ slot_bytes (slot_content slot.now)) }
     ensures time { OnOk result (slot.now.time < greatest_clock) }
 {
     let time = slot.time.get();
@@ -180,7 +190,8 @@ fn put_slot(out: &mut Vec<u8>, slot: &Slot) -> Result<(), AllocError>
 /// The items of a list of slots.
 fn put_slots(out: &mut Vec<u8>, slots: &[Slot]) -> Result<(), AllocError>
     requires { list_any (λ s. is_long_slot (slot_content s)) slots.now ≡ false }
-    ensures bytes { OnOk result (out.new.items ≡ out.old.items ++ flat_map (λ s. slot_bytes (slot_content s)) slots.now) }
+    ensures bytes { OnOk result (out.new.items ≡ out.old.items
+        ++ flat_map (λ s. slot_bytes (slot_content s)) slots.now) }
     ensures times { OnOk result (list_all (λ s. nat_lt s.time greatest_clock) slots.now ≡ true) }
 {
     for slot in slots {
@@ -191,7 +202,8 @@ fn put_slots(out: &mut Vec<u8>, slots: &[Slot]) -> Result<(), AllocError>
 
 /// So many slots that were never used, which are nil.
 fn put_unused(out: &mut Vec<u8>, count: u32) -> Result<(), AllocError>
-    ensures { OnOk result (out.new.items ≡ out.old.items ++ flat_map (λ s. slot_bytes (slot_content s)) (replicate count unused_slot)) }
+    ensures { OnOk result (out.new.items ≡ out.old.items
+        ++ flat_map (λ s. slot_bytes (slot_content s)) (replicate count unused_slot)) }
 {
     for _ in 0..count {
         put_nil(out)?;
@@ -208,8 +220,10 @@ pub fn put_slots_field(
     requires name { length name.now < 2 ^ 32 }
     requires list { length (slots_lent slots.now) < 2 ^ 32 }
     requires items { list_any (λ s. is_long_slot (slot_content s)) slots.now.used.now ≡ false }
-    ensures bytes { OnOk result (out.new.items ≡ out.old.items ++ entry name.now (list_bytes (λ s. slot_bytes (slot_content s)) (slots_lent slots.now))) }
-    ensures times { OnOk result (list_all (λ s. nat_lt s.time greatest_clock) (slots_lent slots.now) ≡ true) }
+    ensures bytes { OnOk result (out.new.items ≡ out.old.items
+        ++ entry name.now (list_bytes (λ s. slot_bytes (slot_content s)) (slots_lent slots.now))) }
+    ensures times { OnOk result
+        (list_all (λ s. nat_lt s.time greatest_clock) (slots_lent slots.now) ≡ true) }
 {
     put_raw(out, name)?;
     put_array(out, slots.len() as u32)?;

@@ -20,7 +20,8 @@ impl<T> Model for RoomyList<T> {
 
     ghost Value = { Roomy T };
 
-    ghost view = { λ l. record { items = l.items.items; room = vec_capacity l.items - vec_len l.items } };
+    ghost view = { λ l.
+        record { items = l.items.items; room = vec_capacity l.items - vec_len l.items } };
 }
 
 impl<T> RoomyList<T> {

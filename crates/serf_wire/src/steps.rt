@@ -13,7 +13,8 @@ use serf_pack::Items;
 /// The next event, where it is compact, and what is left behind it.
 #[inline(always)]
 fn compact_event<'a>(items: &Items<'a>) -> Option<(EventView<'a>, Items<'a>)>
-    ensures { IfSome result (λ x. map event_body_in (items_left items.now) ≡ event_of_view x.0 ∷ map event_body_in (items_left x.1)) }
+    ensures { IfSome result (λ x. map event_body_in (items_left items.now)
+        ≡ event_of_view x.0 ∷ map event_body_in (items_left x.1)) }
 {
     let bytes = items.bytes();
     let Some((event, rest)) = read_event(bytes) else {
@@ -28,7 +29,8 @@ fn compact_event<'a>(items: &Items<'a>) -> Option<(EventView<'a>, Items<'a>)>
 /// The next event, and what is left behind it.
 #[inline]
 pub fn next_event<'a>(items: &Items<'a>) -> Option<(EventView<'a>, Items<'a>)>
-    ensures some { IfSome result (λ x. map event_body_in (items_left items.now) ≡ event_of_view x.0 ∷ map event_body_in (items_left x.1)) }
+    ensures some { IfSome result (λ x. map event_body_in (items_left items.now)
+        ≡ event_of_view x.0 ∷ map event_body_in (items_left x.1)) }
     ensures none { IfNone result (items_left items.now ≡ []) }
 {
     if items.left() == 0 {
@@ -47,7 +49,8 @@ pub fn next_event<'a>(items: &Items<'a>) -> Option<(EventView<'a>, Items<'a>)>
 /// The next slot, where it is compact, and what is left behind it.
 #[inline(always)]
 fn compact_slot<'a>(items: &Items<'a>) -> Option<(SlotView<'a>, Items<'a>)>
-    ensures { IfSome result (λ x. map slot_in (items_left items.now) ≡ slot_of_view x.0 ∷ map slot_in (items_left x.1)) }
+    ensures { IfSome result (λ x. map slot_in (items_left items.now)
+        ≡ slot_of_view x.0 ∷ map slot_in (items_left x.1)) }
 {
     let bytes = items.bytes();
     let Some((slot, rest)) = read_slot(bytes) else {
@@ -62,7 +65,8 @@ fn compact_slot<'a>(items: &Items<'a>) -> Option<(SlotView<'a>, Items<'a>)>
 /// The next slot, and what is left behind it.
 #[inline]
 pub fn next_slot<'a>(items: &Items<'a>) -> Option<(SlotView<'a>, Items<'a>)>
-    ensures some { IfSome result (λ x. map slot_in (items_left items.now) ≡ slot_of_view x.0 ∷ map slot_in (items_left x.1)) }
+    ensures some { IfSome result (λ x. map slot_in (items_left items.now)
+        ≡ slot_of_view x.0 ∷ map slot_in (items_left x.1)) }
     ensures none { IfNone result (items_left items.now ≡ []) }
 {
     if let Some(found) = compact_slot(items) {

@@ -37,7 +37,8 @@ pub(crate) fn fire_at(
     coalesce: bool,
 ) -> Result<Line, AllocError>
     ensures turn { (m : IdealNode) → IsRepresentable m.agent → node.old ≡ node_of m
-        → IfOk result (TakesTurn number sent.old.items sent.new.items (fires_event m (event_of name.now payload.now) coalesce) node.new) }
+        → IfOk result (TakesTurn number sent.old.items sent.new.items
+        (fires_event m (event_of name.now payload.now) coalesce) node.new) }
     ensures err { OnErr result (sent.new.items ≡ sent.old.items) }
 {
     let fired = node.agent.fire(alloc, name, payload, coalesce);
@@ -63,7 +64,8 @@ pub(crate) fn state_at(
     node: &Node,
     sent: &mut Vec<Bytes>,
 ) -> Result<Line, AllocError>
-    ensures turn { (m : IdealNode) → node.now ≡ node_of m → IfOk result (TakesTurn number sent.old.items sent.new.items (sends_state m) node.now) }
+    ensures turn { (m : IdealNode) → node.now ≡ node_of m
+        → IfOk result (TakesTurn number sent.old.items sent.new.items (sends_state m) node.now) }
     ensures err { OnErr result (sent.new.items ≡ sent.old.items) }
 {
     let agent = &node.agent;
@@ -89,7 +91,8 @@ pub(crate) fn query_at(
     params: &QueryParams,
 ) -> Result<Line, AllocError>
     ensures turn { (m : IdealNode) → IsRepresentable m.agent → node.old ≡ node_of m
-        → IfOk result (TakesTurn number sent.old.items sent.new.items (fires_query m now id name.now payload.now params.now) node.new) }
+        → IfOk result (TakesTurn number sent.old.items sent.new.items
+        (fires_query m now id name.now payload.now params.now) node.new) }
     ensures err { OnErr result (sent.new.items ≡ sent.old.items) }
 {
     let fired = node.agent.query(alloc, now, id, name, payload, params);
@@ -122,7 +125,8 @@ pub(crate) fn note_line(
     answer: Answer,
     noted: Result<(), NoteFault>,
 ) -> Result<Line, AllocError>
-    ensures { IfOk result (λ line. (line ≡ line_only (note_gives answer noted).answer) × (noted ≢ Err NoteFault.OutOfMemory)) }
+    ensures { IfOk result (λ line. (line ≡ line_only (note_gives answer noted).answer)
+        × (noted ≢ Err NoteFault.OutOfMemory)) }
 {
     match noted {
         Ok(()) => Ok(line_only(alloc, answer)),
@@ -132,8 +136,8 @@ pub(crate) fn note_line(
 
 /// An agent lets go of its open queries that are past their deadlines.
 pub(crate) fn close_at(alloc: Global, node: &mut Node, now: u64) -> Line
-    ensures { (m : IdealNode) (number : ℕ) (sent : List (List ℕ)) → IsRepresentable m.agent → node.old ≡ node_of m
-        → TakesTurn number sent sent (closes m now) node.new result }
+    ensures { (m : IdealNode) (number : ℕ) (sent : List (List ℕ)) → IsRepresentable m.agent
+        → node.old ≡ node_of m → TakesTurn number sent sent (closes m now) node.new result }
 {
     let closed = node.agent.close_due(now);
     line_only(alloc, Answer::Closed(closed as u64))
@@ -161,8 +165,10 @@ pub(crate) fn open_on(
     text: &[u8],
 ) -> Result<Agent<MemSink>, AllocError>
     requires { is_sound config ≡ true }
-    ensures opened { (i : IdealAgent) → IsSound i → i.config ≡ config → IsInText i text.now → IfOk result (λ agent. agent.concrete ≡ view_of (reopened i text.now)) }
-    ensures first { IfOk result (λ agent. agent.concrete ≡ view_of (reopened (unopened config (opened text.now (fresh_device text.now))) text.now)) }
+    ensures opened { (i : IdealAgent) → IsSound i → i.config ≡ config → IsInText i text.now
+        → IfOk result (λ agent. agent.concrete ≡ view_of (reopened i text.now)) }
+    ensures first { IfOk result (λ agent. agent.concrete
+        ≡ view_of (reopened (unopened config (opened text.now (fresh_device text.now))) text.now)) }
 {
     let sink = MemSink::with(alloc, text)?;
     match Agent::open(alloc, config, text, sink) {
@@ -176,7 +182,8 @@ pub(crate) fn open_on(
 
 /// What an agent's sink keeps, and then a tail.
 fn text_of(alloc: Global, agent: &Agent<MemSink>, tail: &[u8]) -> Result<Vec<u8>, AllocError>
-    ensures { IfOk result (λ text. text.items ≡ unwrap_or agent.now.concrete.snapshot.durable [] ++ tail.now) }
+    ensures { IfOk result (λ text. text.items
+        ≡ unwrap_or agent.now.concrete.snapshot.durable [] ++ tail.now) }
 {
     let mut text = Vec::from_slice(alloc, agent.sink().durable())?;
     text.extend_from_slice(tail)?;
@@ -185,7 +192,8 @@ fn text_of(alloc: Global, agent: &Agent<MemSink>, tail: &[u8]) -> Result<Vec<u8>
 
 /// An agent is opened again on what its sink keeps and a tail. The queries of an earlier life can't be answered.
 pub(crate) fn restart_at(alloc: Global, node: &mut Node, tail: &[u8]) -> Result<Line, AllocError>
-    ensures { (m : IdealNode) (number : ℕ) (sent : List (List ℕ)) → IsRepresentable m.agent → node.old ≡ node_of m
+    ensures { (m : IdealNode) (number : ℕ) (sent : List (List ℕ))
+        → IsRepresentable m.agent → node.old ≡ node_of m
         → IfOk result (TakesTurn number sent sent (restarts m tail.now) node.new) }
 {
     representable_agents();

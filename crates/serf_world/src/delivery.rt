@@ -18,7 +18,8 @@ use std::alloc::{AllocError, Global};
 /// A copy of the packet of this number.
 fn copy_at(alloc: Global, sent: &[Bytes], packet: u64) -> Result<Bytes, AllocError>
     requires { IsSome (slice_get sent.now packet) }
-    ensures { (bytes : List ℕ) → slice_get sent.now packet ≡ Some bytes → IfOk result (λ copy. copy ≡ bytes) }
+    ensures { (bytes : List ℕ) → slice_get sent.now packet ≡ Some bytes
+        → IfOk result (λ copy. copy ≡ bytes) }
 {
     match packet_at(sent, packet) {
         Some(bytes) => Bytes::copy_of(alloc, bytes),
@@ -56,7 +57,8 @@ fn outcome_line(
 ) -> Result<Line, AllocError>
     requires { IsSome (slice_get sent.now.items packet) }
     ensures shows { (bytes : List ℕ) → slice_get sent.old.items packet ≡ Some bytes
-        → IfOk result (Shows agent sent.old.items sent.new.items handed.old.items handed.new.items (receive_gives bytes (Ok outcome))) }
+        → IfOk result (Shows agent sent.old.items sent.new.items handed.old.items handed.new.items
+        (receive_gives bytes (Ok outcome))) }
     ensures err { OnErr result (sent.new.items ≡ sent.old.items) }
 {
     match outcome {
@@ -94,7 +96,8 @@ pub(crate) fn deliver_at(
     now: u64,
 ) -> Result<Line, AllocError>
     ensures turn { (m : IdealNode) → IsRepresentable m.agent → node.old ≡ node_of m
-        → IfOk result (TakesTurn number sent.old.items sent.new.items (delivers m now (slice_get sent.old.items packet)) node.new) }
+        → IfOk result (TakesTurn number sent.old.items sent.new.items
+        (delivers m now (slice_get sent.old.items packet)) node.new) }
     ensures err { OnErr result (sent.new.items ≡ sent.old.items) }
 {
     let Some(bytes) = packet_at(sent.as_slice(), packet) else {

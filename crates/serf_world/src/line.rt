@@ -52,7 +52,8 @@ pub(crate) fn line_with_packet(
     answer: Answer,
     packet: Bytes,
 ) -> Result<Line, AllocError>
-    ensures line { IfOk result (λ line. line ≡ record { answer = answer; sent = length sent.old.items ∷ []; events = []; handed = None }) }
+    ensures line { IfOk result (λ line. line
+        ≡ record { answer = answer; sent = length sent.old.items ∷ []; events = []; handed = None }) }
     ensures sent { OnOk result (sent.new.items ≡ sent.old.items ++ packet ∷ []) }
     ensures err { OnErr result (sent.new.items ≡ sent.old.items) }
 {
@@ -90,7 +91,8 @@ pub(crate) fn line_with_event(
     packet: Bytes,
     event: EventOut,
 ) -> Result<Line, AllocError>
-    ensures line { IfOk result (λ line. line ≡ record { answer = answer; sent = length sent.old.items ∷ []; events = event_line agent event ∷ []; handed = None }) }
+    ensures line { IfOk result (λ line. line
+        ≡ record { answer = answer; sent = length sent.old.items ∷ []; events = event_line agent event ∷ []; handed = None }) }
     ensures sent { OnOk result (sent.new.items ≡ sent.old.items ++ packet ∷ []) }
     ensures err { OnErr result (sent.new.items ≡ sent.old.items) }
 {
@@ -112,7 +114,8 @@ pub(crate) fn line_with_events(
     answer: Answer,
     events: Vec<EventOut>,
 ) -> Result<Line, AllocError>
-    ensures { IfOk result (λ line. line ≡ record { answer = answer; sent = []; events = map (event_line agent) events.items; handed = None }) }
+    ensures { IfOk result (λ line. line
+        ≡ record { answer = answer; sent = []; events = map (event_line agent) events.items; handed = None }) }
 {
     let mut lines = Vec::with_capacity(alloc, events.len())?;
     for event in events {
@@ -146,7 +149,8 @@ pub(crate) fn send(
     sent: &mut Vec<Bytes>,
     packets: BytesList,
 ) -> Result<Numbers, AllocError>
-    ensures numbers { IfOk result (λ numbers. numbers ≡ numbers_from (length sent.old.items) packets) }
+    ensures numbers { IfOk result (λ numbers. numbers
+        ≡ numbers_from (length sent.old.items) packets) }
     ensures sent { OnOk result (sent.new.items ≡ sent.old.items ++ packets) }
     ensures err { OnErr result (sent.new.items ≡ sent.old.items) }
 {
@@ -182,8 +186,10 @@ fn hand_over(
     handed: &mut Vec<Option<HandedQuery>>,
     query: Option<HandedQuery>,
 ) -> Result<Option<Boxed<HandedLine>>, AllocError>
-    ensures line { IfOk result (λ line. line ≡ option_map (handed_line agent (length handed.old.items)) query) }
-    ensures kept { OnOk result (handed.new.items ≡ handed.old.items ++ map (λ q. Some q) (option_to_list query)) }
+    ensures line { IfOk result (λ line. line
+        ≡ option_map (handed_line agent (length handed.old.items)) query) }
+    ensures kept { OnOk result (handed.new.items ≡ handed.old.items
+        ++ map (λ q. Some q) (option_to_list query)) }
 {
     let Some(query) = query else {
         return Ok(None);
@@ -212,7 +218,8 @@ pub(crate) fn line_with_query(
     packets: BytesList,
     query: Option<HandedQuery>,
 ) -> Result<Line, AllocError>
-    ensures shows { IfOk result (Shows agent sent.old.items sent.new.items handed.old.items handed.new.items
+    ensures shows { IfOk result
+        (Shows agent sent.old.items sent.new.items handed.old.items handed.new.items
         (record { answer = answer; packets = packets; events = []; handed = query })) }
     ensures err { OnErr result (sent.new.items ≡ sent.old.items) }
 {

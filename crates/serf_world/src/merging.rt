@@ -16,7 +16,8 @@ use std::alloc::{AllocError, Global};
 
 /// What a merge answers.
 fn merge_answer(merged: &Result<PushPull, MergeFault>) -> Result<Answer, AllocError>
-    ensures { IfOk result (λ answer. (answer ≡ merge_answer (fault_in merged.now)) × (fault_in merged.now ≢ Some MergeFault.OutOfMemory)) }
+    ensures { IfOk result (λ answer. (answer ≡ merge_answer (fault_in merged.now))
+        × (fault_in merged.now ≢ Some MergeFault.OutOfMemory)) }
 {
     match merged {
         Ok(_) => Ok(Answer::Merged),
@@ -39,7 +40,8 @@ pub(crate) fn merge_at(
     join: bool,
 ) -> Result<Line, AllocError>
     ensures { (m : IdealNode) → IsRepresentable m.agent → node.old ≡ node_of m
-        → IfOk result (TakesTurn number sent.now sent.now (merges_given m join (slice_get sent.now packet)) node.new) }
+        → IfOk result (TakesTurn number sent.now sent.now
+        (merges_given m join (slice_get sent.now packet)) node.new) }
 {
     merged_agents();
     let Some(bytes) = packet_at(sent, packet) else {

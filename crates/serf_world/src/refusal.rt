@@ -9,7 +9,8 @@ use serf_snap::NoteFault;
 use std::alloc::AllocError;
 
 pub(crate) fn fire_refusal(fault: FireFault) -> Result<Refusal, AllocError>
-    ensures { IfOk result (λ refusal. (refusal ≡ fire_refusal fault) × (fault ≢ FireFault.OutOfMemory)) }
+    ensures { IfOk result (λ refusal. (refusal ≡ fire_refusal fault)
+        × (fault ≢ FireFault.OutOfMemory)) }
 {
     match fault {
         FireFault::OutOfMemory => Err(AllocError),
@@ -21,7 +22,8 @@ pub(crate) fn fire_refusal(fault: FireFault) -> Result<Refusal, AllocError>
 }
 
 pub(crate) fn receive_refusal(fault: ReceiveFault) -> Result<Refusal, AllocError>
-    ensures { IfOk result (λ refusal. (refusal ≡ receive_refusal fault) × (fault ≢ ReceiveFault.OutOfMemory)) }
+    ensures { IfOk result (λ refusal. (refusal ≡ receive_refusal fault)
+        × (fault ≢ ReceiveFault.OutOfMemory)) }
 {
     match fault {
         ReceiveFault::OutOfMemory => Err(AllocError),
@@ -33,7 +35,8 @@ pub(crate) fn receive_refusal(fault: ReceiveFault) -> Result<Refusal, AllocError
 }
 
 pub(crate) fn state_refusal(fault: PushPullFault) -> Result<Refusal, AllocError>
-    ensures { IfOk result (λ refusal. (refusal ≡ state_refusal fault) × (fault ≢ PushPullFault.OutOfMemory)) }
+    ensures { IfOk result (λ refusal. (refusal ≡ state_refusal fault)
+        × (fault ≢ PushPullFault.OutOfMemory)) }
 {
     match fault {
         PushPullFault::OutOfMemory => Err(AllocError),
@@ -43,7 +46,8 @@ pub(crate) fn state_refusal(fault: PushPullFault) -> Result<Refusal, AllocError>
 }
 
 pub(crate) fn query_refusal(fault: QueryFault) -> Result<Refusal, AllocError>
-    ensures { IfOk result (λ refusal. (refusal ≡ query_refusal fault) × (fault ≢ QueryFault.OutOfMemory)) }
+    ensures { IfOk result (λ refusal. (refusal ≡ query_refusal fault)
+        × (fault ≢ QueryFault.OutOfMemory)) }
 {
     match fault {
         QueryFault::OutOfMemory => Err(AllocError),
@@ -56,7 +60,8 @@ pub(crate) fn query_refusal(fault: QueryFault) -> Result<Refusal, AllocError>
 }
 
 pub(crate) fn note_refusal(fault: NoteFault) -> Result<Refusal, AllocError>
-    ensures { IfOk result (λ refusal. (refusal ≡ note_refusal fault) × (fault ≢ NoteFault.OutOfMemory)) }
+    ensures { IfOk result (λ refusal. (refusal ≡ note_refusal fault)
+        × (fault ≢ NoteFault.OutOfMemory)) }
 {
     match fault {
         NoteFault::OutOfMemory => Err(AllocError),

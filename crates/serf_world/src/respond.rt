@@ -21,8 +21,8 @@ fn respond_in(
     now: u64,
     payload: &[u8],
 ) -> Result<Line, AllocError>
-    ensures shows { (number : ℕ) (handed : List (Option Handed))
-        → IfOk result (Shows number sent.old.items sent.new.items handed handed (slot_gives slot.old now payload.now)) }
+    ensures shows { (number : ℕ) (handed : List (Option Handed)) → IfOk result (Shows number
+        sent.old.items sent.new.items handed handed (slot_gives slot.old now payload.now)) }
     ensures slot { OnOk result (slot.new ≡ slot_after slot.old now payload.now) }
     ensures err { OnErr result (sent.new.items ≡ sent.old.items) }
 {
@@ -56,7 +56,8 @@ pub(crate) fn respond_at(
     payload: &[u8],
 ) -> Result<Line, AllocError>
     ensures turn { (m : IdealNode) → node.old ≡ node_of m
-        → IfOk result (TakesTurn number sent.old.items sent.new.items (responds m handed (slice_get m.handed handed) now payload.now) node.new) }
+        → IfOk result (TakesTurn number sent.old.items sent.new.items
+        (responds m handed (slice_get m.handed handed) now payload.now) node.new) }
     ensures err { OnErr result (sent.new.items ≡ sent.old.items) }
 {
     let slot = handed as usize;

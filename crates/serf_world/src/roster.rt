@@ -48,9 +48,14 @@ impl Model for Roster {
 
 /// Adds a name to those of some agents, and says whether it was free: where it was not, nothing is added.
 fn add_name(alloc: Global, names: &mut HashSet<Vec<u8>>, name: &[u8]) -> Result<bool, AllocError>
-    ensures free { (configs : List Config) → AreNames names.old configs → IfOk result (λ free. free ≡ not (has_name configs name.now)) }
-    ensures names { (configs : List Config) (config : Config) → AreNames names.old configs → config.name ≡ name.now → IfOk result (λ free. AreNames names.new (if free then configs ++ config ∷ [] else configs)) }
-    ensures err { (configs : List Config) → AreNames names.old configs → OnErr result (AreNames names.new configs) }
+    ensures free { (configs : List Config) → AreNames names.old configs
+        → IfOk result (λ free. free ≡ not (has_name configs name.now)) }
+    ensures names { (configs : List Config) (config : Config) → AreNames names.old configs
+        → config.name ≡ name.now
+        → IfOk result (λ free.
+        AreNames names.new (if free then configs ++ config ∷ [] else configs)) }
+    ensures err { (configs : List Config) → AreNames names.old configs
+        → OnErr result (AreNames names.new configs) }
 {
     let name = Vec::from_slice(alloc, name)?;
     match names.insert(name) {
@@ -103,7 +108,8 @@ impl Roster {
         ensures ok { OnOk result (self.new ≡ self.old ++ config ∷ []) }
         ensures free { OnOk result (has_name self.old config.name ≡ false) }
         ensures bad { IsErrOf result RosterFault.BadConfig ↔ (is_sound config ≡ false) }
-        ensures twice { IsErrOf result RosterFault.NameTwice → has_name self.old config.name ≡ true }
+        ensures twice { IsErrOf result RosterFault.NameTwice
+            → has_name self.old config.name ≡ true }
         ensures err { OnErr result (self.new ≡ self.old) }
         ensures configs { OnOk result (AreConfigs self.new) }
     {

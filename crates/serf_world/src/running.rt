@@ -24,7 +24,8 @@ fn step_to(
     action: &Action,
 ) -> Result<(), AllocError>
     requires { world.old.poisoned ≡ false }
-    ensures step { (c : Cluster) → IsViewed c world.old → AreRepresentable c → OnOk result (AddsLine (step c action.now) world.new lines.old.items lines.new.items) }
+    ensures step { (c : Cluster) → IsViewed c world.old → AreRepresentable c
+        → OnOk result (AddsLine (step c action.now) world.new lines.old.items lines.new.items) }
     ensures unpoisoned { OnOk result (world.new.poisoned ≡ false) }
     ensures err_lines { OnErr result (lines.new.items ≡ lines.old.items) }
     ensures err_sent { OnErr result (world.new.sent ≡ world.old.sent) }
@@ -44,9 +45,12 @@ fn step_to(
 /// Does all actions in a cluster. Where memory runs out, gives the trace of those done before.
 fn run_in(alloc: Global, world: World, actions: &[Action]) -> Result<Trace, Trace>
     requires { world.poisoned ≡ false }
-    ensures done { (r : Run) → IsViewed r.cluster world → AreRepresentable r.cluster → r.turns ≡ [] → IfOk result (λ trace. outcome_of trace ≡ trace_of (fold after r actions.now)) }
-    ensures memory { (r : Run) → IsViewed r.cluster world → AreRepresentable r.cluster → r.turns ≡ []
-        → IfErr result (λ trace. (n : ℕ) × (n < length actions.now) × (outcome_of trace ≡ trace_of (fold after r (take n actions.now)))) }
+    ensures done { (r : Run) → IsViewed r.cluster world → AreRepresentable r.cluster → r.turns ≡ []
+        → IfOk result (λ trace. outcome_of trace ≡ trace_of (fold after r actions.now)) }
+    ensures memory { (r : Run) → IsViewed r.cluster world
+        → AreRepresentable r.cluster → r.turns ≡ []
+        → IfErr result (λ trace. (n : ℕ) × (n < length actions.now)
+        × (outcome_of trace ≡ trace_of (fold after r (take n actions.now)))) }
 {
     let mut world = world;
     let mut lines = Vec::new(alloc);

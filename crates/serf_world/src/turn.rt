@@ -27,7 +27,8 @@ pub(crate) fn take_turn(
     action: &Action,
 ) -> Result<Line, AllocError>
     ensures turn { (m : IdealNode) → IsRepresentable m.agent → node.old ≡ node_of m
-        → IfOk result (TakesTurn number sent.old.items sent.new.items (apply m sent.old.items action.now) node.new) }
+        → IfOk result (TakesTurn number sent.old.items sent.new.items
+        (apply m sent.old.items action.now) node.new) }
     ensures err { OnErr result (sent.new.items ≡ sent.old.items) }
 {
     match action {

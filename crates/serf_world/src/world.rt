@@ -45,7 +45,8 @@ impl Model for World {
 
     ghost Value = { WorldState };
 
-    ghost view = { λ w. record { nodes = w.nodes.items; sent = w.sent.items; poisoned = w.poisoned } };
+    ghost view = { λ w.
+        record { nodes = w.nodes.items; sent = w.sent.items; poisoned = w.poisoned } };
 }
 
 /// The packets that an action injects.
@@ -105,7 +106,8 @@ impl World {
     /// that are stored hold of their open queries what was counted (`done`).
     #[inline(always)]
     pub fn step(&mut self, alloc: Global, action: &Action) -> Result<Line, StepFault>
-        ensures step { (c : Cluster) → IsViewed c self.old → AreRepresentable c → IfOk result (TakesStep (step c action.now) self.new) }
+        ensures step { (c : Cluster) → IsViewed c self.old → AreRepresentable c
+            → IfOk result (TakesStep (step c action.now) self.new) }
         ensures poisoned { IsErrOf result StepFault.Poisoned ↔ IsTrue self.old.poisoned }
         ensures poisoned_same { IsErrOf result StepFault.Poisoned → self.new ≡ self.old }
         ensures ok { OnOk result (self.new.poisoned ≡ false) }
@@ -133,7 +135,8 @@ impl World {
 
     #[inline(always)]
     fn try_step(&mut self, alloc: Global, action: &Action) -> Result<Line, AllocError>
-        ensures step { (c : Cluster) → IsViewed c self.old → AreRepresentable c → IfOk result (TakesStep (step c action.now) self.new) }
+        ensures step { (c : Cluster) → IsViewed c self.old → AreRepresentable c
+            → IfOk result (TakesStep (step c action.now) self.new) }
         ensures poisoned { self.new.poisoned ≡ self.old.poisoned }
         ensures err { OnErr result (self.new.sent ≡ self.old.sent) }
     {
@@ -159,7 +162,9 @@ impl World {
         agent: u64,
         action: &Action,
     ) -> Result<Line, AllocError>
-        ensures step { (c : Cluster) → IsViewed c self.old → AreRepresentable c → IfOk result (TakesStep (on_agent c action.now agent (slice_get c.nodes agent)) self.new) }
+        ensures step { (c : Cluster) → IsViewed c self.old → AreRepresentable c
+            → IfOk result (TakesStep
+            (on_agent c action.now agent (slice_get c.nodes agent)) self.new) }
         ensures poisoned { self.new.poisoned ≡ self.old.poisoned }
         ensures err { OnErr result (self.new.sent ≡ self.old.sent) }
     {

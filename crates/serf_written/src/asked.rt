@@ -85,7 +85,8 @@ fn take_value(
 }
 
 fn take_pair(alloc: Global, asked: &mut Asked, place: usize, word: &[u8]) -> Result<(), LineFault>
-    ensures { Gives (λ _. asked.new) result (with_pair place asked.old word.now (position (λ b. b == 61) word.now)) }
+    ensures { Gives (λ _. asked.new) result
+        (with_pair place asked.old word.now (position (λ b. b == 61) word.now)) }
 {
     match halves(word, b'=') {
         Some((key, value)) => take_value(alloc, asked, place, key, value),

@@ -82,7 +82,8 @@ fn put_piece(pieces: &mut Vec<Piece>, piece: Piece) -> Result<(), AllocError>
 
 /// Puts the words of a part outside of quotes behind the pieces, and says whether a comment ends the line.
 fn put_words(alloc: Global, part: &[u8], pieces: &mut Vec<Piece>) -> Result<bool, AllocError>
-    ensures { IfOk result (λ is_over. words_behind pieces.old.items (words_of part.now) ≡ record { pieces = pieces.new.items; is_over = is_over }) }
+    ensures { IfOk result (λ is_over. words_behind pieces.old.items (words_of part.now)
+        ≡ record { pieces = pieces.new.items; is_over = is_over }) }
 {
     let mut rest = part;
     'words: loop {
@@ -107,8 +108,9 @@ fn put_text<'a>(
     pieces: &mut Vec<Piece>,
 ) -> Result<&'a [u8], LineFault>
     ensures parts { MatchResult result
-        (λ rest. pieces_from true pieces.old.items (slice_split (λ b. b == 34) quoted.entry.now) ≡ pieces_from false pieces.new.items (slice_split (λ b. b == 34) rest.now))
-        (λ fault. Fails fault (pieces_from true pieces.old.items (slice_split (λ b. b == 34) quoted.entry.now))) }
+        (λ rest. pieces_from true pieces.old.items (slice_split (λ b. b == 34) quoted.entry.now)
+        ≡ pieces_from false pieces.new.items (slice_split (λ b. b == 34) rest.now)) (λ fault. Fails
+        fault (pieces_from true pieces.old.items (slice_split (λ b. b == 34) quoted.entry.now))) }
     ensures shorter { IfOk result (λ rest. length rest.now < length quoted.entry.now) }
 {
     let (inside, more) = cut(quoted, b'"');
@@ -126,7 +128,8 @@ fn put_text<'a>(
 
 /// The pieces of the parts of a line between its quotes.
 fn all_pieces(alloc: Global, line: &[u8]) -> Result<Vec<Piece>, LineFault>
-    ensures { Gives (λ pieces. pieces.items) result (pieces_from false [] (slice_split (λ b. b == 34) line.now)) }
+    ensures { Gives (λ pieces. pieces.items) result
+        (pieces_from false [] (slice_split (λ b. b == 34) line.now)) }
 {
     let mut pieces = Vec::new(alloc);
     let mut rest = line;

@@ -55,7 +55,8 @@ fn set(config: &mut Config, place: usize, key: &[u8], value: u64) -> Result<(), 
 }
 
 fn set_pair(config: &mut Config, place: usize, word: &[u8]) -> Result<(), LineFault>
-    ensures { Gives (λ _. config.new) result (set_key place config.old word.now (position (λ b. b == 61) word.now)) }
+    ensures { Gives (λ _. config.new) result
+        (set_key place config.old word.now (position (λ b. b == 61) word.now)) }
 {
     match halves(word, b'=') {
         Some((key, value)) => match number(value) {

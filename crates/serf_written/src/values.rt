@@ -50,8 +50,9 @@ fn place_of(word: &[u8], byte: u8) -> Option<usize>
 
 /// The bytes before a byte, and those behind it; `None` where there is no such byte.
 pub(crate) fn halves(word: &[u8], byte: u8) -> Option<(&[u8], &[u8])>
-    ensures { MatchOption result (position (λ b. b == byte) word.now ≡ None)
-        (λ parts. (at : ℕ) × (position (λ b. b == byte) word.now ≡ Some at) × (parts.0.now ≡ take at word.now) × (parts.1.now ≡ drop (at + 1) word.now)) }
+    ensures { MatchOption result (position (λ b. b == byte) word.now ≡ None) (λ parts. (at : ℕ)
+        × (position (λ b. b == byte) word.now ≡ Some at) × (parts.0.now ≡ take at word.now)
+        × (parts.1.now ≡ drop (at + 1) word.now)) }
 {
     match place_of(word, byte) {
         Some(at) => Some((&word[..at], &word[at + 1..])),

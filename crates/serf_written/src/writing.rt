@@ -43,9 +43,11 @@ impl Model for Writing {
 
     ghost Value = { Written };
 
-    ghost view = { λ w. record { configs = w.agents; actions = w.actions.items; labels = w.labels.items } };
+    ghost view = { λ w.
+        record { configs = w.agents; actions = w.actions.items; labels = w.labels.items } };
 
-    ghost invariant = { λ w. HasRun w.agents w.actions.items w.world × All IsSayable w.actions.items };
+    ghost invariant = { λ w. HasRun w.agents w.actions.items w.world
+        × All IsSayable w.actions.items };
 }
 
 impl Writing {
@@ -79,7 +81,8 @@ impl Writing {
 
     /// Does an action. Lines say only actions that a schedule can say.
     fn act(&mut self, alloc: Global, action: Action) -> Result<(), AllocError>
-        ensures { OnOk result (self.new ≡ record self.old { actions = self.old.actions ++ action ∷ [] }) }
+        ensures { OnOk result (self.new
+            ≡ record self.old { actions = self.old.actions ++ action ∷ [] }) }
     {
         if !is_sayable(&action) {
             return Err(AllocError);

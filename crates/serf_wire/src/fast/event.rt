@@ -77,7 +77,9 @@ fn read_pairs(count: u8, bytes: &[u8]) -> Option<(EventFields<'_>, &[u8])>
 
 /// The user event of what was found, where its time is one.
 fn event_of<'a>(found: &EventFields<'a>) -> Option<UserEventParts<'a>>
-    ensures event { IfSome result (λ e. event_said e ≡ user_event_of (unwrap_or found.now.time 0) (unwrap_or (option_copied found.now.name) []) (unwrap_or (option_copied found.now.payload) []) (unwrap_or found.now.coalesce false)) }
+    ensures event { IfSome result (λ e. event_said e
+        ≡ user_event_of (unwrap_or found.now.time 0) (unwrap_or (option_copied found.now.name) [])
+        (unwrap_or (option_copied found.now.payload) []) (unwrap_or found.now.coalesce false)) }
     ensures time { IfSome result (λ e. unwrap_or found.now.time 0 < greatest_clock) }
 {
     let number = match found.time {

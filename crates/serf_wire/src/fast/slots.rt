@@ -86,7 +86,8 @@ fn read_event_list(bytes: &[u8]) -> Option<(EventViews<'_>, &[u8])>
 /// The list of events at the front, behind its key, and what follows it.
 #[inline(always)]
 fn read_events(bytes: &[u8]) -> Option<(EventViews<'_>, &[u8])>
-    ensures { IfSome result (λ x. ReadsPair 7 (list event_body) (codes "Events") (events_left x.0) bytes.now x.1.now) }
+    ensures { IfSome result (λ x.
+        ReadsPair 7 (list event_body) (codes "Events") (events_left x.0) bytes.now x.1.now) }
 {
     let [0xa6, b'E', b'v', b'e', b'n', b't', b's', value @ ..] = bytes else {
         return None;
@@ -112,7 +113,8 @@ fn read_time(bytes: &[u8]) -> Option<(u64, &[u8])>
 /// The slot at the front, a map whose time stands first, and what follows it. So our encoder writes it.
 #[inline(always)]
 fn read_time_first(fields: &[u8]) -> Option<(u64, EventViews<'_>, &[u8])>
-    ensures { IfSome result (λ x. ReadsIn 6 slot (held x.0 (events_left x.1)) (0x82 ∷ fields.now) x.2.now) }
+    ensures { IfSome result (λ x.
+        ReadsIn 6 slot (held x.0 (events_left x.1)) (0x82 ∷ fields.now) x.2.now) }
 {
     laws_below();
     match read_time(fields) {
@@ -127,7 +129,8 @@ fn read_time_first(fields: &[u8]) -> Option<(u64, EventViews<'_>, &[u8])>
 /// The slot at the front, a map whose events stand first, and what follows it. So Serf writes it.
 #[inline(always)]
 fn read_events_first(fields: &[u8]) -> Option<(u64, EventViews<'_>, &[u8])>
-    ensures { IfSome result (λ x. ReadsIn 6 slot (held x.0 (events_left x.1)) (0x82 ∷ fields.now) x.2.now) }
+    ensures { IfSome result (λ x.
+        ReadsIn 6 slot (held x.0 (events_left x.1)) (0x82 ∷ fields.now) x.2.now) }
 {
     laws_below();
     match read_events(fields) {
