@@ -1,7 +1,7 @@
 -- What the ideal agent does with user events (Serf's internals page, "Lamport Clocks"; `serf.go`, `UserEvent` and
 -- `handleUserEvent`).
-use Rattle.std.specs.Prelude.{ℕ, ◌+◌, ◌-◌, ◌^◌, ◌||◌, min, nat_lt, nat_le, Bool, if◌then◌else◌, length, List, Option, Some, None, Result, Ok, Err}
-use Rattle.serf_lamport.specs.Clock.{greatest_clock}
+use Rattle.std.specs.Prelude.{ℕ, ◌+◌, ◌||◌, min, nat_lt, nat_le, Bool, if◌then◌else◌, length, List, Option, Some, None, Result, Ok, Err}
+use Rattle.serf_lamport.specs.Clock.{greatest_clock, last_time}
 use Rattle.serf_wire.specs.declared.texts.EventBody.{EventBody}
 use Rattle.serf_wire.specs.Canonical.{canonical}
 use Rattle.serf_wire.specs.Message.{user_event}
@@ -53,10 +53,10 @@ received_as None i t what coalesce = Notes kinds.Event t (record { agent = event
 abbrev pub receive_event : IdealAgent → ℕ → EventBody → Bool → Call (Result Outcome ReceiveFault)
 receive_event i t what coalesce = received_as (admission i t what) i t what coalesce
 
--- the time that a clock draws; 2^64 - 1 is no time, and where the clock stands there a packet is measured with the
--- time before it
+-- the time that a clock draws; where it stands at its greatest number, which is no time, a packet is measured with the
+-- last time
 abbrev pub drawn : ℕ → ℕ
-drawn clock = min clock (2 ^ 64 - 2)
+drawn clock = min clock last_time
 
 -- the packet of an event
 abbrev pub event_packet : ℕ → EventBody → Bool → List ℕ

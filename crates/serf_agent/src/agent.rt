@@ -42,7 +42,14 @@ impl<S: Sink> Model for Agent<S> {
     ghost use Rattle.serf_agent.specs.Inside.{IsBuilt, concrete_of};
 
     ghost view = { λ a. record {
-      concrete = record { config = a.config; member_clock = a.member_clock; events = concrete_of a.events; queries = concrete_of a.queries; snapshot = a.snapshot.snapshot; asked = a.asked };
+      concrete = record {
+        config = a.config;
+        member_clock = a.member_clock;
+        events = concrete_of a.events;
+        queries = concrete_of a.queries;
+        snapshot = a.snapshot.snapshot;
+        asked = a.asked;
+      };
       device = a.snapshot.device;
     } };
 

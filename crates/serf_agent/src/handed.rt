@@ -44,7 +44,18 @@ impl Model for HandedQuery {
     ghost Value = { Handed };
 
     ghost view = { λ q. let parts = q.parts.value in
-        record { time = parts.time; id = parts.id; name = parts.name; payload = parts.payload; source = parts.source; addr = parts.addr; port = parts.port; relay_factor = parts.relay_factor; deadline = parts.deadline; node = parts.node } };
+        record {
+          time = parts.time;
+          id = parts.id;
+          name = parts.name;
+          payload = parts.payload;
+          source = parts.source;
+          addr = parts.addr;
+          port = parts.port;
+          relay_factor = parts.relay_factor;
+          deadline = parts.deadline;
+          node = parts.node;
+        } };
 }
 
 /// The last moment at which a query of this timeout can be answered.
@@ -196,7 +207,11 @@ impl HandedQuery {
         payload: &[u8],
     ) -> Result<Reply, (HandedQuery, RespondFault)>
         ensures reply { IfOk result (λ reply. reply
-            ≡ record { addr = self.addr; port = self.port; packet = response_packet self payload.now }) }
+            ≡ record {
+              addr = self.addr;
+              port = self.port;
+              packet = response_packet self payload.now;
+            }) }
         ensures answered { IfOk result (λ reply. respond_fault self now payload.now ≡ None) }
         ensures back { IfErr result (λ e. e.0 ≡ self) }
         ensures fault { IfErr result (λ e. e.1 ≢ RespondFault.OutOfMemory

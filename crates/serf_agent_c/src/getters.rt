@@ -28,7 +28,14 @@ use std::alloc::Global;
 #[unsafe(no_mangle)]
 pub extern "C" fn serf_agent_gave(alloc: Global, handle: &mut Handle, gave: &mut GaveHead) -> u32
     ensures { Reads (λ s code. (code ≡ Code.Done) × (gave.new
-        ≡ record { kind = kind_of s.gave; reason = reason_of s.gave; handed = if is_some (handed_in s.gave) then length s.waiting.items + 1 else 0; events = length (events_in s.gave); foreign = foreign_of s.gave; rebroadcast = rebroadcast_of s.gave }))
+        ≡ record {
+          kind = kind_of s.gave;
+          reason = reason_of s.gave;
+          handed = if is_some (handed_in s.gave) then length s.waiting.items + 1 else 0;
+          events = length (events_in s.gave);
+          foreign = foreign_of s.gave;
+          rebroadcast = rebroadcast_of s.gave;
+        }))
         handle.old.place.value handle.new.place.value result }
 {
     let Some(session) = handle.take(alloc) else {

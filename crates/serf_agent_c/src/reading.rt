@@ -114,7 +114,15 @@ impl Session {
     /// What the last call gave.
     pub(crate) fn read_gave(&self, gave: &mut GaveHead)
         ensures { gave.new
-            ≡ record { kind = kind_of self.now.gave; reason = reason_of self.now.gave; handed = if is_some (handed_in self.now.gave) then length self.now.waiting.items + 1 else 0; events = length (events_in self.now.gave); foreign = foreign_of self.now.gave; rebroadcast = rebroadcast_of self.now.gave } }
+            ≡ record {
+              kind = kind_of self.now.gave;
+              reason = reason_of self.now.gave;
+              handed = if is_some (handed_in self.now.gave)
+                  then length self.now.waiting.items + 1 else 0;
+              events = length (events_in self.now.gave);
+              foreign = foreign_of self.now.gave;
+              rebroadcast = rebroadcast_of self.now.gave;
+            } }
     {
         let handed = if self.gave.handed().is_some() {
             self.waiting.len() as u64 + 1
@@ -134,7 +142,10 @@ impl Session {
     /// The bytes that the host's file lacks.
     pub(crate) fn read_lacking(&self, bytes: &mut BytesHead, to: &mut [u8])
         ensures head { bytes.new
-            ≡ record { len = length (lacking self.now.agent.device self.now.written); replaces = self.now.replaces } }
+            ≡ record {
+              len = length (lacking self.now.agent.device self.now.written);
+              replaces = self.now.replaces;
+            } }
         ensures copied { to.new ≡ copied (lacking self.now.agent.device self.now.written) to.old }
     {
         let lacking = self.lacking();

@@ -154,7 +154,12 @@ pub(crate) fn take_turn<R: Read, W: Write>(
 ) -> Result<Asked, ConformFault>
     ensures { IfOk result (λ asked.
         IfSome (R.remaining reader.old) (λ input. IsTaken (taken_of (is_serf rules) agent
-        (record { action = action.now; line = line.now; given = packet_given before.now action.now; packets = packets.now })
+        (record {
+          action = action.now;
+          line = line.now;
+          given = packet_given before.now action.now;
+          packets = packets.now;
+        })
         input) asked (R.remaining reader.new) (W.contents writer.old) (W.contents writer.new))) }
 {
     if !is_of(action, agent) {

@@ -34,7 +34,12 @@ impl Model for MemSink {
 
     ghost view = { λ a. record {
       device = memory_device a.bytes.items a.durable
-          record { appends = a.failing_append; flushes = a.failing_flush; replaces = a.failing_replace; keeps_new = a.keeps_new }
+          record {
+            appends = a.failing_append;
+            flushes = a.failing_flush;
+            replaces = a.failing_replace;
+            keeps_new = a.keeps_new;
+          }
           a.failures
           record { appends = a.append_calls; flushes = a.flush_calls; replaces = a.replace_calls };
       room = vec_capacity a.bytes - vec_len a.bytes;

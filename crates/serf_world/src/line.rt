@@ -53,7 +53,12 @@ pub(crate) fn line_with_packet(
     packet: Bytes,
 ) -> Result<Line, AllocError>
     ensures line { IfOk result (λ line. line
-        ≡ record { answer = answer; sent = length sent.old.items ∷ []; events = []; handed = None }) }
+        ≡ record {
+          answer = answer;
+          sent = length sent.old.items ∷ [];
+          events = [];
+          handed = None;
+        }) }
     ensures sent { OnOk result (sent.new.items ≡ sent.old.items ++ packet ∷ []) }
     ensures err { OnErr result (sent.new.items ≡ sent.old.items) }
 {
@@ -92,7 +97,12 @@ pub(crate) fn line_with_event(
     event: EventOut,
 ) -> Result<Line, AllocError>
     ensures line { IfOk result (λ line. line
-        ≡ record { answer = answer; sent = length sent.old.items ∷ []; events = event_line agent event ∷ []; handed = None }) }
+        ≡ record {
+          answer = answer;
+          sent = length sent.old.items ∷ [];
+          events = event_line agent event ∷ [];
+          handed = None;
+        }) }
     ensures sent { OnOk result (sent.new.items ≡ sent.old.items ++ packet ∷ []) }
     ensures err { OnErr result (sent.new.items ≡ sent.old.items) }
 {
@@ -115,7 +125,12 @@ pub(crate) fn line_with_events(
     events: Vec<EventOut>,
 ) -> Result<Line, AllocError>
     ensures { IfOk result (λ line. line
-        ≡ record { answer = answer; sent = []; events = map (event_line agent) events.items; handed = None }) }
+        ≡ record {
+          answer = answer;
+          sent = [];
+          events = map (event_line agent) events.items;
+          handed = None;
+        }) }
 {
     let mut lines = Vec::with_capacity(alloc, events.len())?;
     for event in events {
