@@ -1,13 +1,12 @@
 //! A line of a reply behind its answer.
 
 ghost use Rattle.std.specs.Prelude.{◌≡◌, ◌==◌, ◌≤◌, length, map};
-ghost use Rattle.std.specs.Str.{bytes_eq};
 ghost use Rattle.serf_replay.specs.Gives.{Gives};
 ghost use Rattle.serf_replay.specs.Words.{words_of, word_at};
 ghost use Rattle.serf_pipe.specs.Reply.{counted_ack_of, counted_kind, counted_response_of, counted_words, count_of, event_of, handed_of, kept_of, kind_of, line_of, of_kind, sent_of};
 
 use serf_replay::{
-    Cause, LineFault, bytes_at, choice_at, number_at, number_from_to, take_words, word_at,
+    Cause, LineFault, bytes_at, choice_at, is_word, number_at, number_from_to, take_words, word_at,
 };
 use serf_wire::Bytes;
 use std::alloc::Global;
@@ -69,12 +68,6 @@ pub(crate) enum LineKind {
     CountedAck,
     CountedResponse,
     Kept,
-}
-
-fn is_word(word: &[u8], text: &[u8]) -> bool
-    ensures { result ≡ bytes_eq word.now text.now }
-{
-    word == text
 }
 
 /// What was counted, by the second word.

@@ -12,9 +12,10 @@ use Rattle.serf_model.specs.declared.line.EventLine.{EventLine}
 use Rattle.serf_model.specs.declared.line.HandedLine.{HandedLine}
 use Rattle.serf_model.specs.declared.line.Line.{Line}
 use Rattle.serf_world.specs.Trace.{Outcome}
-use Rattle.serf_replay.specs.TextParts.{flag_text, hex_text, with_number}
+use Rattle.serf_replay.specs.TextParts.{flag_text, hex_text}
 use Rattle.serf_replay.specs.WireText.{wire_text}
 
+-- why a packet was ignored
 abbrev pub reason_text : Reason → List ℕ
 reason_text reasons.Oversize = codes "Oversize"
 reason_text reasons.BelowMinimum = codes "BelowMinimum"
@@ -28,6 +29,7 @@ reason_text reasons.AckNotAsked = codes "AckNotAsked"
 reason_text reasons.AckTwice = codes "AckTwice"
 reason_text reasons.ResponseTwice = codes "ResponseTwice"
 
+-- why an action was refused, without a packet's fault
 abbrev pub refusal_text : Refusal → List ℕ
 refusal_text refusals.NoAgent = codes "NoAgent"
 refusal_text refusals.NoMessage = codes "NoMessage"
@@ -41,28 +43,52 @@ refusal_text refusals.PastDeadline = codes "PastDeadline"
 refusal_text refusals.NotPushPull = codes "NotPushPull"
 refusal_text refusals.RespondersFull = codes "RespondersFull"
 refusal_text refusals.SinkFault = codes "SinkFault"
-refusal_text (refusals.Wire fault) = codes "Wire " ++ wire_text fault
+refusal_text (refusals.Wire fault) = codes "Wire"
+
+-- an answer's words: all but its numbers and a packet's fault
+abbrev pub answer_words : Answer → List ℕ
+answer_words (answers.Fired time) = codes "fired"
+answer_words answers.New = codes "new"
+answer_words answers.Query = codes "query"
+answer_words answers.Ack = codes "ack"
+answer_words answers.Response = codes "response"
+answer_words (answers.Ignored reason) = codes "ignored " ++ reason_text reason
+answer_words (answers.Foreign kind) = codes "foreign"
+answer_words answers.PushPull = codes "push-pull"
+answer_words answers.State = codes "state"
+answer_words answers.Merged = codes "merged"
+answer_words (answers.Queried time) = codes "queried"
+answer_words answers.Replied = codes "replied"
+answer_words answers.Broken = codes "broken"
+answer_words answers.Injected = codes "injected"
+answer_words answers.Saved = codes "saved"
+answer_words answers.Compacted = codes "compacted"
+answer_words (answers.Restarted member_clock event_clock query_clock) = codes "restarted"
+answer_words (answers.Closed count) = codes "closed"
+answer_words (answers.Refused refusal) = codes "refused " ++ refusal_text refusal
+
+-- a number behind a space
+unfoldable pub behind_space : ℕ → List ℕ
+behind_space n = codes " " ++ decimal n
+
+-- what a refusal says of a packet, behind a space
+abbrev pub fault_details : Refusal → List ℕ
+fault_details (refusals.Wire fault) = codes " " ++ wire_text fault
+fault_details _ = []
+
+-- an answer's numbers, or a packet's fault, each behind a space
+abbrev pub answer_details : Answer → List ℕ
+answer_details (answers.Fired time) = behind_space time
+answer_details (answers.Foreign kind) = behind_space kind
+answer_details (answers.Queried time) = behind_space time
+answer_details (answers.Restarted member_clock event_clock query_clock) =
+    behind_space member_clock ++ behind_space event_clock ++ behind_space query_clock
+answer_details (answers.Closed count) = behind_space count
+answer_details (answers.Refused refusal) = fault_details refusal
+answer_details _ = []
 
 abbrev pub answer_text : Answer → List ℕ
-answer_text (answers.Fired time) = with_number (codes "fired") time
-answer_text answers.New = codes "new"
-answer_text answers.Query = codes "query"
-answer_text answers.Ack = codes "ack"
-answer_text answers.Response = codes "response"
-answer_text (answers.Ignored reason) = codes "ignored " ++ reason_text reason
-answer_text (answers.Foreign kind) = with_number (codes "foreign") kind
-answer_text answers.PushPull = codes "push-pull"
-answer_text answers.State = codes "state"
-answer_text answers.Merged = codes "merged"
-answer_text (answers.Queried time) = with_number (codes "queried") time
-answer_text answers.Replied = codes "replied"
-answer_text answers.Broken = codes "broken"
-answer_text answers.Injected = codes "injected"
-answer_text answers.Saved = codes "saved"
-answer_text answers.Compacted = codes "compacted"
-answer_text (answers.Restarted member_clock event_clock query_clock) = with_number (with_number (with_number (codes "restarted") member_clock) event_clock) query_clock
-answer_text (answers.Closed count) = with_number (codes "closed") count
-answer_text (answers.Refused refusal) = codes "refused " ++ refusal_text refusal
+answer_text answer = answer_words answer ++ answer_details answer
 
 -- the packet of a number
 abbrev pub packet_of : List (List ℕ) → ℕ → List ℕ

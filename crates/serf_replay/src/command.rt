@@ -6,7 +6,7 @@ ghost use Rattle.serf_replay.specs.Command.{verb_of, command_of, count_of};
 
 /// What a line is about.
 #[derive(Clone, Copy, Debug, PartialEq, Eq)]
-pub(crate) enum Command {
+pub enum Command {
     /// An agent of the cluster.
     Agent,
     /// A query, whose line may have any number of filters.
@@ -17,7 +17,7 @@ pub(crate) enum Command {
 
 /// An action other than a query.
 #[derive(Clone, Copy, Debug, PartialEq, Eq)]
-pub(crate) enum Verb {
+pub enum Verb {
     Deliver,
     Fire,
     State,
@@ -31,7 +31,8 @@ pub(crate) enum Verb {
     Compact,
 }
 
-pub(crate) fn is_word(word: &[u8], text: &[u8]) -> bool
+/// Whether a word is this text. Takes no memory.
+pub fn is_word(word: &[u8], text: &[u8]) -> bool
     ensures { result ≡ bytes_eq word.now text.now }
 {
     word == text
@@ -67,9 +68,9 @@ fn verb_in(word: &[u8]) -> Option<Verb>
     }
 }
 
-/// The command that a word names.
+/// The command that a word names; `None` for any other word. Takes no memory.
 #[tactic(auto, unfolding(crate::specs::Command::command_of))]
-pub(crate) fn command_in(word: &[u8]) -> Option<Command>
+pub fn command_in(word: &[u8]) -> Option<Command>
     ensures { result ≡ command_of word.now }
 {
     if is_word(word, b"agent") {

@@ -23,6 +23,7 @@ mod words;
 
 pub use cause::{Cause, LineFault};
 pub use clock_lines::clocks_text;
+pub use command::{Command, Verb, command_in, is_word};
 pub use input::{InputFault, MAX_SCHEDULE_BYTES, read_input};
 pub use job::{ReplayFault, replay};
 pub use laws::{answered_lines, lines_grow, lines_stay, sized_schedules};
@@ -34,7 +35,10 @@ pub use put::{
 };
 pub use replaying::Replaying;
 pub use schedule::Schedule;
-pub use show::{put_action, put_answer, show_trace};
+pub use show::{answer_words, put_action, put_answer, show_trace};
 pub use watch::{Unwatched, Watch};
 pub use wire_words::WireWords;
-pub use words::{bytes_at, choice_at, cut, number, number_at, number_from_to, take_words, word_at};
+pub use words::{
+    bytes_at, choice, choice_at, cut, hex_bytes, number, number_at, number_from_to, sink_call,
+    take_words, word_at,
+};

@@ -10,7 +10,7 @@ ghost use Rattle.serf_replay.specs.Gives.{Gives};
 use crate::cause::{Cause, LineFault};
 use crate::command::Verb;
 use crate::words::{
-    FIXED_WORDS, bytes, bytes_at, choice_at, cut, number_at, number_from_to, sink_call_at,
+    FIXED_WORDS, bytes_at, choice_at, cut, hex_bytes, number_at, number_from_to, sink_call_at,
 };
 use serf_agent::{BytesList, Config, DEFAULT_PER_TIME, QueryParams};
 use serf_wire::Bytes;
@@ -207,7 +207,7 @@ pub(crate) fn action(alloc: Global, verb: Verb, words: &[&[u8]]) -> Result<Actio
 fn filter(alloc: Global, word: &[u8], place: u64) -> Result<Bytes, LineFault>
     ensures { Gives (λ b. b) result (or_bad place (bytes_of word.now)) }
 {
-    match bytes(alloc, word)? {
+    match hex_bytes(alloc, word)? {
         Some(found) => Ok(found),
         None => Err(LineFault::Bad(Cause::BadWord(place))),
     }

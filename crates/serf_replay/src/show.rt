@@ -4,9 +4,9 @@ ghost use Rattle.std.specs.Prelude.{◌≡◌, ◌+◌, ◌++◌, OnOk, IfOk, de
 ghost use Rattle.std.specs.List.{flat_map};
 ghost use Rattle.std.specs.Option.{option_to_list};
 ghost use Rattle.serf_world.specs.Trace.{outcome_of};
-ghost use Rattle.serf_replay.specs.Show.{reason_text, refusal_text, answer_text, packet_of, answer_line, sent_line, event_tail, event_line, spaced, texts_text, identity_text, handed_line, action_text, trace_text};
+ghost use Rattle.serf_replay.specs.Show.{answer_words, answer_details, answer_text, behind_space, fault_details, packet_of, answer_line, sent_line, event_tail, event_line, spaced, texts_text, identity_text, handed_line, action_text, trace_text};
 
-use crate::put::{flag, put_hex, put_number, put_with_number, put_with_numbers};
+use crate::put::{flag, put_hex, put_number};
 use crate::wire_words::put_wire_fault;
 use itoa::Buffer;
 use serf_agent::Reason;
@@ -14,100 +14,137 @@ use serf_wire::Bytes;
 use serf_world::{Answer, Boxed, EventLine, HandedLine, Line, Refusal, Trace};
 use std::alloc::{AllocError, Global};
 
-fn reason_name(reason: Reason) -> &'static [u8]
-    ensures { result.now ≡ reason_text reason }
+/// The words of the answer to a packet that is ignored.
+fn ignored_words(reason: Reason) -> &'static [u8]
+    ensures { result.now ≡ answer_words (Answer.Ignored reason) }
 {
     match reason {
-        Reason::Oversize => b"Oversize",
-        Reason::BelowMinimum => b"BelowMinimum",
-        Reason::TooOld => b"TooOld",
-        Reason::Seen => b"Seen",
-        Reason::TimeFull => b"TimeFull",
-        Reason::NotOpen => b"NotOpen",
-        Reason::OtherId => b"OtherId",
-        Reason::Closed => b"Closed",
-        Reason::AckNotAsked => b"AckNotAsked",
-        Reason::AckTwice => b"AckTwice",
-        Reason::ResponseTwice => b"ResponseTwice",
+        Reason::Oversize => b"ignored Oversize",
+        Reason::BelowMinimum => b"ignored BelowMinimum",
+        Reason::TooOld => b"ignored TooOld",
+        Reason::Seen => b"ignored Seen",
+        Reason::TimeFull => b"ignored TimeFull",
+        Reason::NotOpen => b"ignored NotOpen",
+        Reason::OtherId => b"ignored OtherId",
+        Reason::Closed => b"ignored Closed",
+        Reason::AckNotAsked => b"ignored AckNotAsked",
+        Reason::AckTwice => b"ignored AckTwice",
+        Reason::ResponseTwice => b"ignored ResponseTwice",
     }
 }
 
-fn put_refusal(out: &mut Vec<u8>, refusal: Refusal) -> Result<(), AllocError>
-    ensures { OnOk result (out.new.items ≡ out.old.items ++ refusal_text refusal) }
+/// The words of a refusal.
+fn refused_words(refusal: Refusal) -> &'static [u8]
+    ensures { result.now ≡ answer_words (Answer.Refused refusal) }
 {
     match refusal {
-        Refusal::NoAgent => out.extend_from_slice(b"NoAgent"),
-        Refusal::NoMessage => out.extend_from_slice(b"NoMessage"),
-        Refusal::NoQuery => out.extend_from_slice(b"NoQuery"),
-        Refusal::Stopped => out.extend_from_slice(b"Stopped"),
-        Refusal::TooLarge => out.extend_from_slice(b"TooLarge"),
-        Refusal::TooLong => out.extend_from_slice(b"TooLong"),
-        Refusal::Exhausted => out.extend_from_slice(b"Exhausted"),
-        Refusal::ZeroTimeout => out.extend_from_slice(b"ZeroTimeout"),
-        Refusal::PastDeadline => out.extend_from_slice(b"PastDeadline"),
-        Refusal::NotPushPull => out.extend_from_slice(b"NotPushPull"),
-        Refusal::RespondersFull => out.extend_from_slice(b"RespondersFull"),
-        Refusal::SinkFault => out.extend_from_slice(b"SinkFault"),
-        Refusal::Wire(fault) => {
-            out.extend_from_slice(b"Wire ")?;
-            put_wire_fault(out, fault)
-        }
+        Refusal::NoAgent => b"refused NoAgent",
+        Refusal::NoMessage => b"refused NoMessage",
+        Refusal::NoQuery => b"refused NoQuery",
+        Refusal::Stopped => b"refused Stopped",
+        Refusal::TooLarge => b"refused TooLarge",
+        Refusal::TooLong => b"refused TooLong",
+        Refusal::Exhausted => b"refused Exhausted",
+        Refusal::ZeroTimeout => b"refused ZeroTimeout",
+        Refusal::PastDeadline => b"refused PastDeadline",
+        Refusal::NotPushPull => b"refused NotPushPull",
+        Refusal::RespondersFull => b"refused RespondersFull",
+        Refusal::SinkFault => b"refused SinkFault",
+        Refusal::Wire(_) => b"refused Wire",
     }
 }
 
-/// Appends `restarted` and the three clocks.
-#[tactic(auto, unfolding(crate::specs::TextParts::with_number))]
-fn put_restarted(
+/// The words of an answer: all but its numbers, and a packet's fault. Takes no memory.
+pub fn answer_words(answer: Answer) -> &'static [u8]
+    ensures { result.now ≡ answer_words answer }
+{
+    match answer {
+        Answer::Fired(_) => b"fired",
+        Answer::New => b"new",
+        Answer::Query => b"query",
+        Answer::Ack => b"ack",
+        Answer::Response => b"response",
+        Answer::Ignored(reason) => ignored_words(reason),
+        Answer::Foreign(_) => b"foreign",
+        Answer::PushPull => b"push-pull",
+        Answer::State => b"state",
+        Answer::Merged => b"merged",
+        Answer::Queried(_) => b"queried",
+        Answer::Replied => b"replied",
+        Answer::Broken => b"broken",
+        Answer::Injected => b"injected",
+        Answer::Saved => b"saved",
+        Answer::Compacted => b"compacted",
+        Answer::Restarted { .. } => b"restarted",
+        Answer::Closed(_) => b"closed",
+        Answer::Refused(refusal) => refused_words(refusal),
+    }
+}
+
+/// Appends a space and a number.
+#[tactic(auto, unfolding(crate::specs::Show::behind_space))]
+fn put_behind_space(out: &mut Vec<u8>, n: u64) -> Result<(), AllocError>
+    ensures { OnOk result (out.new.items ≡ out.old.items ++ behind_space n) }
+{
+    out.extend_from_slice(b" ")?;
+    put_number(out, n)
+}
+
+/// Appends three clocks, each behind a space.
+fn put_clocks(
     out: &mut Vec<u8>,
     member_clock: u64,
     event_clock: u64,
     query_clock: u64,
 ) -> Result<(), AllocError>
     ensures { OnOk result (out.new.items ≡ out.old.items
-        ++ answer_text (Answer.Restarted member_clock event_clock query_clock)) }
+        ++ answer_details (Answer.Restarted member_clock event_clock query_clock)) }
 {
-    put_with_numbers(out, b"restarted", member_clock, event_clock)?;
-    out.extend_from_slice(b" ")?;
-    put_number(out, query_clock)
+    put_behind_space(out, member_clock)?;
+    put_behind_space(out, event_clock)?;
+    put_behind_space(out, query_clock)
 }
 
-/// Appends the words of an answer. After an `AllocError`, which comes where there is no memory for them, `out` may
-/// have a front of them.
+/// Appends a packet's fault behind a space, where the refusal has one.
+fn put_fault_details(out: &mut Vec<u8>, refusal: Refusal) -> Result<(), AllocError>
+    ensures { OnOk result (out.new.items ≡ out.old.items ++ fault_details refusal) }
+{
+    match refusal {
+        Refusal::Wire(fault) => {
+            out.extend_from_slice(b" ")?;
+            put_wire_fault(out, fault)
+        }
+        _ => Ok(()),
+    }
+}
+
+/// Appends the numbers of an answer, or a packet's fault.
 #[inline(always)]
-pub fn put_answer(out: &mut Vec<u8>, answer: Answer) -> Result<(), AllocError>
-    ensures { OnOk result (out.new.items ≡ out.old.items ++ answer_text answer) }
+fn put_details(out: &mut Vec<u8>, answer: Answer) -> Result<(), AllocError>
+    ensures { OnOk result (out.new.items ≡ out.old.items ++ answer_details answer) }
 {
     match answer {
-        Answer::Fired(time) => put_with_number(out, b"fired", time.get()),
-        Answer::New => out.extend_from_slice(b"new"),
-        Answer::Query => out.extend_from_slice(b"query"),
-        Answer::Ack => out.extend_from_slice(b"ack"),
-        Answer::Response => out.extend_from_slice(b"response"),
-        Answer::Ignored(reason) => {
-            out.extend_from_slice(b"ignored ")?;
-            out.extend_from_slice(reason_name(reason))
-        }
-        Answer::Foreign(kind) => put_with_number(out, b"foreign", u64::from(kind)),
-        Answer::PushPull => out.extend_from_slice(b"push-pull"),
-        Answer::State => out.extend_from_slice(b"state"),
-        Answer::Merged => out.extend_from_slice(b"merged"),
-        Answer::Queried(time) => put_with_number(out, b"queried", time.get()),
-        Answer::Replied => out.extend_from_slice(b"replied"),
-        Answer::Broken => out.extend_from_slice(b"broken"),
-        Answer::Injected => out.extend_from_slice(b"injected"),
-        Answer::Saved => out.extend_from_slice(b"saved"),
-        Answer::Compacted => out.extend_from_slice(b"compacted"),
+        Answer::Fired(time) | Answer::Queried(time) => put_behind_space(out, time.get()),
+        Answer::Foreign(kind) => put_behind_space(out, u64::from(kind)),
         Answer::Restarted {
             member_clock,
             event_clock,
             query_clock,
-        } => put_restarted(out, member_clock, event_clock, query_clock),
-        Answer::Closed(count) => put_with_number(out, b"closed", count),
-        Answer::Refused(refusal) => {
-            out.extend_from_slice(b"refused ")?;
-            put_refusal(out, refusal)
-        }
+        } => put_clocks(out, member_clock, event_clock, query_clock),
+        Answer::Closed(count) => put_behind_space(out, count),
+        Answer::Refused(refusal) => put_fault_details(out, refusal),
+        _ => Ok(()),
     }
+}
+
+/// Appends an answer: its words, and what it says beside them. After an `AllocError`, which comes where there is no
+/// memory for it, `out` may have a front of it.
+#[inline(always)]
+pub fn put_answer(out: &mut Vec<u8>, answer: Answer) -> Result<(), AllocError>
+    ensures { OnOk result (out.new.items ≡ out.old.items ++ answer_text answer) }
+{
+    out.extend_from_slice(answer_words(answer))?;
+    put_details(out, answer)
 }
 
 /// The number of an action with its digits, which all its lines begin with.

@@ -107,8 +107,8 @@ pub fn number(word: &[u8]) -> Option<u64>
     Some(value)
 }
 
-/// The bytes that a word spells in hex, and none for `-`.
-pub(crate) fn bytes(alloc: Global, word: &[u8]) -> Result<Option<Bytes>, AllocError>
+/// The bytes that a word spells in hex, two digits for each, and no bytes for `-`; `None` for any other word.
+pub fn hex_bytes(alloc: Global, word: &[u8]) -> Result<Option<Bytes>, AllocError>
     ensures { IfOk result (λ found. found ≡ bytes_of word.now) }
 {
     if let [b'-'] = word {
@@ -121,8 +121,8 @@ pub(crate) fn bytes(alloc: Global, word: &[u8]) -> Result<Option<Bytes>, AllocEr
     }
 }
 
-/// Which of two words a word is: true for the second.
-fn choice(word: &[u8], first: &[u8], second: &[u8]) -> Option<bool>
+/// Which of two words a word is: true for the second; `None` for any other word. Takes no memory.
+pub fn choice(word: &[u8], first: &[u8], second: &[u8]) -> Option<bool>
     ensures { result ≡ choice_of first.now second.now word.now }
 {
     if is_word(word, first) {
@@ -134,8 +134,8 @@ fn choice(word: &[u8], first: &[u8], second: &[u8]) -> Option<bool>
     }
 }
 
-/// The call of a sink that a word names.
-fn sink_call(word: &[u8]) -> Option<SinkCall>
+/// The call of a sink that a word names; `None` for any other word. Takes no memory.
+pub fn sink_call(word: &[u8]) -> Option<SinkCall>
     ensures { result ≡ sink_call_of word.now }
 {
     if is_word(word, b"append") {
@@ -206,7 +206,7 @@ pub fn number_from_to(words: &[&[u8]], place: usize, low: u64, high: u64) -> Res
 pub fn bytes_at(alloc: Global, words: &[&[u8]], place: usize) -> Result<Bytes, LineFault>
     ensures { Gives (λ b. b) result (bytes_in place (map (λ w. w.now) words.now)) }
 {
-    match bytes(alloc, word_at(words, place))? {
+    match hex_bytes(alloc, word_at(words, place))? {
         Some(found) => Ok(found),
         None => Err(LineFault::Bad(Cause::BadWord(place as u64))),
     }

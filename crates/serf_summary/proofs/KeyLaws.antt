@@ -8,7 +8,8 @@ use Rattle.std.proofs.lemmas.Slice.Eq.{slice_eq-Decides}
 use Rattle.serf_model.specs.declared.line.EventLine.{EventLine}
 use Rattle.serf_model.specs.declared.line.Line.{Line}
 use Rattle.serf_summary.specs.declared.keys.EventKey.{EventKey}
-use Rattle.serf_summary.specs.Notes.{is_event, label_in}
+use Rattle.serf_replay.specs.Show.{answer_words}
+use Rattle.serf_summary.specs.Notes.{is_event}
 use Rattle.serf_summary.specs.Summaries.{event_key_eq}
 
 bytes : (xs ys : List ℕ) → Decides (pointwise nat_eq xs ys) (xs ≡ ys)
@@ -32,5 +33,5 @@ key-finds key q e time name payload =
 pub same-agent : (a b : ℕ) → nat_eq a b ≡ true → (e : EventLine) → nat_eq e.agent a ≡ nat_eq e.agent b
 same-agent a b h e = ap (λ (n : ℕ). nat_eq e.agent n) ((Decides-eqb a b).0 h)
 
-pub same-label : (x y : Bor (List ℕ)) → bytes_eq x.now y.now ≡ true → (l : Line) → bytes_eq (label_in l.answer) x.now ≡ bytes_eq (label_in l.answer) y.now
-same-label x y h l = ap (λ (t : List ℕ). bytes_eq (label_in l.answer) t) ((bytes x.now y.now).0 h)
+pub same-words : (x y : Bor (List ℕ)) → bytes_eq x.now y.now ≡ true → (l : Line) → bytes_eq (answer_words l.answer) x.now ≡ bytes_eq (answer_words l.answer) y.now
+same-words x y h l = ap (λ (t : List ℕ). bytes_eq (answer_words l.answer) t) ((bytes x.now y.now).0 h)

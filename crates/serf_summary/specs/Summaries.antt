@@ -11,7 +11,8 @@ use Rattle.serf_model.specs.declared.line.EventLine.{EventLine}
 use Rattle.serf_model.specs.declared.line.Line.{Line}
 use Rattle.serf_summary.specs.declared.keys.EventKey.{EventKey}
 use Rattle.serf_summary.specs.declared.tally.Spread.{Spread}
-use Rattle.serf_summary.specs.Notes.{hand_outs_from, is_event, label_in, numbered_from}
+use Rattle.serf_replay.specs.Show.{answer_words}
+use Rattle.serf_summary.specs.Notes.{hand_outs_from, is_event, numbered_from}
 use Rattle.serf_summary.specs.declared.summary.Summary.{Summary}
 use Rattle.serf_summary.specs.Tally.{spread_in}
 
@@ -26,7 +27,7 @@ pub record AreHandOuts {S R : Type 0} (agents : IndexMap ℕ Spread S) (events :
 
 -- and the table of answers has each answer
 abbrev pub AreAnswers : {S : Type 0} → IndexMap (Bor (List ℕ)) Spread S → List (Line × ℕ) → Type 0
-AreAnswers answers notes = (q : Bor (List ℕ)) → get (λ x y. bytes_eq x.now y.now) answers q ≡ spread_in (λ l. bytes_eq (label_in l.answer) q.now) notes
+AreAnswers answers notes = (q : Bor (List ℕ)) → get (λ x y. bytes_eq x.now y.now) answers q ≡ spread_in (λ l. bytes_eq (answer_words l.answer) q.now) notes
 
 -- the summary has what these lines of actions show
 pub record IsSummary (summary : Summary) (lines : List Line) : Type 0 where

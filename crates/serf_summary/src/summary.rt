@@ -6,10 +6,11 @@ ghost use Rattle.serf_model.specs.declared.line.Line.{Line as Shown};
 ghost use Rattle.serf_summary.specs.Notes.{events_at};
 ghost use Rattle.serf_summary.specs.Summaries.{AreAnswers, AreHandOuts, IsSummary};
 
-use crate::keys::{EventKey, key_of, label_of};
+use crate::keys::{EventKey, key_of};
 use crate::tally::{Spread, note};
 use indexmap::IndexMap;
 use serf_model::{EventLine, Line};
+use serf_replay::answer_words;
 use std::alloc::{AllocError, Global};
 
 /// What came of a run. What never came is in no table.
@@ -67,7 +68,7 @@ fn note_answer(
     ensures { (notes : List (Shown × ℕ)) → AreAnswers answers.old notes
         → OnOk result (AreAnswers answers.new (notes ++ (line.now, action) ∷ [])) }
 {
-    note(answers, label_of(line.answer), action)
+    note(answers, answer_words(line.answer), action)
 }
 
 impl Summary {

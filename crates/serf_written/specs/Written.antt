@@ -7,6 +7,8 @@ use Rattle.serf_agent.specs.declared.config.Config.{Config}
 use Rattle.serf_model.specs.declared.action.Action.{Action}
 use Rattle.serf_model.specs.declared.action.Action.TheVariants as actions
 use Rattle.serf_model.specs.Cluster.{run_of}
+use Rattle.serf_replay.specs.declared.command.Verb.{Verb as Act}
+use Rattle.serf_replay.specs.declared.command.Verb.TheVariants as acts
 use Rattle.serf_replay.specs.Line.{Parsed}
 use Rattle.serf_replay.specs.Words.{number_of}
 use Rattle.serf_written.specs.declared.fault.Fault.{Fault}
@@ -32,20 +34,24 @@ pub record Written : Type 0 where
 unfoldable pub sent_count : List Config → List Action → ℕ
 sent_count configs actions = length (run_of configs actions).cluster.sent
 
+-- the action of a line, where it is one of a schedule's other than a query
+abbrev pub act_of : Act → List Config → List Label → List Piece → Result (List Action) Fault
+act_of acts.Deliver configs labels pieces = delivery_of configs labels pieces
+act_of acts.Fire configs labels pieces = firing_of configs pieces
+act_of acts.State configs labels pieces = lone_of (λ agent. actions.State agent) configs pieces
+act_of acts.Merge configs labels pieces = merging_of configs labels pieces
+act_of acts.Respond configs labels pieces = answer_of configs pieces
+act_of acts.Restart configs labels pieces = restart_of configs pieces
+act_of acts.Break configs labels pieces = break_of configs pieces
+act_of acts.Inject configs labels pieces = injection_of pieces
+act_of acts.Close configs labels pieces = closing_of configs pieces
+act_of acts.Save configs labels pieces = lone_of (λ agent. actions.Save agent) configs pieces
+act_of acts.Compact configs labels pieces = lone_of (λ agent. actions.Compact agent) configs pieces
+
 -- the actions of a line, where so many packets were sent before it
 abbrev pub acts_of : Verb → List Config → List Label → ℕ → List Piece → Result (List Action) Fault
-acts_of verbs.Deliver configs labels sent pieces = delivery_of configs labels pieces
-acts_of verbs.Fire configs labels sent pieces = firing_of configs pieces
-acts_of verbs.State configs labels sent pieces = lone_of (λ agent. actions.State agent) configs pieces
-acts_of verbs.Merge configs labels sent pieces = merging_of configs labels pieces
+acts_of (verbs.Act act) configs labels sent pieces = act_of act configs labels pieces
 acts_of verbs.Query configs labels sent pieces = query_of configs pieces
-acts_of verbs.Respond configs labels sent pieces = answer_of configs pieces
-acts_of verbs.Restart configs labels sent pieces = restart_of configs pieces
-acts_of verbs.Break configs labels sent pieces = break_of configs pieces
-acts_of verbs.Inject configs labels sent pieces = injection_of pieces
-acts_of verbs.Close configs labels sent pieces = closing_of configs pieces
-acts_of verbs.Save configs labels sent pieces = lone_of (λ agent. actions.Save agent) configs pieces
-acts_of verbs.Compact configs labels sent pieces = lone_of (λ agent. actions.Compact agent) configs pieces
 acts_of verbs.Give configs labels sent pieces = giving_of configs sent pieces
 acts_of verbs.Take configs labels sent pieces = taking_of configs sent pieces
 

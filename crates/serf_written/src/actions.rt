@@ -10,11 +10,11 @@ use crate::fault::{LineFault, Wanted, bad};
 use crate::label::Label;
 use crate::piece::Piece;
 use crate::values::{
-    agent_at, bytes_at, end_behind, is_word, mode_at, moment_at, number_at, optional_bytes_at,
-    packet_at, sink_call_at, word,
+    agent_at, bytes_at, end_behind, mode_at, moment_at, number_at, optional_bytes_at, packet_at,
+    sink_call_at, word,
 };
 use serf_agent::Config;
-use serf_replay::number;
+use serf_replay::{is_word, number};
 use serf_wire::Bytes;
 use serf_world::Action;
 use std::alloc::Global;

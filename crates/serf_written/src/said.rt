@@ -5,7 +5,7 @@ ghost use Rattle.serf_written.specs.Gives.{Gives, or_wrong};
 ghost use Rattle.serf_written.specs.Lines.{actions_of};
 ghost use Rattle.serf_written.specs.Values.{word_at};
 ghost use Rattle.serf_written.specs.Verbs.{verb_of};
-ghost use Rattle.serf_written.specs.Written.{acts_of, acts_said};
+ghost use Rattle.serf_written.specs.Written.{act_of, acts_of, acts_said};
 ghost use Rattle.serf_written.specs.declared.fault.Wanted.TheVariants as wanted;
 
 use crate::actions::{
@@ -19,7 +19,33 @@ use crate::piece::Piece;
 use crate::values::word;
 use crate::verb::{Verb, verb_in};
 use serf_agent::Config;
+use serf_replay::Verb as ReplayVerb;
 use std::alloc::Global;
+
+/// What a line does that is one of a schedule's, other than a query.
+fn act(
+    alloc: Global,
+    verb: ReplayVerb,
+    agents: &[Config],
+    labels: &[Label],
+    pieces: &[Piece],
+) -> Result<Deed, LineFault>
+    ensures { Gives actions_of result (act_of verb agents.now labels.now pieces.now) }
+{
+    match verb {
+        ReplayVerb::Deliver => delivery(agents, labels, pieces),
+        ReplayVerb::Fire => firing(alloc, agents, pieces),
+        ReplayVerb::State => sending_state(agents, pieces),
+        ReplayVerb::Merge => merging(agents, labels, pieces),
+        ReplayVerb::Respond => answer(alloc, agents, pieces),
+        ReplayVerb::Restart => restarting(alloc, agents, pieces),
+        ReplayVerb::Break => breaking(agents, pieces),
+        ReplayVerb::Inject => injection(alloc, pieces),
+        ReplayVerb::Close => closing(agents, pieces),
+        ReplayVerb::Save => saving(agents, pieces),
+        ReplayVerb::Compact => compacting(agents, pieces),
+    }
+}
 
 /// What a line of this verb does, where `sent` packets were sent before it.
 fn deed(
@@ -33,18 +59,8 @@ fn deed(
     ensures { Gives actions_of result (acts_of verb agents.now labels.now sent pieces.now) }
 {
     match verb {
-        Verb::Deliver => delivery(agents, labels, pieces),
-        Verb::Fire => firing(alloc, agents, pieces),
-        Verb::State => sending_state(agents, pieces),
-        Verb::Merge => merging(agents, labels, pieces),
+        Verb::Act(verb) => act(alloc, verb, agents, labels, pieces),
         Verb::Query => query(alloc, agents, pieces),
-        Verb::Respond => answer(alloc, agents, pieces),
-        Verb::Restart => restarting(alloc, agents, pieces),
-        Verb::Break => breaking(agents, pieces),
-        Verb::Inject => injection(alloc, pieces),
-        Verb::Close => closing(agents, pieces),
-        Verb::Save => saving(agents, pieces),
-        Verb::Compact => compacting(agents, pieces),
         Verb::Give => giving(alloc, agents, sent, pieces),
         Verb::Take => taking(alloc, agents, sent, pieces),
     }

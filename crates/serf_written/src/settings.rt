@@ -10,11 +10,11 @@ ghost use Rattle.serf_written.specs.declared.fault.Wanted.TheVariants.{NewName};
 
 use crate::fault::{LineFault, Wanted, bad};
 use crate::piece::Piece;
-use crate::values::{halves, is_word, nth};
+use crate::values::{halves, nth};
 use serf_agent::{
     Config, DEFAULT_EVENT_LIMIT, DEFAULT_PER_TIME, DEFAULT_RESPONDERS, DEFAULT_SLOTS,
 };
-use serf_replay::number;
+use serf_replay::{is_word, number};
 use serf_wire::Bytes;
 use serf_world::{Roster, RosterFault};
 use std::alloc::{AllocError, Global};

@@ -1,19 +1,17 @@
 //! What the pieces of a line stand for.
 
-ghost use Rattle.std.specs.Prelude.{◌≡◌, ◌==◌, ◌+◌, ◌<◌, ℕ, IfOk, IfSome, MatchOption, codes, drop, length, not, position, take};
+ghost use Rattle.std.specs.Prelude.{◌≡◌, ◌==◌, ◌+◌, ◌<◌, ℕ, IfOk, IfSome, MatchOption, drop, length, not, position, take};
 ghost use Rattle.std.specs.Char.{is_ascii_digit};
 ghost use Rattle.std.specs.Str.{bytes_eq};
 ghost use Rattle.std.specs.Option.{option_map};
-ghost use Rattle.serf_replay.specs.Words.{bytes_of, choice_of, sink_call_of};
 ghost use Rattle.serf_written.specs.Gives.{Gives};
 ghost use Rattle.serf_written.specs.Values.{agent_in, agent_named, agent_said, bytes_in, bytes_or_none, bytes_said, ends_behind, label_named, mode_in, moment_in, number_in, packet_behind, packet_cut, packet_in, packet_of, piece_at, sink_call_in, time_in, time_of, times, unit_of, word_at, word_of};
 
 use crate::fault::{LineFault, Wanted, bad};
 use crate::label::Label;
 use crate::piece::Piece;
-use hex::FromHexError;
 use serf_agent::Config;
-use serf_replay::number;
+use serf_replay::{choice, hex_bytes, is_word, number, sink_call};
 use serf_wire::Bytes;
 use serf_world::SinkCall;
 use std::alloc::{AllocError, Global};
@@ -33,12 +31,6 @@ pub(crate) fn word(pieces: &[Piece], place: usize) -> &[u8]
         Some(Piece::Word(word)) => word.as_slice(),
         _ => &[],
     }
-}
-
-pub(crate) fn is_word(word: &[u8], text: &[u8]) -> bool
-    ensures { result ≡ bytes_eq word.now text.now }
-{
-    word == text
 }
 
 fn place_of(word: &[u8], byte: u8) -> Option<usize>
@@ -154,20 +146,6 @@ pub(crate) fn moment_at(pieces: &[Piece], place: usize) -> Result<u64, LineFault
         time_at(pieces, place + 1)
     } else {
         Err(bad(place, Wanted::At))
-    }
-}
-
-/// The bytes that a word spells in hex, and none for `-`.
-pub(crate) fn hex_bytes(alloc: Global, word: &[u8]) -> Result<Option<Bytes>, AllocError>
-    ensures { IfOk result (λ found. found ≡ bytes_of word.now) }
-{
-    if let [b'-'] = word {
-        return Ok(Some(Bytes::from_vec(Vec::new(alloc))));
-    }
-    match hex::decode(alloc, word) {
-        Ok(found) => Ok(Some(Bytes::from_vec(found))),
-        Err(FromHexError::OutOfMemory) => Err(AllocError),
-        Err(_) => Ok(None),
     }
 }
 
@@ -331,44 +309,14 @@ pub(crate) fn packet_at(labels: &[Label], pieces: &[Piece], place: usize) -> Res
     }
 }
 
-/// Whether a word is `join`, and not `sync`.
-fn mode(word: &[u8]) -> Option<bool>
-    ensures { result ≡ choice_of (codes "sync") (codes "join") word.now }
-{
-    if is_word(word, b"sync") {
-        Some(false)
-    } else if is_word(word, b"join") {
-        Some(true)
-    } else {
-        None
-    }
-}
-
 /// How a state at a place is merged: true for `join`.
 #[tactic(auto, unfolding(crate::specs::Values::mode_in))]
 pub(crate) fn mode_at(pieces: &[Piece], place: usize) -> Result<bool, LineFault>
     ensures { Gives (λ b. b) result (mode_in place pieces.now) }
 {
-    match mode(word(pieces, place)) {
+    match choice(word(pieces, place), b"sync", b"join") {
         Some(found) => Ok(found),
         None => Err(bad(place, Wanted::Mode)),
-    }
-}
-
-/// The call of a sink that a word names.
-fn sink_call(word: &[u8]) -> Option<SinkCall>
-    ensures { result ≡ sink_call_of word.now }
-{
-    if is_word(word, b"append") {
-        Some(SinkCall::Append)
-    } else if is_word(word, b"flush") {
-        Some(SinkCall::Flush)
-    } else if is_word(word, b"replace-old") {
-        Some(SinkCall::ReplaceOld)
-    } else if is_word(word, b"replace-new") {
-        Some(SinkCall::ReplaceNew)
-    } else {
-        None
     }
 }
 
