@@ -55,8 +55,8 @@ fn refused_words(refusal: Refusal) -> &'static [u8]
 }
 
 /// The words of an answer: all but its numbers, and a packet's fault. Takes no memory.
-pub fn answer_words(answer: Answer) -> &'static [u8]
-    ensures { result.now ≡ answer_words answer }
+pub fn answer_words(answer: &Answer) -> &'static [u8]
+    ensures { result.now ≡ answer_words answer.now }
 {
     match answer {
         Answer::Fired(_) => b"fired",
@@ -64,7 +64,7 @@ pub fn answer_words(answer: Answer) -> &'static [u8]
         Answer::Query => b"query",
         Answer::Ack => b"ack",
         Answer::Response => b"response",
-        Answer::Ignored(reason) => ignored_words(reason),
+        Answer::Ignored(reason) => ignored_words(*reason),
         Answer::Foreign(_) => b"foreign",
         Answer::PushPull => b"push-pull",
         Answer::State => b"state",
@@ -77,7 +77,7 @@ pub fn answer_words(answer: Answer) -> &'static [u8]
         Answer::Compacted => b"compacted",
         Answer::Restarted { .. } => b"restarted",
         Answer::Closed(_) => b"closed",
-        Answer::Refused(refusal) => refused_words(refusal),
+        Answer::Refused(refusal) => refused_words(*refusal),
     }
 }
 
@@ -143,7 +143,7 @@ fn put_details(out: &mut Vec<u8>, answer: Answer) -> Result<(), AllocError>
 pub fn put_answer(out: &mut Vec<u8>, answer: Answer) -> Result<(), AllocError>
     ensures { OnOk result (out.new.items ≡ out.old.items ++ answer_text answer) }
 {
-    out.extend_from_slice(answer_words(answer))?;
+    out.extend_from_slice(answer_words(&answer))?;
     put_details(out, answer)
 }
 

@@ -68,7 +68,7 @@ fn note_answer(
     ensures { (notes : List (Shown × ℕ)) → AreAnswers answers.old notes
         → OnOk result (AreAnswers answers.new (notes ++ (line.now, action) ∷ [])) }
 {
-    note(answers, answer_words(line.answer), action)
+    note(answers, answer_words(&line.answer), action)
 }
 
 impl Summary {
