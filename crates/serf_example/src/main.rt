@@ -8,7 +8,8 @@
 
 use anyhow::{Context, Result, bail};
 use serf_agent::{
-    Agent, Answer, BytesList, Config, DEFAULT_SNAPSHOT_LIMIT, EventOut, Outcome, QueryParams,
+    Agent, Answer, BytesList, Config, DEFAULT_SNAPSHOT_LIMIT, EventOut, OpenQuery, Outcome,
+    QueryParams,
 };
 use serf_store::FileStore;
 use serf_wire::Bytes;
@@ -26,8 +27,8 @@ fn forget<R: Files>(rt: &R, path: &str) -> Result<()> {
     }
 }
 
-/// The agent of this name, in its first life or in its next one, as its snapshot says.
-fn open<'a, R: Files<File = File> + AllocGlobal>(
+/// The agent of this name over the file at this path.
+fn open_over<'a, R: Files<File = File> + AllocGlobal>(
     rt: &'a R,
     name: &str,
     path: &str,
@@ -35,6 +36,15 @@ fn open<'a, R: Files<File = File> + AllocGlobal>(
     let (store, text) = FileStore::open(rt.alloc(), rt, path)?;
     let config = Config::new(rt.alloc(), name.as_bytes())?;
     Ok(Agent::open(rt.alloc(), config, &text, store).map_err(|refused| refused.fault)?)
+}
+
+/// The agent of this name, in its first life or in its next one, as its snapshot says. An error begins with the name.
+fn open<'a, R: Files<File = File> + AllocGlobal>(
+    rt: &'a R,
+    name: &'static str,
+    path: &str,
+) -> Result<OnFile<'a, R>> {
+    open_over(rt, name, path).context(name)
 }
 
 /// What a deployment tool does once for each event.
@@ -62,6 +72,16 @@ fn tell_answer<R: Print>(rt: &R, agent: &str, packet: &Bytes) -> Result<()> {
     Ok(())
 }
 
+/// Tells what an agent made of a packet, and runs its handler for an event.
+fn tell<R: Print>(rt: &R, name: &str, packet: &Bytes, outcome: &Outcome) -> Result<()> {
+    match outcome {
+        Outcome::Event(event) => handle(rt, name, event),
+        Outcome::Ack | Outcome::Response => tell_answer(rt, name, packet),
+        Outcome::Ignored(reason) => Ok(println!(rt; "{name} ignores a packet: {reason:?}")?),
+        _ => Ok(println!(rt; "{name} has another packet")?),
+    }
+}
+
 /// Gives an agent a packet that came over the network at moment 0.
 fn deliver<R: Files<File = File> + Print + AllocGlobal>(
     rt: &R,
@@ -69,12 +89,8 @@ fn deliver<R: Files<File = File> + Print + AllocGlobal>(
     name: &str,
     packet: &Bytes,
 ) -> Result<()> {
-    match agent.receive(rt.alloc(), 0, packet.as_slice())? {
-        Outcome::Event(event) => handle(rt, name, &event),
-        Outcome::Ack | Outcome::Response => tell_answer(rt, name, packet),
-        Outcome::Ignored(reason) => Ok(println!(rt; "{name} ignores a packet: {reason:?}")?),
-        _ => Ok(println!(rt; "{name} has another packet")?),
-    }
+    let outcome = agent.receive(rt.alloc(), 0, packet.as_slice())?;
+    tell(rt, name, packet, &outcome)
 }
 
 /// The snapshots of both agents are gone.
@@ -83,11 +99,21 @@ fn begin<R: Files>(rt: &R) -> Result<()> {
     forget(rt, "beta.snapshot")
 }
 
+/// Gives an agent the same packet twice.
+fn deliver_twice<R: Files<File = File> + Print + AllocGlobal>(
+    rt: &R,
+    agent: &mut OnFile<'_, R>,
+    name: &str,
+    packet: &Bytes,
+) -> Result<()> {
+    deliver(rt, agent, name, packet)?;
+    deliver(rt, agent, name, packet)
+}
+
 /// The agent `beta` takes a packet twice, and stops as it would in a crash: with no call behind it.
 fn first_life<R: Files<File = File> + Print + AllocGlobal>(rt: &R, packet: &Bytes) -> Result<()> {
-    let mut beta = open(rt, "beta", "beta.snapshot").context("beta")?;
-    deliver(rt, &mut beta, "beta", packet)?;
-    deliver(rt, &mut beta, "beta", packet)
+    let mut beta = open(rt, "beta", "beta.snapshot")?;
+    deliver_twice(rt, &mut beta, "beta", packet)
 }
 
 /// A query of every node, which takes answers for 1,000 nanoseconds.
@@ -124,33 +150,55 @@ fn answer<R: Files<File = File> + AllocGlobal>(
     }
 }
 
+/// Tells of a query whose time is over, and how many answers it had.
+fn tell_closed<R: Print>(rt: &R, time: u64, query: &OpenQuery) -> Result<()> {
+    println!(rt;
+        "alpha closes its query of time {time}: {} acks, {} responses",
+        query.acks.as_slice().len(),
+        query.responses.as_slice().len()
+    )?;
+    Ok(())
+}
+
 /// The agent `alpha` has each query back whose time is over, with all its answers.
 fn close<R: Files<File = File> + Print + AllocGlobal>(
     rt: &R,
     alpha: &mut OnFile<'_, R>,
 ) -> Result<()> {
     for (time, query) in alpha.take_due(rt.alloc(), 1_001)? {
-        println!(rt;
-            "alpha closes its query of time {time}: {} acks, {} responses",
-            query.acks.as_slice().len(),
-            query.responses.as_slice().len()
-        )?;
+        tell_closed(rt, time, &query)?;
     }
     Ok(())
 }
 
+/// The agent `alpha` asks every node for its load: the packet of the query.
+fn ask<R: Files<File = File> + AllocGlobal>(rt: &R, alpha: &mut OnFile<'_, R>) -> Result<Bytes> {
+    let params = of_every_node(rt)?;
+    let asked = alpha.query(rt.alloc(), 0, 7, b"load", b"", &params)?;
+    Ok(asked.packet)
+}
+
+/// The agent `alpha` hears the ack and the response to its query, whose time then ends.
+fn hear<R: Files<File = File> + Print + AllocGlobal>(
+    rt: &R,
+    alpha: &mut OnFile<'_, R>,
+    ack: &Bytes,
+    response: &Bytes,
+) -> Result<()> {
+    deliver(rt, alpha, "alpha", ack)?;
+    deliver(rt, alpha, "alpha", response)?;
+    close(rt, alpha)
+}
+
 /// The agent `alpha` asks and `beta` answers.
-fn ask<R: Files<File = File> + Print + AllocGlobal>(
+fn talk<R: Files<File = File> + Print + AllocGlobal>(
     rt: &R,
     alpha: &mut OnFile<'_, R>,
     beta: &mut OnFile<'_, R>,
 ) -> Result<()> {
-    let params = of_every_node(rt)?;
-    let asked = alpha.query(rt.alloc(), 0, 7, b"load", b"", &params)?;
-    let (ack, response) = answer(rt, beta, &asked.packet)?;
-    deliver(rt, alpha, "alpha", &ack)?;
-    deliver(rt, alpha, "alpha", &response)?;
-    close(rt, alpha)
+    let question = ask(rt, alpha)?;
+    let (ack, response) = answer(rt, beta, &question)?;
+    hear(rt, alpha, &ack, &response)
 }
 
 /// Replaces an agent's snapshot by its last lines, where that is worth its while.
@@ -161,25 +209,57 @@ fn tidy<R: Files<File = File> + AllocGlobal>(rt: &R, agent: &mut OnFile<'_, R>) 
     Ok(())
 }
 
-/// The agent `beta` comes back, takes the packet again, and answers what `alpha` asks.
+/// The agent `beta`, back again, takes the packet once more, and answers what `alpha` asks.
+fn meet<R: Files<File = File> + Print + AllocGlobal>(
+    rt: &R,
+    alpha: &mut OnFile<'_, R>,
+    beta: &mut OnFile<'_, R>,
+    packet: &Bytes,
+) -> Result<()> {
+    deliver(rt, beta, "beta", packet)?;
+    talk(rt, alpha, beta)
+}
+
+/// The agent `beta` as it comes back from its crash.
+fn come_back<'a, R: Files<File = File> + Print + AllocGlobal>(rt: &'a R) -> Result<OnFile<'a, R>> {
+    println!(rt; "beta crashes and comes back")?;
+    open(rt, "beta", "beta.snapshot")
+}
+
+/// The agent `beta` comes back, and meets `alpha`.
 fn second_life<R: Files<File = File> + Print + AllocGlobal>(
     rt: &R,
     alpha: &mut OnFile<'_, R>,
     packet: &Bytes,
 ) -> Result<()> {
-    println!(rt; "beta crashes and comes back")?;
-    let mut beta = open(rt, "beta", "beta.snapshot").context("beta")?;
-    deliver(rt, &mut beta, "beta", packet)?;
-    ask(rt, alpha, &mut beta)
+    let mut beta = come_back(rt)?;
+    meet(rt, alpha, &mut beta, packet)
+}
+
+/// The agent `alpha` fires an event, and runs its own handler for it: the packet of the event.
+fn fire<R: Files<File = File> + Print + AllocGlobal>(
+    rt: &R,
+    alpha: &mut OnFile<'_, R>,
+) -> Result<Bytes> {
+    let fired = alpha.fire(rt.alloc(), b"deploy", b"v2", false)?;
+    handle(rt, "alpha", &fired.handed)?;
+    Ok(fired.packet)
+}
+
+/// The life of the agent `alpha`, in which `beta` has two.
+fn live<R: Files<File = File> + Print + AllocGlobal>(
+    rt: &R,
+    alpha: &mut OnFile<'_, R>,
+) -> Result<()> {
+    let packet = fire(rt, alpha)?;
+    first_life(rt, &packet)?;
+    second_life(rt, alpha, &packet)?;
+    deliver(rt, alpha, "alpha", &packet)?;
+    tidy(rt, alpha)
 }
 
 fn main(rt: HostRuntime) -> Result<()> {
     begin(&rt)?;
-    let mut alpha = open(&rt, "alpha", "alpha.snapshot").context("alpha")?;
-    let fired = alpha.fire(rt.alloc(), b"deploy", b"v2", false)?;
-    handle(&rt, "alpha", &fired.handed)?;
-    first_life(&rt, &fired.packet)?;
-    second_life(&rt, &mut alpha, &fired.packet)?;
-    deliver(&rt, &mut alpha, "alpha", &fired.packet)?;
-    tidy(&rt, &mut alpha)
+    let mut alpha = open(&rt, "alpha", "alpha.snapshot")?;
+    live(&rt, &mut alpha)
 }
