@@ -183,9 +183,16 @@ fn make_merging(alloc: Global, call: Call) -> io::Result<Subject> {
     Ok(subject)
 }
 
+/// Times a call of an agent that has seen so many events of each time.
 fn bench_call(rt: &HostRuntime, name: &str, call: Call, count: u64, calls: u64) -> io::Result<()> {
     let mut work = make_subject(rt.alloc(), call, count)?;
     print_per_call(rt, name, calls, &mut work)
+}
+
+/// Times the merging of an agent's own state.
+fn bench_merging(rt: &HostRuntime, name: &str, call: Call) -> io::Result<()> {
+    let mut work = make_merging(rt.alloc(), call)?;
+    print_per_call(rt, name, 1, &mut work)
 }
 
 /// Prints the times of all of them.
@@ -200,8 +207,6 @@ pub fn bench(rt: &HostRuntime) -> io::Result<()> {
     bench_call(rt, name, Call::Fresh, 32, SLOTS)?;
     bench_call(rt, "fire an event", Call::Fire, 1, SLOTS)?;
     bench_call(rt, "send a state of 512 slots", Call::Send, 1, 1)?;
-    let name = "merge a state of 512 slots, all seen";
-    print_per_call(rt, name, 1, &mut make_merging(rt.alloc(), Call::MergeSeen)?)?;
-    let name = "merge a state of 512 slots, all new";
-    print_per_call(rt, name, 1, &mut make_merging(rt.alloc(), Call::MergeNew)?)
+    bench_merging(rt, "merge a state of 512 slots, all seen", Call::MergeSeen)?;
+    bench_merging(rt, "merge a state of 512 slots, all new", Call::MergeNew)
 }

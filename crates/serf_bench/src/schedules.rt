@@ -70,25 +70,34 @@ fn count_actions(alloc: Global, text: &[u8]) -> u64 {
     }
 }
 
-/// Prints the rate of parsing it, and the time of an action, if it has any, when it is replayed. The name says what
-/// it has.
-pub fn bench(rt: &HostRuntime, name: &str) -> io::Result<()> {
+/// Prints the rate of parsing a text. The name says what schedule it is.
+fn bench_parsing(rt: &HostRuntime, name: &str, text: &[u8]) -> io::Result<()> {
     let alloc = rt.alloc();
-    let mut text = Vec::new(alloc);
-    rt.reader().read_to_end(&mut text)?;
-    let bytes = text.len() as u64;
-    let actions = count_actions(alloc, text.as_slice());
-    let text = text.as_slice();
+    let title = format!(in alloc; "parse {name}")?;
+    let schedule = None;
     let mut work = Parsing {
         alloc,
         text,
-        schedule: None,
+        schedule,
     };
-    let title = format!(in alloc; "parse {name}")?;
-    print_rate(rt, title.as_str(), bytes, &mut work)?;
+    print_rate(rt, title.as_str(), text.len() as u64, &mut work)
+}
+
+/// Prints the time of an action of a schedule, if it has any, when it is replayed.
+fn bench_replaying(rt: &HostRuntime, name: &str, text: &[u8]) -> io::Result<()> {
+    let alloc = rt.alloc();
+    let actions = count_actions(alloc, text);
     if actions == 0 {
         return Ok(());
     }
     let title = format!(in alloc; "replay {name}, an action")?;
     print_per_part(rt, title.as_str(), actions, &mut Replaying { alloc, text })
+}
+
+/// Prints what parsing and replaying it take. The name says what it has.
+pub fn bench(rt: &HostRuntime, name: &str) -> io::Result<()> {
+    let mut text = Vec::new(rt.alloc());
+    rt.reader().read_to_end(&mut text)?;
+    bench_parsing(rt, name, text.as_slice())?;
+    bench_replaying(rt, name, text.as_slice())
 }
