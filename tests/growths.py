@@ -106,6 +106,7 @@ CALLS = {
     "serf_replay Replaying::new": None,
     "serf_replay Replaying::take_line": "take_line",
     "serf_replay bytes_at": "parse_schedule",
+    "serf_replay hex_bytes": "parse_schedule",
     "serf_replay clocks_text": "clocks_text",
     "serf_replay decode_text": "decode_text",
     "serf_replay parse_schedule": "parse_schedule",
