@@ -29,7 +29,7 @@ import programs
 from serf_agent import switches
 from serf_agent.pipe import Pipe
 
-PROGRAM = os.path.join(TOP, "crates", "serf_replay_program", "out", "serf_replay_program")
+PROGRAM = programs.path_of("serf_replay_program")
 FOLDERS = (os.path.join(TOP, "examples"), os.path.join(TOP, "tests", "rows"))
 
 KINDS = ("mixed", "tiny", "merges", "restarts", "devices", "injections", "queries", "limits", "exhaustion", "per-time", "compactions", "gossip")

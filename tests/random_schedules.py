@@ -23,7 +23,7 @@ sys.path.insert(0, os.path.join(TOP, "tools"))
 sys.dont_write_bytecode = True
 import programs
 
-PROGRAM = os.path.join(TOP, "crates", "serf_replay_program", "out", "serf_replay_program")
+PROGRAM = programs.path_of("serf_replay_program")
 
 KINDS = ("mixed", "tiny", "merges", "restarts", "devices", "injections", "queries", "limits", "exhaustion", "per-time", "compactions", "gossip")
 SEEDS = range(1, 11)

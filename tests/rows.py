@@ -23,7 +23,7 @@ sys.dont_write_bytecode = True
 import programs
 
 PROGRAM = os.path.join(TOP, "serf-replay")
-REPEATS = os.path.join(TOP, "crates", "serf_repeats_program", "out", "serf_repeats_program")
+REPEATS = programs.path_of("serf_repeats_program")
 ROWS = os.path.join(TOP, "tests", "rows")
 EXAMPLES = os.path.join(TOP, "examples")
 

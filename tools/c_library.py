@@ -3,9 +3,12 @@
 import fcntl
 import hashlib
 import os
+import shutil
 import subprocess
 import tempfile
 
+import libraries
+import machine
 import toolchain
 
 TOP = os.path.dirname(os.path.dirname(os.path.abspath(__file__)))
@@ -28,40 +31,84 @@ def ran(words, **more):
 
 
 def fault_of_library(over_ci=False):
-    """Proves and builds the library; what went wrong, or None. `over_ci` takes the libraries below it that `rt ci` has
-    just proved, which `rt lib` proves again; that is the way where they aren't there."""
+    """Proves and builds the library; what went wrong, or None. `over_ci` takes what `rt ci` has just proved, of the library
+    itself and of those below it, as the gate does. What was built once of the same sources is kept on this machine."""
     os.makedirs(os.path.dirname(LIBRARY), exist_ok=True)
     with open(f"{LIBRARY}.lock", "w", encoding="utf-8") as lock:
         # two tests may ask at once: the first one builds
         fcntl.flock(lock, fcntl.LOCK_EX)
-        if over_ci and is_noted():
+        if is_noted() or taken():
             return None
-        status, said = built_over_ci() if over_ci else (1, "")
-        if status:
-            status, said = ran(["rt", "lib"], cwd=CRATE)
+        status, said = built(over_ci)
         if status or not os.path.exists(LIBRARY):
             return said[-2000:] or "no library was made"
         note()
+        keep()
     return None
 
 
-def built_over_ci():
-    """Proves and builds the library over those that `rt ci` left: the status, and what was said."""
+def crate_of(rt):
+    return next(it for it in rt.rtlib.crates_below(TOP) if it.folder == CRATE)
+
+
+def built(over_ci):
+    """Builds the library, and proves it where `rt ci` has not left what it proved: the status, and what was said."""
+    if not over_ci:
+        return ran(["rt", "lib"], cwd=CRATE)
     rt = toolchain.load()
     if rt is None:
         return 3, "rt, the command of the Rattle toolchain, is not on PATH"
-    crate = next(it for it in rt.rtlib.crates_below(TOP) if it.folder == CRATE)
+    crate = crate_of(rt)
+    fault = libraries.fault_of([crate])
+    if fault:
+        return 1, fault
     with tempfile.TemporaryFile("w+", errors="replace") as crate.out:
-        status = crate.build_static([])
+        words = crate.words(["--jobs", "1"], keeps=False)
+        status = 0 if is_checked(crate) else crate.call(rt.rtlib.RATTLE, "check", *words, "-o", toolchain.CHECKED)
+        for flag in ("--logic-built", "--jobs"):
+            at = words.index(flag)
+            words = [*words[:at], *words[at + 2 :]]
+        checked = ["--crate-checked", toolchain.CHECKED, "--toolchain", f"{rt.rtlib.KIT}/toolchain", "--backend", "llvm"]
+        status = status or crate.call(rt.rtlib.RATTLE, "build", *words, *checked, "-o", f"out/{os.path.basename(LIBRARY)}")
         crate.out.seek(0)
         return status, crate.out.read()
 
 
+def note_checked(crate):
+    """Notes, behind `rt ci`, of which sources it is what `rt ci` proved."""
+    if os.path.isdir(os.path.join(crate.folder, toolchain.CHECKED)):
+        with open(os.path.join(crate.folder, f"{toolchain.CHECKED}.of_ci"), "w", encoding="utf-8") as file:
+            file.write(crate.stamp())
+
+
+def drop_checked(crate):
+    """Takes away what an earlier `rt ci` left."""
+    shutil.rmtree(os.path.join(crate.folder, toolchain.CHECKED), ignore_errors=True)
+
+
+def is_checked(crate):
+    """Whether what `rt ci` proved stands, of the sources as they are."""
+    try:
+        with open(os.path.join(crate.folder, f"{toolchain.CHECKED}.of_ci"), encoding="utf-8") as file:
+            return file.read() == crate.stamp() and os.path.isdir(os.path.join(crate.folder, toolchain.CHECKED))
+    except OSError:
+        return False
+
+
+def of_sources():
+    """A sum of the toolchain and of all sources that the library is made from."""
+    said = [ran(words)[1] for words in (["rt", "version"], [os.path.join(TOP, "tools", "sources"), os.path.basename(CRATE)])]
+    return hashlib.sha256("".join(said).encode()).hexdigest()
+
+
+def hash_of(path):
+    with open(path, "rb") as file:
+        return hashlib.sha256(file.read()).hexdigest()
+
+
 def state():
-    """A hash of the sources and one of the library that was built from them."""
-    _, sources = ran([os.path.join(TOP, "tools", "sources"), os.path.basename(CRATE)])
-    with open(LIBRARY, "rb") as file:
-        return f"{sources.strip()} {hashlib.sha256(file.read()).hexdigest()}\n"
+    """A sum of what the library is made from, and one of the library itself."""
+    return f"{of_sources()} {hash_of(LIBRARY)}\n"
 
 
 def note():
@@ -76,6 +123,28 @@ def is_noted():
             return file.read() == state()
     except OSError:
         return False
+
+
+def kept_at():
+    return os.path.join(machine.FOLDER, f"libserf_agent_c-{of_sources()}")
+
+
+def keep():
+    """Keeps the library on this machine, with its own sum, as `rt ci` keeps its proofs. Where that can't be written, it isn't."""
+    try:
+        machine.write(kept_at(), [LIBRARY, f"{LIBRARY}.sources"])
+    except OSError:
+        pass
+
+
+def taken():
+    """Takes the library of the same sources that an earlier run on this machine built, if its bytes are still those."""
+    try:
+        for name in (LIBRARY, f"{LIBRARY}.sources"):
+            shutil.copyfile(os.path.join(kept_at(), os.path.basename(name)), name)
+    except OSError:
+        return False
+    return is_noted()
 
 
 def fault_of_host(to, source, library=LIBRARY, more=()):

@@ -1,9 +1,15 @@
-"""The mark that a green gate leaves: which state of the repository passed the whole of ./test here."""
+"""The mark that a green gate leaves: which state of the repository passed the whole of ./test here, and which program and
+library that was with."""
 
+import hashlib
 import os
 import subprocess
 
 TOP = os.path.dirname(os.path.dirname(os.path.abspath(__file__)))
+
+# What the gate builds and tests, and a release takes.
+PROGRAM = os.path.join("crates", "serf_replay_program", "out", "serf_replay_program")
+LIBRARY = os.path.join("crates", "serf_agent_c", "out", "libserf_agent_c.a")
 
 
 def mark(top):
@@ -22,17 +28,31 @@ def state(top):
         return None
 
 
+def hash_of(path):
+    """The hash of a file, or a word that is none where it isn't there."""
+    try:
+        with open(path, "rb") as file:
+            return hashlib.sha256(file.read()).hexdigest()
+    except OSError:
+        return "missing"
+
+
+def text_of(top, of_state):
+    """The mark's text: the state, and the two files that were tested."""
+    return f"{of_state} {hash_of(os.path.join(top, PROGRAM))} {hash_of(os.path.join(top, LIBRARY))}\n"
+
+
 def keep(top, before):
     """Notes that this state passed, where it is still the one that it was before the gate began."""
     if before is not None and state(top) == before:
         with open(mark(top), "w", encoding="utf-8") as file:
-            file.write(before + "\n")
+            file.write(text_of(top, before))
 
 
 def holds(top):
-    """Whether the gate was green on the state that stands."""
+    """Whether the gate was green on the state that stands, with the program and the library that stand."""
     try:
         with open(mark(top), encoding="utf-8") as file:
-            return file.read().strip() == (state(top) or "-")
+            return file.read() == text_of(top, state(top) or "-")
     except OSError:
         return False

@@ -1,12 +1,29 @@
-"""The proved programs, for the tests that run them."""
+"""The programs, for the tests that run them: the proved ones, or in `./test --quick` those that are compiled unproved."""
 
 import os
 import subprocess
 
+import unproved
+
 TOP = os.path.dirname(os.path.dirname(os.path.abspath(__file__)))
+
+# Set by `./test --quick`.
+IS_UNPROVED = bool(os.environ.get("SERF_UNPROVED"))
+
+
+def path_of(name):
+    """Where a program stands once it is built."""
+    return os.path.join(TOP, "crates", name, "out", *(["unproved"] if IS_UNPROVED else []), name)
 
 
 def fault_of_build(*names):
-    """Proves and builds these programs, where they are not current; what went wrong, or None."""
+    """Builds these programs, where they are not current; what went wrong, or None."""
+    if IS_UNPROVED:
+        try:
+            for name in names:
+                unproved.built(name)
+        except (unproved.Stopped, OSError) as why:
+            return str(why)
+        return None
     built = subprocess.run([os.path.join(TOP, "prove"), *names], stdin=subprocess.DEVNULL, stdout=subprocess.PIPE, stderr=subprocess.STDOUT, text=True, errors="replace")
     return built.stdout[-2000:] if built.returncode else None

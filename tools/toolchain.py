@@ -12,6 +12,9 @@ import shutil
 import sys
 import threading
 
+# Where `rt ci` leaves what it proved of a static library, in the crate's folder.
+CHECKED = "out/checked"
+
 
 def load():
     """The module that is the command `rt`, or None where it isn't on PATH."""
@@ -48,9 +51,24 @@ def sum_once(kind):
     kind.stamp = stamp
 
 
+def keep_checked(kind):
+    """Has `rt ci` keep what it proved of a static library, as it does of a program, so that it isn't proved once more
+    when it is compiled (tools/c_library.py). The check and its verdict are the same."""
+    own = kind.ci
+
+    def ci(crate, flags, tests):
+        if tests or not crate.is_static:
+            return own(crate, flags, tests)
+        return crate.prove(["check", *crate.words(flags, keeps=False), "-o", CHECKED])
+
+    kind.ci = ci
+
+
 if __name__ == "__main__":
     rt = load()
     if rt is None:
         print("rt, the command of the Rattle toolchain, is not on PATH", file=sys.stderr)
         sys.exit(3)
+    if sys.argv[1:2] == ["ci"]:
+        keep_checked(rt.Crate)
     sys.exit(rt.main(sys.argv[1:]))

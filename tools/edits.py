@@ -1,0 +1,256 @@
+"""Wrong bodies, as edits: the files of crates/NAME/mutants/, and the functions that each turns.
+
+A file has a line 'file: src/lib.rt' (or a file of specs/) and then pairs of lines 'old: TEXT' and 'new: TEXT', each
+TEXT one line that stands once in that file; later pairs apply to what earlier ones made. A line 'turns: PATH' names a
+function whose contract has to refuse the edit; without one it is each function in which a text stands. An edit of a
+definition, in specs/, names so the law that a wrong definition breaks. A line 'twin: TEXT' behind a 'new:' line is a
+neutral twin: the same change of shape, with no change of meaning.
+"""
+
+import os
+import re
+
+TOP = os.path.dirname(os.path.dirname(os.path.abspath(__file__)))
+
+# A line that begins or names a function.
+FUNCTION = re.compile(r'^(\s*)((?:pub(?:\([^)]*\))? )?(?:const )?(?:unsafe )?(?:extern "C" )?)fn (\w+)')
+
+# A clause of a contract.
+CLAUSE = re.compile(r"^ *(requires|ensures|ghost)\b")
+
+# The head of an impl: what it is of, and the trait.
+IMPL = re.compile(r"^impl(?P<generic><[^{]*?>)? (?:(?P<trait>[\w:]+)(?:<(?P<with>\w+)[^{]*>)? for )?(?:&(?:'\w+ )?)?(?P<type>\w+)(?:<(?P<of>\w+)>)?", re.M)
+
+# The words and signs of a text that make its shape; all other words and signs are one thing.
+TOKEN = re.compile(r"\"(?:[^\"\\]|\\.)*\"|'(?:[^'\\]|\\.)'|[A-Za-z_]\w*|\d[\w_]*|[^\s\w]")
+SHAPING = {"if", "else", "match", "let", "for", "while", "loop", "return", "break", "continue", "in", "fn", "as", "ref", "move"}
+SHAPING_SIGNS = set("{}();?|")
+OPERATORS = set("&*-!<>=+.,:")
+
+
+class BadEdit(Exception):
+    """Why an edit can't be tried."""
+
+
+def text_of(crate, file):
+    with open(os.path.join(TOP, "crates", crate, file), encoding="utf-8") as text:
+        return text.read()
+
+
+class Edit:
+    """An edit: where it stands, its pairs of texts by file, its twin, and the functions that it turns."""
+
+    def __init__(self, crate, path):
+        self.crate = crate
+        self.name = os.path.basename(path)[: -len(".edit")]
+        self.pairs = []
+        self.twins = []
+        self.functions = []
+        self.read(path)
+
+    def read(self, path):
+        file = old = None
+        with open(path, encoding="utf-8") as lines:
+            for line in lines.read().split("\n"):
+                if line.startswith("turns: "):
+                    self.functions.append(line[len("turns: ") :].strip())
+                elif line.startswith("file: "):
+                    file = line[len("file: ") :].strip()
+                elif line.startswith("old: "):
+                    old = line[len("old: ") :]
+                elif line.startswith("new:"):
+                    if file is None or old is None:
+                        raise BadEdit(f"{self.name}: a 'new:' line stands before any 'file:' or 'old:' line")
+                    self.pairs.append((file, old, line[len("new:") :].removeprefix(" ")))
+                    self.twins.append(None)
+                    old = None
+                elif line.startswith("twin:"):
+                    if not self.pairs:
+                        raise BadEdit(f"{self.name}: a 'twin:' line stands before any 'new:' line")
+                    self.twins[-1] = line[len("twin:") :].removeprefix(" ")
+        if not self.pairs:
+            raise BadEdit(f"{self.name}: it has no 'old:' and 'new:' pair")
+        if self.is_definition and not self.functions:
+            raise BadEdit(f"{self.name}: it edits a definition, and no line 'turns:' names the law that has to refuse it")
+        if not self.functions:
+            self.functions = list(dict.fromkeys(function_at(self.crate, file, old) for file, old, _ in self.pairs))
+
+    @property
+    def is_definition(self):
+        return not all(file.startswith("src/") for file, _, _ in self.pairs)
+
+    @property
+    def keeps_shape(self):
+        """Whether each text has the shape of the one that it replaces: no branch, `let`, call or exit more or less."""
+        return all(shape_of(old) == shape_of(new) for _, old, new in self.pairs)
+
+    def twin(self):
+        """The neutral twin, as an edit, or None."""
+        if not any(self.twins):
+            return None
+        other = object.__new__(Edit)
+        other.crate, other.name, other.functions, other.twins = self.crate, f"{self.name} (twin)", self.functions, []
+        other.pairs = [(file, old, new if twin is None else twin) for (file, old, new), twin in zip(self.pairs, self.twins)]
+        return other
+
+    def spans(self):
+        """What it replaces, as it would alone: by file, where a piece begins and ends, and what stands there then."""
+        spans = {}
+        for file in dict.fromkeys(file for file, _, _ in self.pairs):
+            before = after = text_of(self.crate, file)
+            pairs = [(old, new) for name, old, new in self.pairs if name == file]
+            for old, new in pairs:
+                if after.count(old) != 1:
+                    raise BadEdit(f"{self.name}: its text stands {after.count(old)} times in {file}: {old}")
+                after = after.replace(old, new)
+            if all(before.count(old) == 1 for old, _ in pairs):
+                spans[file] = [(before.index(old), before.index(old) + len(old), new) for old, new in pairs]
+            else:
+                # a later pair turns what an earlier one made
+                begin = len(os.path.commonprefix([before, after]))
+                end = len(os.path.commonprefix([before[begin:][::-1], after[begin:][::-1]]))
+                spans[file] = [(begin, len(before) - end, after[begin : len(after) - end])]
+        return spans
+
+
+def shape_of(text):
+    """The branches, bindings, calls and exits of a text, in order; all between two of these counts as one thing."""
+    shape = []
+    for token in TOKEN.findall(text):
+        if token in SHAPING or token in SHAPING_SIGNS:
+            shape.append(token)
+        elif token not in OPERATORS and shape[-1:] != ["_"]:
+            shape.append("_")
+    return shape
+
+
+def edits_of(crate):
+    """The edits of a crate, by name."""
+    folder = os.path.join(TOP, "crates", crate, "mutants")
+    names = sorted(os.listdir(folder)) if os.path.isdir(folder) else []
+    return [Edit(crate, os.path.join(folder, name)) for name in names if name.endswith(".edit")]
+
+
+def overlap(one, other):
+    """Whether two edits replace one and the same text."""
+    others = other.spans()
+    return any(begin < end_2 and begin_2 < end for file, spans in one.spans().items() for begin, end, _ in spans for begin_2, end_2, _ in others.get(file, []))
+
+
+def applied(batch):
+    """The texts of the files, with all edits of a batch in them."""
+    spans = {}
+    for edit in batch:
+        for file, own in edit.spans().items():
+            spans.setdefault(file, []).extend(own)
+    texts = {}
+    for file, of_file in spans.items():
+        text = text_of(batch[0].crate, file)
+        for begin, end, new in sorted(of_file, reverse=True):
+            text = text[:begin] + new + text[end:]
+        texts[file] = text
+    return texts
+
+
+def batches_of(edits):
+    """The edits in as few lists as can be in which no two turn one function; one of a definition stands alone."""
+    batches = [[edit] for edit in edits if edit.is_definition]
+    alone = len(batches)
+    for edit in edits:
+        if edit.is_definition:
+            continue
+        for batch in batches[alone:]:
+            if not any(set(edit.functions) & set(other.functions) or overlap(edit, other) for other in batch):
+                batch.append(edit)
+                break
+        else:
+            batches.append([edit])
+    return batches
+
+
+def source_files(crate):
+    """The paths of a crate's source files but its tests, below the crate's folder."""
+    source = os.path.join(TOP, "crates", crate, "src")
+    for folder, _, files in sorted(os.walk(source)):
+        for file in sorted(files):
+            path = os.path.relpath(os.path.join(folder, file), os.path.dirname(source))
+            if not re.search(r"/tests(/|\.rt$)", path):
+                yield path
+
+
+def function_at(crate, file, old):
+    """The path of the function in which a text stands, as the toolchain names it below the crate."""
+    text = text_of(crate, file)
+    if text.count(old) != 1:
+        raise BadEdit(f"{crate}: a text stands {text.count(old)} times in {file}: {old}")
+    at = text.index(old)
+    own = re.search(r"\bfn \w+", old)
+    found = [name for begin, name, _ in functions_in(crate, file) if begin <= (at + own.start() if own else at)]
+    if not found:
+        raise BadEdit(f"{crate}: no function stands before this text of {file}: {old}")
+    return found[-1]
+
+
+def functions_in(crate, file):
+    """Where each function of a file begins, its path, and whether it is in a cycle of calls."""
+    text, head, found = text_of(crate, file), None, []
+    in_cycle = False
+    for line in re.finditer(r".*\n", text):
+        words = line[0]
+        if re.match(r"(pub(\(.*?\))? )?(impl|trait)\b", words):
+            head = IMPL.match(words) or words
+        elif words.startswith("}"):
+            head = None
+        in_cycle = in_cycle or "#[cycle(" in words
+        function = FUNCTION.match(words)
+        if function and (head is None or not isinstance(head, str)):
+            found.append((line.start() + function.start(3) - 3, path_of(crate, file, head, function[3]), in_cycle))
+        if function:
+            in_cycle = False
+    return found
+
+
+def path_of(crate, file, head, name):
+    module = module_of(file)
+    if head is None:
+        return "::".join([*module, name])
+    # a trait's argument that is the impl's own type is not in its name
+    at_trait = head["with"] if head["with"] and head["with"] != head["type"] else ""
+    trait = head["trait"].split("::")[-1] + at_trait if head["trait"] else ""
+    # an impl of a generic type at one type has that type in its name
+    at_type = f"+{head['of']}" if head["of"] and not head["generic"] else ""
+    if not trait and not at_type:
+        module = home_of(crate, head["type"]) or module
+    own = head["type"][0].upper() + head["type"][1:]
+    return "::".join([*module, own + at_type + trait, name])
+
+
+def module_of(file):
+    return [part for part in file[len("src/") : -len(".rt")].split("/") if part not in ("lib", "main", "mod")]
+
+
+def home_of(crate, name):
+    """The module in which a type of the crate stands."""
+    for path in source_files(crate):
+        if re.search(rf"^(?:pub(?:\([^)]*\))? )?(?:struct|enum) {name}\b", text_of(crate, path), re.M):
+            return module_of(path)
+    return None
+
+
+def body_at(lines, at):
+    """The lines that open and close the body of the function whose head begins at a line, or None where it has none."""
+    indent = re.match(r" *", lines[at])[0]
+    open_braces = 0
+    for begin in range(at, len(lines)):
+        # a clause may go over several lines
+        is_clause = open_braces or CLAUSE.match(lines[begin])
+        if is_clause:
+            open_braces += lines[begin].count("{") - lines[begin].count("}")
+        if not open_braces and lines[begin].endswith((";", "{}")):
+            return None
+        if is_clause:
+            continue
+        # a body begins at the head's end, or on a line of its own behind the clauses
+        if lines[begin] == indent + "{" or lines[begin].endswith(" {"):
+            return begin, lines.index(indent + "}", begin)
+    return None

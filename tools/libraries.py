@@ -1,0 +1,73 @@
+"""The libraries that `rt ci` left, and whether they are of the sources as they are.
+
+`rt ci` proves each crate over libraries that it makes itself, leaves these behind, and notes no sum beside them. So
+`./test` takes away what an earlier run left before it calls `rt ci`, and notes then what stands there: of each library a
+sum of all that it is made from, the toolchain's kit among it, and one of its own bytes. What is tried over them asks for
+both.
+"""
+
+import hashlib
+import os
+import shutil
+
+TOP = os.path.dirname(os.path.dirname(os.path.abspath(__file__)))
+
+
+def folder_of(crate):
+    return os.path.join(crate.folder, "out", "rlib")
+
+
+def note_of(crate):
+    return os.path.join(folder_of(crate), "of_ci")
+
+
+def bytes_of(crate):
+    """A sum of a library's own bytes."""
+    total, top = hashlib.sha256(), os.path.join(folder_of(crate), f"{crate.name}.rlib")
+    for folder, folders, names in os.walk(top):
+        folders.sort()
+        for name in sorted(names):
+            path = os.path.join(folder, name)
+            with open(path, "rb") as file:
+                total.update(repr((os.path.relpath(path, top), hashlib.sha256(file.read()).hexdigest())).encode())
+    return total.hexdigest()
+
+
+def state_of(crate):
+    return f"{crate.stamp()} {bytes_of(crate)}\n"
+
+
+def drop(crates):
+    """Takes away what earlier runs left of these crates' libraries."""
+    for crate in crates:
+        shutil.rmtree(folder_of(crate), ignore_errors=True)
+
+
+def note(crates):
+    """Notes what `rt ci` has just left of these crates' libraries."""
+    for crate in crates:
+        if os.path.isdir(folder_of(crate)):
+            with open(note_of(crate), "w", encoding="utf-8") as file:
+                file.write(state_of(crate))
+
+
+def is_of_ci(crate):
+    """Whether a crate's library is the one that `rt ci` made of the sources as they are."""
+    try:
+        with open(note_of(crate), encoding="utf-8") as file:
+            return file.read() == state_of(crate)
+    except OSError:
+        return False
+
+
+def fault_of(crates):
+    """Which library below these crates `rt ci` has not made of the sources as they are, in words; or None."""
+    for below in {it.folder: it for crate in crates for it in crate.below()}.values():
+        if not is_of_ci(below):
+            return f"the library of {below.name} is not what rt ci made of the sources as they are"
+    return None
+
+
+def sum_below(crate):
+    """A sum of the bytes of the libraries below a crate."""
+    return hashlib.sha256("".join(f"{below.name} {bytes_of(below)}\n" for below in crate.below()).encode()).hexdigest()

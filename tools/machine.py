@@ -1,0 +1,48 @@
+"""What the repository's scripts keep on this machine, outside each checkout."""
+
+import os
+import shutil
+import time
+
+FOLDER = os.path.join(os.environ.get("XDG_CACHE_HOME") or os.path.expanduser("~/.cache"), "kitchenrue")
+
+# How long something stays that no run asks for, in seconds.
+MONTH = 30 * 24 * 3600
+
+
+def write(folder, files):
+    """Keeps copies of files in a folder, all of them or none."""
+    forget_old()
+    part = f"{folder}.{os.getpid()}"
+    shutil.rmtree(part, ignore_errors=True)
+    os.makedirs(part)
+    for file in files:
+        shutil.copyfile(file, os.path.join(part, os.path.basename(file)))
+    shutil.rmtree(folder, ignore_errors=True)
+    os.rename(part, folder)
+
+
+def forget_old():
+    """Lets go of what is older than a month."""
+    if os.path.isdir(FOLDER):
+        for entry in os.scandir(FOLDER):
+            if time.time() - entry.stat().st_mtime > MONTH:
+                shutil.rmtree(entry.path, ignore_errors=True) if entry.is_dir() else os.remove(entry.path)
+
+
+def number(name):
+    """A number that an earlier run kept under a name, or None."""
+    try:
+        with open(os.path.join(FOLDER, name), encoding="utf-8") as file:
+            return float(file.read())
+    except (OSError, ValueError):
+        return None
+
+
+def keep_number(name, value):
+    try:
+        os.makedirs(FOLDER, exist_ok=True)
+        with open(os.path.join(FOLDER, name), "w", encoding="utf-8") as file:
+            file.write(f"{value}\n")
+    except OSError:
+        pass

@@ -1,0 +1,424 @@
+"""What the check of an edit reads: a sum of all that is reached by imported names, in turn, from what it edits.
+
+An edit's sum is of
+
+- its own texts, and the line of crates.txt of its crate;
+- the edited functions: their bodies, contracts and attributes;
+- their proof files, and the lemma files that these import, in turn;
+- each definition of specs/, type, trait, constant and contract that is reached from these by names, where each name is
+  what the imports of its own file say, of the crate and of those below it, in turn. A type reaches its trait impls
+  whole, and of its own methods those whose names stand in the edited function.
+
+No other body and no other proof counts, nor comments and layout. What a sum can't see (a set of lemmas that a tactic
+takes by a wide name, an instance that is found and not named) the gate's drawn share of all edits is for.
+"""
+
+import hashlib
+import os
+import re
+
+import edits
+
+NAME = re.compile(r"[^\s(){}\[\],;:.&<>'\"=+*/|!?#`@^%~λ→≡≤∷∧∨¬×◌$-][^\s(){}\[\],;:.&'\"`@#]*")
+WORD = re.compile(r"\w+")
+
+# An import of a file of definitions or proofs, in such a file and in code.
+USE = re.compile(r"^(?:pub )?(?:unfoldable )?use\s+([^\s{};]+?)(?:\.\{([^}]*)\})?(?:\s+as\s+(\S+))?$", re.M)
+GHOST_USE = re.compile(r"ghost use\s+([^\s{};]+?)(?:\.\{([^}]*)\})?(?:\s+as\s+(\S+?))?;")
+MODULE = re.compile(r"Rattle\.(serf_\w+)\.(specs|proofs)\.?(.*)")
+
+# An import of code.
+RUST_USE = re.compile(r"^\s*(?:pub(?:\([^)]*\))? )?use\s+((?:crate|super|self|serf_\w+)[\w:]*?)(?:::\{([^;]*)\}|::(\w+))?(?:\s+as\s+(\w+))?;", re.M)
+
+IMPL_HEAD = re.compile(r"(pub(\(.*?\))? )?(unsafe )?impl\b")
+NAMED_ITEM = re.compile(r"\b(?:fn|struct|enum|trait|const|static|type)\s+(\w+)")
+SKIPPED = ("//", "#", " ", "}", "use ", "pub use", "ghost use", "mod ", "pub mod", "pub(crate) mod")
+
+
+def sha(*texts):
+    total = hashlib.sha256()
+    for text in texts:
+        total.update(text.encode())
+        total.update(b"\0")
+    return total.hexdigest()
+
+
+def plain_code(text):
+    """Code without comments, layout, and what only hints at the compiler."""
+    out = []
+    for line in text.split("\n"):
+        at = line.find("//")
+        if at >= 0 and line[:at].count('"') % 2 == 0:
+            line = line[:at]
+        out.append(line)
+    return re.sub(r"#\[inline[^\]]*\] ?", "", " ".join(" ".join(out).split()))
+
+
+def plain_proof(text):
+    """A file of definitions or proofs without comments and blank lines. Its layout means something."""
+    out = []
+    for line in text.split("\n"):
+        at = 0 if line.startswith("-- ") or line == "--" else line.find(" -- ")
+        out.append(line[:at].rstrip() if at >= 0 else line.rstrip())
+    return "\n".join(line for line in out if line)
+
+
+def without_bodies(text):
+    """Code without the bodies of its functions but const ones."""
+    lines, out, at = text.split("\n"), [], 0
+    while at < len(lines):
+        function = edits.FUNCTION.match(lines[at])
+        body = body_at(lines, at) if function and "const" not in function[2] else None
+        if body:
+            out += [*lines[at : body[0] + 1], lines[body[1]]]
+            at = body[1] + 1
+        else:
+            out.append(lines[at])
+            at += 1
+    return "\n".join(out)
+
+
+def body_at(lines, at):
+    try:
+        return edits.body_at(lines, at)
+    except ValueError:
+        return None
+
+
+def functions_of(text):
+    """Each function of a file with its whole text, attributes included."""
+    lines, at = text.split("\n"), 0
+    while at < len(lines):
+        function = edits.FUNCTION.match(lines[at])
+        body = body_at(lines, at) if function else None
+        if body:
+            begin = at
+            while begin and re.match(r"\s*#\[", lines[begin - 1]):
+                begin -= 1
+            yield function[3], "\n".join(lines[begin : body[1] + 1])
+            at = body[1] + 1
+        else:
+            at += 1
+
+
+def definitions_of(text):
+    """The definitions of a file of specs/: the names that reach each, and its text. Its imports have none."""
+    groups = []
+    for line in plain_proof(text).split("\n"):
+        if line.startswith((" ", "\t", "}")) and groups:
+            groups[-1].append(line)
+        else:
+            groups.append([line])
+    by_name = {}
+    for group in groups:
+        if re.match(r"(pub |unfoldable )*use\b|pub mod|mod ", group[0]):
+            continue
+        words = re.sub(r"^((?:pub|abbrev|unfoldable|opaque|data|record|ruleset|infix[lr]? \d+|unfolding)\s+)*", "", group[0])
+        name = re.match(r"[^\s(){}:]+", words)
+        by_name.setdefault(name[0] if name else group[0], []).append("\n".join(group))
+    for name, texts in by_name.items():
+        names = {name, *name.split("◌")} - {""}
+        if re.match(r"(pub |abbrev )*(data|record)", texts[0]):
+            names |= set(re.findall(r"^\s+(?:\| )?([^\s:(){}]+)\s*:", texts[0], re.M))
+        yield names, "\n".join(texts)
+
+
+class Sources:
+    """The sources of all crates, each read once."""
+
+    def __init__(self, top):
+        self.uses, self.lines, self.texts = {}, {}, {}
+        with open(os.path.join(top, "crates.txt"), encoding="utf-8") as file:
+            for line in file:
+                if ":" in line and not line.startswith("#"):
+                    name, _, words = line.partition(":")
+                    self.uses[name.split()[0]], self.lines[name.split()[0]] = words.split(), " ".join(line.split())
+        for crate in self.uses:
+            for part in ("src", "specs", "proofs"):
+                for folder, _, names in os.walk(os.path.join(top, "crates", crate, part)):
+                    for name in names:
+                        path = os.path.join(folder, name)
+                        with open(path, encoding="utf-8") as file:
+                            self.texts[os.path.relpath(path, os.path.join(top, "crates"))] = file.read()
+        self.by_crate = {}
+        for path in sorted(self.texts):
+            crate, part, _ = path.split("/", 2)
+            self.by_crate.setdefault((crate, part), []).append(path)
+        self.below_memo = {}
+
+    def files(self, crate, *parts):
+        return [path for part in parts for path in self.by_crate.get((crate, part), [])]
+
+    def below(self, crate):
+        """The crates below one, in turn."""
+        if crate not in self.below_memo:
+            found = {}
+            for name in self.uses.get(crate, []):
+                if name in self.uses:
+                    found.update(dict.fromkeys([name, *self.below(name)]))
+            self.below_memo[crate] = sorted(found)
+        return self.below_memo[crate]
+
+    def proof_files(self, crate, edit):
+        """The proof files of the functions that an edit turns, and the lemma files that these import, in turn."""
+        base = f"{crate}/proofs/"
+        proofs = self.files(crate, "proofs")
+        found = [path for path in proofs for name in edit.functions if path.startswith(base + name.replace("::", "/") + "/")]
+        is_in_cycle = any("/+" in path and path.startswith(base + name.rpartition("::")[0].replace("::", "/")) for path in proofs for name in edit.functions)
+        if edit.is_definition or is_in_cycle:
+            found += [path for path in proofs if "/+" in path or "/laws/" in path]
+        named = [re.findall(r"crate::proofs::([\w:]+)", self.texts[path]) for path in self.files(crate, "src")]
+        # the attribute of a function, or of the crate, may name lemmas
+        found += [base + name.rpartition("::")[0].replace("::", "/") + ".antt" for names in named for name in names]
+        found = [path for path in dict.fromkeys(found) if path in self.texts]
+        for path in found:
+            for module in re.findall(rf"Rattle\.{crate}\.proofs\.([\w.+-]+)", self.texts[path]):
+                other = base + module.rstrip(".").replace(".", "/") + ".antt"
+                if other in self.texts and other not in found:
+                    found.append(other)
+        return sorted({*found, *({base + "Lib.antt"} & self.texts.keys())})
+
+
+class Reach:
+    """What each name reaches, over the sources of all crates."""
+
+    def __init__(self, top):
+        self.sources = Sources(top)
+        # what each item says, by its key, and the file in which it stands
+        self.items = {}
+        # the items that a name of a crate's code stands for, and the methods of a crate's types
+        self.code, self.methods = {}, {}
+        # of each file what it imports, what it imports whole or as an operator, its own definitions, and its crate
+        self.files = {}
+        # of each file of code what its imports of code stand for, and the attributes of the whole file
+        self.rust = {}
+        self.memo = {}
+        for crate in self.sources.uses:
+            for file in self.sources.files(crate, "specs", "proofs"):
+                self.read_proof(crate, file)
+            for file in self.sources.files(crate, "src"):
+                self.read_code(crate, file)
+
+    @staticmethod
+    def imports_of(text, pattern):
+        """What each imported name stands for: its crate, part, module and name there, None for the whole module."""
+        found, always = {}, set()
+        for use in pattern.finditer(text):
+            module = MODULE.match(use[1])
+            if not module:
+                continue
+            crate, part, path = module[1], module[2], module[3].rstrip(".")
+            if use[2] is None:
+                found[use[3] or path.split(".")[-1]] = (crate, part, path, None)
+                always.add((crate, part, path, None))
+                continue
+            for word in filter(None, (word.strip() for word in use[2].split(","))):
+                name, _, local = word.partition(" as ")
+                target = (crate, part, path, name.strip())
+                local = (local or name).strip()
+                found[local] = target
+                if "◌" in local:
+                    always.add(target)
+        return found, always
+
+    def read_proof(self, crate, file):
+        text = self.sources.texts[file]
+        imports, always = self.imports_of(re.sub(r"\n\s+(?=[^\n]*\})", " ", plain_proof(text)), USE)
+        own = {}
+        _, part, module = file[: -len(".antt")].split("/", 2)
+        if part == "specs":
+            for number, (names, item) in enumerate(definitions_of(text)):
+                key = ("definition", crate, module.replace("/", "."), number)
+                self.items[key] = (file, item)
+                for name in names:
+                    own.setdefault(name, []).append(key)
+        self.files[file] = (imports, always, own, crate)
+
+    def read_code(self, crate, file):
+        text = self.sources.texts[file]
+        imports, always = self.imports_of(text, GHOST_USE)
+        self.files[file] = (imports, always, {}, crate)
+        lines = without_bodies(text).split("\n")
+        code = self.code_imports(crate, text)
+        self.rust[file] = (code, " ".join(line for line in lines if line.startswith("#![")))
+        at = 0
+        while at < len(lines):
+            if not lines[at] or lines[at].startswith(SKIPPED):
+                at += 1
+                continue
+            end = at
+            while end + 1 < len(lines) and not (lines[end] == "}" or (lines[end].endswith((";", "{}", "}")) and not lines[end].startswith(" "))):
+                end += 1
+            begin = at
+            while begin and lines[begin - 1].startswith(("#[", "//")):
+                begin -= 1
+            self.add_item(crate, file, lines[begin : end + 1], lines[at], begin, code)
+            at = end + 1
+
+    @staticmethod
+    def code_imports(crate, text):
+        """What each imported name of code stands for: its crate, and its name there."""
+        code = {}
+        for use in RUST_USE.finditer(re.sub(r"//.*", "", text)):
+            other = use[1].split("::")[0]
+            other = crate if other in ("crate", "super", "self") else other
+            words = [use[3]] if use[3] else re.findall(r"\w+(?: as \w+)?", use[2] or use[1].split("::")[-1])
+            for word in words:
+                name, _, local = word.partition(" as ")
+                code[use[4] or local or name] = (other, name)
+        return code
+
+    def add_item(self, crate, file, block, head, begin, code):
+        """Adds an item of code: an impl to what it is of, anything else under its own name."""
+        if not IMPL_HEAD.match(head):
+            name = NAMED_ITEM.search(head)
+            key = ("item", crate, file, begin)
+            self.items[key] = (file, plain_code("\n".join(block)))
+            if name:
+                self.code.setdefault((crate, name[1]), set()).add(key)
+            return
+        top = " ".join(block[block.index(head) :]).split("{")[0]
+        is_trait = re.search(r"\bfor\b", top) is not None
+        of = re.sub(r"^.*?\bfor\b", "", top) if is_trait else re.sub(r"^\s*impl(<[^{]*?>)?(?=\s)", "", top)
+        owner = re.search(r"[A-Z]\w*", of)
+        owner = owner[0] if owner else "?"
+        owner = code.get(owner, (crate, owner))
+        if not is_trait:
+            self.add_methods(crate, file, block, owner, begin)
+            return
+        key = ("item", crate, file, begin)
+        self.items[key] = (file, plain_code("\n".join(block)))
+        self.code.setdefault(owner, set()).add(key)
+        # a trait that is implemented for a foreign type is reached by the trait's name
+        trait = re.search(r"([A-Z]\w*)(?:<[^{]*?>)?\s+for\b", top)
+        if trait:
+            self.code.setdefault(code.get(trait[1], (crate, trait[1])), set()).add(key)
+
+    def add_methods(self, crate, file, block, owner, begin):
+        """Adds an impl of a type's own: its head and ghost members with the type, and each method by its own name."""
+        rest, at = [], 0
+        while at < len(block):
+            function = edits.FUNCTION.match(block[at])
+            if not function or not at:
+                rest.append(block[at])
+                at += 1
+                continue
+            start = end = at
+            while start and re.match(r"\s+(#\[|//)", block[start - 1]):
+                start -= 1
+            while end + 1 < len(block) and not re.match(r"    \}$|.*(\{\}|;)$", block[end]):
+                end += 1
+            key = ("item", crate, file, begin, at)
+            self.items[key] = (file, plain_code("\n".join(block[start : end + 1])))
+            self.methods.setdefault(owner, {}).setdefault(function[3], set()).add(key)
+            at = end + 1
+        key = ("item", crate, file, begin)
+        self.items[key] = (file, plain_code("\n".join(rest)))
+        self.code.setdefault(owner, set()).add(key)
+
+    def named(self, crate, part, module, name, depth=0):
+        """What a name of a module stands for: definitions, or names of code."""
+        if part == "proofs":
+            # a function's own modules, or a lemma file (which is followed as a file)
+            is_file = f"{crate}/proofs/{module.replace('.', '/')}.antt" in self.sources.texts
+            return [] if is_file else [("name", (crate, word)) for word in module.split(".")[-2:]]
+        if module.startswith(("declared.", "contracts.")):
+            words = [word for word in module.split(".")[1:] if not word.startswith("The")]
+            return [("name", (crate, word)) for word in [*words[-1:], *([name] if name else [])]]
+        file = f"{crate}/specs/{module.replace('.', '/')}.antt"
+        if file in self.files:
+            imports, _, own, _ = self.files[file]
+            if name in own:
+                return own[name]
+            if name in imports and depth < 6:
+                return self.named(*imports[name], depth + 1)
+            return [key for keys in own.values() for key in keys]
+        # passed on from a crate below
+        for other in self.sources.below(crate):
+            if f"{other}/specs/{module.replace('.', '/')}.antt" in self.files:
+                return self.named(other, part, module, name, depth + 1)
+        return []
+
+    def reached_by(self, file, text):
+        """What the names of a text reach, as the imports of its file say."""
+        imports, always, own, crate = self.files[file]
+        names = set(NAME.findall(text)) | set(WORD.findall(text))
+        found = set()
+        for name in names & imports.keys():
+            found.update(self.named(*imports[name]))
+        for target in always:
+            is_named = target[3] is not None or target[2].split(".")[-1] in names
+            if is_named or any(local in names for local, other in imports.items() if other == target):
+                found.update(self.named(*target))
+        for name in own:
+            if name in names or ("◌" in name and any(part in names for part in name.split("◌") if part)):
+                found.update(own[name])
+        if file in self.rust:
+            code, _ = self.rust[file]
+            for name in names:
+                if name in code:
+                    found.add(("name", code[name]))
+                elif (crate, name) in self.code:
+                    found.add(("name", (crate, name)))
+            found.update(("name", other) for other in re.findall(r"\b(serf_\w+)::(\w+)", text))
+        return found
+
+    def once(self, key, call):
+        if key not in self.memo:
+            self.memo[key] = call()
+        return self.memo[key]
+
+    def starts_of(self, crate, edit):
+        """The texts that an edit's check begins with, what they reach, and the words of the edited functions."""
+        sources, said, todo, words = self.sources, [repr((edit.pairs, edit.functions))], set(), set()
+        names = {name.split("::")[-1] for name in edit.functions}
+        owners = {name.split("::")[-2] for name in edit.functions if "::" in name}
+        todo.update(("name", key) for key in self.code if key[0] == crate and key[1] in owners)
+        news = " ".join(new for _, _, new in edit.pairs)
+        for file in sources.files(crate, "src"):
+            said.append(f"{file} {self.rust[file][1]}")
+            for name, text in self.once(("functions", file), lambda file=file: list(functions_of(sources.texts[file]))):
+                if name in names:
+                    said.append(plain_code(text))
+                    todo.update(self.reached_by(file, f"{plain_code(text)} {news}"))
+                    words.update(WORD.findall(text + news))
+        if edit.is_definition:
+            for file, _, new in edit.pairs:
+                todo.update(self.reached_by(f"{crate}/{file}", new))
+                todo.update(key for keys in self.files[f"{crate}/{file}"][2].values() for key in keys)
+        for file in sources.proof_files(crate, edit):
+            text = plain_proof(sources.texts[file])
+            said.append(f"{file}\n{text}")
+            todo.update(self.once(("file", file), lambda file=file, text=text: self.reached_by(file, text)))
+        return said, todo, words
+
+    def sum_of(self, crate, edit):
+        """The sum of all that the check of an edit of a crate reads."""
+        said, todo, words = self.starts_of(crate, edit)
+        if any(edit.twins):
+            said.append(repr(edit.twins))
+        # (a trait of the crate may have impls in crates above)
+        allowed = {crate, *self.sources.below(crate)}
+        done, found = set(), set()
+        while todo:
+            key = todo.pop()
+            if key in done:
+                continue
+            done.add(key)
+            if key[0] == "name":
+                todo.update(self.of_name(key[1], words))
+            elif key[1] in allowed:
+                found.add(key)
+                todo.update(self.once(key, lambda key=key: self.reached_by(*self.items[key])))
+        return sha(self.sources.lines[crate], *said, *sorted("\n".join(self.items[key]) for key in found))
+
+    def of_name(self, name, words):
+        """The items that a name of a crate's code stands for, with those of a type's methods that these words name."""
+        found = set(self.code.get(name, ()))
+        own_methods = self.methods.get(name, {})
+        for method in words & own_methods.keys():
+            found |= own_methods[method]
+        if name not in self.code:
+            # passed on by another crate: the name as it is in any crate below
+            found |= {("name", (other, name[1])) for other in self.sources.below(name[0]) if (other, name[1]) in self.code}
+        return found
