@@ -77,6 +77,16 @@ def refused(count, top, root):
     write(os.path.join(top, "docs", "more.md"), "more\n")
     count.check("refused where a file came since", release(top, os.path.join(root, "none"))[0] == 3)
     os.remove(os.path.join(top, "docs", "more.md"))
+    for path in (green.PROGRAM, green.LIBRARY):
+        with open(os.path.join(top, path), "r+", encoding="utf-8") as file:
+            tested = file.read()
+            file.write("another\n")
+        status, said = release(top, os.path.join(root, "none"))
+        count.check(f"refused where {os.path.basename(path)} is another than the gate tested", status == 3 and "not passed" in said, (status, said))
+        write(os.path.join(top, path), tested)
+    os.rename(os.path.join(top, green.LIBRARY), os.path.join(root, "library"))
+    count.check("refused where the library is gone", release(top, os.path.join(root, "none"))[0] == 3)
+    os.rename(os.path.join(root, "library"), os.path.join(top, green.LIBRARY))
 
 
 def twice_the_same(count, top, root):
