@@ -1,7 +1,7 @@
 """The first calls of a fresh clone: ./serf-replay answers at once, and never runs a program that isn't current.
 
 One call is real, over a copy of what git tracks. All others go through a stand-in for the toolchain's command, in
-tests/first_call, so that a build takes no time: fault lines and statuses of an unproved run, and one without an end, a
+tests/first_call, so that a build takes no time: fault lines and statuses of an unproved program, one that can't be compiled, a
 changed source, one that was taken away, one that changes during the build, a build that is broken off, a failed proof, no
 toolchain, and a folder that can't be written.
 """
@@ -21,7 +21,10 @@ EXAMPLE = os.path.join("examples", "deploy_gossiped_twice")
 # allows twice that, since a machine may be shared or slow, and prints the time.
 MOST_SECONDS = 240
 
-UNPROVED = "this run is compiled without its proofs"
+UNPROVED = "this program is compiled without its proofs"
+
+# How long a second call may take, over what the first one compiled.
+SECOND_SECONDS = 10
 
 
 class Count:
@@ -80,7 +83,7 @@ class Clone:
 
 
 def unproved(count, clone):
-    """An unproved run's fault lines and status are the program's; one without an end is told."""
+    """An unproved program's fault lines and status are its own; it is compiled once, and one that can't be compiled is told."""
     clone.order("refuses")
     schedule = os.path.join(clone.top, "schedule")
     clone.write(schedule, "of a file\n")
@@ -89,9 +92,14 @@ def unproved(count, clone):
         sentence, *lines = err.splitlines()
         well = (status, out, lines) == (1, "", ["a fault", f"bad line: {said}"]) and UNPROVED in sentence
         count.check(f"a refused schedule {name}", well, (status, out, err))
-    clone.order("endless")
+    clone.order()
+    count.check("it is compiled", clone.is_unproved("one"))
+    clone.order("uncompiled")
+    count.check("a second call compiles nothing", clone.is_unproved("one"))
+    clone.write(clone.source, "none\n")
     status, out, err = clone.run("serf-replay", "x")
-    count.check("an unproved run without an end", (status, out) == (3, "") and "did not end as the program does" in err, (status, out, err))
+    count.check("one that can't be compiled", (status, out) == (3, "") and "could not be compiled" in err and "src/main.rt is not" in err, (status, out, err))
+    clone.write(clone.source, "one\n")
     clone.order()
 
 
@@ -159,6 +167,7 @@ def refused(count, clone):
     count.check("a failed proof of the program", status == 3 and "main: not proved" in err and "serf_replay_program was not built" in err, (status, err))
     count.check("nothing is built of it", clone.is_unproved("five"), clone.run("serf-replay", "x"))
     clone.order()
+    shutil.rmtree(os.path.join(clone.top, "crates", "serf_replay_program", "out", "unproved"))
     for name in ("serf-replay", "prove", "test"):
         status, out, err = clone.run(name, has_rt=False)
         count.check(f"{name} without the toolchain", (status, out) == (3, "") and "not on PATH" in err, (status, out, err))
@@ -185,6 +194,10 @@ def fresh_clone(count, root):
         count.check("the first call's trace", (ran.returncode, ran.stdout) == (0, trace.read()), ran)
     count.check("its sentence", ran.stderr.count("\n") == 1 and UNPROVED in ran.stderr and "./prove" in ran.stderr, ran.stderr)
     count.check(f"it takes at most {MOST_SECONDS} seconds", took <= MOST_SECONDS, took)
+    began = time.monotonic()
+    again = subprocess.run(["./serf-replay", "replay", EXAMPLE + ".schedule"], cwd=top, capture_output=True, text=True, timeout=900)
+    took = time.monotonic() - began
+    count.check("a second call, at once", (again.returncode, again.stdout, again.stderr) == (0, ran.stdout, ran.stderr) and took <= SECOND_SECONDS, (took, again))
 
 
 def one_figure(count):

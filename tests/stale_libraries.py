@@ -32,7 +32,7 @@ FILES = {
     "crates.txt": "stale_low:\nstale_high: stale_low\n",
     "HANDLES": "Handles allowed: none.\n",
     "crates/stale_low/src/lib.rt": SOURCE,
-    "crates/stale_high/src/lib.rt": SOURCE.replace("\nghost use", "\nuse stale_low::number as low_number;\n\nghost use", 1).replace("    1\n}", "    low_number()\n}"),
+    "crates/stale_high/src/lib.rt": SOURCE.replace("{◌≡◌};\n", "{◌≡◌};\n\nuse stale_low::number as low_number;\n", 1).replace("    1\n}", "    low_number()\n}"),
 }
 
 

@@ -22,9 +22,9 @@ CLAUSE = re.compile(r"^ *(requires|ensures|ghost)\b")
 IMPL = re.compile(r"^impl(?P<generic><[^{]*?>)? (?:(?P<trait>[\w:]+)(?:<(?P<with>\w+)[^{]*>)? for )?(?:&(?:'\w+ )?)?(?P<type>\w+)(?:<(?P<of>\w+)>)?", re.M)
 
 # The words and signs of a text that make its shape; all other words and signs are one thing.
-TOKEN = re.compile(r"\"(?:[^\"\\]|\\.)*\"|'(?:[^'\\]|\\.)'|[A-Za-z_]\w*|\d[\w_]*|[^\s\w]")
+TOKEN = re.compile(r"\"(?:[^\"\\]|\\.)*\"|'(?:[^'\\]|\\.)'|[A-Za-z_]\w*|\d[\w_]*|&&|\|\||[^\s\w]")
 SHAPING = {"if", "else", "match", "let", "for", "while", "loop", "return", "break", "continue", "in", "fn", "as", "ref", "move"}
-SHAPING_SIGNS = set("{}();?|")
+SHAPING_SIGNS = {*"{}();?|", "&&", "||"}
 OPERATORS = set("&*-!<>=+.,:")
 
 
