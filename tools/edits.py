@@ -9,11 +9,14 @@ neutral twin: the same change of shape, with no change of meaning.
 
 import os
 import re
+from collections import Counter
 
 TOP = os.path.dirname(os.path.dirname(os.path.abspath(__file__)))
 
 # A line that begins or names a function.
 FUNCTION = re.compile(r'^(\s*)((?:pub(?:\([^)]*\))? )?(?:const )?(?:unsafe )?(?:extern "C" )?)fn (\w+)')
+
+KEYWORD = re.compile(r"(?:if|else|match|let|for|while|loop|return|break|continue)$")
 
 # A clause of a contract.
 CLAUSE = re.compile(r"^ *(requires|ensures|ghost)\b")
@@ -21,11 +24,8 @@ CLAUSE = re.compile(r"^ *(requires|ensures|ghost)\b")
 # The head of an impl: what it is of, and the trait.
 IMPL = re.compile(r"^impl(?P<generic><[^{]*?>)? (?:(?P<trait>[\w:]+)(?:<(?P<with>\w+)[^{]*>)? for )?(?:&(?:'\w+ )?)?(?P<type>\w+)(?:<(?P<of>\w+)>)?", re.M)
 
-# The words and signs of a text that make its shape; all other words and signs are one thing.
-TOKEN = re.compile(r"\"(?:[^\"\\]|\\.)*\"|'(?:[^'\\]|\\.)'|[A-Za-z_]\w*|\d[\w_]*|&&|\|\||[^\s\w]")
-SHAPING = {"if", "else", "match", "let", "for", "while", "loop", "return", "break", "continue", "in", "fn", "as", "ref", "move"}
-SHAPING_SIGNS = {*"{}();?|", "&&", "||"}
-OPERATORS = set("&*-!<>=+.,:")
+# What makes the shape of a text: branches, bindings, exits and calls.
+SHAPE = re.compile(r"\"(?:[^\"\\]|\\.)*\"|'(?:[^'\\]|\\.)'|(\b(?:if|else|match|let|for|while|loop|return|break|continue)\b|&&|\|\||\?|\|(?=[\w, ]*\|)|\w+!?(?=\())")
 
 
 class BadEdit(Exception):
@@ -81,8 +81,8 @@ class Edit:
 
     @property
     def keeps_shape(self):
-        """Whether each text has the shape of the one that it replaces: no branch, `let`, call or exit more or less."""
-        return all(shape_of(old) == shape_of(new) for _, old, new in self.pairs)
+        """Whether no text has a branch, binding, exit or call more than the one that it replaces."""
+        return all(not shape_of(new) - shape_of(old) for _, old, new in self.pairs)
 
     def twin(self):
         """The neutral twin, as an edit, or None."""
@@ -114,14 +114,9 @@ class Edit:
 
 
 def shape_of(text):
-    """The branches, bindings, calls and exits of a text, in order; all between two of these counts as one thing."""
-    shape = []
-    for token in TOKEN.findall(text):
-        if token in SHAPING or token in SHAPING_SIGNS:
-            shape.append(token)
-        elif token not in OPERATORS and shape[-1:] != ["_"]:
-            shape.append("_")
-    return shape
+    """How many branches, bindings, exits and calls of each kind a text has; a call's name doesn't matter."""
+    found = (match[1] for match in SHAPE.finditer(text))
+    return Counter("call" if re.match(r"\w+!?$", word) and not KEYWORD.match(word) else word for word in found if word)
 
 
 def edits_of(crate):
