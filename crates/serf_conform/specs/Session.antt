@@ -6,9 +6,9 @@ use Rattle.serf_model.specs.declared.action.Action.{Action}
 use Rattle.serf_model.specs.declared.action.Action.TheVariants as actions
 use Rattle.serf_model.specs.declared.line.Line.{Line}
 use Rattle.serf_model.specs.Trace.{Turn, actor_of, is_agent, packet_given}
-use Rattle.serf_pipe.specs.CallText.{call_line, open_line}
-use Rattle.serf_pipe.specs.Input.{Cut, first_reply}
-use Rattle.serf_pipe.specs.Reply.{Said, reply_of}
+use Rattle.serf_conform.specs.CallText.{call_line, open_line}
+use Rattle.serf_conform.specs.Input.{Cut, first_reply}
+use Rattle.serf_conform.specs.Reply.{Said, reply_of}
 use Rattle.serf_conform.specs.declared.judging.Judgement.{Judgement}
 use Rattle.serf_conform.specs.declared.judging.Judgement.TheVariants as judgements
 use Rattle.serf_conform.specs.declared.asking.Asked.{Asked}

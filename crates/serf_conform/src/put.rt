@@ -1,6 +1,6 @@
 //! Words with a space before them.
 ghost use Rattle.std.specs.Prelude.{◌≡◌, ◌++◌, OnOk};
-ghost use Rattle.serf_pipe.specs.CallText.{flag_word, hex_word, moment_words, number_word, texts_words};
+ghost use Rattle.serf_conform.specs.CallText.{flag_word, hex_word, moment_words, number_word, texts_words};
 
 use serf_replay::{flag, put_hex, put_number};
 use std::alloc::AllocError;

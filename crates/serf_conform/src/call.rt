@@ -2,7 +2,7 @@
 ghost use Rattle.std.specs.Prelude.{◌≡◌, ◌++◌, OnOk};
 ghost use Rattle.std.specs.List.{flat_map};
 ghost use Rattle.serf_agent.specs.Queries.{flags_of};
-ghost use Rattle.serf_pipe.specs.CallText.{buffer_words, call_line, config_words, hex_word, limit_words, mode_words, open_line, params_words, sink_call_text};
+ghost use Rattle.serf_conform.specs.CallText.{buffer_words, call_line, config_words, hex_word, limit_words, mode_words, open_line, params_words, sink_call_text};
 
 use crate::put::{put_flag_word, put_hex_word, put_moment_words, put_number_word, put_texts_words};
 use serf_agent::{BytesList, Config, QueryParams};

@@ -5,7 +5,7 @@ use Rattle.std.proofs.lemmas.Grind.{common_steps}
 use Rattle.std.proofs.lemmas.List.{append-nil, length-append}
 use Rattle.serf_replay.specs.declared.cause.Cause.TheVariants.{WordCount}
 use Rattle.serf_replay.specs.Words.{word_at}
-use Rattle.serf_pipe.specs.Reply.{counted_words, kind_of, line_of}
+use Rattle.serf_conform.specs.Reply.{counted_words, kind_of, line_of}
 
 -- a line of more than eight words
 pub long_line : (all ws more : List (List ℕ)) → ws ++ more ≡ all → length ws ≡ 8 → 0 < length more → line_of all ≡ Err WordCount

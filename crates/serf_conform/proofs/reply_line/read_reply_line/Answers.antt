@@ -4,9 +4,9 @@ use Rattle.std.proofs.lemmas.Grind.{common_steps}
 use Rattle.serf_replay.specs.declared.cause.Cause.{Cause}
 use Rattle.serf_replay.specs.Gives.{Gives}
 use Rattle.serf_replay.specs.Words.{words_of}
-use Rattle.serf_pipe.specs.declared.reply_line.ReplyLine.{ReplyLine}
-use Rattle.serf_pipe.proofs.LineLemmas.{long_line, short_line}
-use Rattle.serf_pipe.proofs.reply_line.read_reply_line.Goals as goal
+use Rattle.serf_conform.specs.declared.reply_line.ReplyLine.{ReplyLine}
+use Rattle.serf_conform.proofs.LineLemmas.{long_line, short_line}
+use Rattle.serf_conform.proofs.reply_line.read_reply_line.Goals as goal
 
 pub returns-then-not-is_empty : goal.returns-then-not-is_empty
 returns-then-not-is_empty c =

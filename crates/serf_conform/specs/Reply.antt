@@ -9,13 +9,13 @@ use Rattle.serf_replay.specs.declared.cause.Cause.TheVariants.{UnknownWord, Word
 use Rattle.serf_replay.specs.Gives.{◌>>=◌}
 use Rattle.serf_replay.specs.Schedule.{BadLine, at_line}
 use Rattle.serf_replay.specs.Words.{words_of, word_at, number_in, number_between, bytes_in, choice_in}
-use Rattle.serf_pipe.specs.declared.reply_line.LineKind.{LineKind}
-use Rattle.serf_pipe.specs.declared.reply_line.LineKind.TheVariants as kinds
-use Rattle.serf_pipe.specs.declared.reply_line.ReplyLine.{ReplyLine}
-use Rattle.serf_pipe.specs.declared.reply_line.ReplyLine.TheVariants as lines
-use Rattle.serf_pipe.specs.declared.reply.Reply.{Reply}
-use Rattle.serf_pipe.specs.declared.reply.ReplyFault.{ReplyFault}
-use Rattle.serf_pipe.specs.declared.reply.ReplyFault.TheVariants as faults
+use Rattle.serf_conform.specs.declared.reply_line.LineKind.{LineKind}
+use Rattle.serf_conform.specs.declared.reply_line.LineKind.TheVariants as kinds
+use Rattle.serf_conform.specs.declared.reply_line.ReplyLine.{ReplyLine}
+use Rattle.serf_conform.specs.declared.reply_line.ReplyLine.TheVariants as lines
+use Rattle.serf_conform.specs.declared.reply.Reply.{Reply}
+use Rattle.serf_conform.specs.declared.reply.ReplyFault.{ReplyFault}
+use Rattle.serf_conform.specs.declared.reply.ReplyFault.TheVariants as faults
 
 -- what a line's first two words say that it is
 abbrev pub counted_kind : List ℕ → Option LineKind

@@ -1,8 +1,8 @@
 -- The text of a reply's lines.
 use Rattle.std.specs.Prelude.{ℕ, ◌++◌, List, codes}
-use Rattle.serf_pipe.specs.declared.reply_line.ReplyLine.{ReplyLine}
-use Rattle.serf_pipe.specs.declared.reply_line.ReplyLine.TheVariants as lines
-use Rattle.serf_pipe.specs.CallText.{number_word, hex_word, flag_word, texts_words, moment_words}
+use Rattle.serf_conform.specs.declared.reply_line.ReplyLine.{ReplyLine}
+use Rattle.serf_conform.specs.declared.reply_line.ReplyLine.TheVariants as lines
+use Rattle.serf_conform.specs.CallText.{number_word, hex_word, flag_word, texts_words, moment_words}
 
 -- what an ack that was counted, and a response, begin with
 unfoldable pub counted_ack_name : List ℕ

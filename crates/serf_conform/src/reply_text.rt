@@ -1,6 +1,6 @@
 //! The text of a reply's lines.
 ghost use Rattle.std.specs.Prelude.{◌≡◌, ◌++◌, OnOk};
-ghost use Rattle.serf_pipe.specs.ReplyText.{counted_ack_name, counted_response_name, line_text};
+ghost use Rattle.serf_conform.specs.ReplyText.{counted_ack_name, counted_response_name, line_text};
 
 use crate::put::{put_flag_word, put_hex_word, put_moment_words, put_number_word, put_texts_words};
 use crate::reply_line::ReplyLine;

@@ -1,7 +1,7 @@
 //! Reading one reply of an agent.
 
 ghost use Rattle.std.specs.Prelude.{◌≡◌, ◌<◌, ◌≤◌, IfOk, IfSome, IsErrOf, None, length};
-ghost use Rattle.serf_pipe.specs.Input.{ReadsReply, first_reply, longest_reply};
+ghost use Rattle.serf_conform.specs.Input.{ReadsReply, first_reply, longest_reply};
 
 use std::alloc::Global;
 use std::io::Read;
