@@ -11,12 +11,12 @@ ghost use Rattle.serf_conform.specs.Session.{IsAsked, IsTaken, asked_of, given_o
 ghost use Rattle.serf_conform.specs.Wanted.{wanted_of};
 
 use crate::call::put_call;
-use crate::common::is_common_turn;
 use crate::input::{ReadFault, read_reply_text};
 use crate::judging::{Judgement, judge};
 use crate::replies::wanted;
 use crate::reply::Reply;
 use crate::verdict::{ConformFault, Rules};
+use serf_model::is_common_turn;
 use serf_replay::write_output;
 use serf_wire::Bytes;
 use serf_world::{Action, Line};

@@ -4,7 +4,6 @@
 
 mod asking;
 mod call;
-mod common;
 mod input;
 mod judging;
 mod laws;
@@ -19,7 +18,6 @@ mod verdict;
 
 pub use asking::{given_packet, is_of};
 pub use call::{put_call, put_open};
-pub use common::is_common_turn;
 pub use input::{MAX_REPLY_BYTES, ReadFault, read_reply_text};
 pub use judging::{Judgement, judge};
 pub use laws::projection;
