@@ -16,10 +16,9 @@ use crate::judging::{Judgement, judge};
 use crate::replies::wanted;
 use crate::reply::Reply;
 use crate::verdict::{ConformFault, Rules};
-use serf_model::is_common_turn;
+use serf_model::{Action, Line, is_common_turn};
 use serf_replay::write_output;
 use serf_wire::Bytes;
-use serf_world::{Action, Line};
 use std::alloc::{AllocError, Global};
 use std::io::{Read, Write};
 

@@ -10,9 +10,9 @@ ghost use Rattle.serf_conform.specs.Wanted.{ack_of, counted_lines, event_said, h
 
 use crate::reply::Reply;
 use crate::reply_line::ReplyLine;
+use serf_model::{Answer, Boxed, EventLine, HandedLine, Line};
 use serf_replay::put_answer;
 use serf_wire::{Bytes, Message, decode};
-use serf_world::{Answer, Boxed, EventLine, HandedLine, Line};
 use std::alloc::{AllocError, Global};
 
 fn add(lines: &mut Vec<ReplyLine>, line: ReplyLine) -> Result<(), AllocError>

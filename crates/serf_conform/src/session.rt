@@ -13,8 +13,8 @@ use crate::call::put_open;
 use crate::replies::opening;
 use crate::verdict::{ConformFault, End, Rules, Verdict};
 use serf_agent::Config;
+use serf_model::{Action, Line, Trace};
 use serf_wire::Bytes;
-use serf_world::{Action, Line, Trace};
 use std::alloc::{AllocError, Global};
 use std::io::{Read, Write};
 

@@ -13,9 +13,10 @@ use crate::call::{Call, copy_action, copy_placed};
 use crate::case::Case;
 use serf_agent::Config;
 use serf_conform::{ConformFault, given_packet, is_of};
+use serf_model::{Action, Line};
 use serf_replay::Schedule;
 use serf_wire::Bytes;
-use serf_world::{Action, Line, Roster, RosterFault};
+use serf_world::{Roster, RosterFault};
 use std::alloc::{AllocError, Global};
 
 /// Adds the call of a turn, if it is one of this agent.

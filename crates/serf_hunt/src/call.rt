@@ -4,8 +4,8 @@ ghost use Rattle.std.specs.Prelude.{◌≡◌, ◌++◌, IfOk, OnOk};
 ghost use Rattle.serf_hunt.specs.Calls.{placed};
 
 use serf_agent::{BytesList, QueryParams};
+use serf_model::{Action, BoxedBytes, BoxedParams};
 use serf_wire::Bytes;
-use serf_world::{Action, BoxedBytes, BoxedParams};
 use std::alloc::{AllocError, Global};
 
 /// A call of an agent. What it gives are bytes, so that it means the same whatever came before.

@@ -4,10 +4,10 @@ ghost use Rattle.std.specs.Prelude.{◌≡◌, ◌+◌, ◌≤◌, ℕ, false, I
 ghost use Rattle.serf_agent.specs.declared.config.Config.{Config};
 ghost use Rattle.serf_random.specs.Cut.{AreKept, GoesOn, IsAlong, MayAdd};
 
-use serf_model::is_common_turn;
+use serf_model::{Action, is_common_turn};
 use serf_replay::MAX_SCHEDULE_BYTES;
 use serf_schedule_text::{is_sayable, put_action};
-use serf_world::{Action, Roster, StepFault, World};
+use serf_world::{Roster, StepFault, World};
 use std::alloc::{AllocError, Global};
 
 /// Appends an action and its line, and says whether it did: not where the text would be too long.

@@ -2,8 +2,8 @@
 
 ghost use Rattle.std.specs.Prelude.{◌≡◌, ◌+◌, ◌≤◌, false, IfOk, OnOk, length};
 
-use serf_model::is_common_turn;
-use serf_world::{Action, Roster, StepFault, World};
+use serf_model::{Action, is_common_turn};
+use serf_world::{Roster, StepFault, World};
 use std::alloc::{AllocError, Global};
 
 /// How often actions are left out, at most: what is left runs otherwise, so that other turns may rest on a rule of our
