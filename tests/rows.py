@@ -8,8 +8,9 @@ NAME.trace is the whole trace that is wanted; NAME.fault the line on standard er
 refused; NAME.lines facts about the trace: `N WORDS` is a line of it, `!N WORD` says that action N has no line
 with this second word, and `=N COUNT` that action N has so many lines. A row has one of the three.
 
-No schedule hands an agent one event twice: of each row and each example the program `serf_repeats_program` is
-asked too, whose answer comes from a search that is proved.
+No schedule hands an agent one event or one query twice: the trace of each row and each example is judged too
+(`judge`). It is proved that `replay` writes the trace of the run, what `judge` reads in it, and that it finds the first
+repeat there. That it takes the trace's events for events is seen with one line of them said again: this is a repeat.
 """
 
 import os
@@ -23,7 +24,6 @@ sys.dont_write_bytecode = True
 import programs
 
 PROGRAM = os.path.join(TOP, "serf-replay")
-REPEATS = programs.path_of("serf_repeats_program")
 ROWS = os.path.join(TOP, "tests", "rows")
 EXAMPLES = os.path.join(TOP, "examples")
 
@@ -35,6 +35,9 @@ UNPROVED = "serf-replay: this run is compiled without its proofs"
 # What a fact may be, and the second words that `!` may have.
 FACT = re.compile(r"(?P<line>\d+) .+|!(?P<absent>\d+) (?P<word>\S+)|=(?P<counted>\d+) \d+")
 ABSENT = ("sent", "event", "handed")
+
+# What `judge` says of a trace without a repeat. A trace has no lines of firings.
+NO_REPEAT = "Once: holds\nQueryOnce: holds\nFired: not asked: no fired lines\nLater: not asked: no fired lines\n"
 
 
 def text_of(path):
@@ -85,34 +88,42 @@ def wrong_facts(path, trace):
     return "; ".join([*filter(None, shapes), *missing][:3])[:300] or None
 
 
+def said_by(command, given):
+    """The status of a command on a text, and what it writes on standard output and on standard error."""
+    ran = subprocess.run([PROGRAM, command], input=given.encode("ascii"), capture_output=True, timeout=600)
+    err = "".join(line for line in ran.stderr.decode("ascii", "replace").splitlines(True) if not line.startswith(UNPROVED))
+    return ran.returncode, ran.stdout.decode("ascii", "replace"), err
+
+
 def wrong(name):
     """What differs in a row, or None."""
     path = os.path.join(ROWS, name)
     wanted = [ending for ending in ENDINGS if os.path.exists(f"{path}.{ending}")]
     if len(wanted) != 1:
         return f"a row has one of {', '.join('.' + ending for ending in ENDINGS)}, and this one has {wanted or 'none'}"
-    with open(path + ".schedule", "rb") as schedule:
-        ran = subprocess.run([PROGRAM, "replay"], stdin=schedule, capture_output=True, timeout=600)
-    out = ran.stdout.decode("ascii", "replace")
-    err = "".join(line for line in ran.stderr.decode("ascii", "replace").splitlines(True) if not line.startswith(UNPROVED))
+    status, out, err = said_by("replay", text_of(path + ".schedule"))
     if wanted == ["fault"]:
         refused = (1, "", text_of(path + ".fault"))
-        return None if (ran.returncode, out, err) == refused else f"wanted {refused}, got {(ran.returncode, out[:200], err)}"
-    if ran.returncode != 0 or err:
-        return f"status {ran.returncode}: {err}"
+        return None if (status, out, err) == refused else f"wanted {refused}, got {(status, out[:200], err)}"
+    if status != 0 or err:
+        return f"status {status}: {err}"
     if wanted == ["trace"]:
         return None if out == text_of(path + ".trace") else "the trace differs"
     return wrong_facts(path, out)
 
 
 def repeats(folder, name):
-    """What the search for repeats says of a schedule otherwise than it should, or None."""
+    """What `judge` says of a schedule's trace otherwise than it should, or None. What is refused has no trace."""
     path = os.path.join(folder, name)
-    wanted = "refused\n" if os.path.exists(path + ".fault") else "no repeat\n"
-    with open(path + ".schedule", "rb") as schedule:
-        ran = subprocess.run([REPEATS], stdin=schedule, capture_output=True, timeout=600)
-    got = (ran.returncode, ran.stdout.decode("ascii", "replace"), ran.stderr.decode("ascii", "replace"))
-    return None if got == (0, wanted, "") else f"wanted {wanted!r}, got {got}"
+    status, trace, _ = said_by("replay", text_of(path + ".schedule"))
+    if os.path.exists(path + ".fault"):
+        return None if (status, trace) == (1, "") else f"wanted no trace, got {(status, trace[:200])}"
+    got = said_by("judge", trace)
+    if got != (0, NO_REPEAT, ""):
+        return f"wanted {NO_REPEAT!r}, got {got}"
+    events = [line for line in trace.splitlines(True) if line.split(" ")[1:2] == ["event"]]
+    status, out, err = said_by("judge", trace + events[-1]) if events else (1, "Once: line", "")
+    return None if status == 1 and out.startswith("Once: line") and not err else f"said again: {events[-1]!r}, got {(status, out, err)}"
 
 
 def report(said):
@@ -128,7 +139,7 @@ def main(names):
     if names:
         rows = names_in(ROWS)
         return report([(name, wrong(name) if name in rows else "there is no such row") for name in names])
-    fault = programs.fault_of_build("serf_replay_program", "serf_repeats_program")
+    fault = programs.fault_of_build("serf_replay_program")
     rows, examples = names_in(ROWS), names_in(EXAMPLES)
     if fault or not rows or not examples:
         print(fault or "no rows, or no examples")

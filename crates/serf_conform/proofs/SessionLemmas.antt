@@ -6,8 +6,8 @@ use Rattle.std.specs.Prelude.{IfOk, IfSome, Result, Ok, Err}
 use Rattle.std.specs.Io.KnownBytes.{Appends}
 use Rattle.std.proofs.KnownBytes.{Appends-trans}
 use Rattle.serf_model.specs.Trace.{Turn, turns_from}
-use Rattle.serf_pipe.specs.Input.{Cut, first_reply}
-use Rattle.serf_pipe.specs.Reply.{Said, reply_of}
+use Rattle.serf_conform.specs.Input.{Cut, first_reply}
+use Rattle.serf_conform.specs.Reply.{Said, reply_of}
 use Rattle.serf_conform.specs.declared.judging.Judgement.{Judgement}
 use Rattle.serf_conform.specs.declared.judging.Judgement.TheVariants as judgements
 use Rattle.serf_conform.specs.declared.verdict.ConformFault.{ConformFault}

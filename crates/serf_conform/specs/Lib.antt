@@ -1,4 +1,8 @@
+pub mod CallText
+pub mod Input
 pub mod Meaning
-pub mod Wanted
+pub mod Reply
+pub mod ReplyText
 pub mod Rules
 pub mod Session
+pub mod Wanted

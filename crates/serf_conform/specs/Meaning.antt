@@ -8,10 +8,10 @@ use Rattle.serf_wire.specs.Message.{Message, user_event, query, query_response, 
 use Rattle.serf_wire.specs.Slots.{SlotContent, empty, held}
 use Rattle.serf_replay.specs.TextParts.{number_line}
 use Rattle.serf_replay.specs.MessageText.{member_lines, message_text, slot_lines}
-use Rattle.serf_pipe.specs.declared.reply_line.ReplyLine.{ReplyLine}
-use Rattle.serf_pipe.specs.declared.reply_line.ReplyLine.TheVariants as lines
-use Rattle.serf_pipe.specs.Reply.{Said}
-use Rattle.serf_pipe.specs.ReplyText.{line_text}
+use Rattle.serf_conform.specs.declared.reply_line.ReplyLine.{ReplyLine}
+use Rattle.serf_conform.specs.declared.reply_line.ReplyLine.TheVariants as lines
+use Rattle.serf_conform.specs.Reply.{Said}
+use Rattle.serf_conform.specs.ReplyText.{line_text}
 
 -- Packets
 

@@ -1,44 +1,7 @@
--- Which turns rest on a rule of this project's own (docs/DECISIONS.md).
-use Rattle.std.specs.Prelude.{◌==◌, Bool, true, false, length}
-use Rattle.serf_agent.specs.declared.outcome.Reason.{Reason}
-use Rattle.serf_agent.specs.declared.outcome.Reason.TheVariants as reasons
-use Rattle.serf_model.specs.declared.action.Action.{Action}
-use Rattle.serf_model.specs.declared.action.Action.TheVariants as actions
-use Rattle.serf_model.specs.declared.line.Refusal.{Refusal}
-use Rattle.serf_model.specs.declared.line.Refusal.TheVariants as refusals
-use Rattle.serf_model.specs.declared.line.Answer.{Answer}
-use Rattle.serf_model.specs.declared.line.Answer.TheVariants as answers
+-- Whose rules are asked for (docs/DECISIONS.md).
+use Rattle.std.specs.Prelude.{Bool, true, false}
 use Rattle.serf_conform.specs.declared.verdict.Rules.{Rules}
 use Rattle.serf_conform.specs.declared.verdict.Rules.TheVariants as rules
-
--- the bounds on an event's texts, and on what is taken of one time, are own
-abbrev pub is_common_reason : Reason → Bool
-is_common_reason reasons.Oversize = false
-is_common_reason reasons.TimeFull = false
-is_common_reason _ = true
-
--- Which packets are refused, and that 2^64 - 1 is no time, is own; so are the bound on names, and what a failing disk
--- does.
-abbrev pub is_common_refusal : Refusal → Bool
-is_common_refusal refusals.Stopped = false
-is_common_refusal refusals.Exhausted = false
-is_common_refusal refusals.RespondersFull = false
-is_common_refusal refusals.SinkFault = false
-is_common_refusal (refusals.Wire fault) = false
-is_common_refusal _ = true
-
--- a compaction, and a disk that is to fail, are own
-abbrev pub is_common_answer : Answer → Bool
-is_common_answer (answers.Ignored reason) = is_common_reason reason
-is_common_answer (answers.Refused refusal) = is_common_refusal refusal
-is_common_answer answers.Broken = false
-is_common_answer answers.Compacted = false
-is_common_answer _ = true
-
--- what becomes of a torn tail is own
-abbrev pub has_no_tail : Action → Bool
-has_no_tail (actions.Restart agent tail) = length tail == 0
-has_no_tail _ = true
 
 abbrev pub is_serf : Rules → Bool
 is_serf rules.Serf = true

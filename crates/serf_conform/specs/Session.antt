@@ -6,9 +6,10 @@ use Rattle.serf_model.specs.declared.action.Action.{Action}
 use Rattle.serf_model.specs.declared.action.Action.TheVariants as actions
 use Rattle.serf_model.specs.declared.line.Line.{Line}
 use Rattle.serf_model.specs.Trace.{Turn, actor_of, is_agent, packet_given}
-use Rattle.serf_pipe.specs.CallText.{call_line, open_line}
-use Rattle.serf_pipe.specs.Input.{Cut, first_reply}
-use Rattle.serf_pipe.specs.Reply.{Said, reply_of}
+use Rattle.serf_model.specs.Common.{is_common}
+use Rattle.serf_conform.specs.CallText.{call_line, open_line}
+use Rattle.serf_conform.specs.Input.{Cut, first_reply}
+use Rattle.serf_conform.specs.Reply.{Said, reply_of}
 use Rattle.serf_conform.specs.declared.judging.Judgement.{Judgement}
 use Rattle.serf_conform.specs.declared.judging.Judgement.TheVariants as judgements
 use Rattle.serf_conform.specs.declared.asking.Asked.{Asked}
@@ -16,7 +17,6 @@ use Rattle.serf_conform.specs.declared.asking.Asked.TheVariants as asks
 use Rattle.serf_conform.specs.declared.verdict.End.{End}
 use Rattle.serf_conform.specs.declared.verdict.End.TheVariants as ends
 use Rattle.serf_conform.specs.declared.verdict.Verdict.{Verdict}
-use Rattle.serf_conform.specs.Rules.{is_common_answer, has_no_tail}
 use Rattle.serf_conform.specs.Wanted.{judged, opening, wanted_of}
 
 -- One call
@@ -63,10 +63,6 @@ given_of _ given = Some []
 -- the packet of a turn that is a call of this agent
 abbrev pub given_for : ℕ → Turn → Option (List ℕ)
 given_for a t = if is_agent a (actor_of t.action) then given_of t.action t.given else None
-
--- the turn rests on no rule of this project's own
-abbrev pub is_common : Turn → Bool
-is_common t = is_common_answer t.line.answer && has_no_tail t.action
 
 -- the turn of an action and its line, where so many packets were sent before
 abbrev pub turn_at : ℕ → List (List ℕ) → Action → Line → Turn

@@ -12,9 +12,9 @@ use Rattle.serf_model.specs.declared.line.HandedLine.{HandedLine}
 use Rattle.serf_model.specs.declared.line.Line.{Line}
 use Rattle.serf_replay.specs.Schedule.{BadLine}
 use Rattle.serf_replay.specs.Show.{answer_text}
-use Rattle.serf_pipe.specs.declared.reply_line.ReplyLine.{ReplyLine}
-use Rattle.serf_pipe.specs.declared.reply_line.ReplyLine.TheVariants as lines
-use Rattle.serf_pipe.specs.Reply.{Said}
+use Rattle.serf_conform.specs.declared.reply_line.ReplyLine.{ReplyLine}
+use Rattle.serf_conform.specs.declared.reply_line.ReplyLine.TheVariants as lines
+use Rattle.serf_conform.specs.Reply.{Said}
 use Rattle.serf_conform.specs.declared.judging.Judgement.{Judgement}
 use Rattle.serf_conform.specs.declared.judging.Judgement.TheVariants.{Agrees, Differs, Unsupported}
 use Rattle.serf_conform.specs.Meaning.{reply_means}

@@ -4,20 +4,21 @@ ghost use Rattle.std.specs.Prelude.{◌≡◌, ◌+◌, ◌≤◌, IfOk, IfSome,
 ghost use Rattle.std.specs.Io.KnownBytes.{Appends};
 ghost use Rattle.std.specs.Option.{option_copied};
 ghost use Rattle.serf_model.specs.Trace.{actor_of, is_agent, packet_given};
-ghost use Rattle.serf_pipe.specs.CallText.{call_line};
-ghost use Rattle.serf_pipe.specs.Reply.{said_in};
+ghost use Rattle.serf_conform.specs.CallText.{call_line};
+ghost use Rattle.serf_conform.specs.Reply.{said_in};
 ghost use Rattle.serf_conform.specs.Rules.{is_serf};
 ghost use Rattle.serf_conform.specs.Session.{IsAsked, IsTaken, asked_of, given_of, taken_of, turn_at};
 ghost use Rattle.serf_conform.specs.Wanted.{wanted_of};
 
-use crate::common::is_common_turn;
+use crate::call::put_call;
+use crate::input::{ReadFault, read_reply_text};
 use crate::judging::{Judgement, judge};
 use crate::replies::wanted;
+use crate::reply::Reply;
 use crate::verdict::{ConformFault, Rules};
-use serf_pipe::{ReadFault, Reply, put_call, read_reply_text};
+use serf_model::{Action, Line, is_common_turn};
 use serf_replay::write_output;
 use serf_wire::Bytes;
-use serf_world::{Action, Line};
 use std::alloc::{AllocError, Global};
 use std::io::{Read, Write};
 

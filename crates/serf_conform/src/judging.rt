@@ -1,11 +1,11 @@
 //! What is thought of a reply.
 
 ghost use Rattle.std.specs.Prelude.{◌≡◌, IfOk};
-ghost use Rattle.serf_pipe.specs.Reply.{reply_of, said_in};
+ghost use Rattle.serf_conform.specs.Reply.{reply_of, said_in};
 ghost use Rattle.serf_conform.specs.Wanted.{is_unsupported, judged};
 
 use crate::meaning::reply_means;
-use serf_pipe::{Reply, ReplyFault, read_reply};
+use crate::reply::{Reply, ReplyFault, read_reply};
 use std::alloc::{AllocError, Global};
 
 /// What a reply is against the one that is wanted.

@@ -1,20 +1,30 @@
-//! Any agent, held against the reference: an agent's calls, the replies that are wanted of it, and the verdict.
+//! Any agent, held against the reference: an agent's calls, the replies that are wanted of it, and the verdict. Calls and
+//! replies go through the pipe, as lines of text (docs/PIPE.md).
 #![tactic(auto)]
 
 mod asking;
-mod common;
+mod call;
+mod input;
 mod judging;
 mod laws;
 mod meaning;
+mod put;
 mod replies;
+mod reply;
+mod reply_line;
+mod reply_text;
 mod session;
 mod verdict;
 
 pub use asking::{given_packet, is_of};
-pub use common::is_common_turn;
+pub use call::{put_call, put_open};
+pub use input::{MAX_REPLY_BYTES, ReadFault, read_reply_text};
 pub use judging::{Judgement, judge};
 pub use laws::projection;
 pub use meaning::{line_means, reply_means};
 pub use replies::{opening, wanted};
+pub use reply::{Reply, ReplyFault, read_reply};
+pub use reply_line::{ReplyLine, read_reply_line};
+pub use reply_text::put_reply_line;
 pub use session::hold;
 pub use verdict::{ConformFault, End, Rules, Verdict};

@@ -7,11 +7,13 @@ ghost use Rattle.std.specs.Str.{bytes_eq};
 ghost use Rattle.serf_wire.specs.Decoded.{decoded};
 ghost use Rattle.serf_wire.specs.Lists.{slot_of_view, slots_left, status_left, texts_left};
 ghost use Rattle.serf_wire.specs.Message.{message_of};
-ghost use Rattle.serf_pipe.specs.Reply.{said_in};
-ghost use Rattle.serf_pipe.specs.ReplyText.{line_text as text_of};
+ghost use Rattle.serf_conform.specs.Reply.{said_in};
+ghost use Rattle.serf_conform.specs.ReplyText.{line_text as text_of};
 ghost use Rattle.serf_conform.specs.Meaning.{are_same, held_lines, line_means as means, lines_mean, meaning_of, meaning_text, packet_means, reply_means as replies_mean, sent_in, spell_same, state_lines};
 
-use serf_pipe::{Reply, ReplyLine, put_reply_line};
+use crate::reply::Reply;
+use crate::reply_line::ReplyLine;
+use crate::reply_text::put_reply_line;
 use serf_replay::{put_members, put_message, put_number_line, put_slot};
 use serf_wire::{Message, SlotView, SlotViews, StatusTimes, Texts, decode};
 use std::alloc::{AllocError, Global};

@@ -3,18 +3,18 @@
 ghost use Rattle.std.specs.Prelude.{◌≡◌, ℕ, List, [], Option, IfOk, IfSome, OnOk};
 ghost use Rattle.std.specs.Io.KnownBytes.{Appends};
 ghost use Rattle.serf_model.specs.Trace.{outcome_of, turns_from, turns_of};
-ghost use Rattle.serf_pipe.specs.CallText.{open_line};
+ghost use Rattle.serf_conform.specs.CallText.{open_line};
 ghost use Rattle.serf_conform.specs.Rules.{is_serf};
 ghost use Rattle.serf_conform.specs.Session.{Concludes, IsAlong, IsAsked, asked_of, ending_of, session, session_from};
 ghost use Rattle.serf_conform.specs.Wanted.{opening as opening_of};
 
 use crate::asking::{Asked, ask, next_turn};
+use crate::call::put_open;
 use crate::replies::opening;
 use crate::verdict::{ConformFault, End, Rules, Verdict};
 use serf_agent::Config;
-use serf_pipe::put_open;
+use serf_model::{Action, Line, Trace};
 use serf_wire::Bytes;
-use serf_world::{Action, Line, Trace};
 use std::alloc::{AllocError, Global};
 use std::io::{Read, Write};
 

@@ -10,9 +10,10 @@ use crate::label::{first_words, label};
 use crate::picture::{Arrow, Asked, Lane, Packet, Picture, Row, Sender};
 use crate::row::{add_packets, arrow, is_restart, note_packet, tone};
 use serf_agent::Config;
+use serf_model::{Action, Line};
 use serf_replay::{Schedule, ScheduleFault, parse_schedule};
 use serf_wire::Bytes;
-use serf_world::{Action, Line, Roster, StepFault, World};
+use serf_world::{Roster, StepFault, World};
 use std::alloc::{AllocError, Global};
 
 /// The row of an action that began with these words, from its line.

@@ -4,9 +4,8 @@ use crate::ignored::put_ignored;
 use crate::quoted::{put_event, put_query, put_quoted, put_since, say};
 use crate::refusals::put_refusal;
 use crate::told::{Actor, Told, actor_at, message_of, put_name};
-use serf_model::SinkCall;
+use serf_model::{Action, Answer, SinkCall};
 use serf_wire::{Message, Texts, passes};
-use serf_world::{Action, Answer};
 use std::alloc::AllocError;
 
 /// Appends at which clock an event or a query was fired.

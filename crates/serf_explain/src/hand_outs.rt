@@ -7,7 +7,7 @@ ghost use Rattle.serf_window.specs.Texts.{event_of};
 ghost use Rattle.serf_explain.specs.HandOuts.{IsNoted, NotedAt, is_note, note_in, note_of, notes_in};
 
 use indexmap::IndexMap;
-use serf_world::{EventLine, Line};
+use serf_model::{EventLine, Line};
 use std::alloc::{AllocError, Global};
 
 /// An event, as it lies in its packet.

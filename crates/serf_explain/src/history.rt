@@ -5,7 +5,8 @@ ghost use Rattle.serf_explain.specs.HandOuts.{note_of, notes_in};
 
 use crate::hand_outs::HandOuts;
 use crate::memory::Memory;
-use serf_world::{Action, Line, World};
+use serf_model::{Action, Line};
+use serf_world::World;
 use std::alloc::{AllocError, Global};
 
 /// What is remembered of a run, so that later reasons can name earlier actions. Nothing is kept of an action's line but

@@ -14,12 +14,12 @@ use crate::history::History;
 use crate::range::Range;
 use crate::reasons::{lines_before, put_reasons};
 use crate::told::Told;
-use serf_model::run_promises;
+use serf_model::{Action, run_promises};
 use serf_replay::{
     Cause, InputFault, MAX_SCHEDULE_BYTES, ReplayFault, Schedule, ScheduleFault, Watch, lines_stay,
     parse_schedule, put_action, read_input, write_output,
 };
-use serf_world::{Action, StepFault, World};
+use serf_world::{StepFault, World};
 use std::alloc::{AllocError, Global};
 use std::io::{Read, Write};
 

@@ -1,8 +1,8 @@
 //! What is remembered of one agent.
 
 use serf_agent::Agent;
+use serf_model::{Action, SinkCall};
 use serf_snap::MemSink;
-use serf_world::{Action, SinkCall};
 
 /// A number that stands since an action; the 0th is the start.
 #[derive(Clone, Copy, Debug)]

@@ -5,9 +5,10 @@ use crate::marks::Marks;
 use indexmap::IndexMap;
 use serf_agent::Agent;
 use serf_lamport::Time;
+use serf_model::{Action, Answer, Line};
 use serf_snap::MemSink;
 use serf_wire::{Message, decode};
-use serf_world::{Action, Answer, Line, World};
+use serf_world::World;
 use std::alloc::{AllocError, Global};
 use std::mem;
 

@@ -26,9 +26,9 @@ use crate::refusals::put_sink_fault;
 use crate::seen::put_seen;
 use crate::told::{Actor, Told, actor_at};
 use serf_agent::Reason;
-use serf_model::packet_at;
+use serf_model::{Action, Answer, Refusal, packet_at};
 use serf_wire::{Bytes, Message, decode};
-use serf_world::{Action, Answer, Refusal, World};
+use serf_world::World;
 use std::alloc::{AllocError, Global};
 
 /// How many bytes most reasons have, at most.

@@ -4,8 +4,8 @@ use crate::marks::Plan;
 use crate::quoted::{put_query, put_quoted, say};
 use crate::told::{Actor, Told, message_of, packet_len, put_name};
 use serf_lamport::Time;
+use serf_model::{Action, Refusal};
 use serf_wire::{Message, user_event_len};
-use serf_world::{Action, Refusal};
 use std::alloc::AllocError;
 
 /// A number of 128 bits, or the greatest of 64 where it is above that.

@@ -6,9 +6,10 @@ use crate::memory::Memory;
 use crate::merges::Carried;
 use crate::quoted::put_quoted;
 use serf_agent::Agent;
+use serf_model::{Action, Line};
 use serf_snap::MemSink;
 use serf_wire::{Message, decode};
-use serf_world::{Action, Line, World};
+use serf_world::World;
 use std::alloc::AllocError;
 
 /// An action and what came of it, the cluster behind it, and what is remembered of the actions before it.

@@ -1,2 +1,4 @@
 pub mod HuntLemmas
+pub mod SublistLemmas
 pub mod SweepLemmas
+pub mod TrialLemmas

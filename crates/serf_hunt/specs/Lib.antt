@@ -1,4 +1,7 @@
+pub mod Calls
 pub mod Case
 pub mod Hunt
 pub mod Random
+pub mod Sublist
 pub mod Sweep
+pub mod Trials

@@ -5,8 +5,9 @@ ghost use Rattle.serf_replay.specs.Schedule.{parsed_of};
 ghost use Rattle.serf_hunt.specs.Case.{IsRunOf};
 
 use serf_agent::Config;
+use serf_model::{Action, Trace};
 use serf_replay::Schedule;
-use serf_world::{Action, Trace, run};
+use serf_world::run;
 use std::alloc::{AllocError, Global};
 
 /// A schedule and the trace of its run.

@@ -10,7 +10,7 @@ ghost use Rattle.serf_hunt.specs.Sweep.{Sweeps, is_other as is_other_end, sweep,
 use crate::case::Case;
 use serf_agent::Config;
 use serf_conform::{ConformFault, End, Rules, Verdict, hold};
-use serf_world::{Action, Trace};
+use serf_model::{Action, Trace};
 use std::alloc::Global;
 use std::io::{Read, Write};
 

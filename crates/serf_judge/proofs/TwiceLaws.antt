@@ -3,7 +3,7 @@ use Rattle.std.proofs.Common.{◌≡◌, ◌∙◌, ℕ, Bool, true, List, Optio
 use Rattle.std.specs.Prelude.{MatchOption, slice_get}
 use Rattle.std.specs.Option.{option_map}
 use Rattle.std.proofs.lemmas.Option.{slice_get-map}
-use Rattle.serf_pairs.specs.Pairs.{HasNoPair, IsFirstPair, IsPair}
+use Rattle.serf_judge.specs.Pairs.{HasNoPair, IsFirstPair, IsPair}
 use Rattle.serf_judge.specs.Twice.{AreFirstTwo, HasNoTwo, IsTwice}
 
 -- a key with this view

@@ -1,4 +1,10 @@
+pub mod Fired
 pub mod Identity
+pub mod Later
+pub mod Latest
 pub mod Log
+pub mod Pairs
+pub mod Repeats
 pub mod Said
+pub mod Spots
 pub mod Twice

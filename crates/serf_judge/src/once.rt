@@ -6,7 +6,7 @@ ghost use Rattle.serf_judge.specs.Twice.{AreFirstTwo, HasNoTwo};
 
 use crate::entry::{EventEntry, QueryEntry};
 use crate::key::{EventKey, QueryKey, key_of, query_key_of};
-use serf_pairs::first_pair;
+use crate::pairs::first_pair;
 use std::alloc::{AllocError, Global};
 
 fn keys_of<'a>(alloc: Global, entries: &'a [EventEntry]) -> Result<Vec<EventKey<'a>>, AllocError>

@@ -1,4 +1,5 @@
 pub mod Trace
+pub mod Common
 pub mod Cluster
 pub mod Ready
 pub mod Runs

@@ -8,6 +8,7 @@
 
 mod action;
 mod boxed;
+mod common;
 mod fault;
 mod laws;
 mod line;
@@ -16,6 +17,7 @@ mod trace;
 
 pub use action::{Action, SinkCall, packet_at};
 pub use boxed::{Boxed, BoxedBytes, BoxedParams};
+pub use common::is_common_turn;
 pub use fault::{NewFault, RunFault};
 pub use laws::{
     agents_alone, handed_queries, merged_agents, representable_agents, run_promises,

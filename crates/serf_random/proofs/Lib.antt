@@ -1,2 +1,4 @@
 pub mod CommentBack
+pub mod CommonBack
+pub mod CutLemmas
 pub mod DraftLemmas

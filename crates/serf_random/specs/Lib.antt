@@ -1,3 +1,5 @@
 pub mod Comment
+pub mod Common
+pub mod Cut
 pub mod Draft
 pub mod Kind

@@ -4,9 +4,10 @@ ghost use Rattle.std.specs.Prelude.{◌≡◌, OnOk};
 ghost use Rattle.serf_random.specs.Draft.{AddsActions, AddsAgents};
 
 use serf_agent::Config;
+use serf_model::Action;
 use serf_replay::MAX_SCHEDULE_BYTES;
 use serf_schedule_text::{is_sayable, put_action, put_agent};
-use serf_world::{Action, Roster, RosterFault};
+use serf_world::{Roster, RosterFault};
 use std::alloc::{AllocError, Global};
 
 /// Adds an agent and its line. Where it can't be added, or the text would be too long, both are as before.

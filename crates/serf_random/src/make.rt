@@ -11,9 +11,10 @@ use crate::ask::{Ask, put_comment};
 use crate::draft::add_action;
 use crate::player::Player;
 use crate::settings::add_agents;
+use serf_model::Action;
 use serf_replay::{MAX_SCHEDULE_BYTES, Schedule};
 use serf_schedule_text::{comments_skipped, know_read_back};
-use serf_world::{Action, Roster};
+use serf_world::Roster;
 use std::alloc::{AllocError, Global};
 
 /// A random schedule and its text.

@@ -5,8 +5,8 @@ use crate::player::{LastQuery, Player};
 use crate::pools::{long_text, name, payload, tail};
 use crate::verb::Verb;
 use serf_agent::{BytesList, QueryParams};
+use serf_model::{Action, Answer, BoxedBytes, BoxedParams, Line, SinkCall};
 use serf_wire::{Bytes, node_filter};
-use serf_world::{Action, Answer, BoxedBytes, BoxedParams, Line, SinkCall};
 use std::alloc::{AllocError, Global};
 
 /// What an agent does of its own accord.

@@ -9,7 +9,8 @@ use crate::strangers::stranger;
 use crate::times::near;
 use crate::verb::{Verb, verbs};
 use crate::{own, pools};
-use serf_world::{Action, Line, Roster, StepFault, World};
+use serf_model::{Action, Line};
+use serf_world::{Roster, StepFault, World};
 use std::alloc::{AllocError, Global};
 
 /// What follows an action: the packet that it sent goes on.

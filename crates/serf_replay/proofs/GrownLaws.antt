@@ -5,7 +5,7 @@ use Rattle.std.proofs.lemmas.Bool.Decides.{nat_tests}
 use Rattle.serf_agent.specs.declared.config.Config.{Config}
 use Rattle.serf_agent.specs.Config.{is_sound}
 use Rattle.serf_model.specs.declared.action.Action.{Action}
-use Rattle.serf_world.specs.Runs.{has_name}
+use Rattle.serf_model.specs.Runs.{has_name}
 use Rattle.serf_replay.specs.declared.cause.Cause.{Cause}
 use Rattle.serf_replay.specs.declared.cause.Cause.TheVariants.{BadConfig, LateAgent, NameTwice, WordCount}
 use Rattle.serf_replay.specs.declared.command.Command.{Command}

@@ -2,7 +2,7 @@
 use Rattle.std.proofs.Common.{◌≡◌, ◌<◌, ◌≤◌, ◌+◌, ◌++◌, ◌∙◌, inl, inr, ℕ, List, [], ◌∷◌, Option, Some, None, Result, Ok, Err, refl, sym, ap, subst, arith, length, length-append}
 use Rattle.std.specs.Prelude.{IfOk}
 use Rattle.std.specs.Option.{option_to_list}
-use Rattle.serf_world.specs.Runs.{AreConfigs}
+use Rattle.serf_model.specs.Runs.{AreConfigs}
 use Rattle.serf_model.specs.declared.action.Action.{Action}
 use Rattle.serf_replay.specs.declared.cause.Cause.{Cause}
 use Rattle.serf_replay.specs.declared.cause.LineFault.{LineFault}

@@ -32,8 +32,8 @@ pub use Rattle.serf_wire.specs.Fields.{fits}
 pub use Rattle.serf_wire.specs.Lists.{events_left, slot_of_view, slots_left, status_left, texts_left}
 pub use Rattle.serf_wire.specs.Message.{message_of}
 pub use Rattle.serf_wire.specs.Slots.{SlotContent, empty, held}
-pub use Rattle.serf_world.specs.Cluster.{Cluster, IdealNode, Run, after, numbers_from, on_agent, run_of, start, step, step_by, trace_of}
-pub use Rattle.serf_world.specs.Runs.{has_name}
-pub use Rattle.serf_world.specs.Sizes.{HasSizes}
-pub use Rattle.serf_world.specs.Trace.{Turn, actor_of, outcome_of, turns_of}
+pub use Rattle.serf_model.specs.Cluster.{Cluster, IdealNode, Run, after, numbers_from, on_agent, run_of, start, step, step_by, trace_of}
+pub use Rattle.serf_model.specs.Runs.{has_name}
+pub use Rattle.serf_model.specs.Sizes.{HasSizes}
+pub use Rattle.serf_model.specs.Trace.{Turn, actor_of, outcome_of, turns_of}
 pub use Rattle.serf_world.specs.View.{TakesStep, WorldState}

@@ -3,9 +3,9 @@ use Rattle.serf_replay.proofs.Names.{◌≡◌, ◌+◌, ◌++◌, ◌∙◌, �
 use Rattle.std.proofs.Common.{inl, inr}
 use Rattle.std.specs.Prelude.{All, IfOk, MatchOption, ◌==◌}
 use Rattle.serf_agent.specs.declared.config.Config.{Config}
-use Rattle.serf_world.specs.Kept.{KeepsPromises}
-use Rattle.serf_world.specs.Runs.{AreConfigs}
-use Rattle.serf_world.specs.Sizes.{HasSizes}
+use Rattle.serf_model.specs.Kept.{KeepsPromises}
+use Rattle.serf_model.specs.Runs.{AreConfigs}
+use Rattle.serf_model.specs.Sizes.{HasSizes}
 use Rattle.serf_replay.specs.declared.cause.Cause.{Cause}
 use Rattle.serf_replay.specs.declared.cause.LineFault.{LineFault}
 use Rattle.serf_replay.specs.declared.cause.LineFault.TheVariants.{Bad, OutOfMemory}

@@ -8,8 +8,8 @@ use Rattle.std.proofs.lemmas.List.Sums.{fold-append}
 use Rattle.serf_agent.specs.declared.config.Config.{Config}
 use Rattle.serf_model.specs.declared.action.Action.{Action}
 use Rattle.serf_model.specs.declared.line.Line.{Line}
-use Rattle.serf_world.specs.Cluster.{Run, after, start, step}
-use Rattle.serf_world.specs.Trace.{Turn}
+use Rattle.serf_model.specs.Cluster.{Run, after, start, step}
+use Rattle.serf_model.specs.Trace.{Turn}
 use Rattle.serf_replay.specs.Grown.{with_turn}
 use Rattle.serf_replay.specs.Line.{Parsed}
 use Rattle.serf_replay.specs.Show.{action_text, actions_text}

@@ -3,7 +3,7 @@ use Rattle.std.specs.Prelude.{All, IfOk, ◌≡◌, ◌+◌, ◌<◌, ◌++◌, 
 use Rattle.serf_model.specs.declared.action.Action.{Action}
 use Rattle.serf_model.specs.declared.line.Line.{Line}
 use Rattle.serf_model.specs.Sizes.{HasSizes}
-use Rattle.serf_world.specs.Cluster.{Cluster, step}
+use Rattle.serf_model.specs.Cluster.{Cluster, step}
 use Rattle.serf_replay.specs.Grown.{AddsSame, Grows}
 use Rattle.serf_replay.specs.Line.{Parsed, after_line}
 use Rattle.serf_replay.specs.Schedule.{schedule_in, schedule_of}
@@ -11,7 +11,7 @@ use Rattle.serf_replay.specs.Show.{action_text, actions_text}
 use Rattle.serf_replay.specs.Output.{TracesRun, output_of}
 use Rattle.serf_replay.specs.Turns.{run_text, turn_answer}
 use Rattle.serf_replay.specs.declared.cause.Cause.{Cause}
-use Rattle.serf_world.specs.Runs.{AreConfigs}
+use Rattle.serf_model.specs.Runs.{AreConfigs}
 
 -- a step sends its packets behind those that were sent
 abbrev pub SendsBehind : Type 0

@@ -5,11 +5,11 @@ use Rattle.serf_replay.specs.declared.parse.ScheduleFault.{ScheduleFault}
 use Rattle.serf_replay.specs.declared.parse.ScheduleFault.TheVariants as faults
 use Rattle.serf_replay.specs.Line.{Parsed}
 use Rattle.serf_replay.specs.Schedule.{BadLine, schedule_of}
-use Rattle.serf_world.specs.Cluster.{run_of, trace_of}
-use Rattle.serf_world.specs.Kept.{KeepsPromises}
-use Rattle.serf_world.specs.Runs.{AreConfigs}
-use Rattle.serf_world.specs.Sizes.{HasSizes}
-use Rattle.serf_world.specs.Trace.{turns_of}
+use Rattle.serf_model.specs.Cluster.{run_of, trace_of}
+use Rattle.serf_model.specs.Kept.{KeepsPromises}
+use Rattle.serf_model.specs.Runs.{AreConfigs}
+use Rattle.serf_model.specs.Sizes.{HasSizes}
+use Rattle.serf_model.specs.Trace.{turns_of}
 use Rattle.serf_replay.specs.Show.{trace_text}
 
 -- the greatest length of a schedule's text, in bytes

@@ -2,9 +2,9 @@
 use Rattle.std.specs.Prelude.{◌≡◌, ℕ, ◌<◌, ◌≤◌, ◌++◌, List, [], ◌∷◌, length, Option, Some, None, Ok}
 use Rattle.std.specs.Option.{option_to_list}
 use Rattle.serf_model.specs.declared.action.Action.{Action}
-use Rattle.serf_world.specs.Cluster.{Run}
-use Rattle.serf_world.specs.Ready.{AreRepresentable}
-use Rattle.serf_world.specs.Runs.{AreConfigs}
+use Rattle.serf_model.specs.Cluster.{Run}
+use Rattle.serf_model.specs.Ready.{AreRepresentable}
+use Rattle.serf_model.specs.Runs.{AreConfigs}
 use Rattle.serf_replay.specs.Grown.{with_turn}
 use Rattle.serf_replay.specs.Line.{Parsed}
 use Rattle.serf_replay.specs.Schedule.{parsed_of, schedule_in}

@@ -11,7 +11,7 @@ use Rattle.serf_model.specs.declared.line.Answer.TheVariants as answers
 use Rattle.serf_model.specs.declared.line.EventLine.{EventLine}
 use Rattle.serf_model.specs.declared.line.HandedLine.{HandedLine}
 use Rattle.serf_model.specs.declared.line.Line.{Line}
-use Rattle.serf_world.specs.Trace.{Outcome}
+use Rattle.serf_model.specs.Trace.{Outcome}
 use Rattle.serf_replay.specs.TextParts.{flag_text, hex_text}
 use Rattle.serf_replay.specs.WireText.{wire_text}
 

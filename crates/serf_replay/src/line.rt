@@ -13,8 +13,8 @@ use crate::words::{
     FIXED_WORDS, bytes_at, choice_at, cut, hex_bytes, number_at, number_from_to, sink_call_at,
 };
 use serf_agent::{BytesList, Config, DEFAULT_PER_TIME, QueryParams};
+use serf_model::{Action, BoxedBytes, BoxedParams};
 use serf_wire::Bytes;
-use serf_world::{Action, BoxedBytes, BoxedParams};
 use std::alloc::Global;
 
 /// The greatest timeout of a query, in nanoseconds.

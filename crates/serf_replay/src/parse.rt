@@ -1,8 +1,8 @@
 //! A whole schedule.
 
 ghost use Rattle.std.specs.Prelude.{◌≡◌, ◌<◌, ◌≤◌, ◌==◌, slice_index, length, map, All, IfOk, Ok, Err};
-ghost use Rattle.serf_world.specs.Runs.{AreConfigs};
-ghost use Rattle.serf_world.specs.Sizes.{HasSizes};
+ghost use Rattle.serf_model.specs.Runs.{AreConfigs};
+ghost use Rattle.serf_model.specs.Sizes.{HasSizes};
 ghost use Rattle.serf_replay.specs.Command.{command_of};
 ghost use Rattle.serf_replay.specs.Words.{words_of, word_at};
 ghost use Rattle.serf_replay.specs.Line.{action_line, query_said, after_line, with_action};
@@ -15,7 +15,8 @@ use crate::command::{Command, Verb, command_in};
 use crate::line::{action, agent, query};
 use crate::schedule::Schedule;
 use crate::words::{cut, take_words};
-use serf_world::{Action, Roster, RosterFault};
+use serf_model::Action;
+use serf_world::{Roster, RosterFault};
 use std::alloc::Global;
 use thiserror::Error;
 

@@ -3,8 +3,8 @@
 ghost use Rattle.std.specs.Prelude.{◌≡◌, ◌+◌, ◌++◌, ◌≤◌, ◌∷◌, [], length, List, ℕ, IfOk, OnOk, IfErr, Option, Some};
 ghost use Rattle.std.specs.Option.{option_to_list};
 ghost use Rattle.serf_model.specs.declared.action.Action.{Action};
-ghost use Rattle.serf_world.specs.Cluster.{Run, after};
-ghost use Rattle.serf_world.specs.Runs.{AreConfigs};
+ghost use Rattle.serf_model.specs.Cluster.{Run, after};
+ghost use Rattle.serf_model.specs.Runs.{AreConfigs};
 ghost use Rattle.serf_replay.specs.Gives.{Fails};
 ghost use Rattle.serf_replay.specs.Grown.{with_turn};
 ghost use Rattle.serf_replay.specs.Line.{Parsed};
@@ -16,7 +16,8 @@ use crate::cause::LineFault;
 use crate::parse::read_line;
 use crate::schedule::Schedule;
 use crate::show::put_action;
-use serf_world::{Action, Roster, World};
+use serf_model::Action;
+use serf_world::{Roster, World};
 use std::alloc::{AllocError, Global};
 use std::mem;
 

@@ -1,8 +1,9 @@
 //! What a schedule says: the agents of a cluster, and what is done in it.
 
-ghost use Rattle.serf_world.specs.Runs.{AreConfigs};
+ghost use Rattle.serf_model.specs.Runs.{AreConfigs};
 
-use serf_world::{Action, Roster};
+use serf_model::Action;
+use serf_world::Roster;
 
 /// The agents and the actions, in order. Both are numbered from 0.
 #[derive(Debug, Drop)]

@@ -9,8 +9,8 @@ use crate::cause::{Cause, LineFault};
 use crate::command::is_word;
 use hex::FromHexError;
 use memchr::memchr;
+use serf_model::SinkCall;
 use serf_wire::Bytes;
-use serf_world::SinkCall;
 use std::alloc::{AllocError, Global};
 
 /// The bytes from which on a text is searched by vectors of bytes; in a shorter one that takes longer.

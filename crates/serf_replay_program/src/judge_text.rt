@@ -1,8 +1,9 @@
 //! The text of the verdicts on a log.
 
-use serf_fired::first_unfired;
-use serf_judge::{EventEntry, Log, QueryEntry, first_above, first_event_twice, first_query_twice};
-use serf_later::{LaterFault, first_not_later};
+use serf_judge::{
+    EventEntry, LaterFault, Log, QueryEntry, first_above, first_event_twice, first_not_later,
+    first_query_twice, first_unfired,
+};
 use std::alloc::{AllocError, Global};
 
 /// The verdicts so far, a line each, and whether a promise is broken.

@@ -2,9 +2,8 @@
 
 use crate::jobs::{finish, no_memory};
 use clap::{Arg, ArgAction, ArgMatches, Command, value_parser};
-use serf_common_turns::common_schedule;
 use serf_conform::Rules;
-use serf_random::{Ask, Kind, random_schedule};
+use serf_random::{Ask, Kind, common_schedule, random_schedule};
 use std::alloc::{AllocError, Global};
 
 /// A random schedule, and whose rules its turns keep to.

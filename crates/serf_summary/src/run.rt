@@ -5,8 +5,9 @@ ghost use Rattle.serf_model.specs.Cluster.{Run, after, run_of};
 ghost use Rattle.serf_summary.specs.Summaries.{IsSummary, Stands};
 
 use crate::summary::Summary;
+use serf_model::Action;
 use serf_replay::{Schedule, Watch};
-use serf_world::{Action, StepFault, World};
+use serf_world::{StepFault, World};
 use std::alloc::{AllocError, Global};
 
 /// Does an action, and takes its line in.

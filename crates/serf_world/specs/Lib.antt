@@ -1,13 +1,3 @@
-pub use Rattle.serf_model.specs.Trace
-pub use Rattle.serf_model.specs.Cluster
-pub use Rattle.serf_model.specs.Ready
-pub use Rattle.serf_model.specs.Runs
-pub use Rattle.serf_model.specs.Sizes
-pub use Rattle.serf_model.specs.Promises
-pub use Rattle.serf_model.specs.Queried
-pub use Rattle.serf_model.specs.AnswerPromises
-pub use Rattle.serf_model.specs.Bounds
-pub use Rattle.serf_model.specs.Kept
 pub mod View
 pub mod Turns
 pub mod Roster

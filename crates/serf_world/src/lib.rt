@@ -19,8 +19,4 @@ mod world;
 pub use fault::StepFault;
 pub use roster::{Roster, RosterFault};
 pub use running::run;
-pub use serf_model::{
-    Action, Answer, Boxed, BoxedBytes, BoxedParams, EventLine, EventLines, HandedLine, Line, Lines,
-    NewFault, Numbers, Refusal, RunFault, SinkCall, Trace,
-};
 pub use world::World;

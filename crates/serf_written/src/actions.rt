@@ -14,9 +14,9 @@ use crate::values::{
     sink_call_at, word,
 };
 use serf_agent::Config;
+use serf_model::Action;
 use serf_replay::{is_word, number};
 use serf_wire::Bytes;
-use serf_world::Action;
 use std::alloc::Global;
 
 /// What a line does: one action, or two.

@@ -13,9 +13,9 @@ use crate::piece::Piece;
 use crate::settings::{behind, word_in};
 use crate::values::{agent_at, bytes_at, halves, time, time_at, word};
 use serf_agent::{BytesList, Config, QueryParams};
+use serf_model::{Action, BoxedBytes, BoxedParams};
 use serf_replay::{hex_bytes, is_word, number};
 use serf_wire::Bytes;
-use serf_world::{Action, BoxedBytes, BoxedParams};
 use std::alloc::{AllocError, Global};
 
 /// What a query's line says beside its texts.

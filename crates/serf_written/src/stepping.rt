@@ -3,7 +3,8 @@
 ghost use Rattle.std.specs.Prelude.{◌≡◌, ◌++◌, ◌∷◌, [], IfOk};
 ghost use Rattle.serf_written.specs.Running.{HasRun, HasWorld};
 
-use serf_world::{Action, Roster, StepFault, World};
+use serf_model::Action;
+use serf_world::{Roster, StepFault, World};
 use std::alloc::{AllocError, Global};
 
 /// The world of these actions: the one that is there, or a fresh one before the first action. `AllocError` where memory

@@ -11,9 +11,9 @@ use crate::fault::{LineFault, Wanted, bad};
 use crate::label::Label;
 use crate::piece::Piece;
 use serf_agent::Config;
+use serf_model::SinkCall;
 use serf_replay::{choice, hex_bytes, is_word, number, sink_call};
 use serf_wire::Bytes;
-use serf_world::SinkCall;
 use std::alloc::{AllocError, Global};
 
 /// The piece at a place, counting from 1. Place 0 is the first too.

@@ -16,10 +16,11 @@ use crate::said::said_deed;
 use crate::settings::{add_agent, behind};
 use crate::stepping::{world_behind, world_of};
 use crate::values::word;
+use serf_model::Action;
 use serf_replay::{Schedule, is_word};
 use serf_schedule_text::is_sayable;
 use serf_wire::Bytes;
-use serf_world::{Action, Roster, World};
+use serf_world::{Roster, World};
 use std::alloc::{AllocError, Global};
 use std::marker::Model;
 

@@ -1,2 +1,0 @@
-pub mod CommentBack
-pub mod CutLemmas

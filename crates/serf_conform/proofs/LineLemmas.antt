@@ -1,0 +1,26 @@
+-- A line of which at most eight words are cut, and what it says.
+use Rattle.std.proofs.Common.{◌≡◌, ◌≤◌, ◌<◌, ◌++◌, ◌∙◌, ℕ, List, [], true, false, refl, sym, ap, subst, arith, length}
+use Rattle.std.specs.Prelude.{nat_lt, Err}
+use Rattle.std.proofs.lemmas.Grind.{common_steps}
+use Rattle.std.proofs.lemmas.List.{append-nil, length-append}
+use Rattle.serf_replay.specs.declared.cause.Cause.TheVariants.{WordCount}
+use Rattle.serf_replay.specs.Words.{word_at}
+use Rattle.serf_conform.specs.Reply.{counted_words, kind_of, line_of}
+
+-- a line of more than eight words
+pub long_line : (all ws more : List (List ℕ)) → ws ++ more ≡ all → length ws ≡ 8 → 0 < length more → line_of all ≡ Err WordCount
+unfolding line_of
+long_line all ws more joined eight some =
+    let total = length-append ws more in
+    let sum = ap length joined in
+    let many : 8 < length all = omega (arith, total, sum) in
+    let test : nat_lt 8 (length all) ≡ true = grind (arith, common_steps) in
+    rw test refl
+
+-- a line whose words are all cut
+pub short_line : (all ws : List (List ℕ)) → ws ++ [] ≡ all → length ws ≤ 8 → line_of all ≡ counted_words (kind_of (word_at 1 ws) (word_at 2 ws)) ws
+unfolding line_of
+short_line all ws joined few =
+    let test : nat_lt 8 (length ws) ≡ false = grind (arith, common_steps) in
+    let same : ws ≡ all = sym (append-nil ws) ∙ joined in
+    subst (λ (x : List (List ℕ)). line_of x ≡ counted_words (kind_of (word_at 1 ws) (word_at 2 ws)) ws) same (rw test refl)

@@ -1,0 +1,60 @@
+//! Reading one reply of an agent.
+
+ghost use Rattle.std.specs.Prelude.{◌≡◌, ◌<◌, ◌≤◌, IfOk, IfSome, IsErrOf, None, length};
+ghost use Rattle.serf_conform.specs.Input.{ReadsReply, first_reply, longest_reply};
+
+use std::alloc::Global;
+use std::io::Read;
+use thiserror::Error;
+
+/// The greatest length of a reply's lines together, with their newlines, in bytes.
+pub const MAX_REPLY_BYTES: usize = 67_108_864;
+
+/// Why a reply was not read to its end.
+#[derive(Clone, Copy, Debug, Drop, Error, PartialEq, Eq)]
+pub enum ReadFault {
+    /// A read failed.
+    #[error("a read failed")]
+    ReadFault,
+    /// The input ended before the empty line that ends a reply.
+    #[error("the agent has ended")]
+    Ended,
+    /// The reply has more than 67,108,864 bytes.
+    #[error("the reply is too long")]
+    TooLong,
+    #[error("out of memory")]
+    OutOfMemory,
+}
+
+/// The lines of the next reply, each with its newline. Just they are read, and the empty line behind them.
+///
+/// A read of no bytes is the end of the input. After an error some bytes of a reply may have been read.
+pub fn read_reply_text<R: Read>(alloc: Global, reader: &mut R) -> Result<Vec<u8>, ReadFault>
+    ensures text { IfOk result (λ text.
+        ReadsReply (R.remaining reader.old) (R.remaining reader.new) text.items) }
+    ensures ended { IsErrOf result ReadFault.Ended
+        → IfSome (R.remaining reader.old) (λ input. first_reply input ≡ None) }
+    ensures too_long { IsErrOf result ReadFault.TooLong
+        → IfSome (R.remaining reader.old) (λ input. longest_reply < length input) }
+    ensures short { IfOk result (λ text. length text.items ≤ longest_reply) }
+{
+    let mut text = Vec::new(alloc);
+    let mut begins = true;
+    let mut byte = [0u8; 1];
+    for _turn in 0..MAX_REPLY_BYTES + 1 {
+        match reader.read(&mut byte) {
+            Err(_) => return Err(ReadFault::ReadFault),
+            Ok(0) => return Err(ReadFault::Ended),
+            Ok(_) => {}
+        }
+        let read = byte[0];
+        if begins && read == b'\n' {
+            return Ok(text);
+        }
+        if text.push(read).is_err() {
+            return Err(ReadFault::OutOfMemory);
+        }
+        begins = read == b'\n';
+    }
+    Err(ReadFault::TooLong)
+}

@@ -1,0 +1,52 @@
+//! Words with a space before them.
+ghost use Rattle.std.specs.Prelude.{◌≡◌, ◌++◌, OnOk};
+ghost use Rattle.serf_conform.specs.CallText.{flag_word, hex_word, moment_words, number_word, texts_words};
+
+use serf_replay::{flag, put_hex, put_number};
+use std::alloc::AllocError;
+
+#[tactic(auto, unfolding(crate::specs::CallText::number_word))]
+pub(crate) fn put_number_word(out: &mut Vec<u8>, n: u64) -> Result<(), AllocError>
+    ensures { OnOk result (out.new.items ≡ out.old.items ++ number_word n) }
+{
+    out.extend_from_slice(b" ")?;
+    put_number(out, n)
+}
+
+#[tactic(auto, unfolding(crate::specs::CallText::hex_word))]
+pub(crate) fn put_hex_word(out: &mut Vec<u8>, bytes: &[u8]) -> Result<(), AllocError>
+    ensures { OnOk result (out.new.items ≡ out.old.items ++ hex_word bytes.now) }
+{
+    out.extend_from_slice(b" ")?;
+    put_hex(out, bytes)
+}
+
+#[tactic(auto, unfolding(crate::specs::CallText::flag_word))]
+pub(crate) fn put_flag_word(out: &mut Vec<u8>, value: bool) -> Result<(), AllocError>
+    ensures { OnOk result (out.new.items ≡ out.old.items ++ flag_word value) }
+{
+    out.extend_from_slice(b" ")?;
+    out.extend_from_slice(flag(value))
+}
+
+/// A name and a payload.
+#[tactic(auto, unfolding(crate::specs::CallText::texts_words))]
+pub(crate) fn put_texts_words(
+    out: &mut Vec<u8>,
+    name: &[u8],
+    payload: &[u8],
+) -> Result<(), AllocError>
+    ensures { OnOk result (out.new.items ≡ out.old.items ++ texts_words name.now payload.now) }
+{
+    put_hex_word(out, name)?;
+    put_hex_word(out, payload)
+}
+
+/// Two numbers.
+#[tactic(auto, unfolding(crate::specs::CallText::moment_words))]
+pub(crate) fn put_moment_words(out: &mut Vec<u8>, now: u64, id: u64) -> Result<(), AllocError>
+    ensures { OnOk result (out.new.items ≡ out.old.items ++ moment_words now id) }
+{
+    put_number_word(out, now)?;
+    put_number_word(out, id)
+}

@@ -1,0 +1,109 @@
+//! A whole reply.
+
+ghost use Rattle.std.specs.Prelude.{◌≡◌, ◌==◌, [], Ok};
+ghost use Rattle.std.specs.List.{slice_split};
+ghost use Rattle.serf_replay.specs.Gives.{Gives};
+ghost use Rattle.serf_conform.specs.Reply.{Reads, ReadsLines, after_line, after_lines, reply_of};
+
+use crate::reply_line::{ReplyLine, read_reply_line};
+use serf_replay::{Cause, LineFault, cut};
+use serf_wire::Bytes;
+use std::alloc::Global;
+use thiserror::Error;
+
+/// What an agent replied to a call.
+#[derive(Debug, Drop)]
+pub struct Reply {
+    /// The first line, as it stands.
+    pub answer: Bytes,
+    /// What the lines behind it say, in order.
+    pub lines: Vec<ReplyLine>,
+}
+
+/// Why a reply is not read.
+#[derive(Clone, Copy, Debug, Drop, Error, PartialEq, Eq)]
+pub enum ReplyFault {
+    /// The first line, counted from 1, that can't be read, and what is wrong with it.
+    #[error("line {line} of the reply is bad: {cause}")]
+    BadLine { line: u64, cause: Cause },
+    #[error("out of memory")]
+    OutOfMemory,
+}
+
+/// Adds what a line says to the lines before it.
+#[tactic(auto, unfolding(crate::specs::Reply::after_line))]
+fn add_line(alloc: Global, lines: &mut Vec<ReplyLine>, line: &[u8]) -> Result<(), LineFault>
+    ensures { Gives (λ _. lines.new.items) result (after_line lines.old.items line.now) }
+{
+    if line.is_empty() {
+        return Ok(());
+    }
+    let said = read_reply_line(alloc, line)?;
+    match lines.push(said) {
+        Ok(()) => Ok(()),
+        Err(_) => Err(LineFault::OutOfMemory),
+    }
+}
+
+/// What the lines of a text say, of which the first is the second of its reply.
+fn read_lines(alloc: Global, text: &[u8]) -> Result<Vec<ReplyLine>, ReplyFault>
+    ensures { ReadsLines result (after_lines 2 [] (slice_split (λ b. b == 10) text.now)) }
+{
+    let mut lines = Vec::new(alloc);
+    let mut number: u64 = 2;
+    let mut rest = text;
+    'lines: loop {
+        let (line, more) = cut(rest, b'\n');
+        match add_line(alloc, &mut lines, line) {
+            Ok(()) => {}
+            Err(LineFault::Bad(cause)) => {
+                return Err(ReplyFault::BadLine {
+                    line: number,
+                    cause,
+                });
+            }
+            Err(LineFault::OutOfMemory) => return Err(ReplyFault::OutOfMemory),
+        }
+        match more {
+            Some(next) => {
+                rest = next;
+                number += 1;
+            }
+            None => return Ok(lines),
+        }
+    }
+}
+
+/// A reply of this answer and these lines.
+fn reply_with(alloc: Global, answer: &[u8], lines: Vec<ReplyLine>) -> Result<Reply, ReplyFault>
+    ensures { Reads result (Ok (record { answer = answer.now; lines = lines.items })) }
+{
+    match Bytes::copy_of(alloc, answer) {
+        Ok(answer) => Ok(Reply { answer, lines }),
+        Err(_) => Err(ReplyFault::OutOfMemory),
+    }
+}
+
+/// The reply that these lines say, or its first line that can't be read.
+///
+/// The text is cut at newlines. The first line is the answer, of any bytes but none. Empty lines behind it say nothing;
+/// [`crate::read_reply_text`] gives none but the one at the end. `OutOfMemory` may come before a bad line that stands
+/// further on.
+pub fn read_reply(alloc: Global, text: &[u8]) -> Result<Reply, ReplyFault>
+    ensures { Reads result (reply_of text.now) }
+{
+    let (answer, more) = cut(text, b'\n');
+    if answer.is_empty() {
+        return Err(ReplyFault::BadLine {
+            line: 1,
+            cause: Cause::UnknownWord,
+        });
+    }
+    match more {
+        Some(rest) => {
+            let lines = read_lines(alloc, rest)?;
+            reply_with(alloc, answer, lines)
+        }
+        None => reply_with(alloc, answer, Vec::new(alloc)),
+    }
+}

@@ -1,0 +1,236 @@
+//! A line of a reply behind its answer.
+
+ghost use Rattle.std.specs.Prelude.{◌≡◌, ◌==◌, ◌≤◌, length, map};
+ghost use Rattle.serf_replay.specs.Gives.{Gives};
+ghost use Rattle.serf_replay.specs.Words.{words_of, word_at};
+ghost use Rattle.serf_conform.specs.Reply.{counted_ack_of, counted_kind, counted_response_of, counted_words, count_of, event_of, handed_of, kept_of, kind_of, line_of, of_kind, sent_of};
+
+use serf_replay::{
+    Cause, LineFault, bytes_at, choice_at, is_word, number_at, number_from_to, take_words, word_at,
+};
+use serf_wire::Bytes;
+use std::alloc::Global;
+
+/// The greatest time.
+const MAX_TIME: u64 = u64::MAX - 1;
+
+/// The greatest ID of a query.
+const MAX_ID: u64 = u32::MAX as u64;
+
+/// What a line of a reply says. Times are Lamport times, below 2^64 - 1.
+#[derive(Debug, Drop)]
+pub enum ReplyLine {
+    /// A packet was sent.
+    Sent(Bytes),
+    /// An event was handed out.
+    Event {
+        time: u64,
+        name: Bytes,
+        payload: Bytes,
+        /// Whether it may be coalesced with others of its name.
+        coalesce: bool,
+    },
+    /// A query was handed out.
+    Handed {
+        /// How many queries were handed out before, in this life.
+        index: u64,
+        time: u64,
+        /// Below 2^32.
+        id: u64,
+        name: Bytes,
+        payload: Bytes,
+    },
+    /// This ack was counted: the query's time and ID, and the node that acked.
+    CountedAck {
+        time: u64,
+        /// Below 2^32.
+        id: u64,
+        from: Bytes,
+    },
+    /// This response was counted: the query's time and ID, the node that answered, and what it says.
+    CountedResponse {
+        time: u64,
+        /// Below 2^32.
+        id: u64,
+        from: Bytes,
+        payload: Bytes,
+    },
+    /// The disk keeps this text.
+    Kept(Bytes),
+}
+
+/// What a line is about.
+#[derive(Clone, Copy, Debug, PartialEq, Eq)]
+pub(crate) enum LineKind {
+    Sent,
+    Event,
+    Handed,
+    CountedAck,
+    CountedResponse,
+    Kept,
+}
+
+/// What was counted, by the second word.
+fn counted(word: &[u8]) -> Option<LineKind>
+    ensures { result ≡ counted_kind word.now }
+{
+    if is_word(word, b"ack") {
+        Some(LineKind::CountedAck)
+    } else if is_word(word, b"response") {
+        Some(LineKind::CountedResponse)
+    } else {
+        None
+    }
+}
+
+/// What a line is about, by its first two words.
+fn kind(first: &[u8], second: &[u8]) -> Option<LineKind>
+    ensures { result ≡ kind_of first.now second.now }
+{
+    if is_word(first, b"sent") {
+        Some(LineKind::Sent)
+    } else if is_word(first, b"event") {
+        Some(LineKind::Event)
+    } else if is_word(first, b"handed") {
+        Some(LineKind::Handed)
+    } else if is_word(first, b"counted") {
+        counted(second)
+    } else if is_word(first, b"kept") {
+        Some(LineKind::Kept)
+    } else {
+        None
+    }
+}
+
+impl LineKind {
+    /// How many words its line has.
+    fn count(self) -> usize
+        ensures { result ≡ count_of self }
+    {
+        match self {
+            LineKind::Sent | LineKind::Kept => 2,
+            LineKind::Event | LineKind::CountedAck => 5,
+            LineKind::Handed | LineKind::CountedResponse => 6,
+        }
+    }
+}
+
+#[tactic(auto, unfolding(crate::specs::Reply::sent_of))]
+fn sent(alloc: Global, words: &[&[u8]]) -> Result<ReplyLine, LineFault>
+    ensures { Gives (λ l. l) result (sent_of (map (λ w. w.now) words.now)) }
+{
+    let packet = bytes_at(alloc, words, 2)?;
+    Ok(ReplyLine::Sent(packet))
+}
+
+#[tactic(auto, unfolding(crate::specs::Reply::event_of))]
+fn event(alloc: Global, words: &[&[u8]]) -> Result<ReplyLine, LineFault>
+    ensures { Gives (λ l. l) result (event_of (map (λ w. w.now) words.now)) }
+{
+    let time = number_from_to(words, 2, 0, MAX_TIME)?;
+    let name = bytes_at(alloc, words, 3)?;
+    let payload = bytes_at(alloc, words, 4)?;
+    let coalesce = choice_at(words, 5, b"0", b"1")?;
+    Ok(ReplyLine::Event {
+        time,
+        name,
+        payload,
+        coalesce,
+    })
+}
+
+#[tactic(auto, unfolding(crate::specs::Reply::handed_of))]
+fn handed(alloc: Global, words: &[&[u8]]) -> Result<ReplyLine, LineFault>
+    ensures { Gives (λ l. l) result (handed_of (map (λ w. w.now) words.now)) }
+{
+    let index = number_at(words, 2)?;
+    let time = number_from_to(words, 3, 0, MAX_TIME)?;
+    let id = number_from_to(words, 4, 0, MAX_ID)?;
+    let name = bytes_at(alloc, words, 5)?;
+    let payload = bytes_at(alloc, words, 6)?;
+    Ok(ReplyLine::Handed {
+        index,
+        time,
+        id,
+        name,
+        payload,
+    })
+}
+
+#[tactic(auto, unfolding(crate::specs::Reply::counted_ack_of))]
+fn counted_ack(alloc: Global, words: &[&[u8]]) -> Result<ReplyLine, LineFault>
+    ensures { Gives (λ l. l) result (counted_ack_of (map (λ w. w.now) words.now)) }
+{
+    let time = number_from_to(words, 3, 0, MAX_TIME)?;
+    let id = number_from_to(words, 4, 0, MAX_ID)?;
+    let from = bytes_at(alloc, words, 5)?;
+    Ok(ReplyLine::CountedAck { time, id, from })
+}
+
+#[tactic(auto, unfolding(crate::specs::Reply::counted_response_of))]
+fn counted_response(alloc: Global, words: &[&[u8]]) -> Result<ReplyLine, LineFault>
+    ensures { Gives (λ l. l) result (counted_response_of (map (λ w. w.now) words.now)) }
+{
+    let time = number_from_to(words, 3, 0, MAX_TIME)?;
+    let id = number_from_to(words, 4, 0, MAX_ID)?;
+    let from = bytes_at(alloc, words, 5)?;
+    let payload = bytes_at(alloc, words, 6)?;
+    Ok(ReplyLine::CountedResponse {
+        time,
+        id,
+        from,
+        payload,
+    })
+}
+
+#[tactic(auto, unfolding(crate::specs::Reply::kept_of))]
+fn kept(alloc: Global, words: &[&[u8]]) -> Result<ReplyLine, LineFault>
+    ensures { Gives (λ l. l) result (kept_of (map (λ w. w.now) words.now)) }
+{
+    let text = bytes_at(alloc, words, 2)?;
+    Ok(ReplyLine::Kept(text))
+}
+
+/// What a line of a kind says, which has as many words as that needs.
+fn line_of_kind(alloc: Global, kind: LineKind, words: &[&[u8]]) -> Result<ReplyLine, LineFault>
+    ensures { Gives (λ l. l) result (of_kind kind (map (λ w. w.now) words.now)) }
+{
+    match kind {
+        LineKind::Sent => sent(alloc, words),
+        LineKind::Event => event(alloc, words),
+        LineKind::Handed => handed(alloc, words),
+        LineKind::CountedAck => counted_ack(alloc, words),
+        LineKind::CountedResponse => counted_response(alloc, words),
+        LineKind::Kept => kept(alloc, words),
+    }
+}
+
+/// What the words of a line say.
+fn line_in(alloc: Global, words: &[&[u8]]) -> Result<ReplyLine, LineFault>
+    ensures { Gives (λ l. l) result (counted_words
+        (kind_of (word_at 1 (map (λ w. w.now) words.now)) (word_at 2 (map (λ w. w.now) words.now)))
+        (map (λ w. w.now) words.now)) }
+{
+    let Some(kind) = kind(word_at(words, 1), word_at(words, 2)) else {
+        return Err(LineFault::Bad(Cause::UnknownWord));
+    };
+    if words.len() != kind.count() {
+        return Err(LineFault::Bad(Cause::WordCount));
+    }
+    line_of_kind(alloc, kind, words)
+}
+
+/// What a line behind a reply's answer says: `sent`, `event`, `handed`, `counted ack`, `counted response` or `kept`.
+///
+/// Words stand between spaces. A line of more than eight words has too many, whatever it is. A line that can't be read
+/// is `Bad` with its first cause: `WordCount`, `UnknownWord` or `BadWord`.
+pub fn read_reply_line(alloc: Global, line: &[u8]) -> Result<ReplyLine, LineFault>
+    ensures { Gives (λ l. l) result (line_of (words_of line.now)) }
+{
+    let mut words = Vec::new(alloc);
+    let rest = take_words(line, &mut words)?;
+    if !rest.is_empty() {
+        return Err(LineFault::Bad(Cause::WordCount));
+    }
+    line_in(alloc, &words)
+}

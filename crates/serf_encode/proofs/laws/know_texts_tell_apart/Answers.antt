@@ -1,6 +1,0 @@
--- Texts are read back, and no text as two messages.
-use Rattle.serf_encode.proofs.TextsTaken.{texts_tell_apart}
-use Rattle.serf_encode.proofs.laws.know_texts_tell_apart.Goals as goal
-
-pub returns : goal.returns
-returns c = texts_tell_apart c.decoded_ranges.ensures

@@ -1,8 +1,0 @@
-use Rattle.std.proofs.Common.{◌≡◌, ◌++◌, drop, map}
-use Rattle.serf_encode.specs.Rows.{row_seen}
-use Rattle.serf_encode.specs.Meant.{texts_at}
-use Rattle.serf_encode.proofs.meant.texts_field.Given as goal
-
--- the bytes so far, and then those of the other lines
-abbrev pub invariant-loop-row : goal.invariant-loop-row
-invariant-loop-row l = l.texts.items ++ texts_at l.name (map row_seen (drop l.row-index l.rows)) ≡ texts_at l.name (map row_seen l.rows)

@@ -1,7 +1,0 @@
-use Rattle.std.proofs.Common.{◌≡◌, drop, map}
-use Rattle.serf_encode.specs.Rows.{row_seen, value_of}
-use Rattle.serf_encode.proofs.row.value.Given as goal
-
--- none so far has the name
-abbrev pub invariant-loop-row : goal.invariant-loop-row
-invariant-loop-row l = value_of l.name (map row_seen (drop l.row-index l.rows)) ≡ value_of l.name (map row_seen l.rows)

@@ -1,7 +1,0 @@
-use Rattle.std.proofs.Common.{◌≡◌, take, map}
-use Rattle.serf_wire.specs.Lists.{status_of}
-use Rattle.serf_encode.specs.States.{member_held}
-use Rattle.serf_encode.proofs.slots.lend_members.Given as goal
-
-abbrev pub invariant-loop-member : goal.invariant-loop-member
-invariant-loop-member l = map status_of l.status.items ≡ map member_held (take l.member-index l.members)

@@ -1,6 +1,0 @@
-pub mod Rows
-pub mod Meant
-pub mod States
-pub mod Encoded
-pub mod Blocks
-pub mod Taken

@@ -1,0 +1,13 @@
+use Rattle.std.proofs.Common.{◌+◌, ℕ, List, [], Option, length}
+use Rattle.serf_conform.specs.Rules.{is_serf}
+use Rattle.serf_hunt.specs.declared.call.Call.{Call}
+use Rattle.serf_hunt.specs.Trials.{IsAlong}
+use Rattle.serf_hunt.proofs.shrinking.settle.Given as goal
+
+abbrev pub invariant-steps : goal.invariant-steps
+invariant-steps g l = (whole : List Call) (input : List ℕ) (from : Option (List ℕ))
+    → IsAlong (is_serf l.rules) l.config whole l.fn.calls.items [] input (g.R.Read.remaining l.fn.reader) from (g.W.Write.contents l.fn.writer)
+    → IsAlong (is_serf l.rules) l.config whole l.calls.items [] input (g.R.Read.remaining l.reader) from (g.W.Write.contents l.writer)
+
+abbrev pub decreases-steps : goal.decreases-steps
+decreases-steps g l = length l.calls.items + l.size

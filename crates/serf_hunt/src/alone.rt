@@ -1,0 +1,198 @@
+//! The calls of one agent, and the schedule of these alone.
+
+ghost use Rattle.std.specs.Prelude.{◌≡◌, ◌≤◌, ◌++◌, ◌∷◌, [], ℕ, List, length, IfOk, OnOk};
+ghost use Rattle.std.specs.List.{flat_map};
+ghost use Rattle.serf_model.specs.Trace.{outcome_of, turns_from, turns_of};
+ghost use Rattle.serf_replay.specs.Line.{Parsed};
+ghost use Rattle.serf_replay.specs.Schedule.{parsed_of};
+ghost use Rattle.serf_conform.specs.Session.{turn_at};
+ghost use Rattle.serf_hunt.specs.Case.{IsRunOf, turns_in};
+ghost use Rattle.serf_hunt.specs.Calls.{alone, calls_by, injections_of, packets_in, placed_from};
+
+use crate::call::{Call, copy_action, copy_placed};
+use crate::case::Case;
+use serf_agent::Config;
+use serf_conform::{ConformFault, given_packet, is_of};
+use serf_model::{Action, Line};
+use serf_replay::Schedule;
+use serf_wire::Bytes;
+use serf_world::{Roster, RosterFault};
+use std::alloc::{AllocError, Global};
+
+/// Adds the call of a turn, if it is one of this agent.
+fn add_call(
+    alloc: Global,
+    calls: &mut Vec<Call>,
+    agent: u64,
+    action: &Action,
+    line: &Line,
+    sent: &[Bytes],
+    count: usize,
+) -> Result<(), ConformFault>
+    ensures { OnOk result (calls.new.items ≡ calls.old.items
+        ++ calls_by agent (turn_at count sent.now action.now line.now ∷ [])) }
+{
+    if count > sent.len() {
+        return Err(ConformFault::OtherTrace);
+    }
+    if !is_of(action, agent) {
+        return Ok(());
+    }
+    let Some(given) = given_packet(action, &sent[..count]) else {
+        return Ok(());
+    };
+    match copy_of_call(alloc, action, given) {
+        Ok(call) => match calls.push(call) {
+            Ok(()) => Ok(()),
+            Err(_) => Err(ConformFault::OutOfMemory),
+        },
+        Err(_) => Err(ConformFault::OutOfMemory),
+    }
+}
+
+fn copy_of_call(alloc: Global, action: &Action, given: &[u8]) -> Result<Call, AllocError>
+    ensures { IfOk result (λ call. call ≡ record { action = action.now; given = given.now }) }
+{
+    let action = copy_action(alloc, action)?;
+    let given = Bytes::copy_of(alloc, given)?;
+    Ok(Call { action, given })
+}
+
+fn calls_in(
+    alloc: Global,
+    agent: u64,
+    actions: &[Action],
+    lines: &[Line],
+    sent: &[Bytes],
+) -> Result<Vec<Call>, ConformFault>
+    ensures { IfOk result (λ calls. calls.items
+        ≡ calls_by agent (turns_from 0 sent.now actions.now lines.now)) }
+{
+    let mut calls = Vec::new(alloc);
+    let mut actions = actions;
+    let mut lines = lines;
+    let mut count: usize = 0;
+    'turns: loop {
+        match actions {
+            [] => return Ok(calls),
+            [action, actions_left @ ..] => match lines {
+                [] => return Ok(calls),
+                [line, lines_left @ ..] => {
+                    let own = line.sent.as_slice().len();
+                    if own > sent.len() - count {
+                        return Err(ConformFault::OtherTrace);
+                    }
+                    add_call(alloc, &mut calls, agent, action, line, sent, count)?;
+                    count += own;
+                    actions = actions_left;
+                    lines = lines_left;
+                }
+            },
+        }
+    }
+}
+
+/// The calls that an agent got in a run, in order, each with its packet by its bytes: those that
+/// [`serf_conform::hold`] makes of it. `OtherTrace` where the trace is not one of these actions.
+pub fn calls_of(alloc: Global, case: &Case, agent: u64) -> Result<Vec<Call>, ConformFault>
+    ensures { (p : Parsed) → IsRunOf p case.now
+        → IfOk result (λ calls. calls.items ≡ calls_by agent (turns_in p)) }
+{
+    calls_in(
+        alloc,
+        agent,
+        &case.actions,
+        case.trace.lines.as_slice(),
+        case.trace.sent.as_slice(),
+    )
+}
+
+/// Adds the packet that a call gives, as one that is injected.
+fn add_packet(alloc: Global, actions: &mut Vec<Action>, call: &Call) -> Result<(), AllocError>
+    ensures { OnOk result (actions.new.items ≡ actions.old.items ++ injections_of call.now) }
+{
+    match call.action {
+        Action::Deliver { .. } | Action::Merge { .. } => {
+            let bytes = Bytes::copy_of(alloc, call.given.as_slice())?;
+            actions.push(Action::Inject { bytes })?;
+            Ok(())
+        }
+        _ => Ok(()),
+    }
+}
+
+fn add_packets(alloc: Global, actions: &mut Vec<Action>, calls: &[Call]) -> Result<(), AllocError>
+    ensures { OnOk result (actions.new.items ≡ actions.old.items
+        ++ flat_map injections_of calls.now) }
+{
+    for call in calls {
+        add_packet(alloc, actions, call)?;
+    }
+    Ok(())
+}
+
+/// How many packets a call gives: 1 or none.
+fn packets_of(action: &Action) -> u64
+    ensures count { (given : List ℕ) → result ≡ length (packets_in action.now given) }
+    ensures few { result ≤ 1 }
+{
+    match action {
+        Action::Deliver { .. } | Action::Merge { .. } => 1,
+        _ => 0,
+    }
+}
+
+/// Adds calls as actions of agent 0, which name their packets by the order in which calls give them.
+fn add_placed(alloc: Global, actions: &mut Vec<Action>, calls: &[Call]) -> Result<(), AllocError>
+    ensures { OnOk result (actions.new.items ≡ actions.old.items ++ placed_from 0 calls.now) }
+{
+    let mut packet: u64 = 0;
+    for call in calls {
+        actions.push(copy_placed(alloc, 0, packet, &call.action)?)?;
+        packet += packets_of(&call.action);
+    }
+    Ok(())
+}
+
+fn alone_actions(alloc: Global, calls: &[Call]) -> Result<Vec<Action>, AllocError>
+    ensures { IfOk result (λ actions. actions.items ≡ flat_map injections_of calls.now
+        ++ placed_from 0 calls.now) }
+{
+    let mut actions = Vec::new(alloc);
+    add_packets(alloc, &mut actions, calls)?;
+    add_placed(alloc, &mut actions, calls)?;
+    Ok(actions)
+}
+
+fn lone_roster(alloc: Global, config: &Config) -> Result<Roster, ConformFault>
+    ensures { IfOk result (λ roster. roster ≡ config.now ∷ []) }
+{
+    let Ok(copy) = config.try_clone(alloc) else {
+        return Err(ConformFault::OutOfMemory);
+    };
+    let mut roster = Roster::new(alloc);
+    match roster.add(alloc, copy) {
+        Ok(()) => Ok(roster),
+        Err(RosterFault::OutOfMemory) => Err(ConformFault::OutOfMemory),
+        Err(_) => Err(ConformFault::NoAgent),
+    }
+}
+
+/// The schedule of an agent's calls alone: the packets that they give are injected first, and then the calls are made
+/// of agent 0. `NoAgent` where the settings are out of bounds.
+///
+/// A response stays as it stands: it names a query by its number among those that are handed out in this schedule, and is
+/// refused there where it names none.
+pub fn alone_schedule(
+    alloc: Global,
+    config: &Config,
+    calls: &[Call],
+) -> Result<Schedule, ConformFault>
+    ensures { IfOk result (λ schedule. parsed_of schedule ≡ alone config.now calls.now) }
+{
+    let agents = lone_roster(alloc, config)?;
+    match alone_actions(alloc, calls) {
+        Ok(actions) => Ok(Schedule { agents, actions }),
+        Err(_) => Err(ConformFault::OutOfMemory),
+    }
+}

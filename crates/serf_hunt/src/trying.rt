@@ -1,0 +1,67 @@
+//! One trial of a list of calls.
+
+ghost use Rattle.std.specs.Prelude.{◌≡◌, IfOk, IfSome};
+ghost use Rattle.serf_conform.specs.Rules.{is_serf};
+ghost use Rattle.serf_hunt.specs.Trials.{IsTried, outcome_of, trial};
+
+use crate::alone::alone_schedule;
+use crate::call::Call;
+use crate::case::case_of;
+use serf_agent::Config;
+use serf_conform::{ConformFault, End, Rules, hold};
+use std::alloc::Global;
+use std::io::{Read, Write};
+
+/// What came of a trial.
+#[derive(Clone, Copy, Debug, PartialEq, Eq)]
+pub enum Outcome {
+    /// Each reply agrees, up to a turn that wasn't compared.
+    Agrees,
+    /// A reply is another one than is wanted.
+    Fails,
+    /// The agent ended.
+    Ended,
+}
+
+fn outcome_at(end: &End) -> Outcome
+    ensures { result ≡ outcome_of end.now }
+{
+    match end {
+        End::AllAgree => Outcome::Agrees,
+        End::OwnRule => Outcome::Agrees,
+        End::Unsupported => Outcome::Agrees,
+        End::Differs(_) => Outcome::Fails,
+        End::Ended => Outcome::Ended,
+    }
+}
+
+/// Opens an agent of these settings anew, and holds it against the run of these calls alone ([`serf_conform::hold`]).
+/// After a fault the agent may have got a part of a call.
+pub fn try_calls<R: Read, W: Write>(
+    alloc: Global,
+    reader: &mut R,
+    writer: &mut W,
+    rules: Rules,
+    config: &Config,
+    calls: &[Call],
+) -> Result<Outcome, ConformFault>
+    ensures { IfOk result (λ outcome. IfSome (R.remaining reader.old) (λ input.
+        IsTried (trial (is_serf rules) config.now calls.now input) outcome (R.remaining reader.new)
+        (W.contents writer.old) (W.contents writer.new))) }
+{
+    let schedule = alone_schedule(alloc, config, calls)?;
+    let Ok(case) = case_of(alloc, schedule) else {
+        return Err(ConformFault::OutOfMemory);
+    };
+    let verdict = hold(
+        alloc,
+        reader,
+        writer,
+        rules,
+        0,
+        config,
+        &case.actions,
+        &case.trace,
+    )?;
+    Ok(outcome_at(&verdict.end))
+}

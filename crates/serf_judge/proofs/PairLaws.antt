@@ -1,0 +1,105 @@
+-- A search that notes each key's first place.
+use Rattle.std.proofs.Common.{◌≡◌, ◌⊎◌, ◌∙◌, ℕ, ◌+◌, ◌<◌, ◌≤◌, Bool, true, false, cond, List, Option, None, Some, refl, sym, ap, subst, inl, inr, length, arith}
+use Rattle.std.specs.Prelude.{MatchOption, slice_get}
+use Rattle.std.specs.Cmp.{IsEquivalence}
+use Rattle.std.proofs.lemmas.Bool.{cases_lt, cases_eq, true≢false}
+use Rattle.std.proofs.lemmas.Option.{slice_get_within}
+use Rattle.serf_judge.specs.Pairs.{HasNoPair, IsFirstPair, IsPair}
+
+-- no key at the first places equals this one
+abbrev pub NoneEqual : {K : Type 0} → (K → K → Bool) → List K → ℕ → K → Type 0
+NoneEqual {K} eq keys n q = (j : ℕ) (y : K) → j < n → slice_get keys j ≡ Some y → eq q y ≡ false
+
+-- the key at this place, one of the first, equals that one
+pub record IsEqualAt {K : Type 0} (eq : K → K → Bool) (keys : List K) (n : ℕ) (q : K) (i : ℕ) : Type 0 where
+  pub below : i < n
+  pub key : K
+  pub at : slice_get keys i ≡ Some key
+  pub equal : eq q key ≡ true
+
+-- the first keys have no pair, and the notes have a place for each of them
+pub record Notes {K : Type 0} (eq : K → K → Bool) (keys : List K) (n : ℕ) (noted : K → Option ℕ) : Type 0 where
+  pub none_below : (i j : ℕ) → IsPair eq keys i j → n ≤ j
+  pub has : (q : K) → MatchOption (noted q) (NoneEqual eq keys n q) (λ i. IsEqualAt eq keys n q i)
+
+pub nothing-noted : {K : Type 0} (eq : K → K → Bool) (keys : List K) (noted : K → Option ℕ) → ((q : K) → noted q ≡ None) → Notes eq keys 0 noted
+nothing-noted eq keys noted none = record {
+  none_below = λ i j p. omega arith;
+  has = λ q. rw (none q) (λ j y lt at. absurd (omega arith));
+}
+
+one-key : {K : Type 0} (x y : K) → Some x ≡ Some y → x ≡ y
+one-key x y e = cc
+
+-- the next key was noted: the place is that of the first pair
+pub found : {K : Type 0} (eq : K → K → Bool) (laws : IsEquivalence eq) (keys : List K) (n i : ℕ) (x : K) (noted : K → Option ℕ)
+    → Notes eq keys n noted → slice_get keys n ≡ Some x → noted x ≡ Some i → IsFirstPair eq keys i n
+found {K} eq laws keys n i x noted h at is =
+    let here : IsEqualAt eq keys n x i = rw is at (h.has x) in record {
+      pair = record {
+        before = here.below;
+        first = here.key;
+        first_at = here.at;
+        second = x;
+        second_at = at;
+        equal = laws.symm here.key x ∙ here.equal;
+      };
+      least_later = h.none_below;
+      least_earlier = λ k p. by k p here (cases_lt k i);
+    }
+  where
+    by : (k : ℕ) → IsPair eq keys k n → IsEqualAt eq keys n x i → (k < i) ⊎ (i ≤ k) → i ≤ k
+    by k p here (inr le) = le
+    by k p here (inl lt) =
+        let same : p.second ≡ x = one-key p.second x (sym p.second_at ∙ at) in
+        let equal : eq p.first x ≡ true = subst (λ (y : K). eq p.first y ≡ true) same p.equal in
+        let both : eq p.first here.key ≡ true = laws.congr p.first x here.key equal ∙ here.equal in
+        let late = h.none_below k i (record { before = lt; first = p.first; first_at = p.first_at; second = here.key; second_at = here.at; equal = both }) in
+        let below = here.below in
+        absurd (omega arith)
+
+weaker-none : {K : Type 0} (eq : K → K → Bool) (keys : List K) (n : ℕ) (x q : K) → slice_get keys n ≡ Some x → eq q x ≡ false → NoneEqual eq keys n q → NoneEqual eq keys (n + 1) q
+weaker-none {K} eq keys n x q at differ h j y lt is = by (cases_lt j n)
+  where
+    by : (j < n) ⊎ (n ≤ j) → eq q y ≡ false
+    by (inl before) = h j y before is
+    by (inr le) =
+        let here : j ≡ n = omega arith in
+        let same : x ≡ y = one-key x y (sym at ∙ ap (slice_get keys) (sym here) ∙ is) in
+        subst (λ (z : K). eq q z ≡ false) same differ
+
+noted-more : {K : Type 0} (eq : K → K → Bool) (laws : IsEquivalence eq) (keys : List K) (n : ℕ) (x q : K) (b : Bool) (old : Option ℕ) → slice_get keys n ≡ Some x → eq x q ≡ b
+    → MatchOption old (NoneEqual eq keys n q) (λ i. IsEqualAt eq keys n q i)
+    → MatchOption (cond b (Some n) old) (NoneEqual eq keys (n + 1) q) (λ i. IsEqualAt eq keys (n + 1) q i)
+noted-more eq laws keys n x q true old at is h = record { below = omega arith; key = x; at = at; equal = laws.symm q x ∙ is }
+noted-more eq laws keys n x q false None at is h = weaker-none eq keys n x q at (laws.symm q x ∙ is) h
+noted-more eq laws keys n x q false (Some i) at is h = let below = h.below in record { below = omega arith; key = h.key; at = h.at; equal = h.equal }
+
+-- the next key was not noted, and is
+pub not-found : {K : Type 0} (eq : K → K → Bool) (laws : IsEquivalence eq) (keys : List K) (n : ℕ) (x : K) (noted new : K → Option ℕ)
+    → Notes eq keys n noted → slice_get keys n ≡ Some x → noted x ≡ None → ((q : K) → new q ≡ cond (eq x q) (Some n) (noted q)) → Notes eq keys (n + 1) new
+not-found {K} eq laws keys n x noted new h at is step = record {
+  none_below = λ i j p. by i j p (cases_lt n j);
+  has = λ q. rw (step q) (noted-more eq laws keys n x q (eq x q) (noted q) at refl (h.has q));
+}
+  where
+    none : NoneEqual eq keys n x
+    none = rw is at (h.has x)
+
+    by : (i j : ℕ) → IsPair eq keys i j → (n < j) ⊎ (j ≤ n) → n + 1 ≤ j
+    by i j p (inl lt) = omega arith
+    by i j p (inr le) =
+        let least = h.none_below i j p in
+        let here : j ≡ n = omega arith in
+        let same : p.second ≡ x = one-key p.second x (sym p.second_at ∙ ap (slice_get keys) here ∙ at) in
+        let equal : eq p.first x ≡ true = subst (λ (y : K). eq p.first y ≡ true) same p.equal in
+        let before = p.before in
+        let differ = none i p.first (omega arith) p.first_at in
+        absurd (true≢false (sym (laws.symm x p.first ∙ equal) ∙ differ))
+
+-- all keys were looked at
+pub no-pair : {K : Type 0} (eq : K → K → Bool) (keys : List K) (n : ℕ) (noted : K → Option ℕ) → Notes eq keys n noted → length keys ≤ n → HasNoPair eq keys
+no-pair eq keys n noted h end i j p =
+    let within = slice_get_within keys j p.second p.second_at in
+    let late = h.none_below i j p in
+    omega arith

@@ -1,0 +1,17 @@
+pub mod EncodedLaws
+pub mod EventBack
+pub mod ForeignBack
+pub mod LinesBack
+pub mod PacketBytes
+pub mod QueryBack
+pub mod ResponseBack
+pub mod RowsBack
+pub mod SharedLines
+pub mod SlotLaws
+pub mod StateBack
+pub mod StateLines
+pub mod StateMeant
+pub mod TakenLaws
+pub mod TextLaws
+pub mod TextsTaken
+pub mod WordsBack

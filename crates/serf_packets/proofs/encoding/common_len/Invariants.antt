@@ -1,0 +1,10 @@
+use Rattle.std.proofs.Common.{◌≡◌, ◌≤◌, ◌+◌, ◌-◌, length, drop}
+use Rattle.serf_packets.specs.Encoded.{common}
+use Rattle.serf_packets.proofs.encoding.common_len.Given as goal
+
+-- the bytes so far are common, and then those of the rests are
+abbrev pub invariant-bytes : goal.invariant-bytes
+invariant-bytes l = (l.len ≤ length l.text) × (l.len ≤ length l.other) × (common l.text l.other ≡ common (drop l.len l.text) (drop l.len l.other) + l.len)
+
+abbrev pub decreases-bytes : goal.decreases-bytes
+decreases-bytes l = length l.text - l.len

@@ -1,0 +1,8 @@
+use Rattle.std.proofs.Common.{◌≡◌, ◌++◌, drop, map}
+use Rattle.serf_packets.specs.Rows.{row_seen}
+use Rattle.serf_packets.specs.Meant.{texts_at}
+use Rattle.serf_packets.proofs.meant.texts_field.Given as goal
+
+-- the bytes so far, and then those of the other lines
+abbrev pub invariant-loop-row : goal.invariant-loop-row
+invariant-loop-row l = l.texts.items ++ texts_at l.name (map row_seen (drop l.row-index l.rows)) ≡ texts_at l.name (map row_seen l.rows)

@@ -1,0 +1,10 @@
+use Rattle.std.proofs.Common.{◌≡◌, ◌++◌, length, map}
+use Rattle.serf_packets.specs.Rows.{row_seen, rows_in}
+use Rattle.serf_packets.proofs.row.rows_of_text.Given as goal
+
+-- the lines so far, and then those of the rest
+abbrev pub invariant-lines : goal.invariant-lines
+invariant-lines l = map row_seen l.rows.items ++ rows_in l.rest ≡ rows_in l.fn.text
+
+abbrev pub decreases-lines : goal.decreases-lines
+decreases-lines l = length l.rest

@@ -1,0 +1,8 @@
+use Rattle.std.proofs.Common.{◌≡◌, ◌++◌, drop, map}
+use Rattle.serf_packets.specs.Rows.{row_seen}
+use Rattle.serf_packets.specs.States.{member_held, members_of}
+use Rattle.serf_packets.proofs.slots.members_in.Given as goal
+
+-- the members so far, and then those of the other lines
+abbrev pub invariant-loop-row : goal.invariant-loop-row
+invariant-loop-row l = map member_held l.members.items ++ members_of (map row_seen (drop l.row-index l.rows)) ≡ members_of (map row_seen l.rows)

@@ -1,0 +1,37 @@
+-- Blocks: the texts between empty lines.
+use Rattle.std.specs.Prelude.{ℕ, ◌==◌, ◌||◌, ◌++◌, Bool, true, false, if◌then◌else◌, List, [], length, codes, Result, Ok, Err}
+use Rattle.std.specs.List.{fold}
+use Rattle.serf_packets.specs.declared.blocks.NeverBad.{NeverBad}
+use Rattle.serf_packets.specs.Encoded.{answer_text, encoded}
+
+-- a block's answer is its own; a block without lines says nothing
+abbrev pub block_answer : List ℕ → List ℕ
+block_answer block = if length block == 0 then [] else answer_text (encoded block)
+
+abbrev pub is_fault : Result (List ℕ) ℕ → Bool
+is_fault (Ok packet) = false
+is_fault (Err line) = true
+
+abbrev pub refuses_block : List ℕ → Bool
+refuses_block block = if length block == 0 then false else is_fault (encoded block)
+
+-- the block behind the last empty line, and whether one before it was refused
+pub record Reading : Type 0 where
+  pub block : List ℕ
+  pub is_refused : Bool
+
+abbrev pub after_line : Reading → List ℕ → Reading
+after_line r line =
+    if length line == 0 then record { block = []; is_refused = r.is_refused || refuses_block r.block }
+    else record { block = r.block ++ line ++ codes "\n"; is_refused = r.is_refused }
+
+abbrev pub reading_of : List (List ℕ) → Reading
+reading_of lines = fold after_line (record { block = []; is_refused = false }) lines
+
+-- an empty line is answered by the answer to the block before it, and another line by nothing
+abbrev pub line_answer : List (List ℕ) → List ℕ → Result (List ℕ) NeverBad
+line_answer before line = if length line == 0 then Ok (block_answer (reading_of before).block) else Ok []
+
+-- what the code holds of the lines that were read
+abbrev pub reading_held : List ℕ → Bool → Reading
+reading_held block is_refused = record { block = block; is_refused = is_refused }

@@ -1,0 +1,136 @@
+//! Texts in bulk, with an empty line behind each.
+
+ghost use Rattle.std.specs.Prelude.{◌≡◌, ◌++◌, ◌<◌, ◌↔◌, [], Ok, List, ℕ, IfErr, IfOk, OnOk, IsTrue, length};
+ghost use Rattle.std.specs.Io.KnownBytes.{Appends, Consumes, IsAtEnd};
+ghost use Rattle.serf_stream.specs.Lines.{lines_of, text_behind};
+ghost use Rattle.serf_stream.specs.Streams.{IsStopped};
+ghost use Rattle.serf_packets.specs.Encoded.{answer_text, encoded};
+ghost use Rattle.serf_packets.specs.Blocks.{block_answer, is_fault, line_answer, reading_of, refuses_block};
+
+use crate::encoding::{EncodeTextFault, encode_text};
+use serf_replay::{put_hex, put_with_number};
+use serf_stream::{LineFault, LineJob, StreamFault, answer_lines};
+use std::alloc::{AllocError, Global};
+use std::io::{Read, Write};
+
+/// What may be wrong with a line of texts: nothing, since a text that is refused is answered too. It is never met.
+#[derive(Clone, Copy, Debug, PartialEq, Eq)]
+pub struct NeverBad;
+
+/// How the texts of a stream were answered.
+#[derive(Clone, Copy, Debug, PartialEq, Eq)]
+pub struct Blocks {
+    /// Whether one of them was refused.
+    pub is_refused: bool,
+    /// Whether the stream ends within a line, so that the text before its end has no answer.
+    pub is_cut: bool,
+}
+
+/// Appends the answer to a text, and says whether it is refused.
+fn put_answer(alloc: Global, text: &[u8], out: &mut Vec<u8>) -> Result<bool, AllocError>
+    ensures text { OnOk result (out.new.items ≡ out.old.items ++ answer_text (encoded text.now)) }
+    ensures refused { IfOk result (λ refused. refused ≡ is_fault (encoded text.now)) }
+{
+    let refused = match encode_text(alloc, text) {
+        Ok(packet) => {
+            put_hex(out, packet.as_slice())?;
+            false
+        }
+        Err(EncodeTextFault::BadLine(line)) => {
+            put_with_number(out, b"refused BadLine", line)?;
+            true
+        }
+        Err(EncodeTextFault::OutOfMemory) => return Err(AllocError),
+    };
+    out.extend_from_slice(b"\n")?;
+    Ok(refused)
+}
+
+/// Appends the answer to a block, where it has lines, and says whether it is refused.
+fn put_block(alloc: Global, block: &[u8], out: &mut Vec<u8>) -> Result<bool, AllocError>
+    ensures text { OnOk result (out.new.items ≡ out.old.items ++ block_answer block.now) }
+    ensures refused { IfOk result (λ refused. refused ≡ refuses_block block.now) }
+{
+    if block.is_empty() {
+        return Ok(false);
+    }
+    put_answer(alloc, block, out)
+}
+
+/// Collects the lines of a block, and answers it.
+#[derive(Drop)]
+struct BlockLines {
+    block: Vec<u8>,
+    is_refused: bool,
+}
+
+impl LineJob for BlockLines {
+    ghost use Rattle.std.specs.Prelude.{◌≡◌, List, ℕ};
+    ghost use Rattle.serf_packets.specs.Blocks.{line_answer, reading_held, reading_of};
+
+    type Fault = NeverBad;
+
+    ghost follows = { λ job lines. reading_held job.block.items job.is_refused ≡ reading_of lines };
+
+    ghost answer = { line_answer };
+
+    fn read_line(
+        &mut self,
+        alloc: Global,
+        line: &[u8],
+        text: &mut Vec<u8>,
+    ) -> Result<(), LineFault<NeverBad>> {
+        if line.is_empty() {
+            let Ok(refused) = put_block(alloc, self.block.as_slice(), text) else {
+                return Err(LineFault::OutOfMemory);
+            };
+            self.is_refused = self.is_refused || refused;
+            self.block.clear();
+            return Ok(());
+        }
+        if self.block.extend_from_slice(line).is_err() {
+            return Err(LineFault::OutOfMemory);
+        }
+        match self.block.extend_from_slice(b"\n") {
+            Ok(()) => Ok(()),
+            Err(_) => Err(LineFault::OutOfMemory),
+        }
+    }
+}
+
+/// Reads texts of messages, with an empty line behind each, and writes the answer to each: its canonical packet in hex
+/// as [`encode_text`] has it, or in its place a line `refused BadLine N`, with the number of its bad line within it.
+///
+/// An empty line that has no line before it says nothing, and the end of the stream is the end of a line. The answers
+/// to the texts that are over are written before more is read. A line may have 16,777,216 bytes, and there may be any
+/// number of texts.
+pub fn encode_blocks<R: Read, W: Write>(
+    alloc: Global,
+    reader: &mut R,
+    writer: &mut W,
+) -> Result<Blocks, StreamFault<NeverBad>>
+    // Just the answers to all blocks were written, each of which is its block's own.
+    ensures done { IfOk result (λ blocks. (bytes text : List ℕ)
+        × Consumes (R.remaining reader.old) (R.remaining reader.new) bytes
+        × IsAtEnd (R.remaining reader.new) × (text_behind line_answer [] (lines_of bytes) ≡ Ok text)
+        × Appends (W.contents writer.old) (W.contents writer.new) text
+        × (blocks.is_refused ≡ (reading_of (lines_of bytes)).is_refused)
+        × (IsTrue blocks.is_cut ↔ 0 < length (reading_of (lines_of bytes)).block)) }
+    // Of the lines that were read some were answered; what else is said of them depends on the fault.
+    ensures stopped { IfErr result (λ fault. (bytes : List ℕ)
+        × Consumes (R.remaining reader.old) (R.remaining reader.new) bytes
+        × IsStopped line_answer fault (lines_of bytes) (W.contents writer.old)
+        (W.contents writer.new)) }
+{
+    let mut job = BlockLines {
+        block: Vec::new(alloc),
+        is_refused: false,
+    };
+    match answer_lines(alloc, reader, writer, &mut job) {
+        Ok(()) => Ok(Blocks {
+            is_refused: job.is_refused,
+            is_cut: !job.block.is_empty(),
+        }),
+        Err(fault) => Err(fault),
+    }
+}

@@ -1,0 +1,105 @@
+//! A text, and the packet of the message that it is the text of.
+
+ghost use Rattle.std.specs.Prelude.{◌≡◌, ◌+◌, ◌≤◌, ◌==◌, ℕ, Ok, Err, IfOk, codes, filter, length, take};
+ghost use Rattle.std.specs.Option.{option_map};
+ghost use Rattle.serf_wire.specs.Canonical.{canonical, has_long};
+ghost use Rattle.serf_wire.specs.Decoded.{decoded};
+ghost use Rattle.serf_wire.specs.Message.{Message};
+ghost use Rattle.serf_replay.specs.MessageText.{text_or_fault};
+ghost use Rattle.serf_packets.specs.declared.encoding.EncodeTextFault.TheVariants.{BadLine};
+ghost use Rattle.serf_packets.specs.Encoded.{common, encoded, other_line, said_by};
+
+use crate::packets::packet_of_text;
+use serf_replay::{DecodeTextFault, decode_text};
+use std::alloc::{AllocError, Global};
+use thiserror::Error;
+
+/// Why a text has no packet.
+#[derive(Clone, Copy, Debug, PartialEq, Eq, Error)]
+pub enum EncodeTextFault {
+    /// It is the text of no message with a canonical packet: its line of this number, counted from 1, is the first that
+    /// isn't that of the message that its lines mean.
+    #[error("line {0} is not that of a message's text")]
+    BadLine(u64),
+    #[error("out of memory")]
+    OutOfMemory,
+}
+
+/// How many first bytes two texts have in common.
+#[tactic(auto, using(crate::proofs::TextLaws::common_nothing))]
+fn common_len(text: &[u8], other: &[u8]) -> usize
+    ensures count { result ≡ common text.now other.now }
+    ensures within { result ≤ length text.now }
+{
+    let mut len = 0;
+    'bytes: while len < text.len() && len < other.len() && text[len] == other[len] {
+        len += 1;
+    }
+    len
+}
+
+fn count_newlines(text: &[u8]) -> usize
+    ensures within { result ≤ length text.now }
+    ensures count { result ≡ length (filter (λ b. b == 10) text.now) }
+{
+    text.iter().filter(|b| **b == b'\n').count()
+}
+
+/// The number of the line in which a text first differs from another, counted from 1.
+fn first_other_line(text: &[u8], other: &[u8]) -> u64
+    ensures { result ≡ other_line text.now other.now }
+{
+    let len = common_len(text, other);
+    count_newlines(&text[..len]) as u64 + 1
+}
+
+/// The text that a packet is decoded to; no bytes where it is refused.
+fn text_said(alloc: Global, packet: &[u8]) -> Result<Vec<u8>, AllocError>
+    ensures { IfOk result (λ text. text.items ≡ said_by (text_or_fault (decoded packet.now))) }
+{
+    match decode_text(alloc, packet) {
+        Ok(text) => Ok(text),
+        Err(DecodeTextFault::Refused(_)) => Ok(Vec::new(alloc)),
+        Err(DecodeTextFault::OutOfMemory) => Err(AllocError),
+    }
+}
+
+/// The packet of a text, by the definition.
+#[tactic(auto, unfolding(crate::specs::Encoded::encoded))]
+fn encode_exactly(alloc: Global, text: &[u8]) -> Result<Vec<u8>, EncodeTextFault>
+    ensures packet { IfOk result (λ packet. encoded text.now ≡ Ok packet.items) }
+    ensures refused { (line : ℕ) → result ≡ Err (BadLine line) → encoded text.now ≡ Err line }
+{
+    let Ok(found) = packet_of_text(alloc, text) else {
+        return Err(EncodeTextFault::OutOfMemory);
+    };
+    let Some(packet) = found else {
+        return Err(EncodeTextFault::BadLine(first_other_line(text, &[])));
+    };
+    let Ok(said) = text_said(alloc, packet.as_slice()) else {
+        return Err(EncodeTextFault::OutOfMemory);
+    };
+    if said.as_slice() == text {
+        Ok(packet)
+    } else {
+        Err(EncodeTextFault::BadLine(first_other_line(text, said.as_slice())))
+    }
+}
+
+/// The canonical packet of the message that has this text, as [`serf_replay::decode_text`] writes it.
+///
+/// A text that is no message's is a `BadLine`, and so is that of a message whose canonical packet has another text: a
+/// push/pull's slot of a time without events, which the canonical packet has as nil. The text that a canonical packet is
+/// decoded to is taken ([`crate::know_texts_taken`]).
+#[tactic(auto, using(crate::proofs::EncodedLaws::decodes_to_text, crate::proofs::EncodedLaws::is_canonical))]
+pub fn encode_text(alloc: Global, text: &[u8]) -> Result<Vec<u8>, EncodeTextFault>
+    // The packet, or the first line for which there is none, is that of the definition.
+    ensures packet { IfOk result (λ packet. encoded text.now ≡ Ok packet.items) }
+    ensures refused { (line : ℕ) → result ≡ Err (BadLine line) → encoded text.now ≡ Err line }
+    // The packet is decoded to just this text,
+    ensures text { IfOk result (λ packet. text_or_fault (decoded packet.items) ≡ Ok text.now) }
+    // and it is canonical.
+    ensures canonical { IfOk result (λ packet. (m : Message) × (packet.items ≡ canonical m)) }
+{
+    encode_exactly(alloc, text)
+}

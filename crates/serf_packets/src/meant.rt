@@ -1,0 +1,118 @@
+//! What the values of fields mean.
+
+ghost use Rattle.std.specs.Prelude.{◌≡◌, ◌≤◌, ◌<◌, ◌++◌, ◌∷◌, [], ℤ, pos, IfOk, OnOk, Some, map, filter};
+ghost use Rattle.std.specs.Str.{bytes_eq};
+ghost use Rattle.serf_lamport.specs.Clock.{last_time};
+ghost use Rattle.serf_replay.specs.Words.{between, bytes_of, number_of};
+ghost use Rattle.serf_packets.specs.Rows.{row_seen, rows_of, value_of};
+ghost use Rattle.serf_packets.specs.Meant.{below_zero, bytes_at, bytes_meant, member_meant, number_at, number_up_to, signed_meant, texts_at};
+
+use crate::row::{Row, is_named, value};
+use hex::FromHexError;
+use serf_lamport::Time;
+use serf_replay::number;
+use serf_wire::Bytes;
+use std::alloc::{AllocError, Global};
+
+/// The number up to this one that a word says, or 0.
+pub(crate) fn number_to(word: &[u8], top: u64) -> u64
+    ensures said { result ≡ number_up_to top word.now }
+    ensures within { result ≤ top }
+{
+    match number(word) {
+        Some(found) => { if found <= top { found } else { 0 } }
+        None => 0,
+    }
+}
+
+/// The time that a word says, or 0.
+pub(crate) fn time_in(word: &[u8]) -> Time
+    ensures { result ≡ number_up_to last_time word.now }
+{
+    match Time::new(number_to(word, u64::MAX - 1)) {
+        Some(time) => time,
+        None => unreachable!(),
+    }
+}
+
+/// This number with a minus before it, from 64 bits with a sign; or 0.
+fn negated(n: u64) -> i64
+    ensures { result ≡ below_zero n }
+{
+    if n == 0 || n > 9_223_372_036_854_775_808 {
+        return 0;
+    }
+    -1 - ((n - 1) as i64)
+}
+
+/// The number with its sign that a word says, or 0.
+pub(crate) fn signed_in(word: &[u8]) -> i64
+    ensures { result ≡ signed_meant word.now }
+{
+    match word {
+        [b'-', digits @ ..] => negated(number_to(digits, 9_223_372_036_854_775_808)),
+        _ => number_to(word, 9_223_372_036_854_775_807) as i64,
+    }
+}
+
+/// The bytes that a word says in hex, or none.
+pub(crate) fn bytes_in(alloc: Global, word: &[u8]) -> Result<Bytes, AllocError>
+    ensures { IfOk result (λ bytes. bytes ≡ bytes_meant word.now) }
+{
+    if let [b'-'] = word {
+        return Ok(Bytes::from_vec(Vec::new(alloc)));
+    }
+    match hex::decode(alloc, word) {
+        Ok(found) => Ok(Bytes::from_vec(found)),
+        Err(FromHexError::OutOfMemory) => Err(AllocError),
+        Err(_) => Ok(Bytes::from_vec(Vec::new(alloc))),
+    }
+}
+
+/// The number of a field.
+pub(crate) fn number_field(rows: &[Row], name: &[u8], top: u64) -> u64
+    ensures said { result ≡ number_at top name.now (map row_seen rows.now) }
+    ensures within { result ≤ top }
+{
+    number_to(value(rows, name), top)
+}
+
+/// The bytes of a field.
+pub(crate) fn bytes_field(alloc: Global, rows: &[Row], name: &[u8]) -> Result<Bytes, AllocError>
+    ensures { IfOk result (λ bytes. bytes ≡ bytes_at name.now (map row_seen rows.now)) }
+{
+    bytes_in(alloc, value(rows, name))
+}
+
+/// Puts what a line of this name says behind the others.
+fn take_text(
+    alloc: Global,
+    texts: &mut Vec<Bytes>,
+    row: &Row,
+    name: &[u8],
+) -> Result<(), AllocError>
+    ensures { OnOk result (texts.new.items ≡ texts.old.items
+        ++ texts_at name.now (row_seen row.now ∷ [])) }
+{
+    if !is_named(row, name) {
+        return Ok(());
+    }
+    let bytes = bytes_in(alloc, row.first)?;
+    texts.push(bytes)?;
+    Ok(())
+}
+
+/// The bytes of all lines of this name.
+pub(crate) fn texts_field(
+    alloc: Global,
+    rows: &[Row],
+    name: &[u8],
+) -> Result<Vec<Bytes>, AllocError>
+    ensures { IfOk result (λ texts. texts.items ≡ texts_at name.now (map row_seen rows.now)) }
+{
+    let mut texts = Vec::new(alloc);
+    for row in rows {
+        take_text(alloc, &mut texts, row, name)?;
+    }
+    Ok(texts)
+}

@@ -1,0 +1,117 @@
+//! The packets of messages.
+
+ghost use Rattle.std.specs.Prelude.{◌≡◌, ◌∷◌, [], IfOk, MatchOption, Some, None, codes, map};
+ghost use Rattle.std.specs.Option.{option_map};
+ghost use Rattle.serf_wire.specs.Message.{Message, query, foreign};
+ghost use Rattle.serf_wire.specs.Parts.{query_of};
+ghost use Rattle.serf_packets.specs.Rows.{row_seen};
+ghost use Rattle.serf_packets.specs.Meant.{event_meant, meant_by, number_at, query_meant, response_meant};
+ghost use Rattle.serf_packets.specs.Encoded.{packet_meant};
+ghost use Rattle.serf_packets.specs.States.{IsPacketOf};
+
+use crate::meant::{bytes_field, number_field, signed_in, texts_field, time_in};
+use crate::row::{Row, rows_of_text, value};
+use crate::slots::encode_state;
+use serf_wire::{EncodeFault, QueryParts, encode_query, encode_response, encode_user_event};
+use std::alloc::{AllocError, Global};
+
+#[tactic(auto, unfolding(crate::specs::Meant::event_meant))]
+fn encode_event(alloc: Global, rows: &[Row]) -> Result<Vec<u8>, EncodeFault>
+    ensures { IsPacketOf (λ p. p.items) result (event_meant (map row_seen rows.now)) }
+{
+    let time = time_in(value(rows, b"LTime"));
+    let name = bytes_field(alloc, rows, b"Name")?;
+    let payload = bytes_field(alloc, rows, b"Payload")?;
+    let coalesce = value(rows, b"CC") == b"1".as_slice();
+    encode_user_event(alloc, time, name.as_slice(), payload.as_slice(), coalesce)
+}
+
+fn write_query(alloc: Global, parts: &QueryParts) -> Result<Vec<u8>, EncodeFault>
+    ensures { IsPacketOf (λ p. p.items) result (query (query_of parts.now)) }
+{
+    encode_query(alloc, parts)
+}
+
+#[tactic(auto, unfolding(crate::specs::Meant::query_meant))]
+fn encode_question(alloc: Global, rows: &[Row]) -> Result<Vec<u8>, EncodeFault>
+    ensures { IsPacketOf (λ p. p.items) result (query (query_meant (map row_seen rows.now))) }
+{
+    let addr = bytes_field(alloc, rows, b"Addr")?;
+    let source = bytes_field(alloc, rows, b"SourceNode")?;
+    let filters = texts_field(alloc, rows, b"filter")?;
+    let name = bytes_field(alloc, rows, b"Name")?;
+    let payload = bytes_field(alloc, rows, b"Payload")?;
+    let parts = QueryParts {
+        time: time_in(value(rows, b"LTime")),
+        id: number_field(rows, b"ID", 4_294_967_295) as u32,
+        addr: addr.as_slice(),
+        port: number_field(rows, b"Port", 65_535) as u16,
+        source: source.as_slice(),
+        filters: filters.as_slice(),
+        flags: number_field(rows, b"Flags", 4_294_967_295) as u32,
+        relay_factor: number_field(rows, b"RelayFactor", 255) as u8,
+        timeout: signed_in(value(rows, b"Timeout")),
+        name: name.as_slice(),
+        payload: payload.as_slice(),
+    };
+    write_query(alloc, &parts)
+}
+
+#[tactic(auto, unfolding(crate::specs::Meant::response_meant))]
+fn encode_answer(alloc: Global, rows: &[Row]) -> Result<Vec<u8>, EncodeFault>
+    ensures { IsPacketOf (λ p. p.items) result (response_meant (map row_seen rows.now)) }
+{
+    let time = number_field(rows, b"LTime", u64::MAX);
+    let id = number_field(rows, b"ID", 4_294_967_295) as u32;
+    let from = bytes_field(alloc, rows, b"From")?;
+    let flags = number_field(rows, b"Flags", 4_294_967_295) as u32;
+    let payload = bytes_field(alloc, rows, b"Payload")?;
+    encode_response(alloc, time, id, from.as_slice(), flags, payload.as_slice())
+}
+
+#[tactic(auto, unfolding(serf_wire::specs::Canonical::canonical, serf_wire::specs::Canonical::has_long))]
+fn encode_foreign(alloc: Global, rows: &[Row]) -> Result<Vec<u8>, EncodeFault>
+    ensures { IsPacketOf (λ p. p.items) result
+        (foreign (number_at 255 (codes "foreign") (map row_seen rows.now))) }
+{
+    let kind = number_field(rows, b"foreign", 255) as u8;
+    Ok(Vec::from_slice(alloc, &[kind])?)
+}
+
+/// The packet of the message that lines mean, by the first of them; `None` where they mean none.
+#[tactic(auto, unfolding(crate::specs::Meant::meant_by))]
+fn encode_kind(alloc: Global, kind: &[u8], rows: &[Row]) -> Option<Result<Vec<u8>, EncodeFault>>
+    ensures { MatchOption result (meant_by kind.now (map row_seen rows.now) ≡ None)
+        (λ packet. (m : Message) × (meant_by kind.now (map row_seen rows.now) ≡ Some m)
+        × IsPacketOf (λ p. p.items) packet m) }
+{
+    if kind == b"userEvent".as_slice() {
+        Some(encode_event(alloc, rows))
+    } else if kind == b"query".as_slice() {
+        Some(encode_question(alloc, rows))
+    } else if kind == b"queryResponse".as_slice() {
+        Some(encode_answer(alloc, rows))
+    } else if kind == b"pushPull".as_slice() {
+        Some(encode_state(alloc, rows))
+    } else if kind == b"foreign".as_slice() {
+        Some(encode_foreign(alloc, rows))
+    } else {
+        None
+    }
+}
+
+/// The packet of the message that a text means; `None` where it means none, or one that is too long for a packet.
+pub(crate) fn packet_of_text(alloc: Global, text: &[u8]) -> Result<Option<Vec<u8>>, AllocError>
+    ensures { IfOk result (λ packet. option_map (λ p. p.items) packet ≡ packet_meant text.now) }
+{
+    let rows = rows_of_text(alloc, text)?;
+    let kind = match rows.first() {
+        Some(row) => row.name,
+        None => &[],
+    };
+    match encode_kind(alloc, kind, rows.as_slice()) {
+        Some(Ok(packet)) => Ok(Some(packet)),
+        Some(Err(EncodeFault::TooLong)) | None => Ok(None),
+        Some(Err(EncodeFault::OutOfMemory)) => Err(AllocError),
+    }
+}

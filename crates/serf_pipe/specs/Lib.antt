@@ -1,4 +1,0 @@
-pub mod CallText
-pub mod Input
-pub mod Reply
-pub mod ReplyText

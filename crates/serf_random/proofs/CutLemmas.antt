@@ -1,0 +1,73 @@
+-- What is kept, as it grows action by action.
+use Rattle.std.proofs.Common.{◌≡◌, ◌∙◌, ℕ, Bool, true, false, ◌&&◌, List, [], ◌∷◌, ◌++◌, All, refl, sym, ap, subst}
+use Rattle.std.specs.List.{flat_map}
+use Rattle.std.specs.Prelude.{Option, Some, None, slice_get}
+use Rattle.std.proofs.lemmas.List.{flat_map_more}
+use Rattle.std.proofs.lemmas.List.Elements.{All-push}
+use Rattle.std.proofs.lemmas.List.Sums.{fold-append}
+use Rattle.serf_agent.specs.declared.config.Config.{Config}
+use Rattle.serf_model.specs.declared.action.Action.{Action}
+use Rattle.serf_model.specs.declared.line.Line.{Line}
+use Rattle.serf_model.specs.Cluster.{Cluster, IdealNode, Run, after, on_agent, run_of, start, step, step_by}
+use Rattle.serf_model.specs.Ready.{AreRepresentable}
+use Rattle.serf_model.specs.Trace.{actor_of}
+use Rattle.serf_world.specs.View.{IsViewed, TakesStep, WorldState}
+use Rattle.serf_model.specs.Common.{has_no_tail, is_common_answer}
+use Rattle.serf_schedule_text.specs.Sayable.{IsSayable}
+use Rattle.serf_schedule_text.specs.ScheduleText.{action_text}
+use Rattle.serf_random.specs.Common.{IsCommon}
+use Rattle.serf_random.specs.Cut.{AddsLine, AddsNothing, AreKept, GoesOn, IsAlong, MayAdd}
+
+-- a turn is of the action that was done
+acts : (c : Cluster) (action : Action) → (step c action).turn.action ≡ action
+acts c action = by (actor_of action)
+  where
+    at : (a : ℕ) (m : Option IdealNode) → (on_agent c action a m).turn.action ≡ action
+    at a None = refl
+    at a (Some m) = refl
+
+    by : (o : Option ℕ) → (step_by c action o).turn.action ≡ action
+    by None = refl
+    by (Some a) = at a (slice_get c.nodes a)
+
+-- the turn of a step whose line is common, by an action without a tail
+common-step : (c : Cluster) (action : Action) (line : Line) → line ≡ (step c action).turn.line
+    → (is_common_answer line.answer && has_no_tail action) ≡ true → IsCommon (step c action).turn
+common-step c action line is common =
+    ap (λ (l : Line). is_common_answer l.answer && has_no_tail (step c action).turn.action) (sym is)
+    ∙ ap (λ (a : Action). is_common_answer line.answer && has_no_tail a) (acts c action)
+    ∙ common
+
+more-kept : (configs : List Config) (first old new : List ℕ) (before behind : List Action) (action : Action) (line : Line) (w v : WorldState)
+    → IsAlong configs first old before w → IsSayable action → (is_common_answer line.answer && has_no_tail action) ≡ true
+    → TakesStep (step (run_of configs before).cluster action) v line → AddsLine action old new before behind → IsAlong configs first new behind v
+more-kept configs first old new before behind action line w v h sayable common took adds =
+    let r : Run = run_of configs before in
+    let grown : run_of configs behind ≡ after r action = ap (run_of configs) adds.actions_are ∙ fold-append after (start configs) before (action ∷ []) in
+    record {
+      kept = record {
+        common = subst (λ (q : Run). All IsCommon q.turns) (sym grown)
+            (All-push IsCommon r.turns (step r.cluster action).turn h.kept.common (common-step r.cluster action line took.line_is common));
+        sayable = subst (All IsSayable) (sym adds.actions_are) (All-push IsSayable before action h.kept.sayable sayable);
+        text_is = adds.text_is ∙ ap (λ t. t ++ action_text action) h.kept.text_is ∙ flat_map_more action_text first before action
+            ∙ ap (λ l. first ++ flat_map action_text l) (sym adds.actions_are);
+        short = λ s. adds.short;
+      };
+      view = subst (λ (q : Run). IsViewed q.cluster v) (sym grown) took.view;
+      representable = subst (λ (q : Run). AreRepresentable q.cluster) (sym grown) took.representable;
+    }
+
+same-kept : (configs : List Config) (first old new : List ℕ) (before behind : List Action) → AreKept configs first old before
+    → AddsNothing old new before behind → AreKept configs first new behind
+same-kept configs first old new before behind h same =
+    subst (λ l. AreKept configs first new l) (sym same.actions_are) (subst (λ t. AreKept configs first t before) (sym same.text_is) h)
+
+-- an action whose turn is common is kept, or nothing is
+pub may-keep : (configs : List Config) (first old new : List ℕ) (before behind : List Action) (action : Action) (line : Line) (w v : WorldState)
+    → IsAlong configs first old before w → IsSayable action → (is_common_answer line.answer && has_no_tail action) ≡ true
+    → TakesStep (step (run_of configs before).cluster action) v line → (added : Bool) → MayAdd added action old new before behind
+    → GoesOn added configs first new behind v
+may-keep configs first old new before behind action line w v h sayable common took true adds =
+    more-kept configs first old new before behind action line w v h sayable common took adds
+may-keep configs first old new before behind action line w v h sayable common took false same =
+    same-kept configs first old new before behind h.kept same

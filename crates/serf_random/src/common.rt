@@ -1,0 +1,50 @@
+//! A whole schedule that keeps to Serf's own rules.
+
+ghost use Rattle.std.specs.Prelude.{◌≡◌, ◌≤◌, ◌++◌, IfOk, Ok, length};
+ghost use Rattle.serf_replay.specs.Schedule.{parsed_of, schedule_of};
+ghost use Rattle.serf_schedule_text.specs.ScheduleText.{schedule_text};
+ghost use Rattle.serf_random.specs.Common.{AreCommon, comment_text};
+
+use crate::agents::add_agents;
+use crate::ask::Ask;
+use crate::comment::{know_numbers, put_comment};
+use crate::cut::add_common;
+use crate::make::{Made, random_schedule};
+use crate::rounds::in_rounds;
+use serf_replay::{MAX_SCHEDULE_BYTES, Schedule};
+use serf_schedule_text::{comments_skipped, know_read_back};
+use std::alloc::{AllocError, Global};
+
+/// A random schedule as it was asked for, of which what rests on a rule of this project's own is left out, and its text.
+///
+/// Of the actions of [`random_schedule`] those are left out, in rounds, whose turns aren't common
+/// ([`serf_model::is_common_turn`]), and at last all from the first such on. The text begins with a comment that
+/// says what was asked for and whose rules are kept, and stands for just this schedule, so that it is never refused. It
+/// has at most so many actions as were asked for, and at most 16,777,216 bytes. `AllocError` comes where memory runs out.
+pub fn common_schedule(alloc: Global, ask: &Ask) -> Result<Made, AllocError>
+    // Each turn of its run is common.
+    ensures common { IfOk result (λ made. AreCommon (parsed_of made.schedule)) }
+    ensures reads_back { IfOk result (λ made. schedule_of made.text.items
+        ≡ Ok (parsed_of made.schedule)) }
+    ensures text { IfOk result (λ made. made.text.items ≡ comment_text ask.now
+        ++ schedule_text (parsed_of made.schedule)) }
+    ensures few { IfOk result (λ made. length made.schedule.actions.items ≤ ask.now.actions) }
+    ensures short { IfOk result (λ made. length made.text.items ≤ MAX_SCHEDULE_BYTES) }
+{
+    let made = random_schedule(alloc, ask)?;
+    let Made { schedule, .. } = made;
+    let Schedule { agents, actions } = schedule;
+    let mut text = Vec::new(alloc);
+    put_comment(&mut text, ask)?;
+    let agents = add_agents(alloc, &mut text, agents)?;
+    let left = in_rounds(alloc, &agents, actions)?;
+    let kept = add_common(alloc, agents.try_clone(alloc)?, left, &mut text)?;
+    let schedule = Schedule {
+        agents,
+        actions: kept,
+    };
+    comments_skipped();
+    know_numbers(ask);
+    know_read_back(&schedule);
+    Ok(Made { schedule, text })
+}

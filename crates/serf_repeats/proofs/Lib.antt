@@ -1,2 +1,0 @@
-pub mod SpotLaws
-pub mod OnceLaws

@@ -1,2 +1,0 @@
-pub mod SublistLemmas
-pub mod TrialLemmas

@@ -1,7 +1,0 @@
-use Rattle.std.proofs.Common.{◌≡◌, ◌++◌, take}
-use Rattle.std.specs.List.{flat_map}
-use Rattle.serf_shrink.specs.Calls.{injections_of}
-use Rattle.serf_shrink.proofs.alone.add_packets.Given as goal
-
-abbrev pub invariant-loop-call : goal.invariant-loop-call
-invariant-loop-call l = l.actions.items ≡ l.fn.actions.items ++ flat_map injections_of (take l.call-index l.calls)
