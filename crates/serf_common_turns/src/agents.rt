@@ -6,8 +6,8 @@ ghost use Rattle.serf_random.specs.Draft.{IsShort};
 ghost use Rattle.serf_schedule_text.specs.ScheduleText.{agent_text};
 
 use serf_agent::Config;
-use serf_replay::MAX_SCHEDULE_BYTES;
 use serf_schedule_text::put_agent;
+use serf_text::MAX_SCHEDULE_BYTES;
 use serf_world::Roster;
 use std::alloc::{AllocError, Global};
 

@@ -5,8 +5,8 @@ ghost use Rattle.serf_agent.specs.declared.config.Config.{Config};
 ghost use Rattle.serf_common_turns.specs.Cut.{AreKept, GoesOn, IsAlong, MayAdd};
 
 use serf_conform::is_common_turn;
-use serf_replay::MAX_SCHEDULE_BYTES;
 use serf_schedule_text::{is_sayable, put_action};
+use serf_text::MAX_SCHEDULE_BYTES;
 use serf_world::{Action, Roster, StepFault, World};
 use std::alloc::{AllocError, Global};
 

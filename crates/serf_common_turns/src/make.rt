@@ -10,8 +10,9 @@ use crate::comment::{know_numbers, put_comment};
 use crate::cut::add_common;
 use crate::rounds::in_rounds;
 use serf_random::{Ask, Made, random_schedule};
-use serf_replay::{MAX_SCHEDULE_BYTES, Schedule};
+use serf_replay::Schedule;
 use serf_schedule_text::{comments_skipped, know_read_back};
+use serf_text::MAX_SCHEDULE_BYTES;
 use std::alloc::{AllocError, Global};
 
 /// A random schedule as it was asked for, of which what rests on a rule of this project's own is left out, and its text.

@@ -15,7 +15,7 @@ use crate::judging::{Judgement, judge};
 use crate::replies::wanted;
 use crate::verdict::{ConformFault, Rules};
 use serf_pipe::{ReadFault, Reply, put_call, read_reply_text};
-use serf_replay::write_output;
+use serf_text::write_output;
 use serf_wire::Bytes;
 use serf_world::{Action, Line};
 use std::alloc::{AllocError, Global};

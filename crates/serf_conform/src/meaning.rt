@@ -12,7 +12,7 @@ ghost use Rattle.serf_pipe.specs.ReplyText.{line_text as text_of};
 ghost use Rattle.serf_conform.specs.Meaning.{are_same, held_lines, line_means as means, lines_mean, meaning_of, meaning_text, packet_means, reply_means as replies_mean, sent_in, spell_same, state_lines};
 
 use serf_pipe::{Reply, ReplyLine, put_reply_line};
-use serf_replay::{put_members, put_message, put_number_line, put_slot};
+use serf_text::{put_members, put_message, put_number_line, put_slot};
 use serf_wire::{Message, SlotView, SlotViews, StatusTimes, Texts, decode};
 use std::alloc::{AllocError, Global};
 

@@ -6,7 +6,7 @@ ghost use Rattle.serf_pipe.specs.CallText.{buffer_words, call_line, config_words
 
 use crate::put::{put_flag_word, put_hex_word, put_moment_words, put_number_word, put_texts_words};
 use serf_agent::{BytesList, Config, QueryParams};
-use serf_replay::put_signed;
+use serf_text::put_signed;
 use serf_wire::Bytes;
 use serf_world::{Action, SinkCall};
 use std::alloc::AllocError;

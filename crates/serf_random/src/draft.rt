@@ -4,8 +4,8 @@ ghost use Rattle.std.specs.Prelude.{◌≡◌, OnOk};
 ghost use Rattle.serf_random.specs.Draft.{AddsActions, AddsAgents};
 
 use serf_agent::Config;
-use serf_replay::MAX_SCHEDULE_BYTES;
 use serf_schedule_text::{is_sayable, put_action, put_agent};
+use serf_text::MAX_SCHEDULE_BYTES;
 use serf_world::{Action, Roster, RosterFault};
 use std::alloc::{AllocError, Global};
 

@@ -11,8 +11,9 @@ use crate::ask::{Ask, put_comment};
 use crate::draft::add_action;
 use crate::player::Player;
 use crate::settings::add_agents;
-use serf_replay::{MAX_SCHEDULE_BYTES, Schedule};
+use serf_replay::Schedule;
 use serf_schedule_text::{comments_skipped, know_read_back};
+use serf_text::MAX_SCHEDULE_BYTES;
 use serf_world::{Action, Roster};
 use std::alloc::{AllocError, Global};
 

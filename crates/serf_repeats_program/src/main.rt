@@ -5,7 +5,8 @@
 #![tactic(auto)]
 
 use serf_repeats::first_repeat;
-use serf_replay::{InputFault, Schedule, ScheduleFault, parse_schedule, read_input};
+use serf_replay::{Schedule, ScheduleFault, parse_schedule};
+use serf_text::{InputFault, read_input};
 use serf_world::{RunFault, Trace, run};
 use std::alloc::Global;
 use std::process::ExitCode;

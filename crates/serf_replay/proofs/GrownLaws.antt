@@ -6,13 +6,13 @@ use Rattle.serf_agent.specs.declared.config.Config.{Config}
 use Rattle.serf_agent.specs.Config.{is_sound}
 use Rattle.serf_model.specs.declared.action.Action.{Action}
 use Rattle.serf_world.specs.Runs.{has_name}
-use Rattle.serf_replay.specs.declared.cause.Cause.{Cause}
-use Rattle.serf_replay.specs.declared.cause.Cause.TheVariants.{BadConfig, LateAgent, NameTwice, WordCount}
+use Rattle.serf_text.specs.declared.cause.Cause.{Cause}
+use Rattle.serf_text.specs.declared.cause.Cause.TheVariants.{BadConfig, LateAgent, NameTwice, WordCount}
 use Rattle.serf_replay.specs.declared.command.Command.{Command}
 use Rattle.serf_replay.specs.declared.command.Command.TheVariants.{Agent, Query, Act}
 use Rattle.serf_replay.specs.Command.{command_of, count_of}
-use Rattle.serf_replay.specs.Gives.{◌>>=◌}
-use Rattle.serf_replay.specs.Words.{word_at, words_of}
+use Rattle.serf_text.specs.Gives.{◌>>=◌}
+use Rattle.serf_text.specs.Words.{word_at, words_of}
 use Rattle.serf_replay.specs.Line.{Parsed, action_of, add_action, add_agent, after_line, agent_of, command_line, is_skipped, query_of, said_by}
 use Rattle.serf_replay.specs.Grown.{AddsSame, Grows, with_turn}
 use Rattle.serf_replay.specs.Laws.{LateLinesAddSame, LinesGrow}

@@ -1,11 +1,8 @@
-pub mod CutLemmas
-pub mod NumberLemmas
-pub mod ShownLaws
-pub mod SlotLemmas
-pub mod WordLemmas
-pub mod SizedLaws
-pub mod Names
 pub mod GrownLaws
 pub mod LineLaws
-pub mod TurnLaws
+pub mod Names
 pub mod RunTextLaws
+pub mod ShownLaws
+pub mod SizedLaws
+pub mod TurnLaws
+pub mod WordLemmas

@@ -4,14 +4,14 @@ use Rattle.std.specs.Prelude.{IfOk}
 use Rattle.std.specs.Option.{option_to_list}
 use Rattle.serf_world.specs.Runs.{AreConfigs}
 use Rattle.serf_model.specs.declared.action.Action.{Action}
-use Rattle.serf_replay.specs.declared.cause.Cause.{Cause}
-use Rattle.serf_replay.specs.declared.cause.LineFault.{LineFault}
-use Rattle.serf_replay.specs.declared.cause.LineFault.TheVariants.{Bad, OutOfMemory}
-use Rattle.serf_replay.specs.Gives.{Fails}
+use Rattle.serf_text.specs.declared.cause.Cause.{Cause}
+use Rattle.serf_text.specs.declared.cause.LineFault.{LineFault}
+use Rattle.serf_text.specs.declared.cause.LineFault.TheVariants.{Bad, OutOfMemory}
+use Rattle.serf_text.specs.Gives.{Fails, BadLine, at_line}
 use Rattle.serf_replay.specs.declared.schedule.Schedule.{Schedule}
 use Rattle.serf_replay.specs.Grown.{AddsSame, Grows, with_turn}
 use Rattle.serf_replay.specs.Line.{Parsed, after_line}
-use Rattle.serf_replay.specs.Schedule.{BadLine, after_lines, at_line, parsed_of, schedule_in}
+use Rattle.serf_replay.specs.Schedule.{after_lines, parsed_of, schedule_in}
 use Rattle.serf_replay.specs.Turns.{added_text, answer_behind, run_in, text_behind_turns, turn_answer}
 use Rattle.serf_replay.specs.declared.replaying.Acting.{Acting}
 use Rattle.serf_replay.specs.Replaying.{IsStage, Takes}

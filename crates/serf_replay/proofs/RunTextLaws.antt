@@ -6,15 +6,15 @@ use Rattle.serf_agent.specs.declared.config.Config.{Config}
 use Rattle.serf_world.specs.Kept.{KeepsPromises}
 use Rattle.serf_world.specs.Runs.{AreConfigs}
 use Rattle.serf_world.specs.Sizes.{HasSizes}
-use Rattle.serf_replay.specs.declared.cause.Cause.{Cause}
-use Rattle.serf_replay.specs.declared.cause.LineFault.{LineFault}
-use Rattle.serf_replay.specs.declared.cause.LineFault.TheVariants.{Bad, OutOfMemory}
-use Rattle.serf_replay.specs.Gives.{Fails}
+use Rattle.serf_text.specs.declared.cause.Cause.{Cause}
+use Rattle.serf_text.specs.declared.cause.LineFault.{LineFault}
+use Rattle.serf_text.specs.declared.cause.LineFault.TheVariants.{Bad, OutOfMemory}
+use Rattle.serf_text.specs.Gives.{Fails, BadLine}
 use Rattle.serf_replay.specs.Grown.{Grows}
 use Rattle.serf_replay.specs.Laws.{AnswersTellMore, RefusalsAreFirst, SchedulesTraceRuns}
 use Rattle.serf_replay.specs.Line.{Parsed, after_line}
 use Rattle.serf_replay.specs.Output.{GivesText, TracesRun, output_of, text_of}
-use Rattle.serf_replay.specs.Schedule.{BadLine, schedule_fault, schedule_in}
+use Rattle.serf_replay.specs.Schedule.{schedule_fault, schedule_in}
 use Rattle.serf_replay.specs.Show.{action_text, actions_text}
 use Rattle.serf_replay.specs.Replaying.{Follows}
 use Rattle.serf_replay.specs.declared.replaying.Replaying.{Replaying}

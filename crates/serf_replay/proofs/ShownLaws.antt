@@ -1,6 +1,6 @@
 -- The text of a run's lines, as one action after another is done.
 use Rattle.serf_replay.proofs.Names.{◌≡◌, ℕ, ◌+◌, ◌<◌, ◌≤◌, List, [], ◌∷◌, ◌++◌, Option, Some, None, refl, sym, ap, ◌∙◌, length, append_assoc, length-append, codes, decimal, arith, slice_get, flat_map, option_to_list, append-nil, get_or_append_left, unwrap_or-slice_get, Action, Line, IdealNode, Cluster, numbers_from, on_agent, step, step_by, Turn, actor_of}
-use Rattle.serf_replay.specs.TextParts.{hex_text}
+use Rattle.serf_text.specs.TextParts.{hex_text}
 use Rattle.serf_replay.specs.Show.{action_text, actions_text, answer_line, event_line, handed_line, numbered, packet_of, sent_line}
 
 -- ---- what is sent later changes no line

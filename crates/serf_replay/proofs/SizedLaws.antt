@@ -2,17 +2,18 @@
 use Rattle.serf_replay.proofs.Names.{◌≡◌, ◌≤◌, ◌+◌, ◌==◌, ◌&&◌, ◌||◌, ℕ, Bool, true, false, cond, nat_lt, nat_le, not, List, [], ◌∷◌, Option, Some, None, Result, Ok, Err, refl, subst, arith, length, pos, slice_split, and_parts, All-nil, All-push, nat_tests, fits, Config, QueryParams, is_sound, Action, has_name, HasSizes}
 use Rattle.std.specs.Prelude.{All, codes, take, drop}
 use Rattle.serf_model.specs.declared.action.Action.TheVariants as actions
-use Rattle.serf_replay.specs.declared.cause.Cause.{Cause}
-use Rattle.serf_replay.specs.declared.cause.Cause.TheVariants.{BadConfig, LateAgent, NameTwice, WordCount}
+use Rattle.serf_text.specs.declared.cause.Cause.{Cause}
+use Rattle.serf_text.specs.declared.cause.Cause.TheVariants.{BadConfig, LateAgent, NameTwice, WordCount}
 use Rattle.serf_replay.specs.declared.command.Command.{Command}
 use Rattle.serf_replay.specs.declared.command.Command.TheVariants.{Agent, Query, Act}
 use Rattle.serf_replay.specs.declared.command.Verb.{Verb}
 use Rattle.serf_replay.specs.declared.command.Verb.TheVariants.{Deliver, Fire, State, Merge, Respond, Restart, Break, Inject, Close, Save, Compact}
 use Rattle.serf_replay.specs.Command.{command_of, count_of}
-use Rattle.serf_replay.specs.Gives.{◌>>=◌}
-use Rattle.serf_replay.specs.Words.{between, bytes_in, choice_in, number_between, number_in, number_of, or_bad, sink_call_in, word_at, words_of}
+use Rattle.serf_text.specs.Gives.{◌>>=◌, at_line}
+use Rattle.serf_text.specs.Words.{between, bytes_in, choice_in, number_between, number_in, number_of, or_bad, word_at, words_of}
+use Rattle.serf_replay.specs.Sinks.{sink_call_in}
 use Rattle.serf_replay.specs.Line.{Parsed, action_of, add_action, add_agent, after_line, agent_of, answer_of, break_of, closing_of, command_line, delivery_of, filters_from, firing_of, injection_of, is_skipped, lone_of, merging_of, params_of, query_of, restart_of, said_by}
-use Rattle.serf_replay.specs.Schedule.{after_lines, at_line, schedule_of}
+use Rattle.serf_replay.specs.Schedule.{after_lines, schedule_of}
 
 -- ---- steps that may fail
 

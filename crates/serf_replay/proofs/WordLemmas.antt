@@ -6,7 +6,7 @@ use Rattle.serf_replay.specs.declared.command.Command.{Command}
 use Rattle.serf_replay.specs.declared.command.Command.TheVariants.{Agent, Query, Act}
 use Rattle.serf_replay.specs.declared.command.Verb.{Verb}
 use Rattle.serf_replay.specs.Command.{command_of, count_of}
-use Rattle.serf_replay.specs.Words.{word_at, words_of}
+use Rattle.serf_text.specs.Words.{word_at, words_of}
 use Rattle.serf_replay.specs.Line.{Parsed, query_said, command_line, said_by, after_line}
 use Rattle.serf_replay.specs.Parts.{parts_said}
 

@@ -2,7 +2,7 @@
 use Rattle.std.specs.Prelude.{◌≡◌, ◌++◌, ◌⊎◌, [], Option, Result, Ok, Err}
 use Rattle.std.specs.Option.{option_to_list}
 use Rattle.serf_model.specs.declared.action.Action.{Action}
-use Rattle.serf_replay.specs.declared.cause.Cause.{Cause}
+use Rattle.serf_text.specs.declared.cause.Cause.{Cause}
 use Rattle.serf_replay.specs.Line.{Parsed}
 
 -- a schedule with one more action, or with none more

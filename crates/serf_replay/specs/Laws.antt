@@ -10,7 +10,7 @@ use Rattle.serf_replay.specs.Schedule.{schedule_in, schedule_of}
 use Rattle.serf_replay.specs.Show.{action_text, actions_text}
 use Rattle.serf_replay.specs.Output.{TracesRun, output_of}
 use Rattle.serf_replay.specs.Turns.{run_text, turn_answer}
-use Rattle.serf_replay.specs.declared.cause.Cause.{Cause}
+use Rattle.serf_text.specs.declared.cause.Cause.{Cause}
 use Rattle.serf_world.specs.Runs.{AreConfigs}
 
 -- a step sends its packets behind those that were sent

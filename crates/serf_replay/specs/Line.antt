@@ -11,11 +11,12 @@ use Rattle.serf_replay.specs.declared.command.Command.{Command}
 use Rattle.serf_replay.specs.declared.command.Command.TheVariants.{Agent, Query, Act}
 use Rattle.serf_replay.specs.declared.command.Verb.{Verb}
 use Rattle.serf_replay.specs.declared.command.Verb.TheVariants.{Deliver, Fire, State, Merge, Respond, Restart, Break, Inject, Close, Save, Compact}
-use Rattle.serf_replay.specs.declared.cause.Cause.{Cause}
-use Rattle.serf_replay.specs.declared.cause.Cause.TheVariants.{UnknownWord, LateAgent, WordCount, BadConfig, NameTwice}
+use Rattle.serf_text.specs.declared.cause.Cause.{Cause}
+use Rattle.serf_text.specs.declared.cause.Cause.TheVariants.{UnknownWord, LateAgent, WordCount, BadConfig, NameTwice}
 use Rattle.serf_replay.specs.Command.{command_of, count_of}
-use Rattle.serf_replay.specs.Gives.{◌>>=◌}
-use Rattle.serf_replay.specs.Words.{words_of, word_at, bytes_of, or_bad, number_in, number_between, bytes_in, choice_in, sink_call_in}
+use Rattle.serf_text.specs.Gives.{◌>>=◌}
+use Rattle.serf_text.specs.Words.{words_of, word_at, bytes_of, or_bad, number_in, number_between, bytes_in, choice_in}
+use Rattle.serf_replay.specs.Sinks.{sink_call_in}
 
 -- the agents and the actions so far, in order
 pub record Parsed : Type 0 where

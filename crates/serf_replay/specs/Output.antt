@@ -4,7 +4,8 @@ use Rattle.std.specs.declared.vec.Vec.{Vec}
 use Rattle.serf_replay.specs.declared.parse.ScheduleFault.{ScheduleFault}
 use Rattle.serf_replay.specs.declared.parse.ScheduleFault.TheVariants as faults
 use Rattle.serf_replay.specs.Line.{Parsed}
-use Rattle.serf_replay.specs.Schedule.{BadLine, schedule_of}
+use Rattle.serf_text.specs.Gives.{BadLine}
+use Rattle.serf_replay.specs.Schedule.{schedule_of}
 use Rattle.serf_world.specs.Cluster.{run_of, trace_of}
 use Rattle.serf_world.specs.Kept.{KeepsPromises}
 use Rattle.serf_world.specs.Runs.{AreConfigs}

@@ -2,10 +2,10 @@
 use Rattle.std.specs.Prelude.{ℕ, ◌==◌, ◌||◌, nat_lt, Bool, not, if◌then◌else◌, List, length, Option, Some, None, Result, Err}
 use Rattle.serf_replay.specs.declared.command.Command.{Command}
 use Rattle.serf_replay.specs.declared.command.Command.TheVariants.{Agent, Query, Act}
-use Rattle.serf_replay.specs.declared.cause.Cause.{Cause}
-use Rattle.serf_replay.specs.declared.cause.Cause.TheVariants.{UnknownWord, LateAgent, WordCount}
-use Rattle.serf_replay.specs.Gives.{◌>>=◌}
-use Rattle.serf_replay.specs.Words.{words_of}
+use Rattle.serf_text.specs.declared.cause.Cause.{Cause}
+use Rattle.serf_text.specs.declared.cause.Cause.TheVariants.{UnknownWord, LateAgent, WordCount}
+use Rattle.serf_text.specs.Gives.{◌>>=◌}
+use Rattle.serf_text.specs.Words.{words_of}
 use Rattle.serf_replay.specs.Line.{Parsed, agent_of, add_agent, action_line, query_said}
 
 -- an agent line, with whether these are all its words

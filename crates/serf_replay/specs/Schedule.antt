@@ -2,26 +2,17 @@
 use Rattle.std.specs.Prelude.{◌≡◌, ℕ, ◌==◌, ◌+◌, List, [], ◌∷◌, Result, Ok, Err}
 use Rattle.std.specs.List.{slice_split}
 use Rattle.serf_replay.specs.Line.{Parsed, after_line}
-use Rattle.serf_replay.specs.declared.cause.Cause.{Cause}
+use Rattle.serf_text.specs.Gives.{BadLine, at_line}
+use Rattle.serf_text.specs.declared.cause.Cause.{Cause}
 use Rattle.serf_replay.specs.declared.schedule.Schedule.{Schedule}
-use Rattle.serf_replay.specs.declared.cause.LineFault.{LineFault}
-use Rattle.serf_replay.specs.declared.cause.LineFault.TheVariants.{Bad, OutOfMemory}
+use Rattle.serf_text.specs.declared.cause.LineFault.{LineFault}
+use Rattle.serf_text.specs.declared.cause.LineFault.TheVariants.{Bad, OutOfMemory}
 use Rattle.serf_replay.specs.declared.parse.ScheduleFault.{ScheduleFault}
 use Rattle.serf_replay.specs.declared.parse.ScheduleFault.TheVariants as faults
-
--- a line, counted from 1, and what is wrong with it
-pub record BadLine : Type 0 where
-  pub line : ℕ
-  pub cause : Cause
 
 -- what a schedule has
 abbrev pub parsed_of : Schedule → Parsed
 parsed_of s = record { configs = s.agents; actions = s.actions.items }
-
--- the next step, where the line at this number is sound
-abbrev pub at_line : {A : Type 0} → ℕ → Result A Cause → (A → Result A BadLine) → Result A BadLine
-at_line number (Ok after) next = next after
-at_line number (Err cause) next = Err (record { line = number; cause = cause })
 
 -- the lines from this number on, after what came before
 abbrev pub after_lines : ℕ → Parsed → List (List ℕ) → Result Parsed BadLine

@@ -12,8 +12,8 @@ use Rattle.serf_model.specs.declared.line.EventLine.{EventLine}
 use Rattle.serf_model.specs.declared.line.HandedLine.{HandedLine}
 use Rattle.serf_model.specs.declared.line.Line.{Line}
 use Rattle.serf_world.specs.Trace.{Outcome}
-use Rattle.serf_replay.specs.TextParts.{flag_text, hex_text}
-use Rattle.serf_replay.specs.WireText.{wire_text}
+use Rattle.serf_text.specs.TextParts.{flag_text, hex_text}
+use Rattle.serf_text.specs.WireText.{wire_text}
 
 -- why a packet was ignored
 abbrev pub reason_text : Reason → List ℕ

@@ -1,8 +1,9 @@
 //! The first word of a line.
 
-ghost use Rattle.std.specs.Prelude.{◌≡◌, ◌≤◌};
-ghost use Rattle.std.specs.Str.{bytes_eq};
+ghost use Rattle.std.specs.Prelude.{◌≡◌};
 ghost use Rattle.serf_replay.specs.Command.{verb_of, command_of, count_of};
+
+use serf_text::is_word;
 
 /// What a line is about.
 #[derive(Clone, Copy, Debug, PartialEq, Eq)]
@@ -29,13 +30,6 @@ pub enum Verb {
     Close,
     Save,
     Compact,
-}
-
-/// Whether a word is this text. Takes no memory.
-pub fn is_word(word: &[u8], text: &[u8]) -> bool
-    ensures { result ≡ bytes_eq word.now text.now }
-{
-    word == text
 }
 
 fn verb_in(word: &[u8]) -> Option<Verb>

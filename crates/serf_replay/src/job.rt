@@ -2,18 +2,15 @@
 
 ghost use Rattle.std.specs.Prelude.{◌≡◌, ◌<◌, ◌≤◌, ◌+◌, List, ℕ, length, OnOk, IfOk, IfErr, IfSome, IsErrOf, Ok, Err};
 ghost use Rattle.std.specs.Io.KnownBytes.{Appends, Consumes};
-ghost use Rattle.serf_replay.specs.Io.{AppendsFront};
+ghost use Rattle.serf_text.specs.Io.{AppendsFront};
 ghost use Rattle.serf_replay.specs.Output.{output_of, GivesText, TracesRun, longest_schedule};
 
-use crate::cause::Cause;
-use crate::input::{InputFault, read_input};
 use crate::laws::answered_lines;
-use crate::output::write_output;
 use crate::parse::{ScheduleFault, fault_at};
 use crate::progress::Progress;
 use crate::replaying::Replaying;
 use crate::watch::Watch;
-use crate::words::cut;
+use serf_text::{Cause, InputFault, cut, read_input, write_output};
 use std::alloc::Global;
 use std::io::{Read, Write};
 use thiserror::Error;

@@ -2,17 +2,15 @@
 
 ghost use Rattle.std.specs.Prelude.{◌≡◌, ◌≤◌, ◌⊎◌, [], length, map};
 ghost use Rattle.serf_model.specs.declared.action.Action.TheVariants.{State, Save, Compact};
-ghost use Rattle.serf_replay.specs.Words.{words_of, bytes_of, bytes_in, or_bad};
+ghost use Rattle.serf_text.specs.Words.{words_of, bytes_of, bytes_in, or_bad};
 ghost use Rattle.serf_replay.specs.Command.{count_of};
 ghost use Rattle.serf_replay.specs.Line.{agent_of, per_time_in, firing_of, delivery_of, merging_of, answer_of, restart_of, break_of, injection_of, closing_of, lone_of, action_of, filters_from, params_of, query_of};
-ghost use Rattle.serf_replay.specs.Gives.{Gives};
+ghost use Rattle.serf_text.specs.Gives.{Gives};
 
-use crate::cause::{Cause, LineFault};
 use crate::command::Verb;
-use crate::words::{
-    FIXED_WORDS, bytes_at, choice_at, cut, hex_bytes, number_at, number_from_to, sink_call_at,
-};
+use crate::sinks::sink_call_at;
 use serf_agent::{BytesList, Config, DEFAULT_PER_TIME, QueryParams};
+use serf_text::{Cause, FIXED_WORDS, LineFault, bytes_at, choice_at, cut, hex_bytes, number_at, number_from_to};
 use serf_wire::Bytes;
 use serf_world::{Action, BoxedBytes, BoxedParams};
 use std::alloc::Global;

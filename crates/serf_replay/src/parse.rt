@@ -4,17 +4,16 @@ ghost use Rattle.std.specs.Prelude.{◌≡◌, ◌<◌, ◌≤◌, ◌==◌, sli
 ghost use Rattle.serf_world.specs.Runs.{AreConfigs};
 ghost use Rattle.serf_world.specs.Sizes.{HasSizes};
 ghost use Rattle.serf_replay.specs.Command.{command_of};
-ghost use Rattle.serf_replay.specs.Words.{words_of, word_at};
+ghost use Rattle.serf_text.specs.Words.{words_of, word_at};
 ghost use Rattle.serf_replay.specs.Line.{action_line, query_said, after_line, with_action};
 ghost use Rattle.serf_replay.specs.Parts.{agent_said, parts_said};
 ghost use Rattle.serf_replay.specs.Schedule.{parsed_of, schedule_fault, schedule_of, Reads};
-ghost use Rattle.serf_replay.specs.Gives.{Gives};
+ghost use Rattle.serf_text.specs.Gives.{Gives};
 
-use crate::cause::{Cause, LineFault};
 use crate::command::{Command, Verb, command_in};
 use crate::line::{action, agent, query};
 use crate::schedule::Schedule;
-use crate::words::{cut, take_words};
+use serf_text::{Cause, LineFault, cut, take_words};
 use serf_world::{Action, Roster, RosterFault};
 use std::alloc::Global;
 use thiserror::Error;

@@ -6,10 +6,9 @@ ghost use Rattle.std.specs.Option.{option_to_list};
 ghost use Rattle.serf_world.specs.Trace.{outcome_of};
 ghost use Rattle.serf_replay.specs.Show.{answer_words, answer_details, answer_text, behind_space, fault_details, packet_of, answer_line, sent_line, event_tail, event_line, spaced, texts_text, identity_text, handed_line, action_text, trace_text};
 
-use crate::put::{flag, put_hex, put_number};
-use crate::wire_words::put_wire_fault;
 use itoa::Buffer;
 use serf_agent::Reason;
+use serf_text::{flag, put_hex, put_number, put_wire_fault};
 use serf_wire::Bytes;
 use serf_world::{Answer, Boxed, EventLine, HandedLine, Line, Refusal, Trace};
 use std::alloc::{AllocError, Global};

@@ -1,7 +1,7 @@
 -- The text of a schedule behind a comment.
 use Rattle.serf_schedule_text.proofs.Names.{◌≡◌, ◌+◌, ◌∙◌, ℕ, List, [], ◌∷◌, Ok, refl, ap, ◌==◌, slice_split, Parsed, after_line, after_lines}
 use Rattle.std.proofs.Common.{Err}
-use Rattle.serf_replay.specs.Schedule.{at_line}
+use Rattle.serf_text.specs.Gives.{at_line}
 use Rattle.serf_schedule_text.specs.Comments.{CommentsAreSkipped}
 use Rattle.serf_schedule_text.proofs.LinesBack.{body, line-off}
 

@@ -25,10 +25,11 @@ pub use Rattle.serf_model.specs.declared.action.SinkCall.{SinkCall}
 pub use Rattle.serf_model.specs.declared.action.SinkCall.TheVariants.{Append, Flush, ReplaceNew, ReplaceOld}
 unfoldable pub use Rattle.serf_replay.specs.Command.{command_of}
 pub use Rattle.serf_replay.specs.Line.{Parsed, filters_from, said_by, with_action}
-unfoldable pub use Rattle.serf_replay.specs.Line.{after_line, agent_of, answer_of, break_of, closing_of, delivery_of, firing_of, injection_of}
-unfoldable pub use Rattle.serf_replay.specs.Line.{lone_of, merging_of, params_of, per_time_in, query_of, restart_of}
+unfoldable pub use Rattle.serf_replay.specs.Line.{after_line, agent_of, answer_of, break_of, closing_of, delivery_of, firing_of, injection_of, lone_of, merging_of, params_of, per_time_in, query_of, restart_of}
 pub use Rattle.serf_replay.specs.Schedule.{after_lines, parsed_of, schedule_of}
-pub use Rattle.serf_replay.specs.TextParts.{flag_text}
-unfoldable pub use Rattle.serf_replay.specs.TextParts.{hex_text}
-pub use Rattle.serf_replay.specs.Words.{between, bytes_of, choice_of, number_of, sink_call_of, words_of}
-unfoldable pub use Rattle.serf_replay.specs.Words.{bytes_in, choice_in, number_between, number_in, sink_call_in}
+pub use Rattle.serf_text.specs.TextParts.{flag_text}
+unfoldable pub use Rattle.serf_text.specs.TextParts.{hex_text}
+pub use Rattle.serf_text.specs.Words.{between, bytes_of, choice_of, number_of, words_of}
+pub use Rattle.serf_replay.specs.Sinks.{sink_call_of}
+unfoldable pub use Rattle.serf_text.specs.Words.{bytes_in, choice_in, number_between, number_in}
+unfoldable pub use Rattle.serf_replay.specs.Sinks.{sink_call_in}

@@ -2,7 +2,7 @@
 use Rattle.std.specs.Prelude.{ℕ, ◌++◌, List, codes, decimal}
 use Rattle.std.specs.Fmt.{signed_decimal}
 use Rattle.std.specs.List.{flat_map}
-use Rattle.serf_replay.specs.TextParts.{hex_text}
+use Rattle.serf_text.specs.TextParts.{hex_text}
 use Rattle.serf_schedule_text.specs.declared.words.Word.{Word}
 use Rattle.serf_schedule_text.specs.declared.words.Word.TheVariants as words
 

@@ -8,7 +8,7 @@ use crate::words::Word::{Hex, Number, Plain, Signed};
 use crate::words::{flags, join, mode, put_line, put_long_line, sink_call};
 use serf_agent::{Config, QueryParams};
 use serf_model::Action;
-use serf_replay::flag;
+use serf_text::flag;
 use std::alloc::AllocError;
 
 /// Appends the line of an agent. Where memory runs out, a part of the line may stand there.

@@ -1,13 +1,13 @@
 //! Words of a line.
 
 ghost use Rattle.std.specs.Prelude.{◌≡◌, ◌++◌, ◌∷◌, OnOk, codes, map};
-ghost use Rattle.serf_replay.specs.TextParts.{hex_text};
+ghost use Rattle.serf_text.specs.TextParts.{hex_text};
 ghost use Rattle.serf_schedule_text.specs.ScheduleText.{flags_of, join_word, line_text, mode_word, sink_call_word, spaced};
 ghost use Rattle.serf_schedule_text.specs.Words.{command_text, word_behind, word_text};
 
 use serf_agent::QueryParams;
 use serf_model::SinkCall;
-use serf_replay::{put_hex, put_number, put_signed};
+use serf_text::{put_hex, put_number, put_signed};
 use serf_wire::Bytes;
 use std::alloc::AllocError;
 

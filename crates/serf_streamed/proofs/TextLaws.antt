@@ -1,17 +1,18 @@
 -- The text of all turns, from the answers to the lines.
 use Rattle.std.proofs.Common.{◌≡◌, ◌++◌, ◌∙◌, ℕ, List, [], ◌∷◌, Option, Result, Ok, Err, refl, sym, ap, subst, append-nil, append_assoc}
-use Rattle.serf_replay.specs.declared.cause.Cause.{Cause}
+use Rattle.serf_text.specs.declared.cause.Cause.{Cause}
 use Rattle.serf_replay.specs.declared.replaying.Replaying.{Replaying}
 use Rattle.serf_replay.specs.Laws.{AnswersTellMore, RefusalsAreFirst, SchedulesTraceRuns}
 use Rattle.serf_replay.specs.Line.{Parsed}
 use Rattle.serf_replay.specs.Output.{TracesRun, output_of}
 use Rattle.serf_replay.specs.Replaying.{Follows}
-use Rattle.serf_replay.specs.Schedule.{BadLine, schedule_in}
+use Rattle.serf_text.specs.Gives.{BadLine}
+use Rattle.serf_replay.specs.Schedule.{schedule_in}
 use Rattle.serf_replay.specs.Turns.{run_text, turn_answer}
-use Rattle.serf_stream.specs.declared.fault.StreamFault.{StreamFault}
-use Rattle.serf_stream.specs.declared.fault.StreamFault.TheVariants.{ReadFault, BadLine as bad_line_fault, LineTooLong, OutOfMemory, WriteFault}
-use Rattle.serf_stream.specs.Lines.{joined, lines_of, text_behind}
-use Rattle.serf_stream.specs.Streams.{IsCause, IsStopped, WritesUpTo}
+use Rattle.serf_text.specs.declared.stream_fault.StreamFault.{StreamFault}
+use Rattle.serf_text.specs.declared.stream_fault.StreamFault.TheVariants.{ReadFault, BadLine as bad_line_fault, LineTooLong, OutOfMemory, WriteFault}
+use Rattle.serf_text.specs.Lines.{joined, lines_of, text_behind}
+use Rattle.serf_text.specs.Streams.{IsCause, IsStopped, WritesUpTo}
 use Rattle.serf_streamed.specs.Stopped.{IsHalted, IsHaltedBy}
 
 -- the lines behind these are sound, and their answers are the text of their turns

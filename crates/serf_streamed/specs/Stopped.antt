@@ -1,13 +1,13 @@
 -- How a schedule that is done line by line stops before its end.
 use Rattle.std.specs.Prelude.{◌≡◌, ℕ, ◌+◌, ◌++◌, ◌<◌, List, ◌∷◌, length, Option, Ok, Err}
-use Rattle.serf_replay.specs.declared.cause.Cause.{Cause}
+use Rattle.serf_text.specs.declared.cause.Cause.{Cause}
 use Rattle.serf_replay.specs.Line.{Parsed}
 use Rattle.serf_replay.specs.Schedule.{schedule_in, schedule_of}
 use Rattle.serf_replay.specs.Turns.{run_text}
-use Rattle.serf_stream.specs.declared.fault.StreamFault.{StreamFault}
-use Rattle.serf_stream.specs.declared.fault.StreamFault.TheVariants.{ReadFault, BadLine, LineTooLong, OutOfMemory, WriteFault}
-use Rattle.serf_stream.specs.Lines.{lines_of, longest_line, number_behind}
-use Rattle.serf_stream.specs.Streams.{WritesUpTo}
+use Rattle.serf_text.specs.declared.stream_fault.StreamFault.{StreamFault}
+use Rattle.serf_text.specs.declared.stream_fault.StreamFault.TheVariants.{ReadFault, BadLine, LineTooLong, OutOfMemory, WriteFault}
+use Rattle.serf_text.specs.Lines.{lines_of, longest_line, number_behind}
+use Rattle.serf_text.specs.Streams.{WritesUpTo}
 
 -- What a fault says of the lines that were done, and of those that were not.
 abbrev pub IsHaltedBy : StreamFault Cause → List ℕ → List (List ℕ) → List (List ℕ) → Type 0

@@ -5,8 +5,8 @@ ghost use Rattle.std.specs.Io.KnownBytes.{Appends, Consumes, IsAtEnd};
 ghost use Rattle.serf_replay.specs.Output.{TracesRun, output_of};
 ghost use Rattle.serf_streamed.specs.Stopped.{IsHalted};
 
-use serf_replay::{Cause, LineFault as ReadFault, Replaying, answered_lines};
-use serf_stream::{LineFault, LineJob, StreamFault, answer_lines};
+use serf_replay::{Replaying, answered_lines};
+use serf_text::{Cause, LineFault as ReadFault, LineJob, StreamFault, StreamLineFault, answer_lines};
 use std::alloc::Global;
 use std::io::{Read, Write};
 
@@ -31,11 +31,11 @@ impl LineJob for ScheduleLines {
         alloc: Global,
         line: &[u8],
         text: &mut Vec<u8>,
-    ) -> Result<(), LineFault<Cause>> {
+    ) -> Result<(), StreamLineFault<Cause>> {
         match self.replaying.take_line(alloc, line, text) {
             Ok(()) => Ok(()),
-            Err(ReadFault::Bad(cause)) => Err(LineFault::Bad(cause)),
-            Err(ReadFault::OutOfMemory) => Err(LineFault::OutOfMemory),
+            Err(ReadFault::Bad(cause)) => Err(StreamLineFault::Bad(cause)),
+            Err(ReadFault::OutOfMemory) => Err(StreamLineFault::OutOfMemory),
         }
     }
 }

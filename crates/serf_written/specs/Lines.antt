@@ -7,7 +7,7 @@ use Rattle.serf_agent.specs.Defaults.{default_config}
 use Rattle.serf_model.specs.declared.action.Action.{Action}
 use Rattle.serf_model.specs.declared.action.Action.TheVariants as actions
 use Rattle.serf_world.specs.Runs.{has_name}
-use Rattle.serf_replay.specs.Words.{between, number_of}
+use Rattle.serf_text.specs.Words.{between, number_of}
 use Rattle.serf_written.specs.declared.fault.Fault.{Fault}
 use Rattle.serf_written.specs.declared.fault.Wanted.TheVariants as wanted
 use Rattle.serf_written.specs.declared.actions.Deed.{Deed}

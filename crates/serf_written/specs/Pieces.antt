@@ -4,7 +4,7 @@ use Rattle.std.specs.List.{slice_split}
 use Rattle.std.specs.Option.{option_map}
 use Rattle.std.specs.Result.{result_ok}
 use Rattle.hex.specs.Hex.{decode_of}
-use Rattle.serf_replay.specs.Words.{words_of}
+use Rattle.serf_text.specs.Words.{words_of}
 use Rattle.serf_written.specs.declared.fault.Fault.{Fault}
 use Rattle.serf_written.specs.declared.fault.Wanted.TheVariants.{ClosingQuote, Escape}
 use Rattle.serf_written.specs.declared.piece.Piece.{Piece}

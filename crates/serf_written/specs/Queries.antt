@@ -4,7 +4,7 @@ use Rattle.std.specs.Str.{bytes_eq}
 use Rattle.serf_agent.specs.declared.config.Config.{Config}
 use Rattle.serf_model.specs.declared.action.Action.{Action}
 use Rattle.serf_model.specs.declared.action.Action.TheVariants as actions
-use Rattle.serf_replay.specs.Words.{between, bytes_of, number_of}
+use Rattle.serf_text.specs.Words.{between, bytes_of, number_of}
 use Rattle.serf_written.specs.declared.fault.Fault.{Fault}
 use Rattle.serf_written.specs.declared.fault.Wanted.TheVariants as wanted
 use Rattle.serf_written.specs.declared.asked.Asked.{Asked}

@@ -10,7 +10,7 @@ use Rattle.serf_model.specs.Cluster.{run_of}
 use Rattle.serf_replay.specs.declared.command.Verb.{Verb as Act}
 use Rattle.serf_replay.specs.declared.command.Verb.TheVariants as acts
 use Rattle.serf_replay.specs.Line.{Parsed}
-use Rattle.serf_replay.specs.Words.{number_of}
+use Rattle.serf_text.specs.Words.{number_of}
 use Rattle.serf_written.specs.declared.fault.Fault.{Fault}
 use Rattle.serf_written.specs.declared.fault.Wanted.TheVariants as wanted
 use Rattle.serf_written.specs.declared.label.Label.{Label}

@@ -1,7 +1,7 @@
 //! The actions of a line.
 
 ghost use Rattle.std.specs.Prelude.{◌^◌, ◌-◌, ◌≡◌, ◌<◌};
-ghost use Rattle.serf_replay.specs.Words.{between};
+ghost use Rattle.serf_text.specs.Words.{between};
 ghost use Rattle.serf_model.specs.declared.action.Action.TheVariants.{State, Save, Compact};
 ghost use Rattle.serf_written.specs.Gives.{Gives};
 ghost use Rattle.serf_written.specs.Lines.{actions_of, answer_of, break_of, closing_of, coalesce_in, count_in, delivery_of, firing_of, giving_of, injection_of, lone_of, merging_of, restart_of, tail_in, taking_of};
@@ -14,7 +14,7 @@ use crate::values::{
     sink_call_at, word,
 };
 use serf_agent::Config;
-use serf_replay::{is_word, number};
+use serf_text::{is_word, number};
 use serf_wire::Bytes;
 use serf_world::Action;
 use std::alloc::Global;

@@ -2,7 +2,7 @@
 
 ghost use Rattle.std.specs.Prelude.{◌≡◌, ◌==◌, ◌<◌, ◌≤◌, IfOk, IfSome, position};
 ghost use Rattle.serf_model.specs.declared.action.Action.TheVariants.{Query};
-ghost use Rattle.serf_replay.specs.Words.{between};
+ghost use Rattle.serf_text.specs.Words.{between};
 ghost use Rattle.serf_written.specs.Gives.{Gives};
 ghost use Rattle.serf_written.specs.Lines.{actions_of};
 ghost use Rattle.serf_written.specs.Queries.{option_value, options_from, options_in, plain_query, query_moment, query_of, with_option, with_pair};
@@ -13,7 +13,7 @@ use crate::piece::Piece;
 use crate::settings::{behind, word_in};
 use crate::values::{agent_at, bytes_at, halves, time, time_at, word};
 use serf_agent::{BytesList, Config, QueryParams};
-use serf_replay::{hex_bytes, is_word, number};
+use serf_text::{hex_bytes, is_word, number};
 use serf_wire::Bytes;
 use serf_world::{Action, BoxedBytes, BoxedParams};
 use std::alloc::{AllocError, Global};

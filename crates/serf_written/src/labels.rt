@@ -9,7 +9,7 @@ ghost use Rattle.serf_written.specs.Placed.{placed_behind};
 use crate::fault::{Fault, LineFault};
 use crate::label::Label;
 use crate::values::named_label;
-use serf_replay::number;
+use serf_text::number;
 
 /// What stands before the colon that ends a word.
 pub(crate) fn label_in(word: &[u8]) -> Option<&[u8]>

@@ -3,13 +3,13 @@
 ghost use Rattle.std.specs.Prelude.{◌≡◌, ◌==◌, ◌<◌, ◌++◌, ◌∷◌, IfOk, OnOk, MatchResult, length, false, true, []};
 ghost use Rattle.std.specs.List.{slice_split};
 ghost use Rattle.std.specs.Option.{option_map};
-ghost use Rattle.serf_replay.specs.Words.{words_of};
+ghost use Rattle.serf_text.specs.Words.{words_of};
 ghost use Rattle.serf_written.specs.Gives.{Fails, Gives};
 ghost use Rattle.serf_written.specs.Pieces.{before_return, escaped_of, pieces_from, pieces_of, text_within, words_behind};
 
 use crate::fault::{LineFault, Wanted, bad};
 use hex::FromHexError;
-use serf_replay::cut;
+use serf_text::cut;
 use serf_wire::Bytes;
 use std::alloc::{AllocError, Global};
 

@@ -9,8 +9,9 @@ ghost use Rattle.serf_written.specs.Written.{written_of};
 
 use crate::fault::{Fault, LineFault};
 use crate::writing::Writing;
-use serf_replay::{Schedule, cut};
+use serf_replay::Schedule;
 use serf_schedule_text::put_schedule;
+use serf_text::cut;
 use std::alloc::{AllocError, Global};
 use thiserror::Error;
 

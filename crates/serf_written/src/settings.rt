@@ -14,7 +14,7 @@ use crate::values::{halves, nth};
 use serf_agent::{
     Config, DEFAULT_EVENT_LIMIT, DEFAULT_PER_TIME, DEFAULT_RESPONDERS, DEFAULT_SLOTS,
 };
-use serf_replay::{is_word, number};
+use serf_text::{is_word, number};
 use serf_wire::Bytes;
 use serf_world::{Roster, RosterFault};
 use std::alloc::{AllocError, Global};

@@ -3,7 +3,8 @@
 ghost use Rattle.std.specs.Prelude.{◌≡◌};
 ghost use Rattle.serf_written.specs.Verbs.{double_verb_of, verb_of};
 
-use serf_replay::{Command, command_in, is_word};
+use serf_replay::{Command, command_in};
+use serf_text::is_word;
 
 /// What a line does.
 #[derive(Clone, Copy, Debug, PartialEq, Eq)]

@@ -1,5 +1,5 @@
 use Rattle.serf_replay.proofs.Names.{◌≡◌, ◌+◌, ◌≤◌, length, []}
-use Rattle.serf_replay.specs.Words.{words_of}
+use Rattle.serf_text.specs.Words.{words_of}
 use Rattle.serf_replay.specs.Line.{filters_from}
 use Rattle.serf_replay.proofs.line.filters.Given as goal
 

@@ -1,8 +1,8 @@
 use Rattle.serf_replay.proofs.Names.{◌≡◌, ◌∙◌, ◌<◌, ◌≤◌, ◌++◌, ap, subst, map, List, ℕ, length, arith, common_steps}
 use Rattle.std.specs.Prelude.{Result}
-use Rattle.serf_replay.specs.declared.cause.Cause.{Cause}
-use Rattle.serf_replay.specs.Gives.{Gives}
-use Rattle.serf_replay.specs.Words.{words_of}
+use Rattle.serf_text.specs.declared.cause.Cause.{Cause}
+use Rattle.serf_text.specs.Gives.{Gives}
+use Rattle.serf_text.specs.Words.{words_of}
 use Rattle.serf_replay.specs.Line.{Parsed}
 use Rattle.serf_replay.specs.Schedule.{parsed_of}
 use Rattle.serf_replay.proofs.WordLemmas.{line-said}

@@ -1,5 +1,5 @@
 use Rattle.std.proofs.Common.{◌≡◌, length}
-use Rattle.serf_replay.specs.Words.{words_of}
+use Rattle.serf_text.specs.Words.{words_of}
 use Rattle.serf_written.specs.Pieces.{words_behind}
 use Rattle.serf_written.proofs.piece.put_words.Given as goal
 

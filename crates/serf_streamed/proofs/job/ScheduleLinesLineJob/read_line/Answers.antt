@@ -1,5 +1,5 @@
 use Rattle.std.proofs.Common.{◌≡◌, ◌++◌, ◌∙◌, ℕ, List, Result, Ok, ap, sym}
-use Rattle.serf_replay.specs.declared.cause.Cause.{Cause}
+use Rattle.serf_text.specs.declared.cause.Cause.{Cause}
 use Rattle.serf_streamed.proofs.job.ScheduleLinesLineJob.read_line.Goals as goal
 
 pub returns-in-Ok-clause-done : goal.returns-in-Ok-clause-done
