@@ -1,8 +1,8 @@
 //! A whole schedule.
 
 ghost use Rattle.std.specs.Prelude.{◌≡◌, ◌≤◌, ◌++◌, IfOk, Ok, length};
-ghost use Rattle.serf_replay.specs.Schedule.{parsed_of, schedule_of};
-ghost use Rattle.serf_schedule_text.specs.ScheduleText.{schedule_text};
+ghost use Rattle.serf_schedule.specs.Schedule.{parsed_of, schedule_of};
+ghost use Rattle.serf_schedule.specs.ScheduleText.{schedule_text};
 ghost use Rattle.serf_common_turns.specs.Common.{AreCommon, comment_text};
 
 use crate::agents::add_agents;
@@ -10,8 +10,7 @@ use crate::comment::{know_numbers, put_comment};
 use crate::cut::add_common;
 use crate::rounds::in_rounds;
 use serf_random::{Ask, Made, random_schedule};
-use serf_replay::Schedule;
-use serf_schedule_text::{comments_skipped, know_read_back};
+use serf_schedule::{Schedule, comments_skipped, know_read_back};
 use serf_text::MAX_SCHEDULE_BYTES;
 use std::alloc::{AllocError, Global};
 

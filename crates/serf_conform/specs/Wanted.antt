@@ -11,7 +11,7 @@ use Rattle.serf_model.specs.declared.line.EventLine.{EventLine}
 use Rattle.serf_model.specs.declared.line.HandedLine.{HandedLine}
 use Rattle.serf_model.specs.declared.line.Line.{Line}
 use Rattle.serf_text.specs.Gives.{BadLine}
-use Rattle.serf_replay.specs.Show.{answer_text}
+use Rattle.serf_schedule.specs.Show.{answer_text}
 use Rattle.serf_pipe.specs.declared.reply_line.ReplyLine.{ReplyLine}
 use Rattle.serf_pipe.specs.declared.reply_line.ReplyLine.TheVariants as lines
 use Rattle.serf_pipe.specs.Reply.{Said}

@@ -5,7 +5,7 @@
 #![tactic(auto)]
 
 use serf_repeats::first_repeat;
-use serf_replay::{Schedule, ScheduleFault, parse_schedule};
+use serf_schedule::{Schedule, ScheduleFault, parse_schedule};
 use serf_text::{InputFault, read_input};
 use serf_world::{RunFault, Trace, run};
 use std::alloc::Global;

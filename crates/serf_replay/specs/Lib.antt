@@ -1,11 +1,4 @@
-pub mod Command
-pub mod Grown
 pub mod Laws
-pub mod Line
 pub mod Output
-pub mod Parts
 pub mod Replaying
-pub mod Schedule
-pub mod Show
-pub mod Sinks
 pub mod Turns

@@ -1,6 +1,6 @@
 //! How far a run is.
 
-use crate::watch::Watch;
+use serf_schedule::Watch;
 use serf_text::{cut, is_word};
 
 /// Whether a line of a schedule has an action: its first word is another than that of an agent.

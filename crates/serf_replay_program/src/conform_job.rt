@@ -5,7 +5,7 @@ use crate::shrink_job::{Shrinking, is_shrunk, shrink_found};
 use serf_conform::{ConformFault, End, Rules, Verdict, given_packet, hold, opening, wanted};
 use serf_hunt::{Case, case_of};
 use serf_pipe::{Reply, put_call, put_open, put_reply_line};
-use serf_replay::{ScheduleFault, parse_schedule};
+use serf_schedule::{ScheduleFault, parse_schedule};
 use serf_world::Line;
 use std::alloc::{AllocError, Global};
 use std::io::{self, BufReader, Read, Write};

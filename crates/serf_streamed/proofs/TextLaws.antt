@@ -3,11 +3,12 @@ use Rattle.std.proofs.Common.{◌≡◌, ◌++◌, ◌∙◌, ℕ, List, [], ◌
 use Rattle.serf_text.specs.declared.cause.Cause.{Cause}
 use Rattle.serf_replay.specs.declared.replaying.Replaying.{Replaying}
 use Rattle.serf_replay.specs.Laws.{AnswersTellMore, RefusalsAreFirst, SchedulesTraceRuns}
-use Rattle.serf_replay.specs.Line.{Parsed}
-use Rattle.serf_replay.specs.Output.{TracesRun, output_of}
+use Rattle.serf_schedule.specs.Line.{Parsed}
+use Rattle.serf_replay.specs.Output.{TracesRun}
+use Rattle.serf_schedule.specs.Output.{output_of}
 use Rattle.serf_replay.specs.Replaying.{Follows}
 use Rattle.serf_text.specs.Gives.{BadLine}
-use Rattle.serf_replay.specs.Schedule.{schedule_in}
+use Rattle.serf_schedule.specs.Schedule.{schedule_in}
 use Rattle.serf_replay.specs.Turns.{run_text, turn_answer}
 use Rattle.serf_text.specs.declared.stream_fault.StreamFault.{StreamFault}
 use Rattle.serf_text.specs.declared.stream_fault.StreamFault.TheVariants.{ReadFault, BadLine as bad_line_fault, LineTooLong, OutOfMemory, WriteFault}

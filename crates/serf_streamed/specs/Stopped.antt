@@ -1,8 +1,8 @@
 -- How a schedule that is done line by line stops before its end.
 use Rattle.std.specs.Prelude.{◌≡◌, ℕ, ◌+◌, ◌++◌, ◌<◌, List, ◌∷◌, length, Option, Ok, Err}
 use Rattle.serf_text.specs.declared.cause.Cause.{Cause}
-use Rattle.serf_replay.specs.Line.{Parsed}
-use Rattle.serf_replay.specs.Schedule.{schedule_in, schedule_of}
+use Rattle.serf_schedule.specs.Line.{Parsed}
+use Rattle.serf_schedule.specs.Schedule.{schedule_in, schedule_of}
 use Rattle.serf_replay.specs.Turns.{run_text}
 use Rattle.serf_text.specs.declared.stream_fault.StreamFault.{StreamFault}
 use Rattle.serf_text.specs.declared.stream_fault.StreamFault.TheVariants.{ReadFault, BadLine, LineTooLong, OutOfMemory, WriteFault}

@@ -2,7 +2,8 @@
 
 ghost use Rattle.std.specs.Prelude.{◌≡◌, Ok, List, ℕ, IfErr, OnOk};
 ghost use Rattle.std.specs.Io.KnownBytes.{Appends, Consumes, IsAtEnd};
-ghost use Rattle.serf_replay.specs.Output.{TracesRun, output_of};
+ghost use Rattle.serf_replay.specs.Output.{TracesRun};
+ghost use Rattle.serf_schedule.specs.Output.{output_of};
 ghost use Rattle.serf_streamed.specs.Stopped.{IsHalted};
 
 use serf_replay::{Replaying, answered_lines};

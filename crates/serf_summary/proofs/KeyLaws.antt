@@ -8,7 +8,7 @@ use Rattle.std.proofs.lemmas.Slice.Eq.{slice_eq-Decides}
 use Rattle.serf_model.specs.declared.line.EventLine.{EventLine}
 use Rattle.serf_model.specs.declared.line.Line.{Line}
 use Rattle.serf_summary.specs.declared.keys.EventKey.{EventKey}
-use Rattle.serf_replay.specs.Show.{answer_words}
+use Rattle.serf_schedule.specs.Show.{answer_words}
 use Rattle.serf_summary.specs.Notes.{is_event}
 use Rattle.serf_summary.specs.Summaries.{event_key_eq}
 

@@ -11,7 +11,7 @@ use Rattle.serf_model.specs.declared.line.EventLine.{EventLine}
 use Rattle.serf_model.specs.declared.line.Line.{Line}
 use Rattle.serf_summary.specs.declared.keys.EventKey.{EventKey}
 use Rattle.serf_summary.specs.declared.tally.Spread.{Spread}
-use Rattle.serf_replay.specs.Show.{answer_words}
+use Rattle.serf_schedule.specs.Show.{answer_words}
 use Rattle.serf_summary.specs.Notes.{hand_outs_from, is_event, numbered_from}
 use Rattle.serf_summary.specs.declared.summary.Summary.{Summary}
 use Rattle.serf_summary.specs.Tally.{spread_in}

@@ -5,7 +5,7 @@ ghost use Rattle.serf_model.specs.Cluster.{Run, after, run_of};
 ghost use Rattle.serf_summary.specs.Summaries.{IsSummary, Stands};
 
 use crate::summary::Summary;
-use serf_replay::{Schedule, Watch};
+use serf_schedule::{Schedule, Watch};
 use serf_world::{Action, StepFault, World};
 use std::alloc::{AllocError, Global};
 

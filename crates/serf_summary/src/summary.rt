@@ -10,7 +10,7 @@ use crate::keys::{EventKey, key_of};
 use crate::tally::{Spread, note};
 use indexmap::IndexMap;
 use serf_model::{EventLine, Line};
-use serf_replay::answer_words;
+use serf_schedule::answer_words;
 use std::alloc::{AllocError, Global};
 
 /// What came of a run. What never came is in no table.

@@ -5,7 +5,7 @@ use Rattle.std.specs.Str.{bytes_eq}
 use Rattle.serf_agent.specs.declared.config.Config.{Config}
 use Rattle.serf_model.specs.declared.action.SinkCall.{SinkCall}
 use Rattle.serf_text.specs.Words.{bytes_of, choice_of, number_of}
-use Rattle.serf_replay.specs.Sinks.{sink_call_of}
+use Rattle.serf_schedule.specs.Sinks.{sink_call_of}
 use Rattle.serf_written.specs.declared.fault.Fault.{Fault}
 use Rattle.serf_written.specs.declared.fault.Wanted.TheVariants as wanted
 use Rattle.serf_written.specs.declared.label.Label.{Label}

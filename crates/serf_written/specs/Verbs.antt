@@ -1,9 +1,9 @@
 -- The words with which the lines of actions begin.
 use Rattle.std.specs.Prelude.{ℕ, List, if◌then◌else◌, codes, Option, Some, None}
 use Rattle.std.specs.Str.{bytes_eq}
-use Rattle.serf_replay.specs.declared.command.Command.{Command}
-use Rattle.serf_replay.specs.declared.command.Command.TheVariants as commands
-use Rattle.serf_replay.specs.Command.{command_of}
+use Rattle.serf_schedule.specs.declared.command.Command.{Command}
+use Rattle.serf_schedule.specs.declared.command.Command.TheVariants as commands
+use Rattle.serf_schedule.specs.Command.{command_of}
 use Rattle.serf_written.specs.declared.verb.Verb.{Verb}
 use Rattle.serf_written.specs.declared.verb.Verb.TheVariants as verbs
 

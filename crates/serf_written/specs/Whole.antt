@@ -1,8 +1,8 @@
 -- What is written for a text.
 use Rattle.std.specs.Prelude.{◌≡◌, ℕ, List, Result, Ok, Err}
 use Rattle.std.specs.declared.vec.Vec.{Vec}
-use Rattle.serf_replay.specs.Schedule.{schedule_of}
-use Rattle.serf_schedule_text.specs.ScheduleText.{schedule_text}
+use Rattle.serf_schedule.specs.Schedule.{schedule_of}
+use Rattle.serf_schedule.specs.ScheduleText.{schedule_text}
 use Rattle.serf_written.specs.declared.schedule.WriteFault.{WriteFault}
 use Rattle.serf_written.specs.declared.schedule.WriteFault.TheVariants as faults
 use Rattle.serf_written.specs.Written.{BadLine, Written, schedule_meant, written_of}

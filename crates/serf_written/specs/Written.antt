@@ -7,9 +7,9 @@ use Rattle.serf_agent.specs.declared.config.Config.{Config}
 use Rattle.serf_model.specs.declared.action.Action.{Action}
 use Rattle.serf_model.specs.declared.action.Action.TheVariants as actions
 use Rattle.serf_model.specs.Cluster.{run_of}
-use Rattle.serf_replay.specs.declared.command.Verb.{Verb as Act}
-use Rattle.serf_replay.specs.declared.command.Verb.TheVariants as acts
-use Rattle.serf_replay.specs.Line.{Parsed}
+use Rattle.serf_schedule.specs.declared.command.Verb.{Verb as Act}
+use Rattle.serf_schedule.specs.declared.command.Verb.TheVariants as acts
+use Rattle.serf_schedule.specs.Line.{Parsed}
 use Rattle.serf_text.specs.Words.{number_of}
 use Rattle.serf_written.specs.declared.fault.Fault.{Fault}
 use Rattle.serf_written.specs.declared.fault.Wanted.TheVariants as wanted

@@ -19,7 +19,7 @@ use crate::piece::Piece;
 use crate::values::word;
 use crate::verb::{Verb, verb_in};
 use serf_agent::Config;
-use serf_replay::Verb as ReplayVerb;
+use serf_schedule::Verb as ReplayVerb;
 use std::alloc::Global;
 
 /// What a line does that is one of a schedule's, other than a query.

@@ -1,16 +1,15 @@
 //! A whole written schedule.
 
 ghost use Rattle.std.specs.Prelude.{◌≡◌, All, IfOk, Ok};
-ghost use Rattle.serf_replay.specs.Schedule.{parsed_of, schedule_of};
-ghost use Rattle.serf_schedule_text.specs.Sayable.{IsSayable};
-ghost use Rattle.serf_schedule_text.specs.ScheduleText.{schedule_text};
+ghost use Rattle.serf_schedule.specs.Schedule.{parsed_of, schedule_of};
+ghost use Rattle.serf_schedule.specs.Sayable.{IsSayable};
+ghost use Rattle.serf_schedule.specs.ScheduleText.{schedule_text};
 ghost use Rattle.serf_written.specs.Whole.{Reads, Writes};
 ghost use Rattle.serf_written.specs.Written.{written_of};
 
 use crate::fault::{Fault, LineFault};
 use crate::writing::Writing;
-use serf_replay::Schedule;
-use serf_schedule_text::put_schedule;
+use serf_schedule::{Schedule, put_schedule};
 use serf_text::cut;
 use std::alloc::{AllocError, Global};
 use thiserror::Error;
@@ -72,7 +71,7 @@ fn text_of(alloc: Global, schedule: &Schedule) -> Result<Vec<u8>, AllocError>
 /// The text is cut at newlines. Words of a line stand between spaces, and texts between quotes; a word that begins with
 /// `#` begins a comment. `docs/FORMATS.md` says what the lines are.
 ///
-/// The text that is given parses to just the agents and the actions that are meant ([`serf_replay::parse_schedule`]).
+/// The text that is given parses to just the agents and the actions that are meant ([`serf_schedule::parse_schedule`]).
 /// `BadLine` comes exactly where a line is not sound, and says the first. `OutOfMemory` may come before a bad line that
 /// stands further on.
 pub fn write(alloc: Global, text: &[u8]) -> Result<Vec<u8>, WriteFault>

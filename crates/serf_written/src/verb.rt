@@ -3,14 +3,14 @@
 ghost use Rattle.std.specs.Prelude.{◌≡◌};
 ghost use Rattle.serf_written.specs.Verbs.{double_verb_of, verb_of};
 
-use serf_replay::{Command, command_in};
+use serf_schedule::{Command, command_in};
 use serf_text::is_word;
 
 /// What a line does.
 #[derive(Clone, Copy, Debug, PartialEq, Eq)]
 pub(crate) enum Verb {
     /// What such a line of a schedule does.
-    Act(serf_replay::Verb),
+    Act(serf_schedule::Verb),
     Query,
     /// Bytes are injected, and an agent gets them.
     Give,

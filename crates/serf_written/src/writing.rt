@@ -1,8 +1,8 @@
 //! A written schedule, read line by line.
 
 ghost use Rattle.std.specs.Prelude.{◌≡◌, ◌++◌, ◌∷◌, [], All, IfOk, OnOk};
-ghost use Rattle.serf_schedule_text.specs.Sayable.{IsSayable};
-ghost use Rattle.serf_replay.specs.Schedule.{parsed_of};
+ghost use Rattle.serf_schedule.specs.Sayable.{IsSayable};
+ghost use Rattle.serf_schedule.specs.Schedule.{parsed_of};
 ghost use Rattle.serf_written.specs.Gives.{Gives};
 ghost use Rattle.serf_written.specs.Lines.{actions_of};
 ghost use Rattle.serf_written.specs.Written.{act_line, after_line, agent_line, labelled_line, nothing, plain_line, said_by, schedule_meant, sent_count, with_acts};
@@ -16,8 +16,7 @@ use crate::said::said_deed;
 use crate::settings::{add_agent, behind};
 use crate::stepping::{world_behind, world_of};
 use crate::values::word;
-use serf_replay::Schedule;
-use serf_schedule_text::is_sayable;
+use serf_schedule::{Schedule, is_sayable};
 use serf_text::is_word;
 use serf_wire::Bytes;
 use serf_world::{Action, Roster, World};
@@ -39,7 +38,7 @@ pub(crate) struct Writing {
 impl Model for Writing {
     ghost use Rattle.serf_written.specs.Written.{Written};
     ghost use Rattle.std.specs.Prelude.{All};
-    ghost use Rattle.serf_schedule_text.specs.Sayable.{IsSayable};
+    ghost use Rattle.serf_schedule.specs.Sayable.{IsSayable};
     ghost use Rattle.serf_written.specs.Running.{HasRun};
 
     ghost Value = { Written };

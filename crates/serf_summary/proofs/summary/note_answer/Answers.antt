@@ -3,7 +3,7 @@ use Rattle.std.specs.Str.{bytes_eq}
 use Rattle.std.proofs.lemmas.Result.{on_ok_weaker}
 use Rattle.indexmap.specs.IndexMap.{get}
 use Rattle.serf_model.specs.declared.line.Line.{Line}
-use Rattle.serf_replay.specs.Show.{answer_words}
+use Rattle.serf_schedule.specs.Show.{answer_words}
 use Rattle.serf_summary.proofs.KeyLaws.{same-words}
 use Rattle.serf_summary.proofs.TallyLaws.{noted-more}
 use Rattle.serf_summary.proofs.summary.note_answer.Goals as goal

@@ -1,7 +1,7 @@
 use Rattle.std.proofs.Common.{◌≡◌, ◌++◌, ◌∷◌, List, [], All, rules, subst, sym}
 use Rattle.std.proofs.lemmas.List.Elements.{All-push}
 use Rattle.serf_model.specs.declared.action.Action.{Action}
-use Rattle.serf_schedule_text.specs.Sayable.{IsSayable}
+use Rattle.serf_schedule.specs.Sayable.{IsSayable}
 use Rattle.serf_written.specs.Running.{HasWorld}
 use Rattle.serf_written.proofs.writing.Writing.act.Goals as goal
 
