@@ -1,14 +1,22 @@
-//! Runs of schedules: a schedule in, the trace of its cluster out, over any reader and writer.
+//! Runs of schedules, over any reader and writer: a schedule in, and out the trace of its cluster, at the end or line by
+//! line; and what came of a run, in few lines: how often each answer came, what each agent was handed, and when the last
+//! agent had each event.
 //!
 //! What a run reads and writes stands in [`serf_schedule`] and [`serf_text`]; their calls are passed on.
 #![tactic(auto)]
 
 mod job;
+mod keys;
 mod laws;
 mod progress;
 mod replaying;
+mod stream_job;
+mod summarizing;
+mod summary;
+mod tally;
 
 pub use job::replay;
+pub use keys::EventKey;
 pub use laws::answered_lines;
 pub use replaying::Replaying;
 pub use serf_schedule::{
@@ -23,3 +31,7 @@ pub use serf_text::{
     put_signed, put_slot, put_with_hex, put_with_number, read_input, take_words, word_at,
     write_output,
 };
+pub use stream_job::replay_lines;
+pub use summarizing::summarize;
+pub use summary::Summary;
+pub use tally::Spread;
