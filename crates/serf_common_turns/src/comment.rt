@@ -5,8 +5,8 @@ ghost use Rattle.serf_random.specs.Draft.{HasNumbers};
 ghost use Rattle.serf_common_turns.specs.Common.{comment_text};
 
 use serf_random::Ask;
-use serf_schedule::put_line;
 use serf_schedule::Word::{Number, Plain};
+use serf_schedule::put_line;
 use std::alloc::AllocError;
 
 /// What is asked for has numbers of 64 bits. Does nothing.

@@ -15,7 +15,9 @@ use crate::range::Range;
 use crate::reasons::{lines_before, put_reasons};
 use crate::told::Told;
 use serf_model::run_promises;
-use serf_schedule::{ReplayFault, Schedule, ScheduleFault, Watch, lines_stay, parse_schedule, put_action};
+use serf_schedule::{
+    ReplayFault, Schedule, ScheduleFault, Watch, lines_stay, parse_schedule, put_action,
+};
 use serf_text::{Cause, InputFault, MAX_SCHEDULE_BYTES, read_input, write_output};
 use serf_world::{Action, StepFault, World};
 use std::alloc::{AllocError, Global};

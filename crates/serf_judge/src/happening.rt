@@ -157,7 +157,11 @@ fn query_in(
 
 /// What a line of a trace says: an event or a query that was handed out, or nothing that is judged.
 #[tactic(auto, unfolding(crate::specs::Log::trace_line))]
-fn trace_happening(alloc: Global, line: u64, words: &[&[u8]]) -> Result<Happening, StreamLineFault<Cause>>
+fn trace_happening(
+    alloc: Global,
+    line: u64,
+    words: &[&[u8]],
+) -> Result<Happening, StreamLineFault<Cause>>
     ensures said { Says happening_view result (trace_line (map (λ w. w.now) words.now)) }
     ensures line { IfOk result (IsAt line) }
 {

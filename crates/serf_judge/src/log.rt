@@ -51,7 +51,11 @@ fn is_comment_line(line: &[u8]) -> bool
 }
 
 /// What the line of this number says.
-fn happening_on(alloc: Global, number: u64, line: &[u8]) -> Result<Happening, StreamLineFault<Cause>>
+fn happening_on(
+    alloc: Global,
+    number: u64,
+    line: &[u8],
+) -> Result<Happening, StreamLineFault<Cause>>
     ensures said { Says happening_view result (line_said line.now) }
     ensures line { IfOk result (IsAt number) }
 {

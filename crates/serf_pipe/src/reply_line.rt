@@ -5,7 +5,9 @@ ghost use Rattle.serf_text.specs.Gives.{Gives};
 ghost use Rattle.serf_text.specs.Words.{words_of, word_at};
 ghost use Rattle.serf_pipe.specs.Reply.{counted_ack_of, counted_kind, counted_response_of, counted_words, count_of, event_of, handed_of, kept_of, kind_of, line_of, of_kind, sent_of};
 
-use serf_text::{Cause, LineFault, bytes_at, choice_at, is_word, number_at, number_from_to, take_words, word_at};
+use serf_text::{
+    Cause, LineFault, bytes_at, choice_at, is_word, number_at, number_from_to, take_words, word_at,
+};
 use serf_wire::Bytes;
 use std::alloc::Global;
 

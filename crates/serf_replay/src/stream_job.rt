@@ -8,7 +8,9 @@ ghost use Rattle.serf_replay.specs.Stopped.{IsHalted};
 
 use crate::laws::answered_lines;
 use crate::replaying::Replaying;
-use serf_text::{Cause, LineFault as ReadFault, LineJob, StreamFault, StreamLineFault, answer_lines};
+use serf_text::{
+    Cause, LineFault as ReadFault, LineJob, StreamFault, StreamLineFault, answer_lines,
+};
 use std::alloc::Global;
 use std::io::{Read, Write};
 

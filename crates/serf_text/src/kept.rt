@@ -4,8 +4,8 @@ ghost use Rattle.std.specs.Prelude.{◌≡◌, ◌++◌, ◌∷◌, ◌≤◌, [
 ghost use Rattle.serf_text.specs.Lines.{IsSaid, number_behind};
 ghost use Rattle.serf_text.specs.Streams.{IsLineFault, Reached};
 
-use crate::stream_fault::{StreamFault, StreamLineFault};
 use crate::line_job::LineJob;
+use crate::stream_fault::{StreamFault, StreamLineFault};
 use std::alloc::Global;
 
 /// The greatest length of a line, in bytes.

@@ -11,7 +11,10 @@ ghost use Rattle.serf_text.specs.declared.message_lines.DecodeTextFault.TheVaria
 ghost use Rattle.serf_text.specs.TextParts.{hex_line};
 ghost use Rattle.serf_text.specs.MessageText.{identity_lines, asker_lines, relay_line, limit_lines, response_name, handling_lines, answer_lines, content_lines, status_line, member_lines, event_line, slot_lines, slots_lines, buffer_lines, push_pull_head, query_head, message_text, text_or_fault};
 
-use crate::put::{put_flag_line, put_hex_line, put_number_line, put_signed_line, put_with_hex, put_with_number, put_with_numbers};
+use crate::put::{
+    put_flag_line, put_hex_line, put_number_line, put_signed_line, put_with_hex, put_with_number,
+    put_with_numbers,
+};
 use crate::wire_words::WireWords;
 use serf_wire::{
     EventView, EventViews, Message, SlotView, SlotViews, StatusTime, StatusTimes, Texts, decode,
