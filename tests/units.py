@@ -14,7 +14,7 @@ sys.path.insert(0, os.path.join(TOP, "tools"))
 sys.dont_write_bytecode = True
 import scratch
 
-USES = ["serf_lamport", "serf_pack", "serf_wire", "serf_snap", "serf_store", "serf_window", "serf_agent", "serf_world", "serf_replay", "serf_stream", "serf_streamed", "serf_pairs", "serf_repeats"]
+USES = ["serf_lamport", "serf_pack", "serf_wire", "serf_snap", "serf_store", "serf_text", "serf_window", "serf_agent", "serf_world", "serf_schedule", "serf_replay", "serf_pairs", "serf_repeats"]
 
 TEST = re.compile(r"^test (\S+) \.\.\. (.+)$")
 
