@@ -10,6 +10,7 @@ ghost use Rattle.serf_text.specs.Gives.{Gives};
 use crate::command::Verb;
 use crate::sinks::sink_call_at;
 use serf_agent::{BytesList, Config, DEFAULT_PER_TIME, QueryParams};
+use serf_model::{Action, BoxedBytes, BoxedParams};
 use serf_text::{
     Cause, FIXED_WORDS, LineFault, bytes_at, choice_at, cut, hex_bytes, number_at, number_from_to,
 };

@@ -8,6 +8,7 @@ ghost use Rattle.serf_schedule.specs.Show.{answer_words, answer_details, answer_
 
 use itoa::Buffer;
 use serf_agent::Reason;
+use serf_model::{Answer, Boxed, EventLine, HandedLine, Line, Refusal, Trace};
 use serf_text::{flag, put_hex, put_number, put_wire_fault};
 use serf_wire::Bytes;
 use std::alloc::{AllocError, Global};

@@ -14,6 +14,7 @@ use crate::values::{
     sink_call_at, word,
 };
 use serf_agent::Config;
+use serf_model::Action;
 use serf_text::{is_word, number};
 use serf_wire::Bytes;
 use std::alloc::Global;

@@ -13,6 +13,7 @@ use crate::piece::Piece;
 use crate::settings::{behind, word_in};
 use crate::values::{agent_at, bytes_at, halves, time, time_at, word};
 use serf_agent::{BytesList, Config, QueryParams};
+use serf_model::{Action, BoxedBytes, BoxedParams};
 use serf_text::{hex_bytes, is_word, number};
 use serf_wire::Bytes;
 use std::alloc::{AllocError, Global};

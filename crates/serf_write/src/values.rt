@@ -11,6 +11,7 @@ use crate::fault::{LineFault, Wanted, bad};
 use crate::label::Label;
 use crate::piece::Piece;
 use serf_agent::Config;
+use serf_model::SinkCall;
 use serf_schedule::sink_call;
 use serf_text::{choice, hex_bytes, is_word, number};
 use serf_wire::Bytes;

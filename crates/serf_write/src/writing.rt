@@ -16,6 +16,7 @@ use crate::said::said_deed;
 use crate::settings::{add_agent, behind};
 use crate::stepping::{world_behind, world_of};
 use crate::values::word;
+use serf_model::Action;
 use serf_schedule::{Schedule, is_sayable};
 use serf_text::is_word;
 use serf_wire::Bytes;
