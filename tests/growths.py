@@ -21,7 +21,7 @@ sys.path.insert(0, os.path.join(TOP, "tools"))
 sys.dont_write_bytecode = True
 import scratch
 
-USES = ["serf_lamport", "serf_pack", "serf_wire", "serf_snap", "serf_window", "serf_agent", "serf_model", "serf_world", "serf_replay"]
+USES = ["serf_lamport", "serf_pack", "serf_wire", "serf_snap", "serf_text", "serf_window", "serf_agent", "serf_model", "serf_world", "serf_schedule", "serf_replay"]
 
 # The allocation that is refused: REFUSED in tests/growths/lib.rattle.
 REFUSED = 4096
@@ -73,6 +73,7 @@ GROWTHS = {
     "receive_query": 13,
     "receive_response": 25,
     "replay": 157,
+    "replay_lines": 200,
     "respond": 17,
     "responses": 5,
     "roster": 12,
@@ -83,6 +84,7 @@ GROWTHS = {
     "sink_reserve": 2,
     "sink_with": 1,
     "step": 165,
+    "summarize": 200,
     "take_due": 27,
     "take_line": 200,
 }
@@ -105,20 +107,24 @@ CALLS = {
     "serf_model Boxed::new": "parse_schedule",
     "serf_replay Replaying::new": None,
     "serf_replay Replaying::take_line": "take_line",
-    "serf_replay bytes_at": "parse_schedule",
-    "serf_replay hex_bytes": "parse_schedule",
-    "serf_replay clocks_text": "clocks_text",
-    "serf_replay decode_text": "decode_text",
-    "serf_replay parse_schedule": "parse_schedule",
-    "serf_replay read_input": "read_input",
-    "serf_replay read_schedule_line": "read_schedule_line",
     "serf_replay replay": "replay",
-    "serf_replay show_trace": "show_trace",
+    "serf_replay replay_lines": "replay_lines",
+    "serf_replay summarize": "summarize",
+    "serf_schedule parse_schedule": "parse_schedule",
+    "serf_schedule read_line": "read_schedule_line",
+    "serf_schedule read_schedule_line": "read_schedule_line",
+    "serf_schedule show_trace": "show_trace",
     "serf_snap MemSink::new": None,
     "serf_snap MemSink::with": "sink_with",
     "serf_snap Snapshot::compact": "compact_snapshot",
     "serf_snap Snapshot::note": "note_event",
     "serf_snap Snapshot::open": "open_snapshot",
+    "serf_text answer_lines": "replay_lines",
+    "serf_text bytes_at": "parse_schedule",
+    "serf_text clocks_text": "clocks_text",
+    "serf_text decode_text": "decode_text",
+    "serf_text hex_bytes": "parse_schedule",
+    "serf_text read_input": "read_input",
     "serf_window Window::new": "new_windows",
     "serf_window Window::prepare": "event_window",
     "serf_wire Bytes::copy_of": "copy_of",

@@ -14,7 +14,7 @@ sys.path.insert(0, os.path.join(TOP, "tools"))
 sys.dont_write_bytecode = True
 import scratch
 
-USES = ["serf_lamport", "serf_pack", "serf_wire", "serf_snap", "serf_store", "serf_window", "serf_agent", "serf_model", "serf_world", "serf_replay", "serf_stream", "serf_streamed", "serf_judge"]
+USES = ["serf_lamport", "serf_pack", "serf_wire", "serf_snap", "serf_store", "serf_text", "serf_window", "serf_agent", "serf_model", "serf_world", "serf_schedule", "serf_replay", "serf_judge"]
 
 TEST = re.compile(r"^test (\S+) \.\.\. (.+)$")
 

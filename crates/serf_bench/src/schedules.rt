@@ -3,7 +3,8 @@
 ghost use Rattle.std.specs.Prelude.{None};
 
 use crate::figures::{Work, print_per_part, print_rate};
-use serf_replay::{Schedule, Unwatched, parse_schedule, replay};
+use serf_replay::replay;
+use serf_schedule::{Schedule, Unwatched, parse_schedule};
 use std::alloc::Global;
 use std::io;
 use std::io::{Read, Write};

@@ -3,8 +3,8 @@ use Rattle.std.proofs.Common.{◌≡◌, ◌≤◌, ◌<◌, ◌++◌, ◌∙◌
 use Rattle.std.specs.Prelude.{nat_lt, Err}
 use Rattle.std.proofs.lemmas.Grind.{common_steps}
 use Rattle.std.proofs.lemmas.List.{append-nil, length-append}
-use Rattle.serf_replay.specs.declared.cause.Cause.TheVariants.{WordCount}
-use Rattle.serf_replay.specs.Words.{word_at}
+use Rattle.serf_text.specs.declared.cause.Cause.TheVariants.{WordCount}
+use Rattle.serf_text.specs.Words.{word_at}
 use Rattle.serf_conform.specs.Reply.{counted_words, kind_of, line_of}
 
 -- a line of more than eight words

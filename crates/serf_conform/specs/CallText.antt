@@ -9,7 +9,7 @@ use Rattle.serf_model.specs.declared.action.Action.{Action}
 use Rattle.serf_model.specs.declared.action.Action.TheVariants as actions
 use Rattle.serf_model.specs.declared.action.SinkCall.{SinkCall}
 use Rattle.serf_model.specs.declared.action.SinkCall.TheVariants.{Append, Flush, ReplaceOld, ReplaceNew}
-use Rattle.serf_replay.specs.TextParts.{flag_text, hex_text}
+use Rattle.serf_text.specs.TextParts.{flag_text, hex_text}
 
 -- A word with a space before it: a number, bytes, a truth value.
 unfoldable pub number_word : ℕ → List ℕ

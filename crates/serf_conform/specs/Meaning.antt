@@ -6,8 +6,8 @@ use Rattle.serf_wire.specs.declared.fault.WireFault.{WireFault}
 use Rattle.serf_wire.specs.Decoded.{decoded}
 use Rattle.serf_wire.specs.Message.{Message, user_event, query, query_response, push_pull, foreign}
 use Rattle.serf_wire.specs.Slots.{SlotContent, empty, held}
-use Rattle.serf_replay.specs.TextParts.{number_line}
-use Rattle.serf_replay.specs.MessageText.{member_lines, message_text, slot_lines}
+use Rattle.serf_text.specs.TextParts.{number_line}
+use Rattle.serf_text.specs.MessageText.{member_lines, message_text, slot_lines}
 use Rattle.serf_conform.specs.declared.reply_line.ReplyLine.{ReplyLine}
 use Rattle.serf_conform.specs.declared.reply_line.ReplyLine.TheVariants as lines
 use Rattle.serf_conform.specs.Reply.{Said}

@@ -4,11 +4,10 @@ use Rattle.std.specs.List.{slice_split}
 use Rattle.std.specs.declared.vec.Vec.{Vec}
 use Rattle.std.specs.Str.{bytes_eq}
 use Rattle.serf_lamport.specs.Clock.{last_time}
-use Rattle.serf_replay.specs.declared.cause.Cause.{Cause}
-use Rattle.serf_replay.specs.declared.cause.Cause.TheVariants.{UnknownWord, WordCount}
-use Rattle.serf_replay.specs.Gives.{◌>>=◌}
-use Rattle.serf_replay.specs.Schedule.{BadLine, at_line}
-use Rattle.serf_replay.specs.Words.{words_of, word_at, number_in, number_between, bytes_in, choice_in}
+use Rattle.serf_text.specs.declared.cause.Cause.{Cause}
+use Rattle.serf_text.specs.declared.cause.Cause.TheVariants.{UnknownWord, WordCount}
+use Rattle.serf_text.specs.Gives.{◌>>=◌, BadLine, at_line}
+use Rattle.serf_text.specs.Words.{words_of, word_at, number_in, number_between, bytes_in, choice_in}
 use Rattle.serf_conform.specs.declared.reply_line.LineKind.{LineKind}
 use Rattle.serf_conform.specs.declared.reply_line.LineKind.TheVariants as kinds
 use Rattle.serf_conform.specs.declared.reply_line.ReplyLine.{ReplyLine}

@@ -10,8 +10,8 @@ use Rattle.serf_model.specs.declared.line.Answer.TheVariants as answers
 use Rattle.serf_model.specs.declared.line.EventLine.{EventLine}
 use Rattle.serf_model.specs.declared.line.HandedLine.{HandedLine}
 use Rattle.serf_model.specs.declared.line.Line.{Line}
-use Rattle.serf_replay.specs.Schedule.{BadLine}
-use Rattle.serf_replay.specs.Show.{answer_text}
+use Rattle.serf_text.specs.Gives.{BadLine}
+use Rattle.serf_schedule.specs.Show.{answer_text}
 use Rattle.serf_conform.specs.declared.reply_line.ReplyLine.{ReplyLine}
 use Rattle.serf_conform.specs.declared.reply_line.ReplyLine.TheVariants as lines
 use Rattle.serf_conform.specs.Reply.{Said}

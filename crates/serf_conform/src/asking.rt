@@ -17,7 +17,7 @@ use crate::replies::wanted;
 use crate::reply::Reply;
 use crate::verdict::{ConformFault, Rules};
 use serf_model::{Action, Line, is_common_turn};
-use serf_replay::write_output;
+use serf_text::write_output;
 use serf_wire::Bytes;
 use std::alloc::{AllocError, Global};
 use std::io::{Read, Write};

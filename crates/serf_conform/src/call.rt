@@ -7,7 +7,7 @@ ghost use Rattle.serf_conform.specs.CallText.{buffer_words, call_line, config_wo
 use crate::put::{put_flag_word, put_hex_word, put_moment_words, put_number_word, put_texts_words};
 use serf_agent::{BytesList, Config, QueryParams};
 use serf_model::{Action, SinkCall};
-use serf_replay::put_signed;
+use serf_text::put_signed;
 use serf_wire::Bytes;
 use std::alloc::AllocError;
 

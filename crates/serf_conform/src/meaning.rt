@@ -14,7 +14,7 @@ ghost use Rattle.serf_conform.specs.Meaning.{are_same, held_lines, line_means as
 use crate::reply::Reply;
 use crate::reply_line::ReplyLine;
 use crate::reply_text::put_reply_line;
-use serf_replay::{put_members, put_message, put_number_line, put_slot};
+use serf_text::{put_members, put_message, put_number_line, put_slot};
 use serf_wire::{Message, SlotView, SlotViews, StatusTimes, Texts, decode};
 use std::alloc::{AllocError, Global};
 

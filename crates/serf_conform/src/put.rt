@@ -2,7 +2,7 @@
 ghost use Rattle.std.specs.Prelude.{◌≡◌, ◌++◌, OnOk};
 ghost use Rattle.serf_conform.specs.CallText.{flag_word, hex_word, moment_words, number_word, texts_words};
 
-use serf_replay::{flag, put_hex, put_number};
+use serf_text::{flag, put_hex, put_number};
 use std::alloc::AllocError;
 
 #[tactic(auto, unfolding(crate::specs::CallText::number_word))]

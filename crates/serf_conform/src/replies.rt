@@ -5,13 +5,13 @@ ghost use Rattle.std.specs.Option.{option_to_list};
 ghost use Rattle.serf_wire.specs.Decoded.{decoded};
 ghost use Rattle.serf_conform.specs.declared.reply_line.ReplyLine.TheVariants.{Sent};
 ghost use Rattle.serf_conform.specs.Reply.{said_in};
-ghost use Rattle.serf_replay.specs.Show.{answer_text};
+ghost use Rattle.serf_schedule.specs.Show.{answer_text};
 ghost use Rattle.serf_conform.specs.Wanted.{ack_of, counted_lines, event_said, handed_said, opening as opening_of, response_of, wanted_lines, wanted_of};
 
 use crate::reply::Reply;
 use crate::reply_line::ReplyLine;
 use serf_model::{Answer, Boxed, EventLine, HandedLine, Line};
-use serf_replay::put_answer;
+use serf_schedule::put_answer;
 use serf_wire::{Bytes, Message, decode};
 use std::alloc::{AllocError, Global};
 

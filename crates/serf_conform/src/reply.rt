@@ -2,11 +2,11 @@
 
 ghost use Rattle.std.specs.Prelude.{◌≡◌, ◌==◌, [], Ok};
 ghost use Rattle.std.specs.List.{slice_split};
-ghost use Rattle.serf_replay.specs.Gives.{Gives};
+ghost use Rattle.serf_text.specs.Gives.{Gives};
 ghost use Rattle.serf_conform.specs.Reply.{Reads, ReadsLines, after_line, after_lines, reply_of};
 
 use crate::reply_line::{ReplyLine, read_reply_line};
-use serf_replay::{Cause, LineFault, cut};
+use serf_text::{Cause, LineFault, cut};
 use serf_wire::Bytes;
 use std::alloc::Global;
 use thiserror::Error;

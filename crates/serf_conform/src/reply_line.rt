@@ -1,11 +1,11 @@
 //! A line of a reply behind its answer.
 
 ghost use Rattle.std.specs.Prelude.{◌≡◌, ◌==◌, ◌≤◌, length, map};
-ghost use Rattle.serf_replay.specs.Gives.{Gives};
-ghost use Rattle.serf_replay.specs.Words.{words_of, word_at};
+ghost use Rattle.serf_text.specs.Gives.{Gives};
+ghost use Rattle.serf_text.specs.Words.{words_of, word_at};
 ghost use Rattle.serf_conform.specs.Reply.{counted_ack_of, counted_kind, counted_response_of, counted_words, count_of, event_of, handed_of, kept_of, kind_of, line_of, of_kind, sent_of};
 
-use serf_replay::{
+use serf_text::{
     Cause, LineFault, bytes_at, choice_at, is_word, number_at, number_from_to, take_words, word_at,
 };
 use serf_wire::Bytes;

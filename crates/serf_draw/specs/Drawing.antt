@@ -11,10 +11,10 @@ use Rattle.serf_model.specs.declared.line.Line.{Line}
 use Rattle.serf_model.specs.Cluster.{Cluster, Stepped, start, step}
 use Rattle.serf_model.specs.Ready.{AreRepresentable}
 use Rattle.serf_model.specs.Trace.{actor_of, packet_given}
-use Rattle.serf_replay.specs.declared.parse.ScheduleFault.{ScheduleFault}
-use Rattle.serf_replay.specs.declared.parse.ScheduleFault.TheVariants as faults
-use Rattle.serf_replay.specs.Line.{Parsed}
-use Rattle.serf_replay.specs.Schedule.{BadLine}
+use Rattle.serf_schedule.specs.declared.parse.ScheduleFault.{ScheduleFault}
+use Rattle.serf_schedule.specs.declared.parse.ScheduleFault.TheVariants as faults
+use Rattle.serf_schedule.specs.Line.{Parsed}
+use Rattle.serf_text.specs.Gives.{BadLine}
 use Rattle.serf_world.specs.View.{IsViewed, WorldState}
 use Rattle.serf_draw.specs.declared.picture.Arrow.{Arrow}
 use Rattle.serf_draw.specs.declared.picture.Arrow.TheVariants.{NoPacket, Unsent, From}

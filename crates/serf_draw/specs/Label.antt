@@ -6,7 +6,7 @@ use Rattle.serf_wire.specs.Message.{Message, user_event, query, query_response, 
 use Rattle.serf_model.specs.declared.action.Action.{Action}
 use Rattle.serf_model.specs.declared.action.Action.TheVariants as actions
 use Rattle.serf_model.specs.declared.line.Answer.{Answer}
-use Rattle.serf_replay.specs.Show.{answer_text}
+use Rattle.serf_schedule.specs.Show.{answer_text}
 
 -- a text of at most 12 bytes, or the first 8 of a longer one and its length
 unfoldable pub short : List ℕ → List ℕ

@@ -1,7 +1,7 @@
 //! The picture of a schedule's run.
 
 ghost use Rattle.std.specs.Prelude.{◌≡◌, ◌++◌, ◌∷◌, ◌+◌, [], false, filter, length, IfOk, OnOk};
-ghost use Rattle.serf_replay.specs.Schedule.{parsed_of, schedule_of};
+ghost use Rattle.serf_schedule.specs.Schedule.{parsed_of, schedule_of};
 ghost use Rattle.serf_draw.specs.Asked.{is_chosen};
 ghost use Rattle.serf_draw.specs.Drawing.{Drawing, Draws, IsDrawn, drawing_of, IsPicture, drawn, lost_in, row_with, shown_lanes, shown_rows};
 
@@ -11,7 +11,7 @@ use crate::picture::{Arrow, Asked, Lane, Packet, Picture, Row, Sender};
 use crate::row::{add_packets, arrow, is_restart, note_packet, tone};
 use serf_agent::Config;
 use serf_model::{Action, Line};
-use serf_replay::{Schedule, ScheduleFault, parse_schedule};
+use serf_schedule::{Schedule, ScheduleFault, parse_schedule};
 use serf_wire::Bytes;
 use serf_world::{Roster, StepFault, World};
 use std::alloc::{AllocError, Global};

@@ -6,7 +6,8 @@ ghost use Rattle.serf_wire.specs.Message.{message_of};
 ghost use Rattle.serf_draw.specs.Label.{action_words, at_time, given_words, label_of, message_words, packet_words, short, texts};
 
 use serf_model::{Action, Answer};
-use serf_replay::{put_answer, put_number};
+use serf_schedule::put_answer;
+use serf_text::put_number;
 use serf_wire::{Bytes, Message, decode};
 use std::alloc::{AllocError, Global};
 

@@ -9,7 +9,7 @@ use crate::escape::put_escaped;
 use crate::label::put_short;
 use crate::picture::{Arrow, Lane, Picture, Row, Sender, Tone};
 use crate::style::{OPENING, STYLE};
-use serf_replay::put_number;
+use serf_text::put_number;
 use std::alloc::{AllocError, Global};
 
 fn tone_word(tone: Tone) -> &'static [u8]

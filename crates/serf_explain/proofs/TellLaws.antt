@@ -14,7 +14,7 @@ use Rattle.serf_model.specs.Trace.{Turn, actor_of}
 use Rattle.serf_model.specs.Ready.{AreRepresentable}
 use Rattle.serf_model.specs.Runs.{AreConfigs}
 use Rattle.serf_world.specs.View.{IsViewed, TakesStep, WorldState}
-use Rattle.serf_replay.specs.Show.{action_text}
+use Rattle.serf_schedule.specs.Show.{action_text}
 use Rattle.serf_explain.specs.declared.range.Range.{Range}
 use Rattle.serf_explain.specs.Range.{is_shown}
 use Rattle.serf_agent.specs.States.{events_of, joined}

@@ -1,7 +1,7 @@
 -- The text of a reason.
 use Rattle.std.specs.Prelude.{◌≡◌, ℕ, ◌<◌, ◌++◌, ◌&&◌, nat_le, length, Bool, if◌then◌else◌, List, [], ◌∷◌, codes, decimal}
 use Rattle.std.specs.List.{flat_map}
-use Rattle.serf_replay.specs.TextParts.{hex_text}
+use Rattle.serf_text.specs.TextParts.{hex_text}
 
 -- whether a byte is printable ASCII
 abbrev pub is_printable : ℕ → Bool

@@ -11,10 +11,10 @@ use Rattle.serf_model.specs.Ready.{AreRepresentable}
 use Rattle.serf_model.specs.Runs.{AreConfigs}
 use Rattle.serf_model.specs.Trace.{Turn, actor_of}
 use Rattle.serf_world.specs.View.{IsViewed, WorldState}
-use Rattle.serf_replay.specs.Line.{Parsed}
-use Rattle.serf_replay.specs.Output.{output_of}
-use Rattle.serf_replay.specs.Schedule.{schedule_of}
-use Rattle.serf_replay.specs.Show.{action_text, trace_text}
+use Rattle.serf_schedule.specs.Line.{Parsed}
+use Rattle.serf_schedule.specs.Output.{output_of}
+use Rattle.serf_schedule.specs.Schedule.{schedule_of}
+use Rattle.serf_schedule.specs.Show.{action_text, trace_text}
 use Rattle.serf_explain.specs.declared.range.Range.{Range}
 use Rattle.serf_explain.specs.Because.{because_line}
 use Rattle.serf_explain.specs.Carried.{AreMerged, OfMerge, TellsMerged}

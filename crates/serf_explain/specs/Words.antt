@@ -1,7 +1,7 @@
 -- Texts between quotes, and what is said of an event.
 use Rattle.std.specs.Prelude.{ℕ, ◌==◌, ◌++◌, ◌&&◌, ◌||◌, Bool, nat_le, not, if◌then◌else◌, List, [], ◌∷◌, codes, decimal, length, take}
 use Rattle.std.specs.List.{flat_map}
-use Rattle.serf_replay.specs.TextParts.{hex_text}
+use Rattle.serf_text.specs.TextParts.{hex_text}
 use Rattle.serf_wire.specs.declared.texts.EventBody.{EventBody}
 use Rattle.serf_explain.specs.Because.{byte_text, is_printable}
 

@@ -4,7 +4,7 @@ ghost use Rattle.std.specs.Prelude.{◌≡◌, ◌++◌, OnOk};
 ghost use Rattle.std.specs.List.{flat_map, list_all};
 ghost use Rattle.serf_explain.specs.Because.{because_line, byte_text, is_printable};
 
-use serf_replay::{put_hex, put_number};
+use serf_text::{put_hex, put_number};
 use std::alloc::AllocError;
 
 /// Whether a byte is printable ASCII.

@@ -5,8 +5,8 @@ ghost use Rattle.std.specs.Io.KnownBytes.{Appends, Consumes};
 ghost use Rattle.serf_agent.specs.declared.config.Config.{Config};
 ghost use Rattle.serf_model.specs.declared.action.Action.{Action};
 ghost use Rattle.serf_explain.specs.Judging.{reasons_in};
-ghost use Rattle.serf_replay.specs.Io.{AppendsFront};
-ghost use Rattle.serf_replay.specs.Output.{output_of};
+ghost use Rattle.serf_text.specs.Io.{AppendsFront};
+ghost use Rattle.serf_schedule.specs.Output.{output_of};
 ghost use Rattle.serf_explain.specs.Explained.{AddsTurn, Explains, HasTold, TellsAll, TellsRun};
 ghost use Rattle.serf_explain.specs.HandOuts.{KnowsSeen, notes_in};
 
@@ -15,10 +15,10 @@ use crate::range::Range;
 use crate::reasons::{lines_before, put_reasons};
 use crate::told::Told;
 use serf_model::{Action, run_promises};
-use serf_replay::{
-    Cause, InputFault, MAX_SCHEDULE_BYTES, ReplayFault, Schedule, ScheduleFault, Watch, lines_stay,
-    parse_schedule, put_action, read_input, write_output,
+use serf_schedule::{
+    ReplayFault, Schedule, ScheduleFault, Watch, lines_stay, parse_schedule, put_action,
 };
+use serf_text::{Cause, InputFault, MAX_SCHEDULE_BYTES, read_input, write_output};
 use serf_world::{StepFault, World};
 use std::alloc::{AllocError, Global};
 use std::io::{Read, Write};

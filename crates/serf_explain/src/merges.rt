@@ -19,8 +19,8 @@ use crate::marks::Marks;
 use crate::quoted::{put_event, put_since, say};
 use serf_agent::{Agent, Reason};
 use serf_lamport::Time;
-use serf_replay::put_number;
 use serf_snap::MemSink;
+use serf_text::put_number;
 use serf_wire::{EventView, EventViews, SlotView, SlotViews};
 use std::alloc::{AllocError, Global};
 

@@ -6,7 +6,7 @@ ghost use Rattle.serf_window.specs.Texts.{event_of};
 ghost use Rattle.serf_explain.specs.Words.{event_words, front_quoted, is_plain, quoted, quoted_byte, whole_quoted};
 
 use crate::because::{is_printable, put_byte};
-use serf_replay::{put_hex, put_number};
+use serf_text::{put_hex, put_number};
 use std::alloc::AllocError;
 
 /// The most bytes of a text that are shown whole.

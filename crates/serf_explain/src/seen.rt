@@ -17,7 +17,7 @@ use crate::quoted::{put_event, put_quoted};
 use crate::reasons::{USUAL_BYTES, put_lone};
 use crate::told::Told;
 use serf_model::{Action, packet_at};
-use serf_replay::put_number;
+use serf_text::put_number;
 use serf_wire::{Message, decode};
 use std::alloc::{AllocError, Global};
 

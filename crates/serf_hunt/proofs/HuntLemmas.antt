@@ -3,7 +3,7 @@ use Rattle.std.proofs.Common.{◌≡◌, ◌+◌, ◌-◌, ◌<◌, ◌++◌, �
 use Rattle.std.specs.Prelude.{IfOk, IfSome, Result, Ok, Err}
 use Rattle.std.specs.Io.KnownBytes.{Appends}
 use Rattle.std.proofs.KnownBytes.{Appends-trans}
-use Rattle.serf_replay.specs.Line.{Parsed}
+use Rattle.serf_schedule.specs.Line.{Parsed}
 use Rattle.serf_conform.specs.declared.verdict.ConformFault.{ConformFault}
 use Rattle.serf_hunt.specs.declared.held.Held.{Held}
 use Rattle.serf_hunt.specs.declared.held.Other.{Other}

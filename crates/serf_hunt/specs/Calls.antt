@@ -5,7 +5,7 @@ use Rattle.serf_agent.specs.declared.config.Config.{Config}
 use Rattle.serf_model.specs.declared.action.Action.{Action}
 use Rattle.serf_model.specs.declared.action.Action.TheVariants as actions
 use Rattle.serf_model.specs.Trace.{Turn}
-use Rattle.serf_replay.specs.Line.{Parsed}
+use Rattle.serf_schedule.specs.Line.{Parsed}
 use Rattle.serf_conform.specs.Session.{given_for}
 use Rattle.serf_hunt.specs.declared.call.Call.{Call}
 

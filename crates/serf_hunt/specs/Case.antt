@@ -4,7 +4,7 @@ use Rattle.serf_agent.specs.declared.config.Config.{Config}
 use Rattle.serf_model.specs.declared.action.Action.{Action}
 use Rattle.serf_model.specs.Cluster.{run_of, trace_of}
 use Rattle.serf_model.specs.Trace.{Turn, outcome_of, turns_of}
-use Rattle.serf_replay.specs.Line.{Parsed}
+use Rattle.serf_schedule.specs.Line.{Parsed}
 use Rattle.serf_hunt.specs.declared.case.Case.{Case}
 
 -- the turns of a schedule's run

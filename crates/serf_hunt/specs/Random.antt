@@ -1,10 +1,10 @@
 -- Random schedules.
 use Rattle.std.specs.Prelude.{◌≡◌, ◌≤◌, ◌++◌, Ok, length}
-use Rattle.serf_replay.specs.Line.{Parsed}
-use Rattle.serf_replay.specs.Schedule.{schedule_of}
+use Rattle.serf_schedule.specs.Line.{Parsed}
+use Rattle.serf_schedule.specs.Schedule.{schedule_of}
 use Rattle.serf_random.specs.declared.ask.Ask.{Ask}
 use Rattle.serf_random.specs.Comment.{comment_text}
-use Rattle.serf_schedule_text.specs.ScheduleText.{schedule_text}
+use Rattle.serf_schedule.specs.ScheduleText.{schedule_text}
 
 -- a schedule that reads back behind the comment of what was asked for, with at most so many actions
 pub record IsRandom (ask : Ask) (p : Parsed) : Type 0 where

@@ -1,12 +1,12 @@
 //! A schedule and what comes of it.
 
 ghost use Rattle.std.specs.Prelude.{IfOk};
-ghost use Rattle.serf_replay.specs.Schedule.{parsed_of};
+ghost use Rattle.serf_schedule.specs.Schedule.{parsed_of};
 ghost use Rattle.serf_hunt.specs.Case.{IsRunOf};
 
 use serf_agent::Config;
 use serf_model::{Action, Trace};
-use serf_replay::Schedule;
+use serf_schedule::Schedule;
 use serf_world::run;
 use std::alloc::{AllocError, Global};
 

@@ -2,7 +2,7 @@
 
 ghost use Rattle.std.specs.Prelude.{◌≡◌, [], IfOk, IfSome};
 ghost use Rattle.serf_model.specs.Trace.{outcome_of, turns_of};
-ghost use Rattle.serf_replay.specs.Line.{Parsed};
+ghost use Rattle.serf_schedule.specs.Line.{Parsed};
 ghost use Rattle.serf_conform.specs.Rules.{is_serf};
 ghost use Rattle.serf_hunt.specs.Case.{IsRunOf};
 ghost use Rattle.serf_hunt.specs.Sweep.{Sweeps, is_other as is_other_end, sweep, sweep_from};

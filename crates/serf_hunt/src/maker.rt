@@ -1,20 +1,20 @@
 //! Who makes the schedules of seeds.
 
 ghost use Rattle.std.specs.Prelude.{◌≡◌, ◌≤◌, ◌++◌, ℕ, Ok, length};
-ghost use Rattle.serf_replay.specs.Line.{Parsed};
-ghost use Rattle.serf_replay.specs.Schedule.{schedule_of};
+ghost use Rattle.serf_schedule.specs.Line.{Parsed};
+ghost use Rattle.serf_schedule.specs.Schedule.{schedule_of};
 ghost use Rattle.serf_random.specs.Comment.{comment_text};
-ghost use Rattle.serf_schedule_text.specs.ScheduleText.{schedule_text};
+ghost use Rattle.serf_schedule.specs.ScheduleText.{schedule_text};
 
 use serf_random::{Ask, random_schedule};
-use serf_replay::Schedule;
+use serf_schedule::Schedule;
 use std::alloc::{AllocError, Global};
 
 /// Makes the schedule of a seed. `makes` says of which seed a schedule may be.
 pub trait Maker {
     ghost use Rattle.std.specs.Prelude.{ℕ, IfOk};
-    ghost use Rattle.serf_replay.specs.Line.{Parsed};
-    ghost use Rattle.serf_replay.specs.Schedule.{parsed_of};
+    ghost use Rattle.serf_schedule.specs.Line.{Parsed};
+    ghost use Rattle.serf_schedule.specs.Schedule.{parsed_of};
 
     ghost makes: { Self → ℕ → Parsed → Type 0 };
 

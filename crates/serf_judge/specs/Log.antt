@@ -2,10 +2,10 @@
 use Rattle.std.specs.Prelude.{◌≡◌, ℕ, ◌+◌, ◌==◌, ◌||◌, ◌++◌, min, Bool, if◌then◌else◌, List, [], ◌∷◌, length, codes, slice_index, map, Option, Some, None, is_some, Result, Ok, Err}
 use Rattle.std.specs.List.{fold}
 use Rattle.std.specs.Str.{bytes_eq}
-use Rattle.serf_replay.specs.declared.cause.Cause.{Cause}
-use Rattle.serf_replay.specs.declared.cause.Cause.TheVariants.{UnknownWord, WordCount}
-use Rattle.serf_replay.specs.Gives.{◌>>=◌}
-use Rattle.serf_replay.specs.Words.{number_in, number_of, word_at, words_of}
+use Rattle.serf_text.specs.declared.cause.Cause.{Cause}
+use Rattle.serf_text.specs.declared.cause.Cause.TheVariants.{UnknownWord, WordCount}
+use Rattle.serf_text.specs.Gives.{◌>>=◌}
+use Rattle.serf_text.specs.Words.{number_in, number_of, word_at, words_of}
 use Rattle.serf_judge.specs.Identity.{EventIdentity, QueryIdentity}
 
 -- what a line says: an event was fired or handed out, a query was handed out, or nothing that is judged

@@ -1,10 +1,10 @@
 -- What the code holds of a line, and of a log.
 use Rattle.std.specs.Prelude.{◌^◌, ◌-◌, ◌≡◌, ℕ, ◌+◌, ◌++◌, ◌==◌, Bool, length, slice_index, min, if◌then◌else◌, List, [], ◌∷◌, map, Result, Ok, Err}
 use Rattle.std.specs.List.{fold}
-use Rattle.serf_replay.specs.declared.cause.Cause.{Cause}
-use Rattle.serf_replay.specs.Words.{words_of}
-use Rattle.serf_stream.specs.declared.fault.LineFault.{LineFault}
-use Rattle.serf_stream.specs.declared.fault.LineFault.TheVariants.{Bad, OutOfMemory}
+use Rattle.serf_text.specs.declared.cause.Cause.{Cause}
+use Rattle.serf_text.specs.Words.{words_of}
+use Rattle.serf_text.specs.declared.stream_fault.StreamLineFault.{StreamLineFault as LineFault}
+use Rattle.serf_text.specs.declared.stream_fault.StreamLineFault.TheVariants.{Bad, OutOfMemory}
 use Rattle.serf_judge.specs.declared.entry.EventEntry.{EventEntry}
 use Rattle.serf_judge.specs.declared.entry.QueryEntry.{QueryEntry}
 use Rattle.serf_judge.specs.declared.happening.Happening.{Happening as Held}

@@ -1,14 +1,13 @@
 //! What the words of a line say.
 
 ghost use Rattle.std.specs.Prelude.{◌≡◌, ◌≤◌, ◌<◌, ◌+◌, ◌==◌, Ok, Err, length, map, IfOk, IfErr};
-ghost use Rattle.serf_replay.specs.Words.{number_in, word_at as word_of};
+ghost use Rattle.serf_text.specs.Words.{number_in, word_at as word_of};
 ghost use Rattle.serf_judge.specs.Identity.{event_identity, query_identity};
 ghost use Rattle.serf_judge.specs.Log.{event, event_at, event_line, fired, happening_of, nothing, of_count, query_at, query_line, trace_line};
 ghost use Rattle.serf_judge.specs.Said.{IsAt, Says, happening_view};
 
 use crate::entry::{EventEntry, QueryEntry};
-use serf_replay::{Cause, number};
-use serf_stream::LineFault;
+use serf_text::{Cause, StreamLineFault, number};
 use std::alloc::Global;
 
 /// What a line says.
@@ -21,24 +20,24 @@ pub(crate) enum Happening {
 }
 
 /// The number at a place of a line, counting from 1.
-#[tactic(auto, unfolding(serf_replay::specs::Words::number_in))]
-fn number_at(words: &[&[u8]], place: usize) -> Result<u64, LineFault<Cause>>
+#[tactic(auto, unfolding(serf_text::specs::Words::number_in))]
+fn number_at(words: &[&[u8]], place: usize) -> Result<u64, StreamLineFault<Cause>>
     requires { (1 ≤ place) × (place ≤ length words.now) }
     ensures { Says (λ n. n) result (number_in place (map (λ w. w.now) words.now)) }
 {
     match number(words[place - 1]) {
         Some(found) => Ok(found),
-        None => Err(LineFault::Bad(Cause::BadWord(place as u64))),
+        None => Err(StreamLineFault::Bad(Cause::BadWord(place as u64))),
     }
 }
 
-fn copy_of(alloc: Global, word: &[u8]) -> Result<Vec<u8>, LineFault<Cause>>
+fn copy_of(alloc: Global, word: &[u8]) -> Result<Vec<u8>, StreamLineFault<Cause>>
     ensures same { IfOk result (λ copy. copy.items ≡ word.now) }
-    ensures memory { IfErr result (λ fault. fault ≡ LineFault.OutOfMemory) }
+    ensures memory { IfErr result (λ fault. fault ≡ StreamLineFault.OutOfMemory) }
 {
     match Vec::from_slice(alloc, word) {
         Ok(copy) => Ok(copy),
-        Err(_) => Err(LineFault::OutOfMemory),
+        Err(_) => Err(StreamLineFault::OutOfMemory),
     }
 }
 
@@ -49,7 +48,7 @@ fn event_from(
     line: u64,
     words: &[&[u8]],
     place: usize,
-) -> Result<EventEntry, LineFault<Cause>>
+) -> Result<EventEntry, StreamLineFault<Cause>>
     requires { (1 ≤ place) × (place + 3 ≤ length words.now) }
     ensures said { Says event_identity result (event_at place (map (λ w. w.now) words.now)) }
     ensures line { IfOk result (λ event. event.line ≡ line) }
@@ -76,7 +75,7 @@ fn query_from(
     node: usize,
     time: usize,
     id: usize,
-) -> Result<QueryEntry, LineFault<Cause>>
+) -> Result<QueryEntry, StreamLineFault<Cause>>
     requires node { (1 ≤ node) × (node ≤ length words.now) }
     requires time { (1 ≤ time) × (time ≤ length words.now) }
     requires id { (1 ≤ id) × (id ≤ length words.now) }
@@ -101,14 +100,14 @@ fn event_in(
     words: &[&[u8]],
     place: usize,
     count: usize,
-) -> Result<Happening, LineFault<Cause>>
+) -> Result<Happening, StreamLineFault<Cause>>
     requires { (1 ≤ place) × (place + 3 ≤ count) }
     ensures said { Says happening_view result (of_count count (map (λ w. w.now) words.now)
         (event_line place (map (λ w. w.now) words.now) (λ e. event e))) }
     ensures line { IfOk result (IsAt line) }
 {
     if words.len() != count {
-        return Err(LineFault::Bad(Cause::WordCount));
+        return Err(StreamLineFault::Bad(Cause::WordCount));
     }
     match event_from(alloc, line, words, place) {
         Ok(event) => Ok(Happening::Event(event)),
@@ -117,13 +116,13 @@ fn event_in(
 }
 
 /// An event that was fired.
-fn fired_in(alloc: Global, line: u64, words: &[&[u8]]) -> Result<Happening, LineFault<Cause>>
+fn fired_in(alloc: Global, line: u64, words: &[&[u8]]) -> Result<Happening, StreamLineFault<Cause>>
     ensures said { Says happening_view result (of_count 5 (map (λ w. w.now) words.now)
         (event_line 2 (map (λ w. w.now) words.now) (λ e. fired e))) }
     ensures line { IfOk result (IsAt line) }
 {
     if words.len() != 5 {
-        return Err(LineFault::Bad(Cause::WordCount));
+        return Err(StreamLineFault::Bad(Cause::WordCount));
     }
     match event_from(alloc, line, words, 2) {
         Ok(event) => Ok(Happening::Fired(event)),
@@ -139,7 +138,7 @@ fn query_in(
     time: usize,
     id: usize,
     count: usize,
-) -> Result<Happening, LineFault<Cause>>
+) -> Result<Happening, StreamLineFault<Cause>>
     requires node { (1 ≤ node) × (node ≤ count) }
     requires time { (1 ≤ time) × (time ≤ count) }
     requires id { (1 ≤ id) × (id ≤ count) }
@@ -148,7 +147,7 @@ fn query_in(
     ensures line { IfOk result (IsAt line) }
 {
     if words.len() != count {
-        return Err(LineFault::Bad(Cause::WordCount));
+        return Err(StreamLineFault::Bad(Cause::WordCount));
     }
     match query_from(alloc, line, words, node, time, id) {
         Ok(query) => Ok(Happening::Query(query)),
@@ -158,7 +157,11 @@ fn query_in(
 
 /// What a line of a trace says: an event or a query that was handed out, or nothing that is judged.
 #[tactic(auto, unfolding(crate::specs::Log::trace_line))]
-fn trace_happening(alloc: Global, line: u64, words: &[&[u8]]) -> Result<Happening, LineFault<Cause>>
+fn trace_happening(
+    alloc: Global,
+    line: u64,
+    words: &[&[u8]],
+) -> Result<Happening, StreamLineFault<Cause>>
     ensures said { Says happening_view result (trace_line (map (λ w. w.now) words.now)) }
     ensures line { IfOk result (IsAt line) }
 {
@@ -189,7 +192,7 @@ pub(crate) fn happening_in(
     alloc: Global,
     line: u64,
     words: &[&[u8]],
-) -> Result<Happening, LineFault<Cause>>
+) -> Result<Happening, StreamLineFault<Cause>>
     ensures said { Says happening_view result (happening_of (map (λ w. w.now) words.now)) }
     ensures line { IfOk result (IsAt line) }
 {
@@ -205,17 +208,17 @@ pub(crate) fn happening_in(
     } else if number(first).is_some() {
         trace_happening(alloc, line, words)
     } else {
-        Err(LineFault::Bad(Cause::UnknownWord))
+        Err(StreamLineFault::Bad(Cause::UnknownWord))
     }
 }
 
-fn restarted_in(words: &[&[u8]]) -> Result<Happening, LineFault<Cause>>
+fn restarted_in(words: &[&[u8]]) -> Result<Happening, StreamLineFault<Cause>>
     ensures said { Says happening_view result
         (of_count 2 (map (λ w. w.now) words.now) (Ok nothing)) }
     ensures line { IfOk result (λ held. held ≡ Happening.Nothing) }
 {
     if words.len() != 2 {
-        return Err(LineFault::Bad(Cause::WordCount));
+        return Err(StreamLineFault::Bad(Cause::WordCount));
     }
     Ok(Happening::Nothing)
 }

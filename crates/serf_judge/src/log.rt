@@ -2,15 +2,14 @@
 
 ghost use Rattle.std.specs.Prelude.{◌≡◌, ◌++◌, None, Ok, List, ℕ, IfErr, IfOk, OnOk, map};
 ghost use Rattle.std.specs.Io.KnownBytes.{Consumes, IsAtEnd};
-ghost use Rattle.serf_replay.specs.Words.{words_of};
-ghost use Rattle.serf_stream.specs.Lines.{lines_of};
-ghost use Rattle.serf_stream.specs.Streams.{IsStopped};
+ghost use Rattle.serf_text.specs.Words.{words_of};
+ghost use Rattle.serf_text.specs.Lines.{lines_of};
+ghost use Rattle.serf_text.specs.Streams.{IsStopped};
 ghost use Rattle.serf_judge.specs.Said.{IsAt, Says, happening_view, is_comment, line_said, log_answer, log_view, reading_of, with_happening};
 
 use crate::entry::{EventEntry, QueryEntry};
 use crate::happening::{Happening, happening_in};
-use serf_replay::{Cause, cut};
-use serf_stream::{LineFault, LineJob, StreamFault, answer_lines};
+use serf_text::{Cause, LineJob, StreamFault, StreamLineFault, answer_lines, cut};
 use std::alloc::{AllocError, Global};
 use std::io;
 use std::io::{Read, Write};
@@ -52,7 +51,11 @@ fn is_comment_line(line: &[u8]) -> bool
 }
 
 /// What the line of this number says.
-fn happening_on(alloc: Global, number: u64, line: &[u8]) -> Result<Happening, LineFault<Cause>>
+fn happening_on(
+    alloc: Global,
+    number: u64,
+    line: &[u8],
+) -> Result<Happening, StreamLineFault<Cause>>
     ensures said { Says happening_view result (line_said line.now) }
     ensures line { IfOk result (IsAt number) }
 {
@@ -61,7 +64,7 @@ fn happening_on(alloc: Global, number: u64, line: &[u8]) -> Result<Happening, Li
     }
     let words = match words_in(alloc, line) {
         Ok(words) => words,
-        Err(_) => return Err(LineFault::OutOfMemory),
+        Err(_) => return Err(StreamLineFault::OutOfMemory),
     };
     if words.is_empty() {
         return Ok(Happening::Nothing);
@@ -71,11 +74,11 @@ fn happening_on(alloc: Global, number: u64, line: &[u8]) -> Result<Happening, Li
 
 impl Log {
     /// Puts what a line says behind the others.
-    fn add(&mut self, number: u64, happening: Happening) -> Result<(), LineFault<Cause>>
+    fn add(&mut self, number: u64, happening: Happening) -> Result<(), StreamLineFault<Cause>>
         requires { IsAt number happening }
         ensures added { OnOk result (log_view self.new
             ≡ with_happening (log_view self.old) number (happening_view happening)) }
-        ensures memory { IfErr result (λ fault. fault ≡ LineFault.OutOfMemory) }
+        ensures memory { IfErr result (λ fault. fault ≡ StreamLineFault.OutOfMemory) }
     {
         let pushed = match happening {
             Happening::Nothing => return Ok(()),
@@ -86,7 +89,7 @@ impl Log {
         if pushed {
             Ok(())
         } else {
-            Err(LineFault::OutOfMemory)
+            Err(StreamLineFault::OutOfMemory)
         }
     }
 }
@@ -113,7 +116,7 @@ impl LineJob for LogLines {
         alloc: Global,
         line: &[u8],
         _text: &mut Vec<u8>,
-    ) -> Result<(), LineFault<Cause>> {
+    ) -> Result<(), StreamLineFault<Cause>> {
         let happening = match happening_on(alloc, self.number, line) {
             Ok(happening) => happening,
             Err(fault) => return Err(fault),

@@ -7,7 +7,7 @@ use Rattle.serf_wire.specs.declared.fault.WireFault.{WireFault}
 use Rattle.serf_wire.specs.Canonical.{canonical, has_long}
 use Rattle.serf_wire.specs.Decoded.{decoded}
 use Rattle.serf_wire.specs.Message.{Message}
-use Rattle.serf_replay.specs.MessageText.{text_or_fault}
+use Rattle.serf_text.specs.MessageText.{text_or_fault}
 use Rattle.serf_packets.specs.Encoded.{encoded, encoded_by, other_line, packet_meant, packet_of, said_by}
 use Rattle.serf_packets.specs.Meant.{meant_by, message_meant}
 use Rattle.serf_packets.specs.Rows.{rows_in}

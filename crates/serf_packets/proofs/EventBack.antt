@@ -5,8 +5,8 @@ use Rattle.hex.specs.Hex.{IsBytes}
 use Rattle.serf_pack.specs.Canonical.{flag_bytes, map_head, raw_bytes, uint_bytes}
 use Rattle.serf_wire.specs.Canonical.{canonical, entry}
 use Rattle.serf_wire.specs.Message.{UserEvent, user_event}
-use Rattle.serf_replay.specs.MessageText.{content_lines, message_text}
-use Rattle.serf_replay.specs.TextParts.{flag_line, flag_text, hex_text, number_line}
+use Rattle.serf_text.specs.MessageText.{content_lines, message_text}
+use Rattle.serf_text.specs.TextParts.{flag_line, flag_text, hex_text, number_line}
 use Rattle.serf_packets.specs.Meant.{event_meant, meant_by, message_meant}
 use Rattle.serf_packets.specs.Rows.{RowText, rows_in}
 use Rattle.serf_packets.proofs.LinesBack.{at_end, flag_row, kind_row, no_row, number_row, row}

@@ -3,8 +3,8 @@ use Rattle.std.proofs.Common.{◌≡◌, ◌<◌, ◌∙◌, ℕ, [], ◌∷◌,
 use Rattle.hex.specs.Hex.{IsBytes}
 use Rattle.serf_wire.specs.Canonical.{canonical}
 use Rattle.serf_wire.specs.Message.{foreign}
-use Rattle.serf_replay.specs.MessageText.{message_text}
-use Rattle.serf_replay.specs.TextParts.{number_line}
+use Rattle.serf_text.specs.MessageText.{message_text}
+use Rattle.serf_text.specs.TextParts.{number_line}
 use Rattle.serf_packets.specs.Meant.{meant_by, message_meant}
 use Rattle.serf_packets.specs.Rows.{rows_in}
 use Rattle.serf_packets.proofs.LinesBack.{at_end, no_row, number_row, row}

@@ -10,7 +10,7 @@ use Rattle.std.specs.List.{All, list_all, slice_split}
 use Rattle.std.specs.Prelude.{◌==◌}
 use Rattle.hex.specs.Hex.{IsBytes}
 use Rattle.serf_wire.specs.Fields.{fits}
-use Rattle.serf_replay.specs.TextParts.{flag_line, flag_text, hex_line, hex_text, number_line, signed_line, with_hex, with_number}
+use Rattle.serf_text.specs.TextParts.{flag_line, flag_text, hex_line, hex_text, number_line, signed_line, with_hex, with_number}
 use Rattle.serf_packets.specs.Rows.{RowText, row_in, row_of_parts, rows_in}
 use Rattle.serf_packets.proofs.WordsBack.{IsPlain, is_plain, plain_bytes, plain_number, plain_signed}
 

@@ -10,8 +10,8 @@ use Rattle.serf_wire.specs.Canonical.{canonical, entry, list_bytes}
 use Rattle.serf_wire.specs.Fields.{fits}
 use Rattle.serf_wire.specs.Message.{Query, query}
 use Rattle.serf_wire.specs.Ranges.{IsRangedQuery}
-use Rattle.serf_replay.specs.MessageText.{asker_lines, content_lines, handling_lines, identity_lines, limit_lines, message_text, query_head, relay_line}
-use Rattle.serf_replay.specs.TextParts.{hex_line, hex_text, number_line, signed_line}
+use Rattle.serf_text.specs.MessageText.{asker_lines, content_lines, handling_lines, identity_lines, limit_lines, message_text, query_head, relay_line}
+use Rattle.serf_text.specs.TextParts.{hex_line, hex_text, number_line, signed_line}
 use Rattle.serf_packets.specs.Meant.{meant_by, message_meant, number_up_to, bytes_meant, query_meant, signed_meant}
 use Rattle.serf_packets.specs.Rows.{RowText, rows_in, value_of}
 use Rattle.serf_packets.proofs.LinesBack.{hex_row, kind_row, no_row, number_row, row, signed_row}

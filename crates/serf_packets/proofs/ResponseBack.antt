@@ -5,8 +5,8 @@ use Rattle.serf_pack.specs.Canonical.{map_head, raw_bytes, uint_bytes}
 use Rattle.serf_wire.specs.Canonical.{canonical, entry}
 use Rattle.serf_wire.specs.Message.{QueryResponse, query_response}
 use Rattle.serf_wire.specs.Ranges.{IsRangedResponse}
-use Rattle.serf_replay.specs.MessageText.{answer_lines, identity_lines, message_text, response_name}
-use Rattle.serf_replay.specs.TextParts.{hex_line, hex_text, number_line}
+use Rattle.serf_text.specs.MessageText.{answer_lines, identity_lines, message_text, response_name}
+use Rattle.serf_text.specs.TextParts.{hex_line, hex_text, number_line}
 use Rattle.serf_packets.specs.Meant.{meant_by, message_meant, response_meant}
 use Rattle.serf_packets.specs.Rows.{RowText, rows_in}
 use Rattle.serf_packets.proofs.LinesBack.{at_end, hex_row, kind_row, no_row, number_row, row}

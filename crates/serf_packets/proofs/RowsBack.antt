@@ -2,7 +2,7 @@
 use Rattle.std.proofs.Common.{◌≡◌, ◌++◌, ◌∙◌, ℕ, List, [], ◌∷◌, true, false, refl, ap, append_assoc, map}
 use Rattle.std.specs.List.{AllByRecursion, flat_map}
 use Rattle.std.specs.Str.{bytes_eq}
-use Rattle.serf_replay.specs.TextParts.{hex_line, hex_text}
+use Rattle.serf_text.specs.TextParts.{hex_line, hex_text}
 use Rattle.serf_packets.specs.Meant.{bytes_meant}
 use Rattle.serf_packets.specs.Rows.{RowText, rows_in, rows_of, value_of}
 use Rattle.serf_packets.proofs.LinesBack.{hex_row, row}

@@ -1,8 +1,8 @@
 -- Lines that several kinds of messages have.
 use Rattle.std.proofs.Common.{◌≡◌, ◌++◌, ◌<◌, ◌^◌, ◌∙◌, ℕ, List, [], ◌∷◌, refl, ap, append_assoc, codes, decimal}
 use Rattle.hex.specs.Hex.{IsBytes}
-use Rattle.serf_replay.specs.MessageText.{content_lines, identity_lines}
-use Rattle.serf_replay.specs.TextParts.{hex_line, hex_text, number_line}
+use Rattle.serf_text.specs.MessageText.{content_lines, identity_lines}
+use Rattle.serf_text.specs.TextParts.{hex_line, hex_text, number_line}
 use Rattle.serf_packets.specs.Rows.{rows_in}
 use Rattle.serf_packets.proofs.LinesBack.{hex_row, number_row, row}
 

@@ -4,8 +4,8 @@ use Rattle.std.specs.List.{AllByRecursion, flat_map}
 use Rattle.serf_wire.specs.declared.texts.EventBody.{EventBody}
 use Rattle.serf_wire.specs.Message.{PushPull, push_pull}
 use Rattle.serf_wire.specs.Slots.{SlotContent, empty, held}
-use Rattle.serf_replay.specs.MessageText.{buffer_lines, event_line, member_lines, message_text, push_pull_head, slot_lines, slots_lines, status_line}
-use Rattle.serf_replay.specs.TextParts.{hex_line, hex_text, number_line, with_hex, with_number}
+use Rattle.serf_text.specs.MessageText.{buffer_lines, event_line, member_lines, message_text, push_pull_head, slot_lines, slots_lines, status_line}
+use Rattle.serf_text.specs.TextParts.{hex_line, hex_text, number_line, with_hex, with_number}
 use Rattle.serf_packets.specs.Rows.{RowText, rows_in}
 use Rattle.serf_packets.proofs.LinesBack.{at_end, kind_row, no_row, number_row, row, triple_row}
 use Rattle.serf_packets.proofs.PacketBytes.{AreBytes}

@@ -8,7 +8,7 @@ use Rattle.serf_wire.specs.Canonical.{canonical, has_long}
 use Rattle.serf_wire.specs.Decoded.{decoded}
 use Rattle.serf_wire.specs.Message.{Message}
 use Rattle.serf_wire.specs.Ranges.{InRange}
-use Rattle.serf_replay.specs.MessageText.{message_text, text_or_fault}
+use Rattle.serf_text.specs.MessageText.{message_text, text_or_fault}
 use Rattle.serf_packets.specs.Encoded.{encoded, encoded_by, packet_of, said_by}
 use Rattle.serf_packets.specs.Meant.{message_meant}
 use Rattle.serf_packets.specs.Rows.{rows_in}

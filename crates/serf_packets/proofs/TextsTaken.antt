@@ -9,7 +9,7 @@ use Rattle.serf_wire.specs.Decoded.{decoded}
 use Rattle.serf_wire.specs.Laws.{CanonicalSpells, DecodesInRange, DecodesSpelled}
 use Rattle.serf_wire.specs.Message.{Message, foreign, push_pull, query, query_response, user_event}
 use Rattle.serf_wire.specs.Slots.{SlotContent, empty, held}
-use Rattle.serf_replay.specs.MessageText.{message_text, text_or_fault}
+use Rattle.serf_text.specs.MessageText.{message_text, text_or_fault}
 use Rattle.serf_packets.specs.Encoded.{encoded}
 use Rattle.serf_packets.specs.Taken.{TextsAreTaken, TextsTellApart}
 use Rattle.serf_packets.proofs.EventBack.{event_back}

@@ -12,8 +12,8 @@ use Rattle.std.specs.Str.Parse.{digits_value}
 use Rattle.hex.proofs.HexLemmas.{decode_of-encode_lower, length-encode_with}
 use Rattle.hex.specs.Hex.{IsBytes, encode_lower, encode_with, lower_digits}
 use Rattle.serf_wire.specs.Fields.{fits}
-use Rattle.serf_replay.specs.TextParts.{hex_text}
-use Rattle.serf_replay.specs.Words.{between, bytes_of, number_of}
+use Rattle.serf_text.specs.TextParts.{hex_text}
+use Rattle.serf_text.specs.Words.{between, bytes_of, number_of}
 use Rattle.serf_packets.specs.Meant.{below_zero, bytes_meant, number_up_to, signed_meant}
 
 -- Numbers

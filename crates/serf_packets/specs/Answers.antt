@@ -5,8 +5,8 @@ use Rattle.hex.specs.declared.error.FromHexError.{FromHexError}
 use Rattle.serf_wire.specs.declared.fault.WireFault.{WireFault}
 use Rattle.serf_wire.specs.Message.{Message}
 use Rattle.serf_wire.specs.Decoded.{decoded}
-use Rattle.serf_replay.specs.MessageText.{text_or_fault}
-use Rattle.serf_replay.specs.WireText.{wire_text}
+use Rattle.serf_text.specs.MessageText.{text_or_fault}
+use Rattle.serf_text.specs.WireText.{wire_text}
 use Rattle.serf_packets.specs.declared.job.BadHex.{BadHex}
 
 -- a message's text, or in its place a line that says why the packet is refused; and an empty line

@@ -5,8 +5,8 @@ use Rattle.serf_wire.specs.declared.fault.WireFault.{WireFault}
 use Rattle.serf_wire.specs.Canonical.{canonical, has_long}
 use Rattle.serf_wire.specs.Decoded.{decoded}
 use Rattle.serf_wire.specs.Message.{Message}
-use Rattle.serf_replay.specs.MessageText.{text_or_fault}
-use Rattle.serf_replay.specs.TextParts.{hex_text, with_number}
+use Rattle.serf_text.specs.MessageText.{text_or_fault}
+use Rattle.serf_text.specs.TextParts.{hex_text, with_number}
 use Rattle.serf_packets.specs.Rows.{rows_in}
 use Rattle.serf_packets.specs.Meant.{message_meant}
 

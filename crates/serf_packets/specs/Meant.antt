@@ -7,7 +7,7 @@ use Rattle.serf_lamport.specs.Clock.{greatest_clock, last_time}
 use Rattle.serf_wire.specs.declared.texts.EventBody.{EventBody}
 use Rattle.serf_wire.specs.Message.{Message, Query, PushPull, user_event_of, response_of, query, push_pull, foreign}
 use Rattle.serf_wire.specs.Slots.{SlotContent, empty, held}
-use Rattle.serf_replay.specs.Words.{between, bytes_of, number_of}
+use Rattle.serf_text.specs.Words.{between, bytes_of, number_of}
 use Rattle.serf_packets.specs.Rows.{RowText, rows_of, value_of}
 
 -- a number up to this one

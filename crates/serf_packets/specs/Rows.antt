@@ -2,7 +2,7 @@
 use Rattle.std.specs.Prelude.{ℕ, ◌==◌, List, [], map, filter, unwrap_or, slice_get, Option, Some, None}
 use Rattle.std.specs.List.{find, slice_split}
 use Rattle.std.specs.Str.{bytes_eq}
-use Rattle.serf_stream.specs.Lines.{lines_of}
+use Rattle.serf_text.specs.Lines.{lines_of}
 use Rattle.serf_packets.specs.declared.row.Row.{Row}
 
 -- a line: the name of a field, and its values

@@ -5,7 +5,7 @@ use Rattle.serf_wire.specs.Canonical.{canonical, has_long}
 use Rattle.serf_wire.specs.Decoded.{decoded}
 use Rattle.serf_wire.specs.Message.{Message}
 use Rattle.serf_wire.specs.Ranges.{InRange}
-use Rattle.serf_replay.specs.MessageText.{text_or_fault}
+use Rattle.serf_text.specs.MessageText.{text_or_fault}
 use Rattle.serf_packets.specs.Encoded.{encoded}
 
 -- the text that the canonical packet of a message is decoded to is encoded to this packet

@@ -2,10 +2,10 @@
 
 ghost use Rattle.std.specs.Prelude.{◌≡◌, ◌++◌, IfOk, OnOk, codes};
 ghost use Rattle.serf_wire.specs.Decoded.{decoded};
-ghost use Rattle.serf_replay.specs.WireText.{wire_text};
+ghost use Rattle.serf_text.specs.WireText.{wire_text};
 ghost use Rattle.serf_packets.specs.Answers.{is_refused, packet_answer};
 
-use serf_replay::{DecodeTextFault, WireWords, decode_text};
+use serf_text::{DecodeTextFault, WireWords, decode_text};
 use std::alloc::{AllocError, Global};
 
 /// Appends the line that stands in the place of a message, and an empty line.

@@ -2,14 +2,13 @@
 
 ghost use Rattle.std.specs.Prelude.{◌≡◌, ◌++◌, ◌<◌, ◌↔◌, [], Ok, List, ℕ, IfErr, IfOk, OnOk, IsTrue, length};
 ghost use Rattle.std.specs.Io.KnownBytes.{Appends, Consumes, IsAtEnd};
-ghost use Rattle.serf_stream.specs.Lines.{lines_of, text_behind};
-ghost use Rattle.serf_stream.specs.Streams.{IsStopped};
+ghost use Rattle.serf_text.specs.Lines.{lines_of, text_behind};
+ghost use Rattle.serf_text.specs.Streams.{IsStopped};
 ghost use Rattle.serf_packets.specs.Encoded.{answer_text, encoded};
 ghost use Rattle.serf_packets.specs.Blocks.{block_answer, is_fault, line_answer, reading_of, refuses_block};
 
 use crate::encoding::{EncodeTextFault, encode_text};
-use serf_replay::{put_hex, put_with_number};
-use serf_stream::{LineFault, LineJob, StreamFault, answer_lines};
+use serf_text::{LineJob, StreamFault, StreamLineFault, answer_lines, put_hex, put_with_number};
 use std::alloc::{AllocError, Global};
 use std::io::{Read, Write};
 
@@ -79,21 +78,21 @@ impl LineJob for BlockLines {
         alloc: Global,
         line: &[u8],
         text: &mut Vec<u8>,
-    ) -> Result<(), LineFault<NeverBad>> {
+    ) -> Result<(), StreamLineFault<NeverBad>> {
         if line.is_empty() {
             let Ok(refused) = put_block(alloc, self.block.as_slice(), text) else {
-                return Err(LineFault::OutOfMemory);
+                return Err(StreamLineFault::OutOfMemory);
             };
             self.is_refused = self.is_refused || refused;
             self.block.clear();
             return Ok(());
         }
         if self.block.extend_from_slice(line).is_err() {
-            return Err(LineFault::OutOfMemory);
+            return Err(StreamLineFault::OutOfMemory);
         }
         match self.block.extend_from_slice(b"\n") {
             Ok(()) => Ok(()),
-            Err(_) => Err(LineFault::OutOfMemory),
+            Err(_) => Err(StreamLineFault::OutOfMemory),
         }
     }
 }

@@ -5,12 +5,12 @@ ghost use Rattle.std.specs.Option.{option_map};
 ghost use Rattle.serf_wire.specs.Canonical.{canonical, has_long};
 ghost use Rattle.serf_wire.specs.Decoded.{decoded};
 ghost use Rattle.serf_wire.specs.Message.{Message};
-ghost use Rattle.serf_replay.specs.MessageText.{text_or_fault};
+ghost use Rattle.serf_text.specs.MessageText.{text_or_fault};
 ghost use Rattle.serf_packets.specs.declared.encoding.EncodeTextFault.TheVariants.{BadLine};
 ghost use Rattle.serf_packets.specs.Encoded.{common, encoded, other_line, said_by};
 
 use crate::packets::packet_of_text;
-use serf_replay::{DecodeTextFault, decode_text};
+use serf_text::{DecodeTextFault, decode_text};
 use std::alloc::{AllocError, Global};
 use thiserror::Error;
 
@@ -86,7 +86,7 @@ fn encode_exactly(alloc: Global, text: &[u8]) -> Result<Vec<u8>, EncodeTextFault
     }
 }
 
-/// The canonical packet of the message that has this text, as [`serf_replay::decode_text`] writes it.
+/// The canonical packet of the message that has this text, as [`serf_text::decode_text`] writes it.
 ///
 /// A text that is no message's is a `BadLine`, and so is that of a message whose canonical packet has another text: a
 /// push/pull's slot of a time without events, which the canonical packet has as nil. The text that a canonical packet is

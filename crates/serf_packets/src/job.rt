@@ -3,14 +3,14 @@
 ghost use Rattle.std.specs.Prelude.{◌≡◌, ◌++◌, [], Ok, List, ℕ, IfErr, IfOk, OnOk};
 ghost use Rattle.std.specs.List.{list_any};
 ghost use Rattle.std.specs.Io.KnownBytes.{Appends, Consumes, IsAtEnd};
-ghost use Rattle.serf_stream.specs.Lines.{lines_of, text_behind};
-ghost use Rattle.serf_stream.specs.Streams.{IsStopped};
+ghost use Rattle.serf_text.specs.Lines.{lines_of, text_behind};
+ghost use Rattle.serf_text.specs.Streams.{IsStopped};
 ghost use Rattle.serf_packets.specs.Answers.{line_answer, refuses_line};
 
 use crate::answers::put_answer;
 use crate::framing::{Framing, framing_of};
 use hex::FromHexError;
-use serf_stream::{LineFault, LineJob, StreamFault, answer_lines};
+use serf_text::{LineJob, StreamFault, StreamLineFault, answer_lines};
 use std::alloc::Global;
 use std::io::{Read, Write};
 use thiserror::Error;
@@ -50,7 +50,7 @@ impl<N: FramingNotes> LineJob for PacketLines<'_, N> {
         alloc: Global,
         line: &[u8],
         text: &mut Vec<u8>,
-    ) -> Result<(), LineFault<BadHex>> {
+    ) -> Result<(), StreamLineFault<BadHex>> {
         let number = self.number;
         self.number = number.saturating_add(1);
         if line.is_empty() {
@@ -58,8 +58,8 @@ impl<N: FramingNotes> LineJob for PacketLines<'_, N> {
         }
         let packet = match hex::decode(alloc, line) {
             Ok(packet) => packet,
-            Err(FromHexError::OutOfMemory) => return Err(LineFault::OutOfMemory),
-            Err(_) => return Err(LineFault::Bad(BadHex)),
+            Err(FromHexError::OutOfMemory) => return Err(StreamLineFault::OutOfMemory),
+            Err(_) => return Err(StreamLineFault::Bad(BadHex)),
         };
         if let Some(framing) = framing_of(&packet) {
             self.notes.framed(number, framing);
@@ -69,12 +69,12 @@ impl<N: FramingNotes> LineJob for PacketLines<'_, N> {
                 self.is_refused = self.is_refused || is_refused;
                 Ok(())
             }
-            Err(_) => Err(LineFault::OutOfMemory),
+            Err(_) => Err(StreamLineFault::OutOfMemory),
         }
     }
 }
 
-/// Reads packets in hex, a line each, and writes the answer to each: its message's text as [`serf_replay::decode_text`]
+/// Reads packets in hex, a line each, and writes the answer to each: its message's text as [`serf_text::decode_text`]
 /// has it, or in its place a line `refused FAULT`; and then an empty line. A line without bytes says nothing. On `Ok` it
 /// says whether a packet was refused.
 ///

@@ -3,14 +3,14 @@
 ghost use Rattle.std.specs.Prelude.{◌≡◌, ◌≤◌, ◌<◌, ◌++◌, ◌∷◌, [], ℤ, pos, IfOk, OnOk, Some, map, filter};
 ghost use Rattle.std.specs.Str.{bytes_eq};
 ghost use Rattle.serf_lamport.specs.Clock.{last_time};
-ghost use Rattle.serf_replay.specs.Words.{between, bytes_of, number_of};
+ghost use Rattle.serf_text.specs.Words.{between, bytes_of, number_of};
 ghost use Rattle.serf_packets.specs.Rows.{row_seen, rows_of, value_of};
 ghost use Rattle.serf_packets.specs.Meant.{below_zero, bytes_at, bytes_meant, member_meant, number_at, number_up_to, signed_meant, texts_at};
 
 use crate::row::{Row, is_named, value};
 use hex::FromHexError;
 use serf_lamport::Time;
-use serf_replay::number;
+use serf_text::number;
 use serf_wire::Bytes;
 use std::alloc::{AllocError, Global};
 

@@ -6,7 +6,7 @@ ghost use Rattle.std.specs.Option.{option_map};
 ghost use Rattle.std.specs.Str.{bytes_eq};
 ghost use Rattle.serf_packets.specs.Rows.{parts_left, row_in, row_seen, rows_in, value_of, part};
 
-use serf_replay::cut;
+use serf_text::cut;
 use std::alloc::{AllocError, Global};
 
 /// A line: the name of a field, and its values. What is not there has no bytes.

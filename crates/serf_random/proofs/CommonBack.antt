@@ -3,9 +3,9 @@ use Rattle.std.proofs.Common.{◌≡◌, ◌≤◌, ℕ, List, [], ◌++◌, len
 use Rattle.std.specs.Prelude.{drop}
 use Rattle.std.specs.List.{AllByRecursion}
 use Rattle.std.proofs.lemmas.Fmt.{length-decimal-le}
-use Rattle.serf_replay.specs.Line.{Parsed}
-use Rattle.serf_replay.specs.Schedule.{schedule_of}
-use Rattle.serf_schedule_text.specs.Comments.{CommentsAreSkipped, IsWord, NumbersAreWords}
+use Rattle.serf_schedule.specs.Line.{Parsed}
+use Rattle.serf_schedule.specs.Schedule.{schedule_of}
+use Rattle.serf_schedule.specs.Comments.{CommentsAreSkipped, IsWord, NumbersAreWords}
 use Rattle.serf_random.specs.declared.ask.Ask.{Ask}
 use Rattle.serf_random.specs.declared.kind.Kind.{Kind}
 use Rattle.serf_random.specs.declared.kind.Kind.TheVariants as kinds

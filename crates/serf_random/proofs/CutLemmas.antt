@@ -13,8 +13,8 @@ use Rattle.serf_model.specs.Ready.{AreRepresentable}
 use Rattle.serf_model.specs.Trace.{actor_of}
 use Rattle.serf_world.specs.View.{IsViewed, TakesStep, WorldState}
 use Rattle.serf_model.specs.Common.{has_no_tail, is_common_answer}
-use Rattle.serf_schedule_text.specs.Sayable.{IsSayable}
-use Rattle.serf_schedule_text.specs.ScheduleText.{action_text}
+use Rattle.serf_schedule.specs.Sayable.{IsSayable}
+use Rattle.serf_schedule.specs.ScheduleText.{action_text}
 use Rattle.serf_random.specs.Common.{IsCommon}
 use Rattle.serf_random.specs.Cut.{AddsLine, AddsNothing, AreKept, GoesOn, IsAlong, MayAdd}
 

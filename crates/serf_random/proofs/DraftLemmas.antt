@@ -6,8 +6,8 @@ use Rattle.std.proofs.lemmas.List.Concat.{flat_map-append}
 use Rattle.std.proofs.lemmas.List.Elements.{All-append, All-nil}
 use Rattle.serf_agent.specs.declared.config.Config.{Config}
 use Rattle.serf_model.specs.declared.action.Action.{Action}
-use Rattle.serf_schedule_text.specs.Sayable.{IsSayable}
-use Rattle.serf_schedule_text.specs.ScheduleText.{action_text, agent_text}
+use Rattle.serf_schedule.specs.Sayable.{IsSayable}
+use Rattle.serf_schedule.specs.ScheduleText.{action_text, agent_text}
 use Rattle.serf_random.specs.Draft.{AddsActions, AddsAgents}
 
 pub no_agents : (text : List ℕ) (agents : List Config) → AddsAgents text text agents agents

@@ -2,7 +2,7 @@
 use Rattle.std.specs.Prelude.{ℕ, List, [], ◌∷◌, codes, decimal}
 use Rattle.serf_random.specs.declared.ask.Ask.{Ask}
 use Rattle.serf_random.specs.Kind.{kind_name}
-use Rattle.serf_schedule_text.specs.ScheduleText.{line_text}
+use Rattle.serf_schedule.specs.ScheduleText.{line_text}
 
 abbrev pub comment_words : Ask → List (List ℕ)
 comment_words ask =

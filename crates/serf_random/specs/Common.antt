@@ -3,10 +3,10 @@ use Rattle.std.specs.Prelude.{◌≡◌, ℕ, true, List, [], ◌∷◌, All, co
 use Rattle.serf_model.specs.Cluster.{run_of}
 use Rattle.serf_model.specs.Trace.{Turn}
 use Rattle.serf_model.specs.Common.{is_common}
-use Rattle.serf_replay.specs.Line.{Parsed}
+use Rattle.serf_schedule.specs.Line.{Parsed}
 use Rattle.serf_random.specs.declared.ask.Ask.{Ask}
 use Rattle.serf_random.specs.Kind.{kind_name}
-use Rattle.serf_schedule_text.specs.ScheduleText.{line_text}
+use Rattle.serf_schedule.specs.ScheduleText.{line_text}
 
 -- the turn rests on no rule of this project's own
 abbrev pub IsCommon : Turn → Type 0

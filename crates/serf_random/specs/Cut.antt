@@ -7,8 +7,8 @@ use Rattle.serf_model.specs.Cluster.{run_of}
 use Rattle.serf_model.specs.Ready.{AreRepresentable}
 use Rattle.serf_world.specs.View.{IsViewed, WorldState}
 use Rattle.serf_random.specs.Draft.{IsShort}
-use Rattle.serf_schedule_text.specs.Sayable.{IsSayable}
-use Rattle.serf_schedule_text.specs.ScheduleText.{action_text}
+use Rattle.serf_schedule.specs.Sayable.{IsSayable}
+use Rattle.serf_schedule.specs.ScheduleText.{action_text}
 use Rattle.serf_random.specs.Common.{IsCommon}
 
 -- an action was added with its line, or neither

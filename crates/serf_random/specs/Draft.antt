@@ -4,8 +4,8 @@ use Rattle.std.specs.List.{flat_map}
 use Rattle.serf_agent.specs.declared.config.Config.{Config}
 use Rattle.serf_model.specs.declared.action.Action.{Action}
 use Rattle.serf_random.specs.declared.ask.Ask.{Ask}
-use Rattle.serf_schedule_text.specs.Sayable.{IsSayable}
-use Rattle.serf_schedule_text.specs.ScheduleText.{action_text, agent_text}
+use Rattle.serf_schedule.specs.Sayable.{IsSayable}
+use Rattle.serf_schedule.specs.ScheduleText.{action_text, agent_text}
 
 -- the greatest length of a schedule's text
 abbrev pub IsShort : List ℕ → Type 0

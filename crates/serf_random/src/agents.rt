@@ -3,11 +3,11 @@
 ghost use Rattle.std.specs.Prelude.{◌≡◌, ◌++◌, IfOk, OnOk};
 ghost use Rattle.std.specs.List.{flat_map};
 ghost use Rattle.serf_random.specs.Draft.{IsShort};
-ghost use Rattle.serf_schedule_text.specs.ScheduleText.{agent_text};
+ghost use Rattle.serf_schedule.specs.ScheduleText.{agent_text};
 
 use serf_agent::Config;
-use serf_replay::MAX_SCHEDULE_BYTES;
-use serf_schedule_text::put_agent;
+use serf_schedule::put_agent_line;
+use serf_text::MAX_SCHEDULE_BYTES;
 use serf_world::Roster;
 use std::alloc::{AllocError, Global};
 
@@ -15,7 +15,7 @@ fn put_agents(text: &mut Vec<u8>, agents: &[Config]) -> Result<(), AllocError>
     ensures { OnOk result (text.new.items ≡ text.old.items ++ flat_map agent_text agents.now) }
 {
     for agent in agents {
-        put_agent(text, agent)?;
+        put_agent_line(text, agent)?;
     }
     Ok(())
 }

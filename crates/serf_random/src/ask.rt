@@ -4,8 +4,8 @@ ghost use Rattle.std.specs.Prelude.{◌≡◌, ◌++◌, OnOk};
 ghost use Rattle.serf_random.specs.Comment.{comment_text};
 
 use crate::kind::Kind;
-use serf_schedule_text::Word::{Number, Plain};
-use serf_schedule_text::put_line;
+use serf_schedule::Word::{Number, Plain};
+use serf_schedule::put_line;
 use std::alloc::AllocError;
 
 /// The version of the generator. Another one may make other schedules of the same seed.

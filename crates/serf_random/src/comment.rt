@@ -5,8 +5,8 @@ ghost use Rattle.serf_random.specs.Draft.{HasNumbers};
 ghost use Rattle.serf_random.specs.Common.{comment_text};
 
 use crate::ask::Ask;
-use serf_schedule_text::Word::{Number, Plain};
-use serf_schedule_text::put_line;
+use serf_schedule::Word::{Number, Plain};
+use serf_schedule::put_line;
 use std::alloc::AllocError;
 
 /// What is asked for has numbers of 64 bits. Does nothing.

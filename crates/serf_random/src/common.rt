@@ -1,8 +1,8 @@
 //! A whole schedule that keeps to Serf's own rules.
 
 ghost use Rattle.std.specs.Prelude.{◌≡◌, ◌≤◌, ◌++◌, IfOk, Ok, length};
-ghost use Rattle.serf_replay.specs.Schedule.{parsed_of, schedule_of};
-ghost use Rattle.serf_schedule_text.specs.ScheduleText.{schedule_text};
+ghost use Rattle.serf_schedule.specs.Schedule.{parsed_of, schedule_of};
+ghost use Rattle.serf_schedule.specs.ScheduleText.{schedule_text};
 ghost use Rattle.serf_random.specs.Common.{AreCommon, comment_text};
 
 use crate::agents::add_agents;
@@ -11,8 +11,8 @@ use crate::comment::{know_numbers, put_comment};
 use crate::cut::add_common;
 use crate::make::{Made, random_schedule};
 use crate::rounds::in_rounds;
-use serf_replay::{MAX_SCHEDULE_BYTES, Schedule};
-use serf_schedule_text::{comments_skipped, know_read_back};
+use serf_schedule::{Schedule, comments_skipped, know_read_back};
+use serf_text::MAX_SCHEDULE_BYTES;
 use std::alloc::{AllocError, Global};
 
 /// A random schedule as it was asked for, of which what rests on a rule of this project's own is left out, and its text.

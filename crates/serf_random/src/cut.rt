@@ -5,8 +5,8 @@ ghost use Rattle.serf_agent.specs.declared.config.Config.{Config};
 ghost use Rattle.serf_random.specs.Cut.{AreKept, GoesOn, IsAlong, MayAdd};
 
 use serf_model::{Action, is_common_turn};
-use serf_replay::MAX_SCHEDULE_BYTES;
-use serf_schedule_text::{is_sayable, put_action};
+use serf_schedule::{is_sayable, put_action_line};
+use serf_text::MAX_SCHEDULE_BYTES;
 use serf_world::{Roster, StepFault, World};
 use std::alloc::{AllocError, Global};
 
@@ -16,7 +16,7 @@ fn add_line(text: &mut Vec<u8>, kept: &mut Vec<Action>, action: Action) -> Resul
         MayAdd added action text.old.items text.new.items kept.old.items kept.new.items) }
 {
     let before = text.len();
-    put_action(text, &action)?;
+    put_action_line(text, &action)?;
     if text.len() > MAX_SCHEDULE_BYTES {
         text.truncate(before);
         return Ok(false);

@@ -5,8 +5,8 @@ ghost use Rattle.serf_random.specs.Draft.{AddsActions, AddsAgents};
 
 use serf_agent::Config;
 use serf_model::Action;
-use serf_replay::MAX_SCHEDULE_BYTES;
-use serf_schedule_text::{is_sayable, put_action, put_agent};
+use serf_schedule::{is_sayable, put_action_line, put_agent_line};
+use serf_text::MAX_SCHEDULE_BYTES;
 use serf_world::{Roster, RosterFault};
 use std::alloc::{AllocError, Global};
 
@@ -20,7 +20,7 @@ pub(crate) fn add_agent(
     ensures { OnOk result (AddsAgents text.old.items text.new.items roster.old roster.new) }
 {
     let before = text.len();
-    put_agent(text, &config)?;
+    put_agent_line(text, &config)?;
     if text.len() > MAX_SCHEDULE_BYTES {
         text.truncate(before);
         return Ok(());
@@ -49,7 +49,7 @@ pub(crate) fn add_action(
         return Ok(true);
     }
     let before = text.len();
-    put_action(text, &action)?;
+    put_action_line(text, &action)?;
     if text.len() > MAX_SCHEDULE_BYTES {
         text.truncate(before);
         return Ok(false);

@@ -2,18 +2,18 @@
 
 ghost use Rattle.std.specs.Prelude.{◌≡◌, ◌≤◌, ◌++◌, [], All, IfOk, Ok, length};
 ghost use Rattle.std.specs.List.{flat_map};
-ghost use Rattle.serf_replay.specs.Schedule.{parsed_of, schedule_of};
+ghost use Rattle.serf_schedule.specs.Schedule.{parsed_of, schedule_of};
 ghost use Rattle.serf_random.specs.Comment.{comment_text};
 ghost use Rattle.serf_random.specs.Draft.{AddsActions, HasNumbers};
-ghost use Rattle.serf_schedule_text.specs.ScheduleText.{schedule_text};
+ghost use Rattle.serf_schedule.specs.ScheduleText.{schedule_text};
 
 use crate::ask::{Ask, put_comment};
 use crate::draft::add_action;
 use crate::player::Player;
 use crate::settings::add_agents;
 use serf_model::Action;
-use serf_replay::{MAX_SCHEDULE_BYTES, Schedule};
-use serf_schedule_text::{comments_skipped, know_read_back};
+use serf_schedule::{Schedule, comments_skipped, know_read_back};
+use serf_text::MAX_SCHEDULE_BYTES;
 use serf_world::Roster;
 use std::alloc::{AllocError, Global};
 

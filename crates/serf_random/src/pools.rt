@@ -2,7 +2,7 @@
 
 use crate::dice::Dice;
 use crate::times::near;
-use serf_replay::put_number;
+use serf_text::put_number;
 use std::alloc::{AllocError, Global};
 
 /// Names of events and of queries.

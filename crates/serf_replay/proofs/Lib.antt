@@ -1,11 +1,8 @@
-pub mod CutLemmas
-pub mod NumberLemmas
-pub mod ShownLaws
-pub mod SlotLemmas
-pub mod WordLemmas
-pub mod SizedLaws
-pub mod Names
-pub mod GrownLaws
+pub mod KeyLaws
 pub mod LineLaws
-pub mod TurnLaws
+pub mod Names
+pub mod NoteLaws
 pub mod RunTextLaws
+pub mod TallyLaws
+pub mod TextLaws
+pub mod TurnLaws

@@ -4,18 +4,18 @@ use Rattle.std.specs.Prelude.{IfOk}
 use Rattle.std.specs.Option.{option_to_list}
 use Rattle.serf_model.specs.Runs.{AreConfigs}
 use Rattle.serf_model.specs.declared.action.Action.{Action}
-use Rattle.serf_replay.specs.declared.cause.Cause.{Cause}
-use Rattle.serf_replay.specs.declared.cause.LineFault.{LineFault}
-use Rattle.serf_replay.specs.declared.cause.LineFault.TheVariants.{Bad, OutOfMemory}
-use Rattle.serf_replay.specs.Gives.{Fails}
-use Rattle.serf_replay.specs.declared.schedule.Schedule.{Schedule}
-use Rattle.serf_replay.specs.Grown.{AddsSame, Grows, with_turn}
-use Rattle.serf_replay.specs.Line.{Parsed, after_line}
-use Rattle.serf_replay.specs.Schedule.{BadLine, after_lines, at_line, parsed_of, schedule_in}
+use Rattle.serf_text.specs.declared.cause.Cause.{Cause}
+use Rattle.serf_text.specs.declared.cause.LineFault.{LineFault}
+use Rattle.serf_text.specs.declared.cause.LineFault.TheVariants.{Bad, OutOfMemory}
+use Rattle.serf_text.specs.Gives.{Fails, BadLine, at_line}
+use Rattle.serf_schedule.specs.declared.schedule.Schedule.{Schedule}
+use Rattle.serf_schedule.specs.Grown.{AddsSame, Grows, with_turn}
+use Rattle.serf_schedule.specs.Line.{Parsed, after_line}
+use Rattle.serf_schedule.specs.Schedule.{after_lines, parsed_of, schedule_in}
 use Rattle.serf_replay.specs.Turns.{added_text, answer_behind, run_in, text_behind_turns, turn_answer}
 use Rattle.serf_replay.specs.declared.replaying.Acting.{Acting}
 use Rattle.serf_replay.specs.Replaying.{IsStage, Takes}
-use Rattle.serf_replay.proofs.GrownLaws.{grown, late-same}
+use Rattle.serf_schedule.specs.Laws.{LateLinesAddSame, LinesGrow}
 
 -- ---- lines behind others
 
@@ -89,19 +89,19 @@ reads-late held new acting said line (Ok a) (Err f) settings stage h is this = a
 reads-late held new acting said line (Err e) (Ok b) settings stage h is this = absurd h
 reads-late held new acting said line (Err e) (Err f) settings stage h is this = absurd (cc is)
 
-pub reads-line : (held new : Schedule) (acting : Option Acting) (line : List ℕ) (said : Parsed) → AreConfigs said.configs → IsStage held acting said → AreConfigs new.agents
+pub reads-line : LinesGrow → LateLinesAddSame → (held new : Schedule) (acting : Option Acting) (line : List ℕ) (said : Parsed) → AreConfigs said.configs → IsStage held acting said → AreConfigs new.agents
     → after_line (parsed_of held) line ≡ Ok (parsed_of new) → Reads new acting said line
-reads-line held new None line said before stage settings is =
+reads-line grow late held new None line said before stage settings is =
     let here : after_line said line ≡ Ok (parsed_of new) = ap (λ (p : Parsed). after_line p line) (sym stage.0) ∙ is in
     record {
       after = parsed_of new;
       after_is = here;
-      takes = (stage.1, refl, few-actions said (parsed_of new) stage.1 (subst (λ (r : Result Parsed Cause). IfOk r (Grows said)) here (grown said line)), settings);
+      takes = (stage.1, refl, few-actions said (parsed_of new) stage.1 (subst (λ (r : Result Parsed Cause). IfOk r (Grows said)) here (grow said line)), settings);
       settings = settings;
     }
-reads-line held new (Some acting) line said before stage settings is =
+reads-line grow late held new (Some acting) line said before stage settings is =
     let one : 0 < length (parsed_of held).actions = (let e = stage.0 in omega (arith, e)) in
-    reads-late held new acting said line (after_line said line) (after_line (parsed_of held) line) before stage (late-same said (parsed_of held) line stage.1.some one) is refl
+    reads-late held new acting said line (after_line said line) (after_line (parsed_of held) line) before stage (late said (parsed_of held) line stage.1.some one) is refl
 
 bad-late : (p q : Parsed) (r s : Result Parsed Cause) (cause : Cause) → AddsSame p q r s → s ≡ Err cause → r ≡ Err cause
 bad-late p q (Ok a) (Ok b) cause h is = absurd (cc is)
@@ -109,15 +109,15 @@ bad-late p q (Ok a) (Err f) cause h is = absurd h
 bad-late p q (Err e) (Ok b) cause h is = absurd h
 bad-late p q (Err e) (Err f) cause h is = ap (λ (x : Cause). let err : Result Parsed Cause = Err x in err) h ∙ is
 
-bad-line : (held : Schedule) (acting : Option Acting) (lines : List (List ℕ)) (line : List ℕ) (cause : Cause) (said : Parsed) → schedule_in lines ≡ Ok said → IsStage held acting said → after_line (parsed_of held) line ≡ Err cause
+bad-line : LateLinesAddSame → (held : Schedule) (acting : Option Acting) (lines : List (List ℕ)) (line : List ℕ) (cause : Cause) (said : Parsed) → schedule_in lines ≡ Ok said → IsStage held acting said → after_line (parsed_of held) line ≡ Err cause
     → turn_answer lines line ≡ Err cause
-bad-line held None lines line cause said reads stage is =
+bad-line late held None lines line cause said reads stage is =
     answer-bad lines line said cause reads (ap (λ (p : Parsed). after_line p line) (sym stage.0) ∙ is)
-bad-line held (Some acting) lines line cause said reads stage is =
+bad-line late held (Some acting) lines line cause said reads stage is =
     let one : 0 < length (parsed_of held).actions = (let e = stage.0 in omega (arith, e)) in
-    answer-bad lines line said cause reads (bad-late said (parsed_of held) (after_line said line) (after_line (parsed_of held) line) cause (late-same said (parsed_of held) line stage.1.some one) is)
+    answer-bad lines line said cause reads (bad-late said (parsed_of held) (after_line said line) (after_line (parsed_of held) line) cause (late said (parsed_of held) line stage.1.some one) is)
 
-pub fails-line : (held : Schedule) (acting : Option Acting) (lines : List (List ℕ)) (line : List ℕ) (fault : LineFault) (said : Parsed) → schedule_in lines ≡ Ok said → IsStage held acting said → Fails fault (after_line (parsed_of held) line)
+pub fails-line : LateLinesAddSame → (held : Schedule) (acting : Option Acting) (lines : List (List ℕ)) (line : List ℕ) (fault : LineFault) (said : Parsed) → schedule_in lines ≡ Ok said → IsStage held acting said → Fails fault (after_line (parsed_of held) line)
     → Fails fault (turn_answer lines line)
-fails-line held acting lines line OutOfMemory said reads stage h = tt
-fails-line held acting lines line (Bad cause) said reads stage h = bad-line held acting lines line cause said reads stage h
+fails-line late held acting lines line OutOfMemory said reads stage h = tt
+fails-line late held acting lines line (Bad cause) said reads stage h = bad-line late held acting lines line cause said reads stage h

@@ -6,23 +6,22 @@ use Rattle.serf_agent.specs.declared.config.Config.{Config}
 use Rattle.serf_model.specs.Kept.{KeepsPromises}
 use Rattle.serf_model.specs.Runs.{AreConfigs}
 use Rattle.serf_model.specs.Sizes.{HasSizes}
-use Rattle.serf_replay.specs.declared.cause.Cause.{Cause}
-use Rattle.serf_replay.specs.declared.cause.LineFault.{LineFault}
-use Rattle.serf_replay.specs.declared.cause.LineFault.TheVariants.{Bad, OutOfMemory}
-use Rattle.serf_replay.specs.Gives.{Fails}
-use Rattle.serf_replay.specs.Grown.{Grows}
+use Rattle.serf_text.specs.declared.cause.Cause.{Cause}
+use Rattle.serf_text.specs.declared.cause.LineFault.{LineFault}
+use Rattle.serf_text.specs.declared.cause.LineFault.TheVariants.{Bad, OutOfMemory}
+use Rattle.serf_text.specs.Gives.{Fails, BadLine}
+use Rattle.serf_schedule.specs.Grown.{Grows}
+use Rattle.serf_schedule.specs.Laws.{LinesFollow, LinesGrow, LinesStay, SchedulesAreSized, SendsBehind}
 use Rattle.serf_replay.specs.Laws.{AnswersTellMore, RefusalsAreFirst, SchedulesTraceRuns}
-use Rattle.serf_replay.specs.Line.{Parsed, after_line}
-use Rattle.serf_replay.specs.Output.{GivesText, TracesRun, output_of, text_of}
-use Rattle.serf_replay.specs.Schedule.{BadLine, schedule_fault, schedule_in}
-use Rattle.serf_replay.specs.Show.{action_text, actions_text}
+use Rattle.serf_schedule.specs.Line.{Parsed, after_line}
+use Rattle.serf_replay.specs.Output.{GivesText, TracesRun}
+use Rattle.serf_schedule.specs.Output.{output_of, text_of}
+use Rattle.serf_schedule.specs.Schedule.{schedule_fault, schedule_in}
+use Rattle.serf_schedule.specs.Show.{action_text, actions_text}
 use Rattle.serf_replay.specs.Replaying.{Follows}
 use Rattle.serf_replay.specs.declared.replaying.Replaying.{Replaying}
 use Rattle.serf_replay.specs.Turns.{Appended, added_text, answer_behind, run_in, run_text, text_behind_turns, turn_answer}
-use Rattle.serf_replay.proofs.GrownLaws.{grown}
 use Rattle.serf_replay.proofs.LineLaws.{line-bad, line-more}
-use Rattle.serf_replay.proofs.ShownLaws.{actions-push, line-stays, sends}
-use Rattle.serf_replay.proofs.SizedLaws.{sized-schedule}
 use Rattle.serf_replay.proofs.TurnLaws.{run-more, text-of-none, text-of-turn, turn-count}
 
 -- ---- the text of a run and of one more turn
@@ -30,38 +29,44 @@ use Rattle.serf_replay.proofs.TurnLaws.{run-more, text-of-none, text-of-turn, tu
 abbrev shown : Run → List ℕ
 shown r = actions_text r.cluster.sent 1 (map (λ t. t.line) r.turns)
 
+-- what the crates below promise of a step's text
+pub record StepLaws : Type 0 where
+  pub sends : SendsBehind
+  pub stay : LinesStay
+  pub follow : LinesFollow
+
 -- what is sent later changes no line
 record IsStable (r : Run) : Type 0 where
   same : (more : List (List ℕ)) → actions_text (r.cluster.sent ++ more) 1 (map (λ t. t.line) r.turns) ≡ shown r
 
-pushed : (r : Run) (a : Action) → IsStable r → (more : List (List ℕ))
+pushed : (l : StepLaws) (r : Run) (a : Action) → IsStable r → (more : List (List ℕ))
     → actions_text ((step r.cluster a).cluster.sent ++ more) 1 (map (λ t. t.line) (after r a).turns) ≡ shown r ++ action_text (step r.cluster a).cluster.sent (length r.turns + 1) (step r.cluster a).turn.line
-pushed r a h more =
+pushed l r a h more =
     let turn : Turn = (step r.cluster a).turn in
     let lines : List Line = map (λ t. t.line) r.turns in
     let sent : List (List ℕ) = (step r.cluster a).cluster.sent in
     let long = length-map r.turns (λ (t : Turn). t.line) in
     let place : 1 + length lines ≡ length r.turns + 1 = omega (arith, long) in
     ap (λ ls. actions_text (sent ++ more) 1 ls) (map-append (λ (t : Turn). t.line) r.turns (turn ∷ []))
-    ∙ actions-push (sent ++ more) 1 lines turn.line
-    ∙ ap (λ s. actions_text s 1 lines ++ action_text (sent ++ more) (1 + length lines) turn.line) (ap (λ s. s ++ more) (sends r.cluster a).sent ∙ append_assoc r.cluster.sent turn.packets more)
+    ∙ l.follow (sent ++ more) 1 lines turn.line
+    ∙ ap (λ s. actions_text s 1 lines ++ action_text (sent ++ more) (1 + length lines) turn.line) (ap (λ s. s ++ more) (l.sends r.cluster a) ∙ append_assoc r.cluster.sent turn.packets more)
     ∙ ap (λ t. t ++ action_text (sent ++ more) (1 + length lines) turn.line) (h.same (turn.packets ++ more))
-    ∙ ap (λ t. shown r ++ t) (ap (λ m. action_text (sent ++ more) m turn.line) place ∙ line-stays r.cluster a (length r.turns + 1) more)
+    ∙ ap (λ t. shown r ++ t) (ap (λ m. action_text (sent ++ more) m turn.line) place ∙ l.stay r.cluster a (length r.turns + 1) more)
 
-shown-more : (r : Run) (a : Action) → IsStable r → shown (after r a) ≡ shown r ++ text_behind_turns (length r.turns) (after r a)
-shown-more r a h =
+shown-more : (l : StepLaws) (r : Run) (a : Action) → IsStable r → shown (after r a) ≡ shown r ++ text_behind_turns (length r.turns) (after r a)
+shown-more l r a h =
     ap (λ s. actions_text s 1 (map (λ t. t.line) (after r a).turns)) (sym (append-nil (step r.cluster a).cluster.sent))
-    ∙ pushed r a h [] ∙ ap (λ t. shown r ++ t) (sym (text-of-turn r a))
+    ∙ pushed l r a h [] ∙ ap (λ t. shown r ++ t) (sym (text-of-turn r a))
 
-stable-after : (r : Run) (a : Action) → IsStable r → IsStable (after r a)
-stable-after r a h = record { same = λ more. pushed r a h more ∙ ap (λ t. shown r ++ t) (sym (text-of-turn r a)) ∙ sym (shown-more r a h) }
+stable-after : (l : StepLaws) (r : Run) (a : Action) → IsStable r → IsStable (after r a)
+stable-after l r a h = record { same = λ more. pushed l r a h more ∙ ap (λ t. shown r ++ t) (sym (text-of-turn r a)) ∙ sym (shown-more l r a h) }
 
-stable-all : (r : Run) (actions : List Action) → IsStable r → IsStable (fold after r actions)
-stable-all r [] h = h
-stable-all r (a ∷ more) h = stable-all (after r a) more (stable-after r a h)
+stable-all : (l : StepLaws) (r : Run) (actions : List Action) → IsStable r → IsStable (fold after r actions)
+stable-all l r [] h = h
+stable-all l r (a ∷ more) h = stable-all l (after r a) more (stable-after l r a h)
 
-stable : (p : Parsed) → IsStable (run_in p)
-stable p = stable-all (start p.configs) p.actions (record { same = λ more. refl })
+stable : (l : StepLaws) (p : Parsed) → IsStable (run_in p)
+stable l p = stable-all l (start p.configs) p.actions (record { same = λ more. refl })
 
 -- ---- the text of a schedule and of one more line
 
@@ -71,17 +76,17 @@ no-text p none = ap (λ (actions : List Action). shown (run_of p.configs actions
 nothing-behind : (n : ℕ) (p : Parsed) → n ≡ 0 → p.actions ≡ [] → text_behind_turns n (run_in p) ≡ []
 nothing-behind n p zero none = ap (λ m. text_behind_turns m (run_in p)) zero ∙ ap (λ (actions : List Action). text_behind_turns 0 (run_of p.configs actions)) none
 
-grown-text : (p after : Parsed) → Grows p after → shown (run_in after) ≡ shown (run_in p) ++ text_behind_turns (length p.actions) (run_in after)
-grown-text p after (inl both) =
+grown-text : (l : StepLaws) (p after : Parsed) → Grows p after → shown (run_in after) ≡ shown (run_in p) ++ text_behind_turns (length p.actions) (run_in after)
+grown-text l p after (inl both) =
     no-text after both.1 ∙ sym (ap (λ t. t ++ text_behind_turns (length p.actions) (run_in after)) (no-text p both.0) ∙ nothing-behind (length p.actions) after (ap length both.0) both.1)
-grown-text p after (inr (None, is)) =
+grown-text l p after (inr (None, is)) =
     let same : after ≡ p = is ∙ ap (λ (xs : List Action). let q : Parsed = record { configs = p.configs; actions = xs } in q) (append-nil p.actions) in
     let none : text_behind_turns (length p.actions) (run_in after) ≡ [] =
     ap (λ (q : Parsed). text_behind_turns (length p.actions) (run_in q)) same ∙ ap (λ n. text_behind_turns n (run_in p)) (sym (turn-count p)) ∙ text-of-none (run_in p) in
     ap (λ (q : Parsed). shown (run_in q)) same ∙ sym (append-nil (shown (run_in p))) ∙ ap (λ t. shown (run_in p) ++ t) (sym none)
-grown-text p now (inr (Some a, is)) =
+grown-text l p now (inr (Some a, is)) =
     let run : run_in now ≡ after (run_in p) a = ap (λ (q : Parsed). run_in q) is ∙ run-more p a in
-    ap (λ (r : Run). shown r) run ∙ shown-more (run_in p) a (stable p)
+    ap (λ (r : Run). shown r) run ∙ shown-more l (run_in p) a (stable l p)
     ∙ ap (λ n. shown (run_in p) ++ text_behind_turns n (after (run_in p) a)) (turn-count p) ∙ ap (λ (r : Run). shown (run_in p) ++ text_behind_turns (length p.actions) r) (sym run)
 
 -- ---- the answers to lines
@@ -96,14 +101,14 @@ answered-by : (p : Parsed) (line text : List ℕ) (r : Result Parsed Cause) → 
 answered-by p line text (Ok after) is h = record { after = after; after_is = is; text_is = cc h }
 answered-by p line text (Err cause) is h = absurd (cc h)
 
-pub tells-more : AnswersTellMore
-tells-more lines line said text reads answer =
+pub tells-more : StepLaws → LinesGrow → AnswersTellMore
+tells-more l grows lines line said text reads answer =
     let here = answered-by said line text (after_line said line) refl (sym (ap (λ r. answer_behind r line) reads) ∙ answer) in
-    let grow : Grows said here.after = subst (λ (r : Result Parsed Cause). IfOk r (Grows said)) here.after_is (grown said line) in
+    let grow : Grows said here.after = subst (λ (r : Result Parsed Cause). IfOk r (Grows said)) here.after_is (grows said line) in
     record {
       after = here.after;
       reads = line-more lines line said here.after reads here.after_is;
-      text_is = grown-text said here.after grow ∙ ap (λ t. run_text said ++ t) here.text_is;
+      text_is = grown-text l said here.after grow ∙ ap (λ t. run_text said ++ t) here.text_is;
     }
 
 refused-by : (p : Parsed) (cause : Cause) (r : Result Parsed Cause) → added_text p r ≡ Err cause → r ≡ Err cause
@@ -116,10 +121,10 @@ refusal-first lines more line said cause reads answer =
 
 -- ---- the whole
 
-pub traces-run : ((configs : List Config) (done left : List Action) → AreConfigs configs → turns_of (done ++ left) (trace_of (run_of configs done)) ≡ (run_of configs done).turns)
+pub traces-run : SchedulesAreSized → ((configs : List Config) (done left : List Action) → AreConfigs configs → turns_of (done ++ left) (trace_of (run_of configs done)) ≡ (run_of configs done).turns)
     → ((configs : List Config) (actions : List Action) → AreConfigs configs → All HasSizes actions → KeepsPromises configs (run_of configs actions)) → SchedulesTraceRuns
-traces-run turns promises bytes said reads settings =
-    let sizes : All HasSizes said.actions = sized-schedule bytes said reads in (
+traces-run sized turns promises bytes said reads settings =
+    let sizes : All HasSizes said.actions = sized bytes said reads in (
       ap text_of reads,
       record {
         schedule = said;
@@ -141,9 +146,9 @@ nothing-told r f =
     let same : record { configs = []; actions = [] } ≡ f.said = cc sure in
     ap run_text same
 
-pub told-more : (before after : Replaying) (lines : List (List ℕ)) (line old new : List ℕ) (f : Follows before lines) (n : Follows after (lines ++ line ∷ [])) → old ≡ run_text f.said → Appended lines line old new → new ≡ run_text n.said
-told-more before after lines line old new f n is d =
-    let t = tells-more lines line f.said d.text f.reads d.answer in
+pub told-more : AnswersTellMore → (before after : Replaying) (lines : List (List ℕ)) (line old new : List ℕ) (f : Follows before lines) (n : Follows after (lines ++ line ∷ [])) → old ≡ run_text f.said → Appended lines line old new → new ≡ run_text n.said
+told-more more before after lines line old new f n is d =
+    let t = more lines line f.said d.text f.reads d.answer in
     let sure : Ok n.said ≡ Ok t.after = sym n.reads ∙ t.reads in
     let same : n.said ≡ t.after = cc sure in
     d.text_is ∙ ap (λ s. s ++ d.text) is ∙ sym t.text_is ∙ ap run_text (sym same)

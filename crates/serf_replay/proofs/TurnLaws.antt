@@ -10,9 +10,9 @@ use Rattle.serf_model.specs.declared.action.Action.{Action}
 use Rattle.serf_model.specs.declared.line.Line.{Line}
 use Rattle.serf_model.specs.Cluster.{Run, after, start, step}
 use Rattle.serf_model.specs.Trace.{Turn}
-use Rattle.serf_replay.specs.Grown.{with_turn}
-use Rattle.serf_replay.specs.Line.{Parsed}
-use Rattle.serf_replay.specs.Show.{action_text, actions_text}
+use Rattle.serf_schedule.specs.Grown.{with_turn}
+use Rattle.serf_schedule.specs.Line.{Parsed}
+use Rattle.serf_schedule.specs.Show.{action_text, actions_text}
 use Rattle.serf_replay.specs.Turns.{run_in, text_behind_turns}
 use Rattle.serf_world.specs.View.{WorldState}
 use Rattle.serf_replay.specs.declared.replaying.Acting.{Acting}

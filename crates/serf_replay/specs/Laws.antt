@@ -1,43 +1,12 @@
--- What a line adds to a schedule, and an action to a trace.
-use Rattle.std.specs.Prelude.{All, IfOk, ◌≡◌, ◌+◌, ◌<◌, ◌++◌, ℕ, List, ◌∷◌, [], Ok, Err, length}
-use Rattle.serf_model.specs.declared.action.Action.{Action}
-use Rattle.serf_model.specs.declared.line.Line.{Line}
-use Rattle.serf_model.specs.Sizes.{HasSizes}
-use Rattle.serf_model.specs.Cluster.{Cluster, step}
-use Rattle.serf_replay.specs.Grown.{AddsSame, Grows}
-use Rattle.serf_replay.specs.Line.{Parsed, after_line}
-use Rattle.serf_replay.specs.Schedule.{schedule_in, schedule_of}
-use Rattle.serf_replay.specs.Show.{action_text, actions_text}
-use Rattle.serf_replay.specs.Output.{TracesRun, output_of}
+-- What the lines of a schedule are answered, and what is written of a whole.
+use Rattle.std.specs.Prelude.{◌≡◌, ◌+◌, ◌++◌, ℕ, List, ◌∷◌, [], Ok, Err, length}
+use Rattle.serf_schedule.specs.Line.{Parsed}
+use Rattle.serf_schedule.specs.Output.{output_of}
+use Rattle.serf_schedule.specs.Schedule.{schedule_in, schedule_of}
+use Rattle.serf_replay.specs.Output.{TracesRun}
 use Rattle.serf_replay.specs.Turns.{run_text, turn_answer}
-use Rattle.serf_replay.specs.declared.cause.Cause.{Cause}
+use Rattle.serf_text.specs.declared.cause.Cause.{Cause}
 use Rattle.serf_model.specs.Runs.{AreConfigs}
-
--- a step sends its packets behind those that were sent
-abbrev pub SendsBehind : Type 0
-SendsBehind = (c : Cluster) (action : Action) → (step c action).cluster.sent ≡ c.sent ++ (step c action).turn.packets
-
--- what is sent after a step changes none of its lines
-abbrev pub LinesStay : Type 0
-LinesStay = (c : Cluster) (action : Action) (n : ℕ) (more : List (List ℕ))
-    → action_text ((step c action).cluster.sent ++ more) n (step c action).turn.line ≡ action_text (step c action).cluster.sent n (step c action).turn.line
-
--- the lines of the last action stand behind those of the others
-abbrev pub LinesFollow : Type 0
-LinesFollow = (sent : List (List ℕ)) (n : ℕ) (lines : List Line) (line : Line)
-    → actions_text sent n (lines ++ line ∷ []) ≡ actions_text sent n lines ++ action_text sent (n + length lines) line
-
--- a line of a schedule adds an action at most, and an agent only where there is no action yet
-abbrev pub LinesGrow : Type 0
-LinesGrow = (before : Parsed) (line : List ℕ) → IfOk (after_line before line) (Grows before)
-
--- behind an action a line adds the same to each schedule
-abbrev pub LateLinesAddSame : Type 0
-LateLinesAddSame = (p q : Parsed) (line : List ℕ) → 0 < length p.actions → 0 < length q.actions → AddsSame p q (after_line p line) (after_line q line)
-
--- the numbers of the actions that a text stands for have their types' sizes
-abbrev pub SchedulesAreSized : Type 0
-SchedulesAreSized = (text : List ℕ) (schedule : Parsed) → schedule_of text ≡ Ok schedule → All HasSizes schedule.actions
 
 -- a line is sound, and the text of its turn stands behind that of the lines before it
 pub record TellsMore (lines : List (List ℕ)) (line : List ℕ) (said : Parsed) (text : List ℕ) : Type 0 where

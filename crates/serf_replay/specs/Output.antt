@@ -1,28 +1,21 @@
 -- What is written for the bytes that are read.
 use Rattle.std.specs.Prelude.{◌≡◌, ℕ, List, Result, Ok, Err, All}
 use Rattle.std.specs.declared.vec.Vec.{Vec}
-use Rattle.serf_replay.specs.declared.parse.ScheduleFault.{ScheduleFault}
-use Rattle.serf_replay.specs.declared.parse.ScheduleFault.TheVariants as faults
-use Rattle.serf_replay.specs.Line.{Parsed}
-use Rattle.serf_replay.specs.Schedule.{BadLine, schedule_of}
+use Rattle.serf_schedule.specs.declared.parse.ScheduleFault.{ScheduleFault}
+use Rattle.serf_schedule.specs.declared.parse.ScheduleFault.TheVariants as faults
+use Rattle.serf_schedule.specs.Line.{Parsed}
+use Rattle.serf_text.specs.Gives.{BadLine}
+use Rattle.serf_schedule.specs.Schedule.{schedule_of}
 use Rattle.serf_model.specs.Cluster.{run_of, trace_of}
 use Rattle.serf_model.specs.Kept.{KeepsPromises}
 use Rattle.serf_model.specs.Runs.{AreConfigs}
 use Rattle.serf_model.specs.Sizes.{HasSizes}
 use Rattle.serf_model.specs.Trace.{turns_of}
-use Rattle.serf_replay.specs.Show.{trace_text}
+use Rattle.serf_schedule.specs.Show.{trace_text}
 
 -- the greatest length of a schedule's text, in bytes
 abbrev pub longest_schedule : ℕ
 longest_schedule = 16777216
-
-abbrev pub text_of : Result Parsed BadLine → Result (List ℕ) BadLine
-text_of (Ok schedule) = Ok (trace_text (trace_of (run_of schedule.configs schedule.actions)))
-text_of (Err bad) = Err bad
-
--- the text of the trace of the schedule that a text stands for, or its first bad line
-abbrev pub output_of : List ℕ → Result (List ℕ) BadLine
-output_of text = text_of (schedule_of text)
 
 -- The input is a schedule, of agents that can make a cluster; the text is that of the trace of its run, whose turns are
 -- those that the schedule's actions and this trace show; and the run keeps all promises.

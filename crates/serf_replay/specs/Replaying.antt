@@ -5,10 +5,10 @@ use Rattle.serf_model.specs.declared.action.Action.{Action}
 use Rattle.serf_model.specs.Cluster.{Run}
 use Rattle.serf_model.specs.Ready.{AreRepresentable}
 use Rattle.serf_model.specs.Runs.{AreConfigs}
-use Rattle.serf_replay.specs.Grown.{with_turn}
-use Rattle.serf_replay.specs.Line.{Parsed}
-use Rattle.serf_replay.specs.Schedule.{parsed_of, schedule_in}
-use Rattle.serf_replay.specs.declared.schedule.Schedule.{Schedule}
+use Rattle.serf_schedule.specs.Grown.{with_turn}
+use Rattle.serf_schedule.specs.Line.{Parsed}
+use Rattle.serf_schedule.specs.Schedule.{parsed_of, schedule_in}
+use Rattle.serf_schedule.specs.declared.schedule.Schedule.{Schedule}
 use Rattle.serf_world.specs.View.{IsViewed, WorldState}
 use Rattle.serf_replay.specs.Turns.{run_in, text_behind_turns}
 use Rattle.serf_replay.specs.declared.replaying.Acting.{Acting}

@@ -1,10 +1,11 @@
 -- What the lines of a schedule are answered, one after another.
 use Rattle.std.specs.Prelude.{◌≡◌, ℕ, ◌++◌, ◌+◌, List, [], length, map, drop, Result, Ok, Err}
 use Rattle.serf_model.specs.Cluster.{Run, run_of, trace_of}
-use Rattle.serf_replay.specs.declared.cause.Cause.{Cause}
-use Rattle.serf_replay.specs.Line.{Parsed, after_line}
-use Rattle.serf_replay.specs.Schedule.{BadLine, schedule_in}
-use Rattle.serf_replay.specs.Show.{actions_text, trace_text}
+use Rattle.serf_text.specs.declared.cause.Cause.{Cause}
+use Rattle.serf_schedule.specs.Line.{Parsed, after_line}
+use Rattle.serf_text.specs.Gives.{BadLine}
+use Rattle.serf_schedule.specs.Schedule.{schedule_in}
+use Rattle.serf_schedule.specs.Show.{actions_text, trace_text}
 
 abbrev pub run_in : Parsed → Run
 run_in s = run_of s.configs s.actions

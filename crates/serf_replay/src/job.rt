@@ -2,41 +2,17 @@
 
 ghost use Rattle.std.specs.Prelude.{◌≡◌, ◌<◌, ◌≤◌, ◌+◌, List, ℕ, length, OnOk, IfOk, IfErr, IfSome, IsErrOf, Ok, Err};
 ghost use Rattle.std.specs.Io.KnownBytes.{Appends, Consumes};
-ghost use Rattle.serf_replay.specs.Io.{AppendsFront};
-ghost use Rattle.serf_replay.specs.Output.{output_of, GivesText, TracesRun, longest_schedule};
+ghost use Rattle.serf_text.specs.Io.{AppendsFront};
+ghost use Rattle.serf_schedule.specs.Output.{output_of};
+ghost use Rattle.serf_replay.specs.Output.{GivesText, TracesRun, longest_schedule};
 
-use crate::cause::Cause;
-use crate::input::{InputFault, read_input};
 use crate::laws::answered_lines;
-use crate::output::write_output;
-use crate::parse::{ScheduleFault, fault_at};
 use crate::progress::Progress;
 use crate::replaying::Replaying;
-use crate::watch::Watch;
-use crate::words::cut;
+use serf_schedule::{ReplayFault, ScheduleFault, Watch, fault_at};
+use serf_text::{Cause, InputFault, cut, read_input, write_output};
 use std::alloc::Global;
 use std::io::{Read, Write};
-use thiserror::Error;
-
-/// Why a schedule was not replayed.
-#[derive(Clone, Copy, Debug, Drop, Error, PartialEq, Eq)]
-pub enum ReplayFault {
-    /// A read failed. Nothing was written.
-    #[error("a read failed")]
-    ReadFault,
-    /// There are more than 16,777,216 bytes to read. Nothing was written.
-    #[error("the schedule is too long")]
-    ReadTooLong,
-    /// The first line, counted from 1, that is not sound, and what is wrong with it. Nothing was written.
-    #[error("line {line} of the schedule is bad: {cause}")]
-    BadLine { line: u64, cause: Cause },
-    /// Memory ran out. Nothing was written.
-    #[error("out of memory")]
-    OutOfMemory,
-    /// A write failed, or took no byte. What was written is a front of the trace's text.
-    #[error("a write failed")]
-    WriteFault,
-}
 
 /// The text of the trace of a schedule's text: each line is done as soon as it is read.
 fn output_text<T: Watch>(

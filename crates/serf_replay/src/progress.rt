@@ -1,8 +1,7 @@
 //! How far a run is.
 
-use crate::command::is_word;
-use crate::watch::Watch;
-use crate::words::cut;
+use serf_schedule::Watch;
+use serf_text::{cut, is_word};
 
 /// Whether a line of a schedule has an action: its first word is another than that of an agent.
 fn has_action(line: &[u8]) -> bool {

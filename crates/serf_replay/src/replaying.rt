@@ -5,18 +5,16 @@ ghost use Rattle.std.specs.Option.{option_to_list};
 ghost use Rattle.serf_model.specs.declared.action.Action.{Action};
 ghost use Rattle.serf_model.specs.Cluster.{Run, after};
 ghost use Rattle.serf_model.specs.Runs.{AreConfigs};
-ghost use Rattle.serf_replay.specs.Gives.{Fails};
-ghost use Rattle.serf_replay.specs.Grown.{with_turn};
-ghost use Rattle.serf_replay.specs.Line.{Parsed};
-ghost use Rattle.serf_replay.specs.Schedule.{parsed_of};
+ghost use Rattle.serf_text.specs.Gives.{Fails};
+ghost use Rattle.serf_schedule.specs.Grown.{with_turn};
+ghost use Rattle.serf_schedule.specs.Line.{Parsed};
+ghost use Rattle.serf_schedule.specs.Schedule.{parsed_of};
 ghost use Rattle.serf_replay.specs.Turns.{Appended, run_in, text_behind_turns, turn_answer};
 ghost use Rattle.serf_replay.specs.Replaying.{Follows, HasActed, IsStage, Shows, StandsAt, Takes};
 
-use crate::cause::LineFault;
-use crate::parse::read_line;
-use crate::schedule::Schedule;
-use crate::show::put_action;
 use serf_model::Action;
+use serf_schedule::{Schedule, lines_grow, put_action, read_line};
+use serf_text::LineFault;
 use serf_world::{Roster, World};
 use std::alloc::{AllocError, Global};
 use std::mem;
@@ -187,6 +185,7 @@ impl Replaying {
         ensures refused { (lines : List (List ℕ)) → Follows self.old lines
             → IfErr result (λ fault. Fails fault (turn_answer lines line.entry.now)) }
     {
+        lines_grow();
         if let Err(fault) = read_line(alloc, &mut self.schedule, words, line) {
             return Err(fault);
         }

@@ -8,7 +8,7 @@ use serf_conform::{
 };
 use serf_hunt::{Case, case_of};
 use serf_model::Line;
-use serf_replay::{ScheduleFault, parse_schedule};
+use serf_schedule::{ScheduleFault, parse_schedule};
 use std::alloc::{AllocError, Global};
 use std::io::{self, BufReader, Read, Write};
 use std::rt::Files;

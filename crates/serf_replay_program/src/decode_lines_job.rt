@@ -2,7 +2,7 @@
 
 use crate::jobs::{DONE, REFUSED, no_memory, read_failed, write_failed};
 use serf_packets::{BadHex, Framing, FramingNotes, decode_lines};
-use serf_stream::StreamFault;
+use serf_text::StreamFault;
 use std::io;
 
 /// Tells of framing on standard error, a line for each packet.

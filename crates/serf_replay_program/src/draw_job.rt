@@ -3,7 +3,8 @@
 use crate::jobs::{REFUSED, finish, no_memory, read_failed, too_long};
 use clap::{Arg, ArgAction, ArgMatches, Command, value_parser};
 use serf_draw::{Asked, Picture, draw_picture, mermaid_text, svg_text};
-use serf_replay::{InputFault, ScheduleFault, read_input};
+use serf_schedule::ScheduleFault;
+use serf_text::{InputFault, read_input};
 use std::alloc::{AllocError, Global};
 use std::fs;
 use std::rt::Files;

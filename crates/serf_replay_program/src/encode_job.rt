@@ -3,7 +3,7 @@
 use crate::jobs::{DONE, REFUSED, no_memory, read_failed, write_failed};
 use clap::Command;
 use serf_packets::{Blocks, NeverBad, encode_blocks};
-use serf_stream::StreamFault;
+use serf_text::StreamFault;
 use std::alloc::{AllocError, Global};
 use std::io;
 

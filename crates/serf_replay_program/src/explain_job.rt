@@ -4,7 +4,7 @@ use crate::jobs::{read_failed, replayed};
 use crate::progress::Progress;
 use clap::{Arg, ArgAction, ArgMatches, Command, value_parser};
 use serf_explain::{Range, explain};
-use serf_replay::ReplayFault;
+use serf_schedule::ReplayFault;
 use std::alloc::{AllocError, Global};
 use std::rt::Files;
 use std::time::Clock;

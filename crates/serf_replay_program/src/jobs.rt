@@ -16,10 +16,9 @@ use crate::write_job::run_write;
 use clap::Error;
 use clap::error::ErrorKind;
 use hex::FromHexError;
-use serf_replay::{
-    DecodeTextFault, InputFault, ReplayFault, clocks_text, decode_text, read_input, replay,
-    write_output,
-};
+use serf_replay::replay;
+use serf_schedule::ReplayFault;
+use serf_text::{DecodeTextFault, InputFault, clocks_text, decode_text, read_input, write_output};
 use std::io::Read;
 use std::rt::Files;
 use std::time::Clock;

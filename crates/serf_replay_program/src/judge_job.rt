@@ -5,9 +5,8 @@ use crate::jobs::{
 };
 use crate::judge_text::Verdicts;
 use serf_judge::{Log, read_log};
-use serf_replay::{Cause, InputFault, read_input};
 use serf_snap::read_clocks;
-use serf_stream::StreamFault;
+use serf_text::{Cause, InputFault, StreamFault, read_input};
 use std::fs;
 use std::io::Read;
 use std::rt::Files;

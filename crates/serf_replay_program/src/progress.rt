@@ -1,6 +1,6 @@
 //! How far a long run is, on a terminal.
 
-use serf_replay::Watch;
+use serf_schedule::Watch;
 use std::time::{Clock, Duration, Instant};
 
 /// A run shows a line each time that so many seconds are over, and a shorter run none.

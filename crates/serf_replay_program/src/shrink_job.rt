@@ -6,7 +6,7 @@ use clap::{Arg, ArgAction, ArgMatches};
 use serf_agent::Config;
 use serf_conform::{ConformFault, End, Rules, Verdict};
 use serf_hunt::{Case, Shrunk, alone_schedule, calls_of, shrink};
-use serf_schedule_text::put_schedule;
+use serf_schedule::put_schedule;
 use std::alloc::Global;
 use std::fs;
 use std::io::{Read, Write};

@@ -3,8 +3,8 @@
 use crate::jobs::DONE;
 use crate::judge_job::stopped;
 use clap::{Arg, ArgAction};
-use serf_stream::StreamFault;
-use serf_streamed::replay_lines;
+use serf_replay::replay_lines;
+use serf_text::StreamFault;
 use std::alloc::Global;
 use std::rt::Files;
 use std::{fs, io};

@@ -3,11 +3,9 @@
 use crate::jobs::{finish, no_memory, read_failed, replayed, too_long};
 use crate::progress::Progress;
 use clap::{Arg, ArgAction};
-use serf_replay::{
-    InputFault, ReplayFault, Schedule, ScheduleFault, parse_schedule, put_hex, put_with_number,
-    read_input,
-};
-use serf_summary::{Spread, Summary, summarize};
+use serf_replay::{Spread, Summary, summarize};
+use serf_schedule::{ReplayFault, Schedule, ScheduleFault, parse_schedule};
+use serf_text::{InputFault, put_hex, put_with_number, read_input};
 use std::alloc::{AllocError, Global};
 use std::fs;
 use std::rt::Files;

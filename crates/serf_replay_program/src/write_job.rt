@@ -2,8 +2,8 @@
 
 use crate::jobs::{REFUSED, finish, no_memory, read_failed, too_long};
 use clap::{Arg, ArgAction, Command};
-use serf_replay::{InputFault, read_input};
-use serf_written::{WriteFault, write};
+use serf_text::{InputFault, read_input};
+use serf_write::{WriteFault, write};
 use std::alloc::{AllocError, Global};
 use std::fs;
 use std::rt::Files;

@@ -1,7 +1,7 @@
 use Rattle.std.proofs.Common.{ap, sym, ◌∙◌, rules}
-use Rattle.serf_replay.specs.Line.{Parsed}
-use Rattle.serf_replay.specs.Output.{text_of}
-use Rattle.serf_replay.specs.Schedule.{parsed_of, schedule_of}
+use Rattle.serf_schedule.specs.Line.{Parsed}
+use Rattle.serf_schedule.specs.Output.{text_of}
+use Rattle.serf_schedule.specs.Schedule.{parsed_of, schedule_of}
 use Rattle.serf_explain.proofs.job.output_text.Goals as goal
 
 pub returns-in-Ok-clause-text : goal.returns-in-Ok-clause-text

@@ -1,6 +1,6 @@
 use Rattle.std.proofs.Common.{true, ap, ◌∙◌, ◌++◌}
 use Rattle.std.proofs.lemmas.Result.{on_ok_weaker}
-use Rattle.serf_replay.specs.Show.{action_text}
+use Rattle.serf_schedule.specs.Show.{action_text}
 use Rattle.serf_explain.specs.Explained.{TellsAll}
 use Rattle.serf_explain.specs.HandOuts.{notes_in}
 use Rattle.serf_explain.specs.Judging.{reasons_in}

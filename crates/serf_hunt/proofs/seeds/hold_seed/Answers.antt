@@ -1,4 +1,4 @@
-use Rattle.serf_replay.specs.Schedule.{parsed_of}
+use Rattle.serf_schedule.specs.Schedule.{parsed_of}
 use Rattle.serf_conform.specs.Rules.{is_serf}
 use Rattle.serf_hunt.proofs.HuntLemmas.{holds_seed}
 use Rattle.serf_hunt.proofs.seeds.hold_seed.Goals as goal

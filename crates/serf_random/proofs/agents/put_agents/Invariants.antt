@@ -1,6 +1,6 @@
 use Rattle.std.proofs.Common.{◌≡◌, ◌++◌, take}
 use Rattle.std.specs.List.{flat_map}
-use Rattle.serf_schedule_text.specs.ScheduleText.{agent_text}
+use Rattle.serf_schedule.specs.ScheduleText.{agent_text}
 use Rattle.serf_random.proofs.agents.put_agents.Given as goal
 
 abbrev pub invariant-loop-agent : goal.invariant-loop-agent

@@ -1,8 +1,8 @@
 use Rattle.std.proofs.Common.{◌≡◌, ◌++◌, ◌∙◌, ap, append_assoc, subst, sym}
 use Rattle.std.specs.List.{flat_map}
-use Rattle.serf_replay.specs.Schedule.{schedule_of}
+use Rattle.serf_schedule.specs.Schedule.{schedule_of}
 use Rattle.serf_random.specs.Draft.{IsShort}
-use Rattle.serf_schedule_text.specs.ScheduleText.{action_text, agent_text}
+use Rattle.serf_schedule.specs.ScheduleText.{action_text, agent_text}
 use Rattle.serf_random.specs.Common.{comment_text}
 use Rattle.serf_random.proofs.CommonBack.{behind-comment, comment-short}
 use Rattle.serf_random.proofs.common.common_schedule.Goals as goal

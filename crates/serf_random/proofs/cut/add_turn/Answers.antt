@@ -2,7 +2,7 @@ use Rattle.std.proofs.Common.{◌≡◌, ◌&&◌, true, rules}
 use Rattle.std.proofs.lemmas.Result.{IfOk-weaker}
 use Rattle.serf_model.specs.Cluster.{run_of}
 use Rattle.serf_model.specs.Common.{has_no_tail, is_common_answer}
-use Rattle.serf_schedule_text.specs.Sayable.{IsSayable}
+use Rattle.serf_schedule.specs.Sayable.{IsSayable}
 use Rattle.serf_random.specs.Cut.{GoesOn, MayAdd}
 use Rattle.serf_random.proofs.CutLemmas.{may-keep}
 use Rattle.serf_random.proofs.cut.add_turn.Goals as goal

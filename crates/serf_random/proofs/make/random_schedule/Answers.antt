@@ -1,6 +1,6 @@
 use Rattle.std.proofs.Common.{◌≡◌, ◌∙◌, All, ap, subst, sym}
-use Rattle.serf_replay.specs.Schedule.{schedule_of}
-use Rattle.serf_schedule_text.specs.Sayable.{IsSayable}
+use Rattle.serf_schedule.specs.Schedule.{schedule_of}
+use Rattle.serf_schedule.specs.Sayable.{IsSayable}
 use Rattle.serf_random.specs.Comment.{comment_text}
 use Rattle.serf_random.specs.Draft.{IsShort}
 use Rattle.serf_random.proofs.CommentBack.{behind-comment, comment-short}

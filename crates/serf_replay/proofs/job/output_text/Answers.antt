@@ -23,7 +23,7 @@ lines-preserved g c =
     let more = length-append inv.0 (line ∷ []) in (
       inv.0 ++ line ∷ [],
       done.1,
-      told-more c.lines.replaying c.take_line_in.new.self inv.0 line c.lines.out.items c.take_line_in.new.text.items inv.1 done.1 inv.2 done.0,
+      told-more c.answered_lines.ensures.more c.lines.replaying c.take_line_in.new.self inv.0 line c.lines.out.items c.take_line_in.new.text.items inv.1 done.1 inv.2 done.0,
       inv.3 ∙ ap (λ (l : List (List ℕ)). inv.0 ++ l) parts ∙ sym (append_assoc inv.0 (line ∷ []) (slice_split (λ b. b == 10) c.in-Some.next.now)),
       (let counted = inv.4 in omega (arith, counted, more)),
       (let bound = inv.5 in omega (arith, bound, shorter)),
@@ -35,7 +35,7 @@ returns-in-None-clause-text g c =
     let line : List ℕ = c.cut.result.0.now in
     let done = c.in_default.ensures.done inv.0 inv.1 in
     let parts = rw c.in-None.is at c.cut.ensures.parts in
-    let told = told-more c.lines.replaying c.take_line_in.new.self inv.0 line c.lines.out.items c.take_line_in.new.text.items inv.1 done.1 inv.2 done.0 in
+    let told = told-more c.answered_lines.ensures.more c.lines.replaying c.take_line_in.new.self inv.0 line c.lines.out.items c.take_line_in.new.text.items inv.1 done.1 inv.2 done.0 in
     (whole-output c.answered_lines.ensures.traces c.args.input.now c.take_line_in.new.text.items (inv.0 ++ line ∷ []) c.take_line_in.new.self done.1 (inv.3 ∙ ap (λ (l : List (List ℕ)). inv.0 ++ l) parts) told).0
 
 pub returns-in-None-clause-run : goal.returns-in-None-clause-run
@@ -44,5 +44,5 @@ returns-in-None-clause-run g c =
     let line : List ℕ = c.cut.result.0.now in
     let done = c.in_default.ensures.done inv.0 inv.1 in
     let parts = rw c.in-None.is at c.cut.ensures.parts in
-    let told = told-more c.lines.replaying c.take_line_in.new.self inv.0 line c.lines.out.items c.take_line_in.new.text.items inv.1 done.1 inv.2 done.0 in
+    let told = told-more c.answered_lines.ensures.more c.lines.replaying c.take_line_in.new.self inv.0 line c.lines.out.items c.take_line_in.new.text.items inv.1 done.1 inv.2 done.0 in
     (whole-output c.answered_lines.ensures.traces c.args.input.now c.take_line_in.new.text.items (inv.0 ++ line ∷ []) c.take_line_in.new.self done.1 (inv.3 ∙ ap (λ (l : List (List ℕ)). inv.0 ++ l) parts) told).1

@@ -2,7 +2,7 @@ use Rattle.std.proofs.Common.{◌≡◌, ◌∙◌, [], ◌∷◌, refl, ap, sym
 use Rattle.std.specs.Prelude.{slice_get}
 use Rattle.serf_model.specs.declared.action.Action.{Action}
 use Rattle.serf_model.specs.Cluster.{start}
-use Rattle.serf_replay.specs.Line.{Parsed}
+use Rattle.serf_schedule.specs.Line.{Parsed}
 use Rattle.serf_replay.proofs.TurnLaws.{begun, one-action}
 use Rattle.serf_replay.proofs.replaying.begin.Goals as goal
 

@@ -1,6 +1,0 @@
-use Rattle.serf_replay.proofs.Names.{◌≡◌, ◌++◌, take, flat_map}
-use Rattle.serf_replay.specs.Show.{sent_line}
-use Rattle.serf_replay.proofs.show.put_sent_lines.Given as goal
-
-abbrev pub invariant-loop-k : goal.invariant-loop-k
-invariant-loop-k l = l.out.items ≡ l.fn.out.items ++ flat_map (sent_line l.sent l.action.number) (take l.k-index l.packets)

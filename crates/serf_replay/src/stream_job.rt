@@ -1,0 +1,73 @@
+//! A schedule, line by line.
+
+ghost use Rattle.std.specs.Prelude.{◌≡◌, Ok, List, ℕ, IfErr, OnOk};
+ghost use Rattle.std.specs.Io.KnownBytes.{Appends, Consumes, IsAtEnd};
+ghost use Rattle.serf_replay.specs.Output.{TracesRun};
+ghost use Rattle.serf_schedule.specs.Output.{output_of};
+ghost use Rattle.serf_replay.specs.Stopped.{IsHalted};
+
+use crate::laws::answered_lines;
+use crate::replaying::Replaying;
+use serf_text::{
+    Cause, LineFault as ReadFault, LineJob, StreamFault, StreamLineFault, answer_lines,
+};
+use std::alloc::Global;
+use std::io::{Read, Write};
+
+/// Does the lines of a schedule.
+#[derive(Drop)]
+struct ScheduleLines {
+    replaying: Replaying,
+}
+
+impl LineJob for ScheduleLines {
+    ghost use Rattle.serf_replay.specs.Replaying.{Follows};
+    ghost use Rattle.serf_replay.specs.Turns.{turn_answer};
+
+    type Fault = Cause;
+
+    ghost follows = { λ job lines. Follows job.replaying lines };
+
+    ghost answer = { turn_answer };
+
+    fn read_line(
+        &mut self,
+        alloc: Global,
+        line: &[u8],
+        text: &mut Vec<u8>,
+    ) -> Result<(), StreamLineFault<Cause>> {
+        match self.replaying.take_line(alloc, line, text) {
+            Ok(()) => Ok(()),
+            Err(ReadFault::Bad(cause)) => Err(StreamLineFault::Bad(cause)),
+            Err(ReadFault::OutOfMemory) => Err(StreamLineFault::OutOfMemory),
+        }
+    }
+}
+
+/// Reads a schedule line by line, and writes the trace of its cluster: a line is read, done, written and let go.
+///
+/// What is written is just what [`crate::replay`] writes, and a line that is refused there is refused here, behind
+/// the text of the turns before it. There is no limit on the whole; a line may have 16,777,216 bytes. The turns of the
+/// lines that are over are written before more is read. What is kept is the cluster, with all packets that were sent,
+/// and the line that is read.
+pub fn replay_lines<R: Read, W: Write>(
+    alloc: Global,
+    reader: &mut R,
+    writer: &mut W,
+) -> Result<(), StreamFault<Cause>>
+    // Just the text of the trace of the whole was written: it is that of a run which keeps all promises.
+    ensures done { OnOk result ((bytes text : List ℕ)
+        × Consumes (R.remaining reader.old) (R.remaining reader.new) bytes
+        × IsAtEnd (R.remaining reader.new) × (output_of bytes ≡ Ok text) × TracesRun bytes text
+        × Appends (W.contents writer.old) (W.contents writer.new) text) }
+    // Of the lines that were read some were done, and the text of their trace was written.
+    ensures stopped { IfErr result (λ fault. (bytes : List ℕ)
+        × Consumes (R.remaining reader.old) (R.remaining reader.new) bytes
+        × IsHalted fault bytes (W.contents writer.old) (W.contents writer.new)) }
+{
+    answered_lines();
+    let mut job = ScheduleLines {
+        replaying: Replaying::new(alloc),
+    };
+    answer_lines(alloc, reader, writer, &mut job)
+}

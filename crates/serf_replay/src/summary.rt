@@ -1,0 +1,101 @@
+//! What is counted of the lines of a run.
+
+ghost use Rattle.std.specs.Prelude.{◌≡◌, ◌+◌, ◌++◌, ◌∷◌, [], ℕ, List, OnOk};
+ghost use Rattle.serf_model.specs.declared.line.EventLine.{EventLine as Event};
+ghost use Rattle.serf_model.specs.declared.line.Line.{Line as Shown};
+ghost use Rattle.serf_replay.specs.Notes.{events_at};
+ghost use Rattle.serf_replay.specs.Summaries.{AreAnswers, AreHandOuts, IsSummary};
+
+use crate::keys::{EventKey, key_of};
+use crate::tally::{Spread, note};
+use indexmap::IndexMap;
+use serf_model::{EventLine, Line};
+use serf_schedule::answer_words;
+use std::alloc::{AllocError, Global};
+
+/// What came of a run. What never came is in no table.
+#[derive(Drop)]
+pub struct Summary {
+    /// How many actions were done.
+    pub actions: u64,
+    /// How often each answer came, in the words of the trace but without its numbers, and at which action at last.
+    pub answers: IndexMap<&'static [u8], Spread>,
+    /// How many events each agent was handed, by its number, and at which action the last.
+    pub agents: IndexMap<u64, Spread>,
+    /// How often each event was handed out, and at which action at last: there the last agent had it.
+    pub events: IndexMap<EventKey, Spread>,
+}
+
+/// Notes an event that was handed out at an action.
+fn note_event(
+    alloc: Global,
+    agents: &mut IndexMap<u64, Spread>,
+    events: &mut IndexMap<EventKey, Spread>,
+    event: &EventLine,
+    action: u64,
+) -> Result<(), AllocError>
+    ensures { (notes : List (Event × ℕ)) → AreHandOuts agents.old events.old notes
+        → OnOk result (AreHandOuts agents.new events.new (notes ++ (event.now, action) ∷ [])) }
+{
+    let key = key_of(alloc, event)?;
+    note(agents, event.agent, action)?;
+    note(events, key, action)
+}
+
+/// Notes the events that were handed out at an action.
+fn note_events(
+    alloc: Global,
+    agents: &mut IndexMap<u64, Spread>,
+    events: &mut IndexMap<EventKey, Spread>,
+    lines: &[EventLine],
+    action: u64,
+) -> Result<(), AllocError>
+    ensures { (notes : List (Event × ℕ)) → AreHandOuts agents.old events.old notes
+        → OnOk result (AreHandOuts agents.new events.new (notes ++ events_at action lines.now)) }
+{
+    for line in lines {
+        note_event(alloc, agents, events, line, action)?;
+    }
+    Ok(())
+}
+
+/// Notes an answer that came at an action.
+fn note_answer(
+    answers: &mut IndexMap<&'static [u8], Spread>,
+    line: &Line,
+    action: u64,
+) -> Result<(), AllocError>
+    ensures { (notes : List (Shown × ℕ)) → AreAnswers answers.old notes
+        → OnOk result (AreAnswers answers.new (notes ++ (line.now, action) ∷ [])) }
+{
+    note(answers, answer_words(&line.answer), action)
+}
+
+impl Summary {
+    /// No action was done. Takes no memory.
+    pub(crate) fn new(alloc: Global) -> Summary
+        ensures { IsSummary result [] }
+    {
+        Summary {
+            actions: 0,
+            answers: IndexMap::new(alloc),
+            agents: IndexMap::new(alloc),
+            events: IndexMap::new(alloc),
+        }
+    }
+
+    /// Takes the line of the next action in.
+    pub(crate) fn add(&mut self, alloc: Global, line: &Line) -> Result<(), AllocError>
+        ensures { (lines : List Shown) → IsSummary self.old lines
+            → OnOk result (IsSummary self.new (lines ++ line.now ∷ [])) }
+    {
+        let Some(action) = self.actions.checked_add(1) else {
+            return Err(AllocError);
+        };
+        note_answer(&mut self.answers, line, action)?;
+        let events = line.events.as_slice();
+        note_events(alloc, &mut self.agents, &mut self.events, events, action)?;
+        self.actions = action;
+        Ok(())
+    }
+}

@@ -1,0 +1,98 @@
+-- What a line adds to the schedule before it.
+use Rattle.std.proofs.Common.{◌≡◌, ◌<◌, ◌==◌, ◌||◌, inl, inr, ℕ, Bool, true, false, cond, nat_lt, not, List, [], ◌∷◌, Option, Some, None, Result, Ok, Err, refl, sym, ap, arith, length, append-nil}
+use Rattle.std.specs.Prelude.{IfOk, take, drop}
+use Rattle.std.proofs.lemmas.Bool.Decides.{nat_tests}
+use Rattle.serf_agent.specs.declared.config.Config.{Config}
+use Rattle.serf_agent.specs.Config.{is_sound}
+use Rattle.serf_model.specs.declared.action.Action.{Action}
+use Rattle.serf_model.specs.Runs.{has_name}
+use Rattle.serf_text.specs.declared.cause.Cause.{Cause}
+use Rattle.serf_text.specs.declared.cause.Cause.TheVariants.{BadConfig, LateAgent, NameTwice, WordCount}
+use Rattle.serf_schedule.specs.declared.command.Command.{Command}
+use Rattle.serf_schedule.specs.declared.command.Command.TheVariants.{Agent, Query, Act}
+use Rattle.serf_schedule.specs.Command.{command_of, count_of}
+use Rattle.serf_text.specs.Gives.{◌>>=◌}
+use Rattle.serf_text.specs.Words.{word_at, words_of}
+use Rattle.serf_schedule.specs.Line.{Parsed, action_of, add_action, add_agent, after_line, agent_of, command_line, is_skipped, query_of, said_by}
+use Rattle.serf_schedule.specs.Grown.{AddsSame, Grows, with_turn}
+use Rattle.serf_schedule.specs.Laws.{LateLinesAddSame, LinesGrow}
+
+-- ---- steps that may fail
+
+if-ok : {A : Type 0} (P : A → Type 0) (b : Bool) (e : Cause) (r : Result A Cause) → IfOk r P → IfOk (cond b (Err e) r) P
+if-ok P true e r h = tt
+if-ok P false e r h = h
+
+next-ok : {A B : Type 0} (P : B → Type 0) (r : Result A Cause) (f : A → Result B Cause) → ((x : A) → IfOk (f x) P) → IfOk (r >>= f) P
+next-ok P (Ok x) f h = h x
+next-ok P (Err e) f h = tt
+
+-- ---- at most one action more, and no agent behind an action
+
+no-turn : (p : Parsed) → p ≡ with_turn p None
+no-turn p = ap (λ (turns : List Action). let q : Parsed = record { configs = p.configs; actions = turns } in q) (sym (append-nil p.actions))
+
+no-actions : (actions : List Action) → nat_lt 0 (length actions) ≡ false → actions ≡ []
+no-actions [] is = refl
+no-actions (a ∷ rest) is = let less : 0 < length (a ∷ rest) = omega arith in absurd (grind (arith, nat_tests))
+
+late : (actions : List Action) → 0 < length actions → nat_lt 0 (length actions) ≡ true
+late actions some = grind (arith, nat_tests)
+
+grown-added : (before : Parsed) (r : Result Action Cause) → IfOk (r >>= add_action before) (Grows before)
+grown-added before r = next-ok (Grows before) r (add_action before) (λ action. inr (Some action, refl))
+
+grown-agent : (before : Parsed) (config : Config) → before.actions ≡ [] → IfOk (add_agent before config) (Grows before)
+grown-agent before config none = if-ok (Grows before) (not (is_sound config)) BadConfig _ (if-ok (Grows before) (has_name before.configs config.name) NameTwice _ (inl (none, none)))
+
+grown-command : (c : Option Command) (before : Parsed) (words : List (List ℕ)) → IfOk (command_line c before words) (Grows before)
+grown-command None before words = tt
+grown-command (Some Agent) before words = by (nat_lt 0 (length before.actions)) refl
+  where
+    by : (b : Bool) → nat_lt 0 (length before.actions) ≡ b → IfOk (cond b (Err LateAgent) (cond (not ((length words == 7) || (length words == 8))) (Err WordCount) (agent_of words >>= add_agent before))) (Grows before)
+    by true is = tt
+    by false is =
+        if-ok (Grows before) (not ((length words == 7) || (length words == 8))) WordCount (agent_of words >>= add_agent before)
+        (next-ok (Grows before) (agent_of words) (add_agent before) (λ config. grown-agent before config (no-actions before.actions is)))
+grown-command (Some Query) before words =
+    let first : List (List ℕ) = take 8 words in
+    let rest : List (List ℕ) = drop 8 words in
+    if-ok (Grows before) (nat_lt (length first) 8) WordCount (query_of first rest >>= add_action before) (grown-added before (query_of first rest))
+grown-command (Some (Act verb)) before words =
+    if-ok (Grows before) (not (length words == count_of verb)) WordCount (action_of verb words >>= add_action before) (grown-added before (action_of verb words))
+
+pub grown : LinesGrow
+unfolding after_line
+grown before line = by (is_skipped line)
+  where
+    by : (b : Bool) → IfOk (cond b (Ok before) (said_by before (words_of line))) (Grows before)
+    by true = inr (None, no-turn before)
+    by false = grown-command (command_of (word_at 1 (words_of line))) before (words_of line)
+
+-- ---- behind an action a line adds the same to each schedule
+
+same-if : (p q : Parsed) (b : Bool) (e : Cause) (r s : Result Parsed Cause) → AddsSame p q r s → AddsSame p q (cond b (Err e) r) (cond b (Err e) s)
+same-if p q true e r s h = refl
+same-if p q false e r s h = h
+
+same-added : (p q : Parsed) (r : Result Action Cause) → AddsSame p q (r >>= add_action p) (r >>= add_action q)
+same-added p q (Ok action) = (Some action, refl, refl)
+same-added p q (Err e) = refl
+
+same-command : (c : Option Command) (p q : Parsed) (words : List (List ℕ)) → 0 < length p.actions → 0 < length q.actions → AddsSame p q (command_line c p words) (command_line c q words)
+same-command None p q words m n = refl
+same-command (Some Agent) p q words m n = rw (late p.actions m, late q.actions n) refl
+same-command (Some Query) p q words m n =
+    let first : List (List ℕ) = take 8 words in
+    let rest : List (List ℕ) = drop 8 words in
+    same-if p q (nat_lt (length first) 8) WordCount (query_of first rest >>= add_action p) (query_of first rest >>= add_action q) (same-added p q (query_of first rest))
+same-command (Some (Act verb)) p q words m n =
+    same-if p q (not (length words == count_of verb)) WordCount (action_of verb words >>= add_action p) (action_of verb words >>= add_action q) (same-added p q (action_of verb words))
+
+pub late-same : LateLinesAddSame
+unfolding after_line
+late-same p q line m n = by (is_skipped line)
+  where
+    by : (b : Bool) → AddsSame p q (cond b (Ok p) (said_by p (words_of line))) (cond b (Ok q) (said_by q (words_of line)))
+    by true = (None, no-turn p, no-turn q)
+    by false = same-command (command_of (word_at 1 (words_of line))) p q (words_of line) m n

@@ -1,0 +1,13 @@
+pub mod ActionsBack
+pub mod CommentsSkipped
+pub mod GrownLaws
+pub mod LineLemmas
+pub mod LinesBack
+pub mod Names
+pub mod PlainWords
+pub mod RoundTrip
+pub mod ShownLaws
+pub mod SizedLaws
+pub mod TextNames
+pub mod WordLemmas
+pub mod WordsBack

@@ -1,0 +1,247 @@
+-- The text of a schedule, read back.
+use Rattle.serf_schedule.proofs.TextNames.{◌≡◌, ◌+◌, ◌<◌, ◌^◌, ◌∙◌, ℕ, List, [], ◌∷◌, ◌++◌, length, Bool, true, false, Option, Some, None, Ok, refl, sym, ap, subst, arith, codes, append_assoc, cond, ◌==◌, slice_index, signed_decimal, AllByRecursion, flat_map, slice_split, common_steps, append-nil, recursion_from_All, IsBytes, Config, QueryParams, is_sound, Action, SinkCall, Append, Flush, ReplaceOld, ReplaceNew, AreConfigs, has_name, twice_after, command_of, Parsed, after_line, agent_of, per_time_in, said_by, with_action, after_lines, schedule_of, flag_text, bytes_in, choice_in, choice_of, number_in}
+use Rattle.std.specs.List.{All}
+use Rattle.serf_model.specs.declared.action.Action.TheVariants as actions
+use Rattle.serf_model.specs.Runs.{NoneBadIsSound}
+use Rattle.serf_schedule.specs.Sayable.{AreSayable, HasByteName, IsSayable}
+use Rattle.serf_schedule.specs.ScheduleText.{action_text, action_words, agent_text, agent_words, flags_of, join_word, mode_word, schedule_text, sink_call_word, spaced}
+use Rattle.serf_schedule.proofs.ActionsBack.{action-back}
+use Rattle.serf_schedule.proofs.LinesBack.{body, line-off, words-back}
+use Rattle.serf_schedule.specs.Comments.{IsWord}
+use Rattle.serf_schedule.proofs.PlainWords.{hex-word, hex-words, number-word}
+use Rattle.serf_schedule.proofs.WordsBack.{bytes-back, number-back}
+
+-- Agents
+
+mode-back : (b : Bool) → choice_of (codes "keep") (codes "ignore") (mode_word b) ≡ Some b
+mode-back true = refl
+mode-back false = refl
+
+-- an agent's numbers have 64 bits
+record AreNumbers (c : Config) : Type 0 where
+  pub events : c.event_buffer < 2 ^ 64
+  pub queries : c.query_buffer < 2 ^ 64
+  pub limit : c.event_limit < 2 ^ 64
+  pub responders : c.responders < 2 ^ 64
+  pub per_time : c.per_time < 2 ^ 64
+
+numbers-fit : (c : Config) → is_sound c ≡ true → AreNumbers c
+numbers-fit c h = record {
+  events = grind (arith, common_steps);
+  queries = grind (arith, common_steps);
+  limit = grind (arith, common_steps);
+  responders = grind (arith, common_steps);
+  per_time = grind (arith, common_steps);
+}
+
+agent-back : (c : Config) → AreNumbers c → IsBytes c.name → agent_of (agent_words c) ≡ Ok c
+unfolding agent_of per_time_in number_in bytes_in choice_in
+agent-back c n h =
+    rw (
+      bytes-back c.name h,
+      number-back c.event_buffer n.events,
+      number-back c.query_buffer n.queries,
+      number-back c.event_limit n.limit,
+      number-back c.responders n.responders,
+      mode-back c.ignore_old,
+      number-back c.per_time n.per_time,
+    ) refl
+
+agent-said : (before : List Config) (c : Config) → is_sound c ≡ true → IsBytes c.name → has_name before c.name ≡ false
+    → said_by (record { configs = before; actions = [] }) (agent_words c) ≡ Ok (record { configs = before ++ c ∷ []; actions = [] })
+unfolding command_of
+agent-said before c sound bytes free = rw (agent-back c (numbers-fit c sound) bytes, sound, free) refl
+
+-- Words that are written stand in a line as they are
+
+mode-plain : (b : Bool) → IsWord (mode_word b)
+mode-plain true = record { some = omega arith; plain = refl }
+mode-plain false = record { some = omega arith; plain = refl }
+
+join-plain : (b : Bool) → IsWord (join_word b)
+join-plain true = record { some = omega arith; plain = refl }
+join-plain false = record { some = omega arith; plain = refl }
+
+flag-plain : (b : Bool) → IsWord (flag_text b)
+flag-plain true = record { some = omega arith; plain = refl }
+flag-plain false = record { some = omega arith; plain = refl }
+
+call-plain : (c : SinkCall) → IsWord (sink_call_word c)
+call-plain Append = record { some = omega arith; plain = refl }
+call-plain Flush = record { some = omega arith; plain = refl }
+call-plain ReplaceOld = record { some = omega arith; plain = refl }
+call-plain ReplaceNew = record { some = omega arith; plain = refl }
+
+agent-plain : (c : Config) → AreNumbers c → IsBytes c.name → AllByRecursion IsWord (agent_words c)
+agent-plain c n h = (
+  record { some = omega arith; plain = refl },
+  (
+    hex-word c.name h,
+    (
+      number-word c.event_buffer n.events,
+      (
+        number-word c.query_buffer n.queries,
+        (
+          number-word c.event_limit n.limit,
+          (number-word c.responders n.responders, (mode-plain c.ignore_old, (number-word c.per_time n.per_time, tt))),
+        ),
+      ),
+    ),
+  ),
+)
+
+flags-fit : (a b : Bool) → cond a 1 0 + cond b 2 0 < 2 ^ 64
+flags-fit true true = omega arith
+flags-fit true false = omega arith
+flags-fit false true = omega arith
+flags-fit false false = omega arith
+
+timeout-plain : (params : QueryParams) → AreSayable params → IsWord (signed_decimal params.timeout)
+timeout-plain params h = subst (λ z. IsWord (signed_decimal z)) (sym h.timeout) (number-word h.nanoseconds (omega (arith, h.timeout_fits)))
+
+action-plain : (a : Action) → IsSayable a → AllByRecursion IsWord (action_words a)
+action-plain (actions.Fire agent name payload coalesce) h =
+    (record { some = omega arith; plain = refl }, (number-word agent h.0, (hex-word name h.1, (hex-word payload h.2, (flag-plain coalesce, tt)))))
+action-plain (actions.Deliver to packet now) h =
+    (record { some = omega arith; plain = refl }, (number-word to h.0, (number-word packet h.1, (number-word now h.2, tt))))
+action-plain (actions.State agent) h = (record { some = omega arith; plain = refl }, (number-word agent h, tt))
+action-plain (actions.Merge to packet join) h =
+    (record { some = omega arith; plain = refl }, (number-word to h.0, (number-word packet h.1, (join-plain join, tt))))
+action-plain (actions.Query agent now id name payload params) h = (
+  record { some = omega arith; plain = refl },
+  (
+    number-word agent h.0,
+    (
+      number-word now h.1,
+      (
+        number-word id (omega (arith, h.2)),
+        (
+          hex-word name h.3,
+          (
+            hex-word payload h.4,
+            (
+              timeout-plain params h.5,
+              (
+                number-word (flags_of params) (flags-fit params.want_ack params.no_broadcast),
+                hex-words params.filters (recursion_from_All IsBytes params.filters h.5.filters),
+              ),
+            ),
+          ),
+        ),
+      ),
+    ),
+  ),
+)
+action-plain (actions.Respond agent handed now payload) h =
+    (record { some = omega arith; plain = refl }, (number-word agent h.0, (number-word handed h.1, (number-word now h.2, (hex-word payload h.3, tt)))))
+action-plain (actions.Restart agent tail) h = (record { some = omega arith; plain = refl }, (number-word agent h.0, (hex-word tail h.1, tt)))
+action-plain (actions.Break agent call count) h =
+    (record { some = omega arith; plain = refl }, (number-word agent h.0, (call-plain call, (number-word count h.2, tt))))
+action-plain (actions.Inject bytes) h = (record { some = omega arith; plain = refl }, (hex-word bytes h, tt))
+action-plain (actions.Close agent now) h = (record { some = omega arith; plain = refl }, (number-word agent h.0, (number-word now h.1, tt)))
+action-plain (actions.Save agent) h = (record { some = omega arith; plain = refl }, (number-word agent h, tt))
+action-plain (actions.Compact agent) h = (record { some = omega arith; plain = refl }, (number-word agent h, tt))
+
+-- Lines
+
+some-words : (word : List ℕ) (words : List (List ℕ)) → (length (word ∷ words) == 0) ≡ false
+some-words word words = grind (arith, common_steps)
+
+-- a line that is no comment says what its words say
+line-says : (p : Parsed) (word : List ℕ) (words : List (List ℕ)) → AllByRecursion IsWord (word ∷ words)
+    → (slice_index (word ++ spaced words) 0 == 35) ≡ false → after_line p (word ++ spaced words) ≡ said_by p (word ∷ words)
+unfolding after_line
+line-says p word words ws plain = rw (plain, words-back word words ws, some-words word words) refl
+
+-- no action's line begins as a comment
+no-comment : (a : Action) → (slice_index (body (action_words a)) 0 == 35) ≡ false
+no-comment (actions.Fire agent name payload coalesce) = refl
+no-comment (actions.Deliver to packet now) = refl
+no-comment (actions.State agent) = refl
+no-comment (actions.Merge to packet join) = refl
+no-comment (actions.Query agent now id name payload params) = refl
+no-comment (actions.Respond agent handed now payload) = refl
+no-comment (actions.Restart agent tail) = refl
+no-comment (actions.Break agent call count) = refl
+no-comment (actions.Inject bytes) = refl
+no-comment (actions.Close agent now) = refl
+no-comment (actions.Save agent) = refl
+no-comment (actions.Compact agent) = refl
+
+body-says : (p : Parsed) (words : List (List ℕ)) → 0 < length words → AllByRecursion IsWord words → (slice_index (body words) 0 == 35) ≡ false
+    → after_line p (body words) ≡ said_by p words
+body-says p [] some ws plain = absurd (omega arith)
+body-says p (word ∷ words) some ws plain = line-says p word words ws plain
+
+has-command : (a : Action) → 0 < length (action_words a)
+has-command (actions.Fire agent name payload coalesce) = omega arith
+has-command (actions.Deliver to packet now) = omega arith
+has-command (actions.State agent) = omega arith
+has-command (actions.Merge to packet join) = omega arith
+has-command (actions.Query agent now id name payload params) = omega arith
+has-command (actions.Respond agent handed now payload) = omega arith
+has-command (actions.Restart agent tail) = omega arith
+has-command (actions.Break agent call count) = omega arith
+has-command (actions.Inject bytes) = omega arith
+has-command (actions.Close agent now) = omega arith
+has-command (actions.Save agent) = omega arith
+has-command (actions.Compact agent) = omega arith
+
+action-line-back : (p : Parsed) (a : Action) → IsSayable a → after_line p (body (action_words a)) ≡ Ok (with_action p a)
+action-line-back p a h = body-says p (action_words a) (has-command a) (action-plain a h) (no-comment a) ∙ action-back p a h
+
+agent-line-back : (before : List Config) (c : Config) → is_sound c ≡ true → IsBytes c.name → has_name before c.name ≡ false
+    → after_line (record { configs = before; actions = [] }) (body (agent_words c)) ≡ Ok (record { configs = before ++ c ∷ []; actions = [] })
+agent-line-back before c sound bytes free =
+    body-says (record { configs = before; actions = [] }) (agent_words c) (omega arith) (agent-plain c (numbers-fit c sound) bytes) refl
+    ∙ agent-said before c sound bytes free
+
+-- The whole
+
+one-action : (n : ℕ) (p : Parsed) (a : Action) (rest : List ℕ) → IsSayable a
+    → after_lines n p (slice_split (λ b. b == 10) (action_text a ++ rest)) ≡ after_lines (n + 1) (with_action p a) (slice_split (λ b. b == 10) rest)
+unfolding action_text
+one-action n p a rest h = rw (line-off (action_words a) rest (action-plain a h), action-line-back p a h) refl
+
+one-agent : (n : ℕ) (before : List Config) (c : Config) (rest : List ℕ) → is_sound c ≡ true → IsBytes c.name → has_name before c.name ≡ false
+    → after_lines n (record { configs = before; actions = [] }) (slice_split (λ b. b == 10) (agent_text c ++ rest))
+    ≡ after_lines (n + 1) (record { configs = before ++ c ∷ []; actions = [] }) (slice_split (λ b. b == 10) rest)
+unfolding agent_text
+one-agent n before c rest sound bytes free =
+    rw (line-off (agent_words c) rest (agent-plain c (numbers-fit c sound) bytes), agent-line-back before c sound bytes free) refl
+
+last-line : (n : ℕ) (p : Parsed) → after_lines n p (slice_split (λ b. b == 10) []) ≡ Ok p
+unfolding after_line
+last-line n p = refl
+
+actions-back : (n : ℕ) (p : Parsed) (actions : List Action) → AllByRecursion IsSayable actions
+    → after_lines n p (slice_split (λ b. b == 10) (flat_map action_text actions)) ≡ Ok (record p { actions = p.actions ++ actions })
+actions-back n p [] h = last-line n p ∙ ap (λ done. Ok (record p { actions = done })) (sym (append-nil p.actions))
+actions-back n p (a ∷ rest) h =
+    one-action n p a (flat_map action_text rest) h.0 ∙ actions-back (n + 1) (with_action p a) rest h.1
+    ∙ ap (λ done. Ok (record p { actions = done })) (append_assoc p.actions (a ∷ []) rest)
+
+not-some : (b : Bool) (n : ℕ) (o : Option ℕ) → cond b (Some n) o ≡ None → b ≡ false
+not-some true n o h = absurd (cc h)
+not-some false n o h = refl
+
+agents-back : (n : ℕ) (before agents : List Config) (rest : List ℕ) (actions : List Action)
+    → twice_after before agents ≡ None → AllByRecursion (λ c. is_sound c ≡ true) agents → AllByRecursion HasByteName agents
+    → ((m : ℕ) (configs : List Config) → after_lines m (record { configs = configs; actions = [] }) (slice_split (λ b. b == 10) rest) ≡ Ok (record { configs = configs; actions = actions }))
+    → after_lines n (record { configs = before; actions = [] }) (slice_split (λ b. b == 10) (flat_map agent_text agents ++ rest))
+    ≡ Ok (record { configs = before ++ agents; actions = actions })
+agents-back n before [] rest actions names sound bytes more =
+    more n before ∙ ap (λ cs. Ok (record { configs = cs; actions = actions })) (sym (append-nil before))
+agents-back n before (c ∷ cs) rest actions names sound bytes more =
+    let free : has_name before c.name ≡ false = not-some (has_name before c.name) (length before) (twice_after (before ++ c ∷ []) cs) names in
+    let later : twice_after (before ++ c ∷ []) cs ≡ None = rw free at names in
+    ap (λ t. after_lines n (record { configs = before; actions = [] }) (slice_split (λ b. b == 10) t)) (append_assoc (agent_text c) (flat_map agent_text cs) rest)
+    ∙ one-agent n before c (flat_map agent_text cs ++ rest) sound.0 bytes.0 free
+    ∙ agents-back (n + 1) (before ++ c ∷ []) cs rest actions later sound.1 bytes.1 more
+    ∙ ap (λ cs. Ok (record { configs = cs; actions = actions })) (append_assoc before (c ∷ []) cs)
+
+-- the text of a schedule stands for it
+pub reads_back : NoneBadIsSound → (p : Parsed) → AreConfigs p.configs → All HasByteName p.configs → All IsSayable p.actions → schedule_of (schedule_text p) ≡ Ok p
+reads_back all-sound p ok bytes sayable =
+    agents-back 1 [] p.configs (flat_map action_text p.actions) p.actions ok.names (all-sound p.configs ok.sound) (recursion_from_All HasByteName p.configs bytes)
+    (λ m configs. actions-back m (record { configs = configs; actions = [] }) p.actions (recursion_from_All IsSayable p.actions sayable))

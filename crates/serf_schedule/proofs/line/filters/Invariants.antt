@@ -1,0 +1,12 @@
+use Rattle.serf_schedule.proofs.Names.{◌≡◌, ◌+◌, ◌≤◌, length, []}
+use Rattle.serf_text.specs.Words.{words_of}
+use Rattle.serf_schedule.specs.Line.{filters_from}
+use Rattle.serf_schedule.proofs.line.filters.Given as goal
+
+-- the filters of the words that are left, after those so far, are the answer
+abbrev pub invariant-words : goal.invariant-words
+invariant-words l = (filters_from l.filters l.place (words_of l.rest) ≡ filters_from [] 9 (words_of l.fn.text))
+    × (l.place + length l.rest ≤ length l.fn.text + 9)
+
+abbrev pub decreases-words : goal.decreases-words
+decreases-words l = length l.rest

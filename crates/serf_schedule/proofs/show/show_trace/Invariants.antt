@@ -1,0 +1,8 @@
+use Rattle.serf_schedule.proofs.Names.{◌≡◌, ◌+◌, ◌++◌, drop, outcome_of}
+use Rattle.serf_schedule.specs.Show.{actions_text, trace_text}
+use Rattle.serf_schedule.proofs.show.show_trace.Given as goal
+
+-- the actions so far, and then those that are left
+abbrev pub invariant-loop-line : goal.invariant-loop-line
+invariant-loop-line l = (l.out.items ++ actions_text l.trace.sent (l.number + 1) (drop l.line-index l.trace.lines) ≡ trace_text (outcome_of l.trace))
+    × (l.number ≡ l.line-index)

@@ -1,0 +1,13 @@
+pub mod Command
+pub mod Comments
+pub mod Grown
+pub mod Laws
+pub mod Line
+pub mod Output
+pub mod Parts
+pub mod Sayable
+pub mod Schedule
+pub mod ScheduleText
+pub mod Show
+pub mod Sinks
+pub mod Words

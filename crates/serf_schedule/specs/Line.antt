@@ -1,0 +1,192 @@
+-- What a line adds to the schedule before it.
+use Rattle.std.specs.Prelude.{◌^◌, ◌-◌, ℕ, pos, ◌==◌, ◌+◌, ◌++◌, ◌%◌, ◌||◌, nat_le, nat_lt, Bool, not, if◌then◌else◌, List, [], ◌∷◌, length, take, drop, codes, slice_index, Option, Some, None, Result, Ok, Err}
+use Rattle.serf_agent.specs.declared.config.Config.{Config}
+use Rattle.serf_agent.specs.declared.outcome.QueryParams.{QueryParams}
+use Rattle.serf_agent.specs.Config.{is_sound}
+use Rattle.serf_agent.specs.Defaults.{default_per_time}
+use Rattle.serf_model.specs.declared.action.Action.{Action}
+use Rattle.serf_model.specs.declared.action.Action.TheVariants as actions
+use Rattle.serf_model.specs.Runs.{has_name}
+use Rattle.serf_schedule.specs.declared.command.Command.{Command}
+use Rattle.serf_schedule.specs.declared.command.Command.TheVariants.{Agent, Query, Act}
+use Rattle.serf_schedule.specs.declared.command.Verb.{Verb}
+use Rattle.serf_schedule.specs.declared.command.Verb.TheVariants.{Deliver, Fire, State, Merge, Respond, Restart, Break, Inject, Close, Save, Compact}
+use Rattle.serf_text.specs.declared.cause.Cause.{Cause}
+use Rattle.serf_text.specs.declared.cause.Cause.TheVariants.{UnknownWord, LateAgent, WordCount, BadConfig, NameTwice}
+use Rattle.serf_schedule.specs.Command.{command_of, count_of}
+use Rattle.serf_text.specs.Gives.{◌>>=◌}
+use Rattle.serf_text.specs.Words.{words_of, word_at, bytes_of, or_bad, number_in, number_between, bytes_in, choice_in}
+use Rattle.serf_schedule.specs.Sinks.{sink_call_in}
+
+-- the agents and the actions so far, in order
+pub record Parsed : Type 0 where
+  pub configs : List Config
+  pub actions : List Action
+
+-- Agents
+
+-- how many events of one time an agent takes: the number of the eighth word, or the default where there is none
+unfoldable pub per_time_in : List (List ℕ) → Result ℕ Cause
+per_time_in words = if length words == 8 then number_in 8 words else Ok default_per_time
+
+-- the agent that seven or eight words describe
+unfoldable pub agent_of : List (List ℕ) → Result Config Cause
+agent_of words = do
+  name ← bytes_in 2 words
+  events ← number_in 3 words
+  queries ← number_in 4 words
+  limit ← number_in 5 words
+  responders ← number_in 6 words
+  ignores ← choice_in (codes "keep") (codes "ignore") 7 words
+  per_time ← per_time_in words
+  Ok (record { name = name; event_buffer = events; query_buffer = queries; event_limit = limit; responders = responders; per_time = per_time; ignore_old = ignores })
+
+abbrev pub add_agent : Parsed → Config → Result Parsed Cause
+add_agent before config =
+    if not (is_sound config) then Err BadConfig
+    else if has_name before.configs config.name then Err NameTwice
+    else Ok (record before { configs = before.configs ++ config ∷ [] })
+
+abbrev pub agent_line : Parsed → List (List ℕ) → Result Parsed Cause
+agent_line before words =
+    if nat_lt 0 (length before.actions) then Err LateAgent
+    else if not ((length words == 7) || (length words == 8)) then Err WordCount
+    else agent_of words >>= add_agent before
+
+-- Actions
+
+abbrev pub with_action : Parsed → Action → Parsed
+with_action before action = record before { actions = before.actions ++ action ∷ [] }
+
+abbrev pub add_action : Parsed → Action → Result Parsed Cause
+add_action before action = Ok (with_action before action)
+
+unfoldable pub firing_of : List (List ℕ) → Result Action Cause
+firing_of words = do
+  agent ← number_in 2 words
+  name ← bytes_in 3 words
+  payload ← bytes_in 4 words
+  coalesce ← choice_in (codes "0") (codes "1") 5 words
+  Ok (actions.Fire agent name payload coalesce)
+
+unfoldable pub delivery_of : List (List ℕ) → Result Action Cause
+delivery_of words = do
+  to ← number_in 2 words
+  packet ← number_in 3 words
+  now ← number_in 4 words
+  Ok (actions.Deliver to packet now)
+
+unfoldable pub merging_of : List (List ℕ) → Result Action Cause
+merging_of words = do
+  to ← number_in 2 words
+  packet ← number_in 3 words
+  join ← choice_in (codes "sync") (codes "join") 4 words
+  Ok (actions.Merge to packet join)
+
+unfoldable pub answer_of : List (List ℕ) → Result Action Cause
+answer_of words = do
+  agent ← number_in 2 words
+  handed ← number_in 3 words
+  now ← number_in 4 words
+  payload ← bytes_in 5 words
+  Ok (actions.Respond agent handed now payload)
+
+unfoldable pub restart_of : List (List ℕ) → Result Action Cause
+restart_of words = do
+  agent ← number_in 2 words
+  tail ← bytes_in 3 words
+  Ok (actions.Restart agent tail)
+
+-- the calls of a sink count from 1
+unfoldable pub break_of : List (List ℕ) → Result Action Cause
+break_of words = do
+  agent ← number_in 2 words
+  call ← sink_call_in 3 words
+  count ← number_between 1 (2 ^ 64 - 1) 4 words
+  Ok (actions.Break agent call count)
+
+unfoldable pub injection_of : List (List ℕ) → Result Action Cause
+injection_of words = do
+  bytes ← bytes_in 2 words
+  Ok (actions.Inject bytes)
+
+unfoldable pub closing_of : List (List ℕ) → Result Action Cause
+closing_of words = do
+  agent ← number_in 2 words
+  now ← number_in 3 words
+  Ok (actions.Close agent now)
+
+-- an action that has nothing but its agent
+unfoldable pub lone_of : (ℕ → Action) → List (List ℕ) → Result Action Cause
+lone_of action words = do
+  agent ← number_in 2 words
+  Ok (action agent)
+
+-- the action that the words of its line describe
+abbrev pub action_of : Verb → List (List ℕ) → Result Action Cause
+action_of Deliver words = delivery_of words
+action_of Fire words = firing_of words
+action_of State words = lone_of (λ agent. actions.State agent) words
+action_of Merge words = merging_of words
+action_of Respond words = answer_of words
+action_of Restart words = restart_of words
+action_of Break words = break_of words
+action_of Inject words = injection_of words
+action_of Close words = closing_of words
+action_of Save words = lone_of (λ agent. actions.Save agent) words
+action_of Compact words = lone_of (λ agent. actions.Compact agent) words
+
+abbrev pub action_line : Verb → Parsed → List (List ℕ) → Result Parsed Cause
+action_line verb before words = if not (length words == count_of verb) then Err WordCount else action_of verb words >>= add_action before
+
+-- Queries
+
+-- the filters that these words spell, the first of them at this place of its line, after those before
+abbrev pub filters_from : List (List ℕ) → ℕ → List (List ℕ) → Result (List (List ℕ)) Cause
+filters_from before place [] = Ok before
+filters_from before place (word ∷ words) = or_bad place (bytes_of word) >>= (λ filter. filters_from (before ++ filter ∷ []) (place + 1) words)
+
+-- How a query is fired, by eight words and the filters behind them. Of the flags 1 asks for acks, and 2 for no
+-- broadcast. A schedule says nothing of where answers go.
+unfoldable pub params_of : List (List ℕ) → List (List ℕ) → Result QueryParams Cause
+params_of words filters = do
+  timeout ← number_between 0 9223372036854775807 7 words
+  flags ← number_between 0 3 8 words
+  filters ← filters_from [] 9 filters
+  Ok (record { filters = filters; want_ack = flags % 2 == 1; no_broadcast = nat_le 2 flags; timeout = pos timeout; addr = []; port = 0; relay_factor = 0 })
+
+unfoldable pub query_of : List (List ℕ) → List (List ℕ) → Result Action Cause
+query_of words filters = do
+  agent ← number_in 2 words
+  now ← number_in 3 words
+  id ← number_between 0 (2 ^ 32 - 1) 4 words
+  name ← bytes_in 5 words
+  payload ← bytes_in 6 words
+  params ← params_of words filters
+  Ok (actions.Query agent now id name payload params)
+
+abbrev pub query_said : Parsed → List (List ℕ) → List (List ℕ) → Result Parsed Cause
+query_said before words filters = if nat_lt (length words) 8 then Err WordCount else query_of words filters >>= add_action before
+
+-- the words from the ninth on are filters
+abbrev pub query_line : Parsed → List (List ℕ) → Result Parsed Cause
+query_line before words = query_said before (take 8 words) (drop 8 words)
+
+-- Lines
+
+abbrev pub command_line : Option Command → Parsed → List (List ℕ) → Result Parsed Cause
+command_line None before words = Err UnknownWord
+command_line (Some Agent) before words = agent_line before words
+command_line (Some Query) before words = query_line before words
+command_line (Some (Act verb)) before words = action_line verb before words
+
+-- what the words of a line add
+abbrev pub said_by : Parsed → List (List ℕ) → Result Parsed Cause
+said_by before words = command_line (command_of (word_at 1 words)) before words
+
+-- a comment, or no words
+abbrev pub is_skipped : List ℕ → Bool
+is_skipped line = (slice_index line 0 == 35) || (length (words_of line) == 0)
+
+unfoldable pub after_line : Parsed → List ℕ → Result Parsed Cause
+after_line before line = if is_skipped line then Ok before else said_by before (words_of line)

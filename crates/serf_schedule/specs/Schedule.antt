@@ -1,0 +1,38 @@
+-- The schedule that a text stands for, or its first bad line.
+use Rattle.std.specs.Prelude.{◌≡◌, ℕ, ◌==◌, ◌+◌, List, [], ◌∷◌, Result, Ok, Err}
+use Rattle.std.specs.List.{slice_split}
+use Rattle.serf_schedule.specs.Line.{Parsed, after_line}
+use Rattle.serf_text.specs.Gives.{BadLine, at_line}
+use Rattle.serf_text.specs.declared.cause.Cause.{Cause}
+use Rattle.serf_schedule.specs.declared.schedule.Schedule.{Schedule}
+use Rattle.serf_text.specs.declared.cause.LineFault.{LineFault}
+use Rattle.serf_text.specs.declared.cause.LineFault.TheVariants.{Bad, OutOfMemory}
+use Rattle.serf_schedule.specs.declared.parse.ScheduleFault.{ScheduleFault}
+use Rattle.serf_schedule.specs.declared.parse.ScheduleFault.TheVariants as faults
+
+-- what a schedule has
+abbrev pub parsed_of : Schedule → Parsed
+parsed_of s = record { configs = s.agents; actions = s.actions.items }
+
+-- the lines from this number on, after what came before
+abbrev pub after_lines : ℕ → Parsed → List (List ℕ) → Result Parsed BadLine
+after_lines number before [] = Ok before
+after_lines number before (line ∷ lines) = at_line number (after_line before line) (λ after. after_lines (number + 1) after lines)
+
+-- the schedule that lines stand for, or the first bad one
+abbrev pub schedule_in : List (List ℕ) → Result Parsed BadLine
+schedule_in lines = after_lines 1 (record { configs = []; actions = [] }) lines
+
+abbrev pub schedule_of : List ℕ → Result Parsed BadLine
+schedule_of text = schedule_in (slice_split (λ b. b == 10) text)
+
+-- why a text is no schedule whose line of this number has this fault
+abbrev pub schedule_fault : ℕ → LineFault → ScheduleFault
+schedule_fault line (Bad cause) = faults.BadLine line cause
+schedule_fault line OutOfMemory = faults.OutOfMemory
+
+-- what `parse_schedule` answers, unless memory runs out
+abbrev pub Reads : Result Schedule ScheduleFault → Result Parsed BadLine → Type 0
+Reads (Ok schedule) said = said ≡ Ok (parsed_of schedule)
+Reads (Err (faults.BadLine line cause)) said = said ≡ Err (record { line = line; cause = cause })
+Reads (Err faults.OutOfMemory) said = Unit {0}

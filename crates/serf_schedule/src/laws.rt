@@ -1,0 +1,49 @@
+//! What holds of every schedule that is read line by line, of its text, and of the text of every step: the contracts of
+//! functions that do nothing.
+
+ghost use Rattle.std.specs.Prelude.{◌≡◌, All, Ok};
+ghost use Rattle.serf_model.specs.Runs.{AreConfigs};
+ghost use Rattle.serf_schedule.specs.Laws.{LateLinesAddSame, LinesFollow, LinesGrow, LinesStay, SchedulesAreSized, SendsBehind};
+ghost use Rattle.serf_schedule.specs.Line.{Parsed};
+ghost use Rattle.serf_schedule.specs.Schedule.{schedule_of};
+ghost use Rattle.serf_schedule.specs.Comments.{CommentsAreSkipped, NumbersAreWords};
+ghost use Rattle.serf_schedule.specs.Sayable.{HasByteName, IsSayable};
+ghost use Rattle.serf_schedule.specs.ScheduleText.{schedule_text};
+
+use serf_model::sound_settings;
+
+/// A step sends its packets behind those that were sent, and what is sent later changes none of its lines. The lines of
+/// one action more stand behind those of the others. Does nothing.
+pub fn lines_stay()
+    ensures sent { SendsBehind }
+    ensures lines { LinesStay }
+    ensures follow { LinesFollow }
+{}
+
+/// A line adds an action at most to the schedule before it, and an agent only where there is no action yet. Behind an
+/// action it adds the same to each schedule, or is refused for the same cause. Does nothing.
+pub fn lines_grow()
+    ensures grow { LinesGrow }
+    ensures late { LateLinesAddSame }
+{}
+
+/// The numbers of the actions that a text stands for have their types' sizes. Does nothing.
+pub fn sized_schedules()
+    ensures { SchedulesAreSized }
+{}
+
+/// The text of a schedule stands for just this schedule, and is never refused. Does nothing.
+#[tactic(auto, using(crate::proofs::RoundTrip::reads_back))]
+pub fn text_reads_back()
+    ensures { (p : Parsed) → AreConfigs p.configs → All HasByteName p.configs
+        → All IsSayable p.actions → schedule_of (schedule_text p) ≡ Ok p }
+{
+    sound_settings();
+}
+
+/// A comment in front of a schedule's text changes nothing of what it stands for: a line of words, each of some bytes
+/// above the space, that begins with `#`. A number in decimal is such a word. Does nothing.
+pub fn comments_skipped()
+    ensures skipped { CommentsAreSkipped }
+    ensures numbers { NumbersAreWords }
+{}

@@ -1,0 +1,30 @@
+//! Schedules, read and written, and the traces of their runs, written. A schedule that is written reads back as the same
+//! schedule.
+#![tactic(auto)]
+
+mod command;
+mod laws;
+mod line;
+mod parse;
+mod replay_fault;
+mod sayable;
+mod schedule;
+mod show;
+mod sinks;
+mod watch;
+mod whole;
+mod written_lines;
+mod written_words;
+
+pub use command::{Command, Verb, command_in};
+pub use laws::{comments_skipped, lines_grow, lines_stay, sized_schedules, text_reads_back};
+pub use parse::{ScheduleFault, fault_at, parse_schedule, read_line, read_schedule_line};
+pub use replay_fault::ReplayFault;
+pub use sayable::{has_byte_name, is_sayable};
+pub use schedule::Schedule;
+pub use show::{answer_words, put_action, put_answer, show_trace};
+pub use sinks::sink_call;
+pub use watch::{Unwatched, Watch};
+pub use whole::{know_read_back, put_schedule};
+pub use written_lines::{put_action_line, put_agent_line};
+pub use written_words::{Word, put_line};

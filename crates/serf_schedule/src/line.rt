@@ -1,0 +1,301 @@
+//! What one line says, once it is cut into words.
+
+ghost use Rattle.std.specs.Prelude.{◌≡◌, ◌≤◌, ◌⊎◌, [], length, map};
+ghost use Rattle.serf_model.specs.declared.action.Action.TheVariants.{State, Save, Compact};
+ghost use Rattle.serf_text.specs.Words.{words_of, bytes_of, bytes_in, or_bad};
+ghost use Rattle.serf_schedule.specs.Command.{count_of};
+ghost use Rattle.serf_schedule.specs.Line.{agent_of, per_time_in, firing_of, delivery_of, merging_of, answer_of, restart_of, break_of, injection_of, closing_of, lone_of, action_of, filters_from, params_of, query_of};
+ghost use Rattle.serf_text.specs.Gives.{Gives};
+
+use crate::command::Verb;
+use crate::sinks::sink_call_at;
+use serf_agent::{BytesList, Config, DEFAULT_PER_TIME, QueryParams};
+use serf_model::{Action, BoxedBytes, BoxedParams};
+use serf_text::{
+    Cause, FIXED_WORDS, LineFault, bytes_at, choice_at, cut, hex_bytes, number_at, number_from_to,
+};
+use serf_wire::Bytes;
+use std::alloc::Global;
+
+/// The greatest timeout of a query, in nanoseconds.
+const MAX_TIMEOUT: u64 = i64::MAX as u64;
+
+/// The flags of a query: 1 asks for acks, and 2 for no broadcast.
+const MAX_FLAGS: u64 = 3;
+
+/// The eighth word, which may be left out.
+#[tactic(auto, unfolding(crate::specs::Line::per_time_in))]
+fn per_time(words: &[&[u8]]) -> Result<u64, LineFault>
+    ensures { Gives (λ n. n) result (per_time_in (map (λ w. w.now) words.now)) }
+{
+    if words.len() == 8 {
+        number_at(words, 8)
+    } else {
+        Ok(DEFAULT_PER_TIME)
+    }
+}
+
+/// The agent of an agent line.
+#[tactic(auto, unfolding(crate::specs::Line::agent_of))]
+pub(crate) fn agent(alloc: Global, words: &[&[u8]]) -> Result<Config, LineFault>
+    requires { (length words.now ≡ 7) ⊎ (length words.now ≡ 8) }
+    ensures { Gives (λ c. c) result (agent_of (map (λ w. w.now) words.now)) }
+{
+    let name = bytes_at(alloc, words, 2)?;
+    let event_buffer = number_at(words, 3)?;
+    let query_buffer = number_at(words, 4)?;
+    let event_limit = number_at(words, 5)?;
+    let responders = number_at(words, 6)?;
+    let ignore_old = choice_at(words, 7, b"keep", b"ignore")?;
+    let per_time = per_time(words)?;
+    Ok(Config {
+        name,
+        event_buffer,
+        query_buffer,
+        event_limit,
+        responders,
+        per_time,
+        ignore_old,
+    })
+}
+
+#[tactic(auto, unfolding(crate::specs::Line::firing_of))]
+fn firing(alloc: Global, words: &[&[u8]]) -> Result<Action, LineFault>
+    requires { length words.now ≡ 5 }
+    ensures { Gives (λ a. a) result (firing_of (map (λ w. w.now) words.now)) }
+{
+    let agent = number_at(words, 2)?;
+    let name = bytes_at(alloc, words, 3)?;
+    let payload = bytes_at(alloc, words, 4)?;
+    let coalesce = choice_at(words, 5, b"0", b"1")?;
+    Ok(Action::Fire {
+        agent,
+        name,
+        payload,
+        coalesce,
+    })
+}
+
+#[tactic(auto, unfolding(crate::specs::Line::delivery_of))]
+fn delivery(words: &[&[u8]]) -> Result<Action, LineFault>
+    requires { length words.now ≡ 4 }
+    ensures { Gives (λ a. a) result (delivery_of (map (λ w. w.now) words.now)) }
+{
+    let to = number_at(words, 2)?;
+    let packet = number_at(words, 3)?;
+    let now = number_at(words, 4)?;
+    Ok(Action::Deliver { to, packet, now })
+}
+
+#[tactic(auto, unfolding(crate::specs::Line::merging_of))]
+fn merging(words: &[&[u8]]) -> Result<Action, LineFault>
+    requires { length words.now ≡ 4 }
+    ensures { Gives (λ a. a) result (merging_of (map (λ w. w.now) words.now)) }
+{
+    let to = number_at(words, 2)?;
+    let packet = number_at(words, 3)?;
+    let join = choice_at(words, 4, b"sync", b"join")?;
+    Ok(Action::Merge { to, packet, join })
+}
+
+#[tactic(auto, unfolding(crate::specs::Line::answer_of))]
+fn answer(alloc: Global, words: &[&[u8]]) -> Result<Action, LineFault>
+    requires { length words.now ≡ 5 }
+    ensures { Gives (λ a. a) result (answer_of (map (λ w. w.now) words.now)) }
+{
+    let agent = number_at(words, 2)?;
+    let handed = number_at(words, 3)?;
+    let now = number_at(words, 4)?;
+    let payload = bytes_at(alloc, words, 5)?;
+    Ok(Action::Respond {
+        agent,
+        handed,
+        now,
+        payload,
+    })
+}
+
+#[tactic(auto, unfolding(crate::specs::Line::restart_of))]
+fn restarting(alloc: Global, words: &[&[u8]]) -> Result<Action, LineFault>
+    requires { length words.now ≡ 3 }
+    ensures { Gives (λ a. a) result (restart_of (map (λ w. w.now) words.now)) }
+{
+    let agent = number_at(words, 2)?;
+    let tail = bytes_at(alloc, words, 3)?;
+    Ok(Action::Restart { agent, tail })
+}
+
+#[tactic(auto, unfolding(crate::specs::Line::break_of))]
+fn breaking(words: &[&[u8]]) -> Result<Action, LineFault>
+    requires { length words.now ≡ 4 }
+    ensures { Gives (λ a. a) result (break_of (map (λ w. w.now) words.now)) }
+{
+    let agent = number_at(words, 2)?;
+    let call = sink_call_at(words, 3)?;
+    let count = number_from_to(words, 4, 1, u64::MAX)?;
+    Ok(Action::Break { agent, call, count })
+}
+
+#[tactic(auto, unfolding(crate::specs::Line::injection_of))]
+fn injection(alloc: Global, words: &[&[u8]]) -> Result<Action, LineFault>
+    requires { length words.now ≡ 2 }
+    ensures { Gives (λ a. a) result (injection_of (map (λ w. w.now) words.now)) }
+{
+    let bytes = bytes_at(alloc, words, 2)?;
+    Ok(Action::Inject { bytes })
+}
+
+#[tactic(auto, unfolding(crate::specs::Line::closing_of))]
+fn closing(words: &[&[u8]]) -> Result<Action, LineFault>
+    requires { length words.now ≡ 3 }
+    ensures { Gives (λ a. a) result (closing_of (map (λ w. w.now) words.now)) }
+{
+    let agent = number_at(words, 2)?;
+    let now = number_at(words, 3)?;
+    Ok(Action::Close { agent, now })
+}
+
+#[tactic(auto, unfolding(crate::specs::Line::lone_of))]
+fn sending_state(words: &[&[u8]]) -> Result<Action, LineFault>
+    requires { length words.now ≡ 2 }
+    ensures { Gives (λ a. a) result (lone_of (λ agent. State agent) (map (λ w. w.now) words.now)) }
+{
+    let agent = number_at(words, 2)?;
+    Ok(Action::State { agent })
+}
+
+#[tactic(auto, unfolding(crate::specs::Line::lone_of))]
+fn saving(words: &[&[u8]]) -> Result<Action, LineFault>
+    requires { length words.now ≡ 2 }
+    ensures { Gives (λ a. a) result (lone_of (λ agent. Save agent) (map (λ w. w.now) words.now)) }
+{
+    let agent = number_at(words, 2)?;
+    Ok(Action::Save { agent })
+}
+
+#[tactic(auto, unfolding(crate::specs::Line::lone_of))]
+fn compacting(words: &[&[u8]]) -> Result<Action, LineFault>
+    requires { length words.now ≡ 2 }
+    ensures { Gives (λ a. a) result
+        (lone_of (λ agent. Compact agent) (map (λ w. w.now) words.now)) }
+{
+    let agent = number_at(words, 2)?;
+    Ok(Action::Compact { agent })
+}
+
+/// The action of a line that has as many words as it needs.
+pub(crate) fn action(alloc: Global, verb: Verb, words: &[&[u8]]) -> Result<Action, LineFault>
+    requires { length words.now ≡ count_of verb }
+    ensures { Gives (λ a. a) result (action_of verb (map (λ w. w.now) words.now)) }
+{
+    match verb {
+        Verb::Deliver => delivery(words),
+        Verb::Fire => firing(alloc, words),
+        Verb::State => sending_state(words),
+        Verb::Merge => merging(words),
+        Verb::Respond => answer(alloc, words),
+        Verb::Restart => restarting(alloc, words),
+        Verb::Break => breaking(words),
+        Verb::Inject => injection(alloc, words),
+        Verb::Close => closing(words),
+        Verb::Save => saving(words),
+        Verb::Compact => compacting(words),
+    }
+}
+
+/// The filter that a word at this place spells.
+fn filter(alloc: Global, word: &[u8], place: u64) -> Result<Bytes, LineFault>
+    ensures { Gives (λ b. b) result (or_bad place (bytes_of word.now)) }
+{
+    match hex_bytes(alloc, word)? {
+        Some(found) => Ok(found),
+        None => Err(LineFault::Bad(Cause::BadWord(place))),
+    }
+}
+
+/// The filters that the words of a text spell. The first stands at the ninth place of its line.
+fn filters(alloc: Global, text: &[u8]) -> Result<BytesList, LineFault>
+    ensures { Gives (λ f. f) result (filters_from [] 9 (words_of text.now)) }
+{
+    let mut filters = BytesList::new(alloc);
+    let mut place = FIXED_WORDS as u64 + 1;
+    let mut rest = text;
+    'words: loop {
+        let (word, more) = cut(rest, b' ');
+        if !word.is_empty() {
+            let found = filter(alloc, word, place)?;
+            filters.push(found)?;
+            place += 1;
+        }
+        match more {
+            Some(next) => rest = next,
+            None => return Ok(filters),
+        }
+    }
+}
+
+/// How a query is fired, by the words of its line and its filters.
+#[tactic(auto, unfolding(crate::specs::Line::params_of))]
+fn params(alloc: Global, words: &[&[u8]], rest: &[u8]) -> Result<QueryParams, LineFault>
+    requires { length words.now ≡ 8 }
+    ensures { Gives (λ p. p) result (params_of (map (λ w. w.now) words.now) (words_of rest.now)) }
+{
+    let timeout = number_from_to(words, 7, 0, MAX_TIMEOUT)?;
+    let flags = number_from_to(words, 8, 0, MAX_FLAGS)?;
+    let filters = filters(alloc, rest)?;
+    Ok(QueryParams {
+        filters,
+        want_ack: flags % 2 == 1,
+        no_broadcast: flags >= 2,
+        timeout: timeout as i64,
+        addr: Bytes::from_vec(Vec::new(alloc)),
+        port: 0,
+        relay_factor: 0,
+    })
+}
+
+/// The same, in a place of its own.
+fn boxed_params(alloc: Global, words: &[&[u8]], rest: &[u8]) -> Result<BoxedParams, LineFault>
+    requires { length words.now ≡ 8 }
+    ensures { Gives (λ p. p) result (params_of (map (λ w. w.now) words.now) (words_of rest.now)) }
+{
+    let params = params(alloc, words, rest)?;
+    match BoxedParams::new(alloc, params) {
+        Ok(boxed) => Ok(boxed),
+        Err(_) => Err(LineFault::OutOfMemory),
+    }
+}
+
+/// The bytes at a place of a line, counting from 1, in a place of their own.
+fn boxed_bytes_at(alloc: Global, words: &[&[u8]], place: usize) -> Result<BoxedBytes, LineFault>
+    requires { (1 ≤ place) × (place ≤ length words.now) }
+    ensures { Gives (λ b. b) result (bytes_in place (map (λ w. w.now) words.now)) }
+{
+    let bytes = bytes_at(alloc, words, place)?;
+    match BoxedBytes::new(alloc, bytes) {
+        Ok(boxed) => Ok(boxed),
+        Err(_) => Err(LineFault::OutOfMemory),
+    }
+}
+
+/// The action of a query line, of which these are the first eight words and what is left.
+#[tactic(auto, unfolding(crate::specs::Line::query_of))]
+pub(crate) fn query(alloc: Global, words: &[&[u8]], rest: &[u8]) -> Result<Action, LineFault>
+    requires { length words.now ≡ 8 }
+    ensures { Gives (λ a. a) result (query_of (map (λ w. w.now) words.now) (words_of rest.now)) }
+{
+    let agent = number_at(words, 2)?;
+    let now = number_at(words, 3)?;
+    let id = number_from_to(words, 4, 0, u64::from(u32::MAX))?;
+    let name = boxed_bytes_at(alloc, words, 5)?;
+    let payload = boxed_bytes_at(alloc, words, 6)?;
+    let params = boxed_params(alloc, words, rest)?;
+    Ok(Action::Query {
+        agent,
+        now,
+        id: id as u32,
+        name,
+        payload,
+        params,
+    })
+}

@@ -1,0 +1,217 @@
+//! A whole schedule.
+
+ghost use Rattle.std.specs.Prelude.{◌≡◌, ◌<◌, ◌≤◌, ◌==◌, slice_index, length, map, All, IfOk, Ok, Err};
+ghost use Rattle.serf_model.specs.Runs.{AreConfigs};
+ghost use Rattle.serf_model.specs.Sizes.{HasSizes};
+ghost use Rattle.serf_schedule.specs.Command.{command_of};
+ghost use Rattle.serf_text.specs.Words.{words_of, word_at};
+ghost use Rattle.serf_schedule.specs.Line.{action_line, query_said, after_line, with_action};
+ghost use Rattle.serf_schedule.specs.Parts.{agent_said, parts_said};
+ghost use Rattle.serf_schedule.specs.Schedule.{parsed_of, schedule_fault, schedule_of, Reads};
+ghost use Rattle.serf_text.specs.Gives.{Gives};
+
+use crate::command::{Command, Verb, command_in};
+use crate::line::{action, agent, query};
+use crate::schedule::Schedule;
+use serf_model::Action;
+use serf_text::{Cause, LineFault, cut, take_words};
+use serf_world::{Roster, RosterFault};
+use std::alloc::Global;
+use thiserror::Error;
+
+/// Why a text is no schedule.
+#[derive(Clone, Copy, Debug, Drop, Error, PartialEq, Eq)]
+pub enum ScheduleFault {
+    /// The first line, counted from 1, that is not sound, and what is wrong with it.
+    #[error("line {line} of the schedule is bad: {cause}")]
+    BadLine { line: u64, cause: Cause },
+    #[error("out of memory")]
+    OutOfMemory,
+}
+
+/// Why a text is no schedule of which the line of this number, counted from 1, has this fault. Takes no memory.
+pub fn fault_at(line: u64, fault: LineFault) -> ScheduleFault
+    ensures { result ≡ schedule_fault line fault }
+{
+    match fault {
+        LineFault::Bad(cause) => ScheduleFault::BadLine { line, cause },
+        LineFault::OutOfMemory => ScheduleFault::OutOfMemory,
+    }
+}
+
+fn read_agent(
+    alloc: Global,
+    parsed: &mut Schedule,
+    words: &[&[u8]],
+    is_whole: bool,
+) -> Result<(), LineFault>
+    ensures { Gives (λ _. parsed_of parsed.new) result
+        (agent_said (parsed_of parsed.old) is_whole (map (λ w. w.now) words.now)) }
+{
+    if !parsed.actions.is_empty() {
+        return Err(LineFault::Bad(Cause::LateAgent));
+    }
+    if !is_whole || (words.len() != 7 && words.len() != 8) {
+        return Err(LineFault::Bad(Cause::WordCount));
+    }
+    let config = agent(alloc, words)?;
+    match parsed.agents.add(alloc, config) {
+        Ok(()) => Ok(()),
+        Err(RosterFault::BadConfig) => Err(LineFault::Bad(Cause::BadConfig)),
+        Err(RosterFault::NameTwice) => Err(LineFault::Bad(Cause::NameTwice)),
+        Err(RosterFault::OutOfMemory) => Err(LineFault::OutOfMemory),
+    }
+}
+
+#[inline(always)]
+fn add_action(parsed: &mut Schedule, action: Action) -> Result<(), LineFault>
+    ensures { Gives (λ _. parsed_of parsed.new) result
+        (Ok (with_action (parsed_of parsed.old) action)) }
+{
+    match parsed.actions.push(action) {
+        Ok(()) => Ok(()),
+        Err(_) => Err(LineFault::OutOfMemory),
+    }
+}
+
+fn read_action(
+    alloc: Global,
+    verb: Verb,
+    parsed: &mut Schedule,
+    words: &[&[u8]],
+) -> Result<(), LineFault>
+    ensures { Gives (λ _. parsed_of parsed.new) result
+        (action_line verb (parsed_of parsed.old) (map (λ w. w.now) words.now)) }
+{
+    if words.len() != verb.count() {
+        return Err(LineFault::Bad(Cause::WordCount));
+    }
+    let action = action(alloc, verb, words)?;
+    add_action(parsed, action)
+}
+
+fn read_query(
+    alloc: Global,
+    parsed: &mut Schedule,
+    words: &[&[u8]],
+    rest: &[u8],
+) -> Result<(), LineFault>
+    requires { length words.now ≤ 8 }
+    ensures { Gives (λ _. parsed_of parsed.new) result
+        (query_said (parsed_of parsed.old) (map (λ w. w.now) words.now) (words_of rest.now)) }
+{
+    if words.len() < 8 {
+        return Err(LineFault::Bad(Cause::WordCount));
+    }
+    let action = query(alloc, words, rest)?;
+    add_action(parsed, action)
+}
+
+/// Reads a line of at most eight words, and of what is left of it.
+fn read_words(
+    alloc: Global,
+    parsed: &mut Schedule,
+    words: &[&[u8]],
+    rest: &[u8],
+) -> Result<(), LineFault>
+    requires { (0 < length words.now) × (length words.now ≤ 8) }
+    ensures { Gives (λ _. parsed_of parsed.new) result
+        (parts_said (command_of (word_at 1 (map (λ w. w.now) words.now))) (parsed_of parsed.old)
+        (map (λ w. w.now) words.now) rest.now) }
+{
+    match command_in(words[0]) {
+        Some(Command::Agent) => read_agent(alloc, parsed, words, rest.is_empty()),
+        Some(Command::Query) => read_query(alloc, parsed, words, rest),
+        Some(Command::Act(verb)) => read_action(alloc, verb, parsed, words),
+        None => Err(LineFault::Bad(Cause::UnknownWord)),
+    }
+}
+
+/// Whether a line's first byte is `#`.
+fn is_comment(line: &[u8]) -> bool
+    ensures { result ≡ (slice_index line.now 0 == 35) }
+{
+    match line {
+        [first, ..] => *first == b'#',
+        [] => false,
+    }
+}
+
+/// Reads a line behind those of a schedule, as [`read_schedule_line`] does, with room for its words that the lines before
+/// it used too: what stands in `words` is forgotten.
+#[tactic(auto, unfolding(crate::specs::Line::after_line))]
+#[inline(always)]
+pub fn read_line<'a>(
+    alloc: Global,
+    parsed: &mut Schedule,
+    words: &mut Vec<&'a [u8]>,
+    line: &'a [u8],
+) -> Result<(), LineFault>
+    ensures { Gives (λ _. parsed_of parsed.new) result
+        (after_line (parsed_of parsed.old) line.entry.now) }
+{
+    if is_comment(line) {
+        return Ok(());
+    }
+    let rest = take_words(line, words)?;
+    if words.is_empty() {
+        return Ok(());
+    }
+    read_words(alloc, parsed, words, rest)
+}
+
+/// Reads a line behind those of a schedule: its agent or its action is put behind the others.
+///
+/// Words stand between spaces. A line without words, and one whose first byte is `#`, say nothing. What stands in the
+/// schedule after a fault is not said.
+pub fn read_schedule_line(
+    alloc: Global,
+    schedule: &mut Schedule,
+    line: &[u8],
+) -> Result<(), LineFault>
+    ensures exact { Gives (λ _. parsed_of schedule.new) result
+        (after_line (parsed_of schedule.old) line.entry.now) }
+    // The agents can make a cluster.
+    ensures agents { AreConfigs schedule.new.agents }
+{
+    let mut words = Vec::new(alloc);
+    read_line(alloc, schedule, &mut words, line)
+}
+
+/// The schedule that a text stands for, or its first bad line.
+///
+/// The text is cut at newlines, and a last line without one is read too. Words stand between spaces. A line without
+/// words, and one whose first byte is `#`, say nothing. First come the agents' lines, and then those of the actions.
+///
+/// `BadLine` comes exactly where a line is not sound, and says the first. `OutOfMemory` may come before a bad line
+/// that stands further on.
+pub fn parse_schedule(alloc: Global, text: &[u8]) -> Result<Schedule, ScheduleFault>
+    ensures exact { Reads result (schedule_of text.now) }
+    // The agents can make a cluster.
+    ensures agents { IfOk result (λ schedule. AreConfigs schedule.agents) }
+    // The numbers of the actions have their types' sizes.
+    ensures sizes { IfOk result (λ schedule. All HasSizes schedule.actions.items) }
+{
+    let mut parsed = Schedule {
+        agents: Roster::new(alloc),
+        actions: Vec::new(alloc),
+    };
+    let mut words = Vec::new(alloc);
+    let mut number: u64 = 1;
+    let mut rest = text;
+    'lines: loop {
+        let (line, more) = cut(rest, b'\n');
+        if let Err(fault) = read_line(alloc, &mut parsed, &mut words, line) {
+            return Err(fault_at(number, fault));
+        }
+        match more {
+            Some(next) => {
+                rest = next;
+                number += 1;
+            }
+            None => {
+                return Ok(parsed);
+            }
+        }
+    }
+}

@@ -1,0 +1,131 @@
+//! What the lines of a schedule can say.
+
+ghost use Rattle.std.specs.Prelude.{◌↔◌, ◌<◌, ◌^◌, All, IsTrue};
+ghost use Rattle.hex.specs.Hex.{IsBytes};
+ghost use Rattle.serf_schedule.specs.Sayable.{AreSayable, HasByteName, IsSayable};
+
+use serf_agent::{Config, QueryParams};
+use serf_model::Action;
+use serf_wire::Bytes;
+
+/// A slice has bytes. Does nothing.
+fn know_bytes(_bytes: &[u8])
+    ensures { IsBytes _bytes.now }
+{}
+
+/// A number has 64 bits. Does nothing.
+fn know_number(_number: u64)
+    ensures { _number < 2 ^ 64 }
+{}
+
+/// An ID has 32 bits. Does nothing.
+fn know_id(_id: u32)
+    ensures { _id < 2 ^ 32 }
+{}
+
+/// Lists have bytes. Does nothing.
+fn know_all_bytes(lists: &[Bytes])
+    ensures { All IsBytes lists.now }
+{
+    for list in lists {
+        know_bytes(list.as_slice());
+    }
+}
+
+/// An agent's name has bytes. Does nothing.
+pub fn has_byte_name(config: &Config)
+    ensures { HasByteName config.now }
+{
+    know_bytes(config.name.as_slice());
+}
+
+fn are_sayable(params: &QueryParams) -> bool
+    ensures { IsTrue result ↔ AreSayable params.now }
+{
+    know_all_bytes(params.filters.as_slice());
+    params.timeout >= 0
+        && params.addr.as_slice().is_empty()
+        && params.port == 0
+        && params.relay_factor == 0
+}
+
+/// Whether a line of a schedule can say an action. It can't say a sink's calls counted from 0, a negative timeout, or
+/// where a query's answers go. Takes no memory.
+pub fn is_sayable(action: &Action) -> bool
+    ensures { IsTrue result ↔ IsSayable action.now }
+{
+    match action {
+        Action::Fire {
+            agent,
+            name,
+            payload,
+            ..
+        } => {
+            know_number(*agent);
+            know_bytes(name.as_slice());
+            know_bytes(payload.as_slice());
+            true
+        }
+        Action::Deliver { to, packet, now } => {
+            know_number(*to);
+            know_number(*packet);
+            know_number(*now);
+            true
+        }
+        Action::Merge { to, packet, .. } => {
+            know_number(*to);
+            know_number(*packet);
+            true
+        }
+        Action::Query {
+            agent,
+            now,
+            id,
+            name,
+            payload,
+            params,
+        } => {
+            know_number(*agent);
+            know_number(*now);
+            know_id(*id);
+            know_bytes(name.as_slice());
+            know_bytes(payload.as_slice());
+            are_sayable(params.get())
+        }
+        Action::Respond {
+            agent,
+            handed,
+            now,
+            payload,
+        } => {
+            know_number(*agent);
+            know_number(*handed);
+            know_number(*now);
+            know_bytes(payload.as_slice());
+            true
+        }
+        Action::Restart { agent, tail } => {
+            know_number(*agent);
+            know_bytes(tail.as_slice());
+            true
+        }
+        Action::Break { agent, count, .. } => {
+            know_number(*agent);
+            know_number(*count);
+            *count >= 1
+        }
+        Action::Inject { bytes } => {
+            know_bytes(bytes.as_slice());
+            true
+        }
+        Action::Close { agent, now } => {
+            know_number(*agent);
+            know_number(*now);
+            true
+        }
+        Action::State { agent } | Action::Save { agent } | Action::Compact { agent } => {
+            know_number(*agent);
+            true
+        }
+    }
+}

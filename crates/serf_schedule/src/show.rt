@@ -1,0 +1,342 @@
+//! The text of a trace.
+
+ghost use Rattle.std.specs.Prelude.{◌≡◌, ◌+◌, ◌++◌, OnOk, IfOk, decimal};
+ghost use Rattle.std.specs.List.{flat_map};
+ghost use Rattle.std.specs.Option.{option_to_list};
+ghost use Rattle.serf_model.specs.Trace.{outcome_of};
+ghost use Rattle.serf_schedule.specs.Show.{answer_words, answer_details, answer_text, behind_space, fault_details, packet_of, answer_line, sent_line, event_tail, event_line, spaced, texts_text, identity_text, handed_line, action_text, trace_text};
+
+use itoa::Buffer;
+use serf_agent::Reason;
+use serf_model::{Answer, Boxed, EventLine, HandedLine, Line, Refusal, Trace};
+use serf_text::{flag, put_hex, put_number, put_wire_fault};
+use serf_wire::Bytes;
+use std::alloc::{AllocError, Global};
+
+/// The words of the answer to a packet that is ignored.
+fn ignored_words(reason: Reason) -> &'static [u8]
+    ensures { result.now ≡ answer_words (Answer.Ignored reason) }
+{
+    match reason {
+        Reason::Oversize => b"ignored Oversize",
+        Reason::BelowMinimum => b"ignored BelowMinimum",
+        Reason::TooOld => b"ignored TooOld",
+        Reason::Seen => b"ignored Seen",
+        Reason::TimeFull => b"ignored TimeFull",
+        Reason::NotOpen => b"ignored NotOpen",
+        Reason::OtherId => b"ignored OtherId",
+        Reason::Closed => b"ignored Closed",
+        Reason::AckNotAsked => b"ignored AckNotAsked",
+        Reason::AckTwice => b"ignored AckTwice",
+        Reason::ResponseTwice => b"ignored ResponseTwice",
+    }
+}
+
+/// The words of a refusal.
+fn refused_words(refusal: Refusal) -> &'static [u8]
+    ensures { result.now ≡ answer_words (Answer.Refused refusal) }
+{
+    match refusal {
+        Refusal::NoAgent => b"refused NoAgent",
+        Refusal::NoMessage => b"refused NoMessage",
+        Refusal::NoQuery => b"refused NoQuery",
+        Refusal::Stopped => b"refused Stopped",
+        Refusal::TooLarge => b"refused TooLarge",
+        Refusal::TooLong => b"refused TooLong",
+        Refusal::Exhausted => b"refused Exhausted",
+        Refusal::ZeroTimeout => b"refused ZeroTimeout",
+        Refusal::PastDeadline => b"refused PastDeadline",
+        Refusal::NotPushPull => b"refused NotPushPull",
+        Refusal::RespondersFull => b"refused RespondersFull",
+        Refusal::SinkFault => b"refused SinkFault",
+        Refusal::Wire(_) => b"refused Wire",
+    }
+}
+
+/// The words of an answer: all but its numbers, and a packet's fault. Takes no memory.
+pub fn answer_words(answer: &Answer) -> &'static [u8]
+    ensures { result.now ≡ answer_words answer.now }
+{
+    match answer {
+        Answer::Fired(_) => b"fired",
+        Answer::New => b"new",
+        Answer::Query => b"query",
+        Answer::Ack => b"ack",
+        Answer::Response => b"response",
+        Answer::Ignored(reason) => ignored_words(*reason),
+        Answer::Foreign(_) => b"foreign",
+        Answer::PushPull => b"push-pull",
+        Answer::State => b"state",
+        Answer::Merged => b"merged",
+        Answer::Queried(_) => b"queried",
+        Answer::Replied => b"replied",
+        Answer::Broken => b"broken",
+        Answer::Injected => b"injected",
+        Answer::Saved => b"saved",
+        Answer::Compacted => b"compacted",
+        Answer::Restarted { .. } => b"restarted",
+        Answer::Closed(_) => b"closed",
+        Answer::Refused(refusal) => refused_words(*refusal),
+    }
+}
+
+/// Appends a space and a number.
+#[tactic(auto, unfolding(crate::specs::Show::behind_space))]
+fn put_behind_space(out: &mut Vec<u8>, n: u64) -> Result<(), AllocError>
+    ensures { OnOk result (out.new.items ≡ out.old.items ++ behind_space n) }
+{
+    out.extend_from_slice(b" ")?;
+    put_number(out, n)
+}
+
+/// Appends three clocks, each behind a space.
+fn put_clocks(
+    out: &mut Vec<u8>,
+    member_clock: u64,
+    event_clock: u64,
+    query_clock: u64,
+) -> Result<(), AllocError>
+    ensures { OnOk result (out.new.items ≡ out.old.items
+        ++ answer_details (Answer.Restarted member_clock event_clock query_clock)) }
+{
+    put_behind_space(out, member_clock)?;
+    put_behind_space(out, event_clock)?;
+    put_behind_space(out, query_clock)
+}
+
+/// Appends a packet's fault behind a space, where the refusal has one.
+fn put_fault_details(out: &mut Vec<u8>, refusal: Refusal) -> Result<(), AllocError>
+    ensures { OnOk result (out.new.items ≡ out.old.items ++ fault_details refusal) }
+{
+    match refusal {
+        Refusal::Wire(fault) => {
+            out.extend_from_slice(b" ")?;
+            put_wire_fault(out, fault)
+        }
+        _ => Ok(()),
+    }
+}
+
+/// Appends the numbers of an answer, or a packet's fault.
+#[inline(always)]
+fn put_details(out: &mut Vec<u8>, answer: Answer) -> Result<(), AllocError>
+    ensures { OnOk result (out.new.items ≡ out.old.items ++ answer_details answer) }
+{
+    match answer {
+        Answer::Fired(time) | Answer::Queried(time) => put_behind_space(out, time.get()),
+        Answer::Foreign(kind) => put_behind_space(out, u64::from(kind)),
+        Answer::Restarted {
+            member_clock,
+            event_clock,
+            query_clock,
+        } => put_clocks(out, member_clock, event_clock, query_clock),
+        Answer::Closed(count) => put_behind_space(out, count),
+        Answer::Refused(refusal) => put_fault_details(out, refusal),
+        _ => Ok(()),
+    }
+}
+
+/// Appends an answer: its words, and what it says beside them. After an `AllocError`, which comes where there is no
+/// memory for it, `out` may have a front of it.
+#[inline(always)]
+pub fn put_answer(out: &mut Vec<u8>, answer: Answer) -> Result<(), AllocError>
+    ensures { OnOk result (out.new.items ≡ out.old.items ++ answer_text answer) }
+{
+    out.extend_from_slice(answer_words(&answer))?;
+    put_details(out, answer)
+}
+
+/// The number of an action with its digits, which all its lines begin with.
+#[derive(Clone, Copy)]
+struct Spelled<'a> {
+    number: u64,
+    digits: &'a [u8],
+    pub ghost spells: { digits.now ≡ decimal number },
+}
+
+#[tactic(auto, unfolding(crate::specs::Show::answer_line))]
+#[inline(always)]
+fn put_answer_line(out: &mut Vec<u8>, action: Spelled, answer: Answer) -> Result<(), AllocError>
+    ensures { OnOk result (out.new.items ≡ out.old.items
+        ++ answer_line action.entry.number answer) }
+{
+    out.extend_from_slice(action.digits)?;
+    out.extend_from_slice(b" ")?;
+    put_answer(out, answer)?;
+    out.extend_from_slice(b"\n")
+}
+
+fn packet(sent: &[Bytes], k: u64) -> &[u8]
+    ensures { result.now ≡ packet_of sent.now k }
+{
+    match sent.get(k as usize) {
+        Some(bytes) => bytes.as_slice(),
+        None => &[],
+    }
+}
+
+#[tactic(auto, unfolding(crate::specs::Show::sent_line))]
+fn put_sent_line(
+    out: &mut Vec<u8>,
+    sent: &[Bytes],
+    action: Spelled,
+    k: u64,
+) -> Result<(), AllocError>
+    ensures { OnOk result (out.new.items ≡ out.old.items
+        ++ sent_line sent.now action.entry.number k) }
+{
+    out.extend_from_slice(action.digits)?;
+    out.extend_from_slice(b" sent ")?;
+    put_number(out, k)?;
+    out.extend_from_slice(b" ")?;
+    put_hex(out, packet(sent, k))?;
+    out.extend_from_slice(b"\n")
+}
+
+/// Appends a number and a space.
+#[tactic(auto, unfolding(crate::specs::Show::spaced))]
+fn put_spaced(out: &mut Vec<u8>, n: u64) -> Result<(), AllocError>
+    ensures { OnOk result (out.new.items ≡ out.old.items ++ spaced n) }
+{
+    put_number(out, n)?;
+    out.extend_from_slice(b" ")
+}
+
+#[tactic(auto, unfolding(crate::specs::Show::texts_text))]
+fn put_texts(out: &mut Vec<u8>, name: &[u8], payload: &[u8]) -> Result<(), AllocError>
+    ensures { OnOk result (out.new.items ≡ out.old.items ++ texts_text name.now payload.now) }
+{
+    put_hex(out, name)?;
+    out.extend_from_slice(b" ")?;
+    put_hex(out, payload)
+}
+
+#[tactic(auto, unfolding(crate::specs::Show::event_tail))]
+fn put_event_tail(out: &mut Vec<u8>, event: &EventLine) -> Result<(), AllocError>
+    ensures { OnOk result (out.new.items ≡ out.old.items ++ event_tail event.now) }
+{
+    put_texts(out, event.name.as_slice(), event.payload.as_slice())?;
+    out.extend_from_slice(b" ")?;
+    out.extend_from_slice(flag(event.coalesce))
+}
+
+#[tactic(auto, unfolding(crate::specs::Show::event_line))]
+fn put_event_line(out: &mut Vec<u8>, action: Spelled, event: &EventLine) -> Result<(), AllocError>
+    ensures { OnOk result (out.new.items ≡ out.old.items
+        ++ event_line action.entry.number event.now) }
+{
+    out.extend_from_slice(action.digits)?;
+    out.extend_from_slice(b" event ")?;
+    put_spaced(out, event.agent)?;
+    put_spaced(out, event.time.get())?;
+    put_event_tail(out, event)?;
+    out.extend_from_slice(b"\n")
+}
+
+#[tactic(auto, unfolding(crate::specs::Show::identity_text))]
+fn put_identity(out: &mut Vec<u8>, query: &HandedLine) -> Result<(), AllocError>
+    ensures { OnOk result (out.new.items ≡ out.old.items ++ identity_text query.now) }
+{
+    put_spaced(out, query.agent)?;
+    put_spaced(out, query.index)?;
+    put_spaced(out, query.time.get())?;
+    put_spaced(out, u64::from(query.id))
+}
+
+#[tactic(auto, unfolding(crate::specs::Show::handed_line))]
+fn put_handed_line(out: &mut Vec<u8>, action: Spelled, query: &HandedLine) -> Result<(), AllocError>
+    ensures { OnOk result (out.new.items ≡ out.old.items
+        ++ handed_line action.entry.number query.now) }
+{
+    out.extend_from_slice(action.digits)?;
+    out.extend_from_slice(b" handed ")?;
+    put_identity(out, query)?;
+    put_texts(out, query.name.as_slice(), query.payload.as_slice())?;
+    out.extend_from_slice(b"\n")
+}
+
+#[inline(always)]
+fn put_sent_lines(
+    out: &mut Vec<u8>,
+    sent: &[Bytes],
+    action: Spelled,
+    packets: &[u64],
+) -> Result<(), AllocError>
+    ensures { OnOk result (out.new.items ≡ out.old.items
+        ++ flat_map (sent_line sent.now action.entry.number) packets.now) }
+{
+    for k in packets {
+        put_sent_line(out, sent, action, *k)?;
+    }
+    Ok(())
+}
+
+#[inline(always)]
+fn put_event_lines(
+    out: &mut Vec<u8>,
+    action: Spelled,
+    events: &[EventLine],
+) -> Result<(), AllocError>
+    ensures { OnOk result (out.new.items ≡ out.old.items
+        ++ flat_map (event_line action.entry.number) events.now) }
+{
+    for event in events {
+        put_event_line(out, action, event)?;
+    }
+    Ok(())
+}
+
+#[inline(always)]
+fn put_handed(
+    out: &mut Vec<u8>,
+    action: Spelled,
+    handed: &Option<Boxed<HandedLine>>,
+) -> Result<(), AllocError>
+    ensures { OnOk result (out.new.items ≡ out.old.items
+        ++ flat_map (handed_line action.entry.number) (option_to_list handed.now)) }
+{
+    match handed {
+        Some(query) => put_handed_line(out, action, query.get()),
+        None => Ok(()),
+    }
+}
+
+/// Appends the lines of an action of this number, where these packets were sent. After an `AllocError`, which comes
+/// where there is no memory for them, `out` may have a front of them.
+#[tactic(auto, unfolding(crate::specs::Show::action_text))]
+#[inline(always)]
+pub fn put_action(
+    out: &mut Vec<u8>,
+    sent: &[Bytes],
+    number: u64,
+    line: &Line,
+) -> Result<(), AllocError>
+    ensures { OnOk result (out.new.items ≡ out.old.items ++ action_text sent.now number line.now) }
+{
+    let mut buffer = Buffer::new();
+    let action = Spelled {
+        number,
+        digits: buffer.format(number).as_bytes(),
+    };
+    put_answer_line(out, action, line.answer)?;
+    put_sent_lines(out, sent, action, line.sent.as_slice())?;
+    put_event_lines(out, action, line.events.as_slice())?;
+    put_handed(out, action, &line.handed)
+}
+
+/// The text of a trace: the lines of its actions, which are counted from 1.
+///
+/// An action has a line for its answer, one for each packet that it sent, one for each event that it handed out, and
+/// one for the query that it handed out. Each begins with the action's number. Bytes are in lower case hex, `-` for
+/// none. It is an `AllocError` only where there is no memory for the text.
+pub fn show_trace(alloc: Global, trace: &Trace) -> Result<Vec<u8>, AllocError>
+    ensures { IfOk result (λ text. text.items ≡ trace_text (outcome_of trace.now)) }
+{
+    let mut out = Vec::new(alloc);
+    let mut number: u64 = 0;
+    for line in trace.lines.as_slice() {
+        number += 1;
+        put_action(&mut out, trace.sent.as_slice(), number, line)?;
+    }
+    Ok(out)
+}

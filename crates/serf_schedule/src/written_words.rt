@@ -1,0 +1,119 @@
+//! Words of a line.
+
+ghost use Rattle.std.specs.Prelude.{◌≡◌, ◌++◌, ◌∷◌, OnOk, codes, map};
+ghost use Rattle.serf_text.specs.TextParts.{hex_text};
+ghost use Rattle.serf_schedule.specs.ScheduleText.{flags_of, join_word, line_text, mode_word, sink_call_word, spaced};
+ghost use Rattle.serf_schedule.specs.Words.{command_text, word_behind, word_text};
+
+use serf_agent::QueryParams;
+use serf_model::SinkCall;
+use serf_text::{put_hex, put_number, put_signed};
+use serf_wire::Bytes;
+use std::alloc::AllocError;
+
+/// A word of a line, behind its command.
+#[derive(Clone, Copy)]
+pub enum Word<'a> {
+    /// A number in decimal.
+    Number(u64),
+    /// A signed number in decimal.
+    Signed(i64),
+    /// Bytes in lower case hex, or a dash for none.
+    Hex(&'a [u8]),
+    /// Just this text.
+    Plain(&'a [u8]),
+}
+
+/// Appends a space and a word.
+fn put_word(out: &mut Vec<u8>, word: Word) -> Result<(), AllocError>
+    ensures { OnOk result (out.new.items ≡ out.old.items ++ word_behind word.entry) }
+{
+    out.extend_from_slice(b" ")?;
+    match word {
+        Word::Number(n) => put_number(out, n),
+        Word::Signed(n) => put_signed(out, n),
+        Word::Hex(bytes) => put_hex(out, bytes),
+        Word::Plain(text) => out.extend_from_slice(text),
+    }
+}
+
+/// Appends a command and its words, with a space before each.
+fn put_command(out: &mut Vec<u8>, command: &[u8], words: &[Word]) -> Result<(), AllocError>
+    ensures { OnOk result (out.new.items ≡ out.old.items ++ command_text command.now words.now) }
+{
+    out.extend_from_slice(command)?;
+    for word in words {
+        put_word(out, *word)?;
+    }
+    Ok(())
+}
+
+/// Appends a line of a command and its words.
+pub fn put_line(out: &mut Vec<u8>, command: &[u8], words: &[Word]) -> Result<(), AllocError>
+    ensures { OnOk result (out.new.items ≡ out.old.items
+        ++ (command_text command.now words.now ++ codes "\n")) }
+{
+    put_command(out, command, words)?;
+    out.extend_from_slice(b"\n")
+}
+
+/// Appends byte lists in hex, with a space before each.
+fn put_hex_words(out: &mut Vec<u8>, lists: &[Bytes]) -> Result<(), AllocError>
+    ensures { OnOk result (out.new.items ≡ out.old.items ++ spaced (map hex_text lists.now)) }
+{
+    for list in lists {
+        put_word(out, Word::Hex(list.as_slice()))?;
+    }
+    Ok(())
+}
+
+/// Appends a line of a command, its words, and further words in hex.
+#[tactic(auto, using(crate::proofs::LineLemmas::whole_line))]
+pub(crate) fn put_long_line(
+    out: &mut Vec<u8>,
+    command: &[u8],
+    words: &[Word],
+    more: &[Bytes],
+) -> Result<(), AllocError>
+    ensures { OnOk result (out.new.items ≡ out.old.items
+        ++ line_text (command.now ∷ (map word_text words.now ++ map hex_text more.now))) }
+{
+    put_command(out, command, words)?;
+    put_hex_words(out, more)?;
+    out.extend_from_slice(b"\n")
+}
+
+/// Whether an agent ignores old events at a join.
+pub(crate) fn mode(ignore_old: bool) -> &'static [u8]
+    ensures { result.now ≡ mode_word ignore_old }
+{
+    if ignore_old { b"ignore" } else { b"keep" }
+}
+
+/// Whether a merge is a join.
+pub(crate) fn join(join: bool) -> &'static [u8]
+    ensures { result.now ≡ join_word join }
+{
+    if join { b"join" } else { b"sync" }
+}
+
+/// The name of a sink's call.
+pub(crate) fn sink_call(call: SinkCall) -> &'static [u8]
+    ensures { result.now ≡ sink_call_word call }
+{
+    match call {
+        SinkCall::Append => b"append",
+        SinkCall::Flush => b"flush",
+        SinkCall::ReplaceOld => b"replace-old",
+        SinkCall::ReplaceNew => b"replace-new",
+    }
+}
+
+/// The flags of a query: 1 asks for acks, and 2 for no broadcast.
+pub(crate) fn flags(params: &QueryParams) -> u64
+    ensures { result ≡ flags_of params.now }
+{
+    let ack = if params.want_ack { 1 } else { 0 };
+    let no_broadcast = if params.no_broadcast { 2 } else { 0 };
+    ack + no_broadcast
+}

@@ -1,9 +1,0 @@
-use Rattle.serf_schedule_text.proofs.CommentsSkipped.{comments-skipped}
-use Rattle.serf_schedule_text.proofs.PlainWords.{number-word}
-use Rattle.serf_schedule_text.proofs.laws.comments_skipped.Goals as goal
-
-pub returns-clause-skipped : goal.returns-clause-skipped
-returns-clause-skipped c = comments-skipped
-
-pub returns-clause-numbers : goal.returns-clause-numbers
-returns-clause-numbers c = number-word

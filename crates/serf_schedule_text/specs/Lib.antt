@@ -1,4 +1,0 @@
-pub mod Comments
-pub mod Sayable
-pub mod ScheduleText
-pub mod Words

@@ -1,3 +1,0 @@
-pub mod TallyLaws
-pub mod KeyLaws
-pub mod LineLaws

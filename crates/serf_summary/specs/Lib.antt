@@ -1,3 +1,0 @@
-pub mod Tally
-pub mod Notes
-pub mod Summaries

@@ -1,0 +1,6 @@
+pub mod CutLemmas
+pub mod LineLaws
+pub mod Names
+pub mod NumberLemmas
+pub mod SlotLemmas
+pub mod StreamLaws

@@ -1,0 +1,114 @@
+-- Lines that are cut, and answered, one after another.
+use Rattle.std.proofs.Common.{◌≡◌, ℕ, ◌+◌, ◌==◌, ◌++◌, ◌∙◌, List, [], ◌∷◌, Bool, true, false, cond, refl, sym, ap, append_assoc, append-nil, length, length-append, min, arith}
+use Rattle.std.specs.Prelude.{Result, Ok, Err}
+use Rattle.std.specs.List.{slice_split, onto_first}
+use Rattle.serf_text.specs.Lines.{joined, lines_of, number_behind, text_behind}
+
+-- ---- texts
+
+-- two texts that were joined
+record AreJoined {F : Type 0} (r s : Result (List ℕ) F) (all : List ℕ) : Type 0 where
+  pub first : List ℕ
+  pub second : List ℕ
+  pub first_is : r ≡ Ok first
+  pub second_is : s ≡ Ok second
+  pub all_is : first ++ second ≡ all
+
+are-joined : {F : Type 0} (r s : Result (List ℕ) F) (all : List ℕ) → joined r s ≡ Ok all → AreJoined r s all
+are-joined (Ok a) (Ok b) all h = record { first = a; second = b; first_is = refl; second_is = refl; all_is = cc }
+are-joined (Ok a) (Err e) all h = absurd (cc)
+are-joined (Err e) s all h = absurd (cc)
+
+-- one more line
+pub text-push : {F : Type 0} (answer : List (List ℕ) → List ℕ → Result (List ℕ) F) (before lines : List (List ℕ)) (line all text : List ℕ)
+    → text_behind answer before lines ≡ Ok all → answer (before ++ lines) line ≡ Ok text → text_behind answer before (lines ++ line ∷ []) ≡ Ok (all ++ text)
+text-push answer before [] line all text h is =
+    let here : answer before line ≡ Ok text = ap (λ (ls : List (List ℕ)). answer ls line) (sym (append-nil before)) ∙ is in
+    let none : [] ≡ all = cc in
+    ap (λ r. joined r (Ok [])) here ∙ ap (λ (t : List ℕ). Ok t) (append-nil text ∙ ap (λ t. t ++ text) none)
+text-push answer before (l ∷ ls) line all text h is =
+    let parts = are-joined (answer before l) (text_behind answer (before ++ l ∷ []) ls) all h in
+    let here : answer ((before ++ l ∷ []) ++ ls) line ≡ Ok text = ap (λ (k : List (List ℕ)). answer k line) (append_assoc before (l ∷ []) ls) ∙ is in
+    let rest = text-push answer (before ++ l ∷ []) ls line parts.second text parts.second_is here in
+    ap (λ r. joined r (text_behind answer (before ++ l ∷ []) (ls ++ line ∷ []))) parts.first_is
+    ∙ ap (λ r. joined (Ok parts.first) r) rest
+    ∙ ap (λ (t : List ℕ). Ok t) (sym (append_assoc parts.first parts.second text) ∙ ap (λ t. t ++ text) parts.all_is)
+
+-- ---- numbers
+
+pub number-more : (lines : List (List ℕ)) (line : List ℕ) (n m : ℕ) → n ≡ number_behind lines → m ≡ min (n + 1) 18446744073709551615 → m ≡ number_behind (lines ++ line ∷ [])
+number-more lines line n m h is = let more = length-append lines (line ∷ []) in omega (arith, more)
+
+-- ---- cuts
+
+-- a front, and then the first of these lines
+abbrev pub onto : List ℕ → List (List ℕ) → List (List ℕ)
+onto held [] = held ∷ []
+onto held (line ∷ lines) = (held ++ line) ∷ lines
+
+-- lines of which the last goes on with the first of others
+glue : List (List ℕ) → List (List ℕ) → List (List ℕ)
+glue [] others = others
+glue (line ∷ []) others = onto line others
+glue (line ∷ next ∷ lines) others = line ∷ glue (next ∷ lines) others
+
+record HasLine (lines : List (List ℕ)) : Type 0 where
+  pub head : List ℕ
+  pub tail : List (List ℕ)
+  pub is : lines ≡ head ∷ tail
+
+onto_first-line : (x : ℕ) (lines : List (List ℕ)) → HasLine (onto_first x lines)
+onto_first-line x [] = record { head = x ∷ []; tail = []; is = refl }
+onto_first-line x (l ∷ ls) = record { head = x ∷ l; tail = ls; is = refl }
+
+cond-line : (b : Bool) (x : ℕ) (lines : List (List ℕ)) → HasLine (cond b ([] ∷ lines) (onto_first x lines))
+cond-line true x lines = record { head = []; tail = lines; is = refl }
+cond-line false x lines = onto_first-line x lines
+
+has-line : (text : List ℕ) → HasLine (lines_of text)
+has-line [] = record { head = []; tail = []; is = refl }
+has-line (x ∷ xs) = cond-line (x == 10) x (lines_of xs)
+
+pub onto-nothing : (text : List ℕ) → onto [] (lines_of text) ≡ lines_of text
+onto-nothing text = let h = has-line text in ap (onto []) h.is ∙ sym h.is
+
+glue-first : (x : ℕ) (l : List ℕ) (ls others : List (List ℕ)) → HasLine others → onto_first x (glue (l ∷ ls) others) ≡ glue ((x ∷ l) ∷ ls) others
+unfolding glue
+glue-first x l [] others h = ap (λ o. onto_first x (onto l o)) h.is ∙ ap (onto (x ∷ l)) (sym h.is)
+glue-first x l (n ∷ ls) others h = refl
+
+glue-line : (l : List ℕ) (ls others : List (List ℕ)) → HasLine ls → l ∷ glue ls others ≡ glue (l ∷ ls) others
+unfolding glue
+glue-line l ls others h = ap (λ k. l ∷ glue k others) h.is ∙ ap (λ k. glue (l ∷ k) others) (sym h.is)
+
+cut-more : (b : Bool) (x : ℕ) (ls others : List (List ℕ)) → HasLine ls → HasLine others
+    → cond b ([] ∷ glue ls others) (onto_first x (glue ls others)) ≡ glue (cond b ([] ∷ ls) (onto_first x ls)) others
+cut-more true x ls others h o = glue-line [] ls others h
+cut-more false x ls others h o =
+    ap (λ k. onto_first x (glue k others)) h.is ∙ glue-first x h.head h.tail others o ∙ ap (λ k. glue (onto_first x k) others) (sym h.is)
+
+cut-append : (xs ys : List ℕ) → lines_of (xs ++ ys) ≡ glue (lines_of xs) (lines_of ys)
+unfolding glue
+cut-append [] ys = sym (onto-nothing ys)
+cut-append (x ∷ xs) ys =
+    ap (λ ls. cond (x == 10) ([] ∷ ls) (onto_first x ls)) (cut-append xs ys) ∙ cut-more (x == 10) x (lines_of xs) (lines_of ys) (has-line xs) (has-line ys)
+
+glue-last : (lines : List (List ℕ)) (held : List ℕ) (others : List (List ℕ)) → glue (lines ++ held ∷ []) others ≡ lines ++ onto held others
+unfolding glue
+glue-last [] held others = refl
+glue-last (l ∷ []) held others = refl
+glue-last (l ∷ n ∷ ls) held others = ap (λ k. l ∷ k) (glue-last (n ∷ ls) held others)
+
+-- more of a text, of which the last line is not over
+pub lines-more : (bytes more : List ℕ) (lines : List (List ℕ)) (held : List ℕ) → lines_of bytes ≡ lines ++ held ∷ [] → lines_of (bytes ++ more) ≡ lines ++ onto held (lines_of more)
+lines-more bytes more lines held h = cut-append bytes more ∙ ap (λ ls. glue ls (lines_of more)) h ∙ glue-last lines held (lines_of more)
+
+-- the next line that is over
+pub next-line : (all lines : List (List ℕ)) (held line rest next new : List ℕ) → all ≡ lines ++ onto held (lines_of rest) → lines_of rest ≡ line ∷ lines_of next → new ≡ []
+    → all ≡ (lines ++ (held ++ line) ∷ []) ++ onto new (lines_of next)
+next-line all lines held line rest next new h parts is =
+    h ∙ ap (λ r. lines ++ onto held r) parts ∙ sym (append_assoc lines ((held ++ line) ∷ []) (lines_of next))
+    ∙ ap (λ k. (lines ++ (held ++ line) ∷ []) ++ k) (sym (onto-nothing next)) ∙ ap (λ n. (lines ++ (held ++ line) ∷ []) ++ onto n (lines_of next)) (sym is)
+
+pub this-line : (all lines more : List (List ℕ)) (held line rest : List ℕ) → all ≡ lines ++ onto held (lines_of rest) → lines_of rest ≡ line ∷ more → all ≡ lines ++ (held ++ line) ∷ more
+this-line all lines more held line rest h parts = h ∙ ap (λ r. lines ++ onto held r) parts

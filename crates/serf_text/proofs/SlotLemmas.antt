@@ -1,0 +1,10 @@
+-- A slot's lines.
+use Rattle.serf_text.proofs.Names.{ℕ, ◌<◌, length, arith, SlotContent, empty, held}
+use Rattle.serf_text.specs.TextParts.{with_number}
+use Rattle.serf_text.specs.MessageText.{slot_lines}
+
+-- they have a byte at least
+pub some_lines : (n : ℕ) (slot : SlotContent) → 0 < length (slot_lines n slot)
+unfolding slot_lines with_number
+some_lines n empty = omega arith
+some_lines n (held time events) = omega arith

@@ -1,0 +1,16 @@
+use Rattle.std.proofs.Common.{◌≡◌, ◌++◌, ℕ, List, length}
+use Rattle.std.specs.Prelude.{Option}
+use Rattle.serf_text.specs.Lines.{lines_of}
+use Rattle.serf_text.specs.Streams.{HasRead, Reached}
+use Rattle.serf_text.proofs.LineLaws.{onto}
+use Rattle.serf_text.proofs.stream.take_bytes.Given as goal
+
+-- the lines so far were done, and those that are left begin with what is held
+abbrev pub invariant-lines : goal.invariant-lines
+invariant-lines g l = (before : List ℕ) (first now : Option (List ℕ))
+    → HasRead g.J.LineJob.follows g.J.LineJob.answer l.fn.job l.fn.kept.held.items l.fn.kept.number l.fn.kept.waiting.items before first now
+    → (lines : List (List ℕ)) × (lines_of (before ++ l.bytes) ≡ lines ++ onto l.kept.held.items (lines_of l.rest))
+    × Reached g.J.LineJob.follows g.J.LineJob.answer l.job l.kept.number l.kept.waiting.items lines first now
+
+abbrev pub decreases-lines : goal.decreases-lines
+decreases-lines g l = length l.rest

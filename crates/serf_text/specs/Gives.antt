@@ -1,0 +1,31 @@
+-- What a reader of the code answers, against what a definition says.
+use Rattle.std.specs.Prelude.{◌≡◌, ℕ, Result, Ok, Err}
+use Rattle.serf_text.specs.declared.cause.Cause.{Cause}
+use Rattle.serf_text.specs.declared.cause.LineFault.{LineFault}
+use Rattle.serf_text.specs.declared.cause.LineFault.TheVariants.{Bad, OutOfMemory}
+
+-- the next step, where the first one found a value
+infixl 10 ◌>>=◌
+abbrev pub ◌>>=◌ : {A B : Type 0} → Result A Cause → (A → Result B Cause) → Result B Cause
+(Ok x) >>= f = f x
+(Err e) >>= f = Err e
+
+-- a line, counted from 1, and what is wrong with it
+pub record BadLine : Type 0 where
+  pub line : ℕ
+  pub cause : Cause
+
+-- the next step, where the line at this number is sound
+abbrev pub at_line : {A : Type 0} → ℕ → Result A Cause → (A → Result A BadLine) → Result A BadLine
+at_line number (Ok after) next = next after
+at_line number (Err cause) next = Err (record { line = number; cause = cause })
+
+-- a fault is the one that the definition says, unless memory ran out
+abbrev pub Fails : {Y : Type 0} → LineFault → Result Y Cause → Type 0
+Fails OutOfMemory said = Unit {0}
+Fails (Bad cause) said = said ≡ Err cause
+
+-- the result, seen by view, is what the definition says, unless memory ran out
+abbrev pub Gives : {X Y : Type 0} → (X → Y) → Result X LineFault → Result Y Cause → Type 0
+Gives view (Ok x) said = said ≡ Ok (view x)
+Gives view (Err e) said = Fails e said

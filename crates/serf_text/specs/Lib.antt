@@ -1,0 +1,10 @@
+pub mod CauseText
+pub mod ClocksText
+pub mod Gives
+pub mod Io
+pub mod Lines
+pub mod MessageText
+pub mod Streams
+pub mod TextParts
+pub mod WireText
+pub mod Words

@@ -1,0 +1,33 @@
+-- Lines, and the answers to them.
+use Rattle.std.specs.Prelude.{◌^◌, ◌-◌, ◌≡◌, ℕ, ◌+◌, ◌++◌, ◌==◌, min, List, [], ◌∷◌, length, Result, Ok, Err}
+use Rattle.std.specs.List.{slice_split}
+use Rattle.serf_text.specs.declared.stream_fault.StreamLineFault.{StreamLineFault}
+use Rattle.serf_text.specs.declared.stream_fault.StreamLineFault.TheVariants.{Bad, OutOfMemory}
+
+-- the most bytes of a line
+abbrev pub longest_line : ℕ
+longest_line = 16777216
+
+-- a text cut at its newlines
+abbrev pub lines_of : List ℕ → List (List ℕ)
+lines_of text = slice_split (λ b. b == 10) text
+
+-- the number of the line behind these, counted from 1; it stops at 2^64 - 1
+abbrev pub number_behind : List (List ℕ) → ℕ
+number_behind lines = min (length lines + 1) (2 ^ 64 - 1)
+
+-- a text and the rest, where both are there
+abbrev pub joined : {F : Type 0} → Result (List ℕ) F → Result (List ℕ) F → Result (List ℕ) F
+joined (Err fault) rest = Err fault
+joined (Ok text) (Err fault) = Err fault
+joined (Ok text) (Ok rest) = Ok (text ++ rest)
+
+-- the answers to lines that stand behind others, one after another, or the first fault
+abbrev pub text_behind : {F : Type 0} → (List (List ℕ) → List ℕ → Result (List ℕ) F) → List (List ℕ) → List (List ℕ) → Result (List ℕ) F
+text_behind answer before [] = Ok []
+text_behind answer before (line ∷ lines) = joined (answer before line) (text_behind answer (before ++ line ∷ []) lines)
+
+-- a fault is the one that the answer says, unless memory ran out
+abbrev pub IsSaid : {F : Type 0} → Result (List ℕ) F → StreamLineFault F → Type 0
+IsSaid said (Bad fault) = said ≡ Err fault
+IsSaid said OutOfMemory = Unit {0}

@@ -1,0 +1,59 @@
+//! What is wrong with a line of a schedule.
+
+ghost use Rattle.std.specs.Prelude.{Some};
+ghost use Rattle.serf_text.specs.CauseText.{cause_text};
+
+use std::alloc::AllocError;
+use std::fmt;
+
+/// What is wrong with a line, looked at in this order. It prints as its name, `BadWord` with the place of the word.
+#[derive(Clone, Copy, Debug, PartialEq, Eq)]
+pub enum Cause {
+    /// The first word is no command.
+    UnknownWord,
+    /// An agent line that comes after an action line.
+    LateAgent,
+    /// More or fewer words than the command has.
+    WordCount,
+    /// The word at this place, counting the command as 1, is not one that may stand there. It is the first such word.
+    BadWord(u64),
+    /// An agent whose name or numbers are out of range.
+    BadConfig,
+    /// An earlier agent has this name.
+    NameTwice,
+}
+
+impl fmt::Display for Cause {
+    ghost output = { λ cause. Some (cause_text cause) };
+
+    fn fmt<W: fmt::Write>(&self, f: &mut fmt::Formatter<W>) -> fmt::Result {
+        match *self {
+            Cause::UnknownWord => write!(f, "UnknownWord"),
+            Cause::LateAgent => write!(f, "LateAgent"),
+            Cause::WordCount => write!(f, "WordCount"),
+            Cause::BadWord(place) => write!(f, "BadWord {place}"),
+            Cause::BadConfig => write!(f, "BadConfig"),
+            Cause::NameTwice => write!(f, "NameTwice"),
+        }
+    }
+}
+
+/// Why a line is not read.
+#[derive(Clone, Copy, Debug, PartialEq, Eq)]
+pub enum LineFault {
+    /// It is not sound, for this cause.
+    Bad(Cause),
+    /// There was no memory for what it says.
+    OutOfMemory,
+}
+
+impl From<AllocError> for LineFault {
+    ghost use Rattle.std.specs.Prelude.{◌≡◌};
+    ghost use Rattle.serf_text.specs.declared.cause.LineFault.TheVariants.{OutOfMemory};
+
+    ghost from_gives = { λ _ e. e ≡ OutOfMemory };
+
+    fn from(_error: AllocError) -> LineFault {
+        LineFault::OutOfMemory
+    }
+}

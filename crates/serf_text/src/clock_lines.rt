@@ -1,0 +1,39 @@
+//! The text of a snapshot's clocks.
+ghost use Rattle.std.specs.Prelude.{◌≡◌, ◌++◌, OnOk, IfOk};
+ghost use Rattle.serf_text.specs.ClocksText.{clock_entries, clock_entry, clock_word};
+
+use crate::put::put_number_line;
+use serf_snap::{ClockKind, read_clocks};
+use std::alloc::{AllocError, Global};
+
+fn word(kind: ClockKind) -> &'static [u8]
+    ensures { result.now ≡ clock_word kind }
+{
+    match kind {
+        ClockKind::Member => b"clock",
+        ClockKind::Event => b"event-clock",
+        ClockKind::Query => b"query-clock",
+    }
+}
+
+#[tactic(auto, unfolding(crate::specs::ClocksText::clock_entry))]
+fn put_clock(out: &mut Vec<u8>, kind: ClockKind, time: u64) -> Result<(), AllocError>
+    ensures { OnOk result (out.new.items ≡ out.old.items ++ clock_entry kind time) }
+{
+    put_number_line(out, word(kind), time)
+}
+
+/// The clocks of a snapshot's text, a line each: `clock N`, `event-clock N`, `query-clock N`, with N the greatest
+/// value of the snapshot's lines of that kind, 0 where there is none.
+///
+/// It is an `AllocError` only where there is no memory for the lines.
+pub fn clocks_text(alloc: Global, text: &[u8]) -> Result<Vec<u8>, AllocError>
+    ensures { IfOk result (λ lines. lines.items ≡ clock_entries text.now) }
+{
+    let clocks = read_clocks(text);
+    let mut out = Vec::new(alloc);
+    put_clock(&mut out, ClockKind::Member, clocks.member_clock)?;
+    put_clock(&mut out, ClockKind::Event, clocks.event_clock)?;
+    put_clock(&mut out, ClockKind::Query, clocks.query_clock)?;
+    Ok(out)
+}

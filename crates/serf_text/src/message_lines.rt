@@ -1,0 +1,372 @@
+//! The text of a packet's message.
+ghost use Rattle.std.specs.Prelude.{◌≡◌, ◌++◌, OnOk, IfOk, Ok, Err};
+ghost use Rattle.std.specs.List.{flat_map};
+ghost use Rattle.serf_wire.specs.declared.fault.WireFault.{WireFault as Fault};
+ghost use Rattle.serf_wire.specs.Lists.{events_left, event_of_view, slot_of_view, slots_left, status_left, status_of, texts_left};
+ghost use Rattle.serf_wire.specs.Message.{Message as Meaning, message_of, response_of, user_event_of};
+ghost use Rattle.serf_wire.specs.Spells.{IsFirstFault, Spells};
+ghost use Rattle.serf_wire.specs.Decoded.{decoded};
+ghost use Rattle.serf_text.specs.declared.wire_words.WireWords.{WireWords as Words};
+ghost use Rattle.serf_text.specs.declared.message_lines.DecodeTextFault.TheVariants.{Refused};
+ghost use Rattle.serf_text.specs.TextParts.{hex_line};
+ghost use Rattle.serf_text.specs.MessageText.{identity_lines, asker_lines, relay_line, limit_lines, response_name, handling_lines, answer_lines, content_lines, status_line, member_lines, event_line, slot_lines, slots_lines, buffer_lines, push_pull_head, query_head, message_text, text_or_fault};
+
+use crate::put::{
+    put_flag_line, put_hex_line, put_number_line, put_signed_line, put_with_hex, put_with_number,
+    put_with_numbers,
+};
+use crate::wire_words::WireWords;
+use serf_wire::{
+    EventView, EventViews, Message, SlotView, SlotViews, StatusTime, StatusTimes, Texts, decode,
+};
+use std::alloc::{AllocError, Global};
+use thiserror::Error;
+
+/// Why a packet has no text.
+#[derive(Clone, Copy, Debug, PartialEq, Eq, Error)]
+pub enum DecodeTextFault {
+    /// It is no message, by this fault.
+    #[error("the packet is no message: {0}")]
+    Refused(WireWords),
+    /// There is no memory for the text.
+    #[error("out of memory")]
+    OutOfMemory,
+}
+
+#[tactic(auto, unfolding(crate::specs::MessageText::identity_lines))]
+fn put_identity(out: &mut Vec<u8>, time: u64, id: u32) -> Result<(), AllocError>
+    ensures { OnOk result (out.new.items ≡ out.old.items ++ identity_lines time id) }
+{
+    put_number_line(out, b"LTime", time)?;
+    put_number_line(out, b"ID", u64::from(id))
+}
+
+#[tactic(auto, unfolding(crate::specs::MessageText::asker_lines))]
+fn put_asker(out: &mut Vec<u8>, addr: &[u8], port: u16, source: &[u8]) -> Result<(), AllocError>
+    ensures { OnOk result (out.new.items ≡ out.old.items ++ asker_lines addr.now port source.now) }
+{
+    put_hex_line(out, b"Addr", addr)?;
+    put_number_line(out, b"Port", u64::from(port))?;
+    put_hex_line(out, b"SourceNode", source)
+}
+
+#[tactic(auto, unfolding(crate::specs::MessageText::relay_line))]
+fn put_relay(out: &mut Vec<u8>, relay_factor: u8) -> Result<(), AllocError>
+    ensures { OnOk result (out.new.items ≡ out.old.items ++ relay_line relay_factor) }
+{
+    put_number_line(out, b"RelayFactor", u64::from(relay_factor))
+}
+
+#[tactic(auto, unfolding(crate::specs::MessageText::limit_lines))]
+fn put_limits(out: &mut Vec<u8>, relay_factor: u8, timeout: i64) -> Result<(), AllocError>
+    ensures { OnOk result (out.new.items ≡ out.old.items ++ limit_lines relay_factor timeout) }
+{
+    put_relay(out, relay_factor)?;
+    put_signed_line(out, b"Timeout", timeout)
+}
+
+#[tactic(auto, unfolding(crate::specs::MessageText::handling_lines))]
+fn put_handling(
+    out: &mut Vec<u8>,
+    flags: u32,
+    relay_factor: u8,
+    timeout: i64,
+) -> Result<(), AllocError>
+    ensures { OnOk result (out.new.items ≡ out.old.items
+        ++ handling_lines flags relay_factor timeout) }
+{
+    put_number_line(out, b"Flags", u64::from(flags))?;
+    put_limits(out, relay_factor, timeout)
+}
+
+#[tactic(auto, unfolding(crate::specs::MessageText::answer_lines))]
+fn put_answer(out: &mut Vec<u8>, from: &[u8], flags: u32, payload: &[u8]) -> Result<(), AllocError>
+    ensures { OnOk result (out.new.items ≡ out.old.items
+        ++ answer_lines from.now flags payload.now) }
+{
+    put_hex_line(out, b"From", from)?;
+    put_number_line(out, b"Flags", u64::from(flags))?;
+    put_hex_line(out, b"Payload", payload)
+}
+
+#[tactic(auto, unfolding(crate::specs::MessageText::content_lines))]
+fn put_content(out: &mut Vec<u8>, name: &[u8], payload: &[u8]) -> Result<(), AllocError>
+    ensures { OnOk result (out.new.items ≡ out.old.items ++ content_lines name.now payload.now) }
+{
+    put_hex_line(out, b"Name", name)?;
+    put_hex_line(out, b"Payload", payload)
+}
+
+fn put_hex_lines(out: &mut Vec<u8>, name: &[u8], texts: Texts) -> Result<(), AllocError>
+    ensures { OnOk result (out.new.items ≡ out.old.items
+        ++ flat_map (hex_line name.now) (texts_left texts.entry)) }
+{
+    for text in texts {
+        put_hex_line(out, name, text)?;
+    }
+    Ok(())
+}
+
+#[tactic(auto, unfolding(crate::specs::MessageText::status_line, crate::specs::TextParts::with_number))]
+fn put_status_line(out: &mut Vec<u8>, status: StatusTime) -> Result<(), AllocError>
+    ensures { OnOk result (out.new.items ≡ out.old.items ++ status_line (status_of status.entry)) }
+{
+    put_with_hex(out, b"status", status.name)?;
+    put_with_number(out, b"", status.time)?;
+    out.extend_from_slice(b"\n")
+}
+
+fn put_status_lines(out: &mut Vec<u8>, status: StatusTimes) -> Result<(), AllocError>
+    ensures { OnOk result (out.new.items ≡ out.old.items
+        ++ flat_map status_line (status_left status.entry)) }
+{
+    for entry in status {
+        put_status_line(out, entry)?;
+    }
+    Ok(())
+}
+
+/// Appends the lines of a push/pull from its first to its event clock: the member clock, the members' status times, and
+/// those that left. After an `AllocError`, which comes where there is no memory for them, `out` may have a front of them.
+#[tactic(auto, unfolding(crate::specs::MessageText::member_lines))]
+pub fn put_members(
+    out: &mut Vec<u8>,
+    time: u64,
+    status: StatusTimes,
+    left: Texts,
+) -> Result<(), AllocError>
+    ensures { OnOk result (out.new.items ≡ out.old.items
+        ++ member_lines time (status_left status.entry) (texts_left left.entry)) }
+{
+    put_number_line(out, b"LTime", time)?;
+    put_status_lines(out, status)?;
+    put_hex_lines(out, b"left", left)
+}
+
+#[tactic(auto, unfolding(crate::specs::MessageText::event_line, crate::specs::TextParts::with_hex))]
+fn put_event_line(out: &mut Vec<u8>, event: EventView) -> Result<(), AllocError>
+    ensures { OnOk result (out.new.items ≡ out.old.items
+        ++ event_line (event_of_view event.entry)) }
+{
+    put_with_hex(out, b"event", event.name)?;
+    put_with_hex(out, b"", event.payload)?;
+    out.extend_from_slice(b"\n")
+}
+
+fn put_event_lines(out: &mut Vec<u8>, events: EventViews) -> Result<(), AllocError>
+    ensures { OnOk result (out.new.items ≡ out.old.items
+        ++ flat_map event_line (events_left events.entry)) }
+{
+    for event in events {
+        put_event_line(out, event)?;
+    }
+    Ok(())
+}
+
+/// Appends a slot of a push/pull: this number of it, and then `nil`, or its time and, on lines of their own, its events.
+/// After an `AllocError`, which comes where there is no memory for them, `out` may have a front of them.
+#[tactic(auto, unfolding(crate::specs::MessageText::slot_lines))]
+pub fn put_slot(out: &mut Vec<u8>, number: u64, slot: &SlotView) -> Result<(), AllocError>
+    ensures { OnOk result (out.new.items ≡ out.old.items
+        ++ slot_lines number (slot_of_view slot.now)) }
+{
+    match slot {
+        SlotView::Empty => {
+            put_with_number(out, b"slot", number)?;
+            out.extend_from_slice(b" nil\n")
+        }
+        SlotView::Held(time, events) => {
+            put_with_numbers(out, b"slot", number, time.get())?;
+            out.extend_from_slice(b"\n")?;
+            put_event_lines(out, *events)
+        }
+    }
+}
+
+fn put_slots(out: &mut Vec<u8>, slots: SlotViews) -> Result<(), AllocError>
+    ensures { OnOk result (out.new.items ≡ out.old.items
+        ++ slots_lines 0 (slots_left slots.entry)) }
+{
+    let mut number: u64 = 0;
+    for slot in slots {
+        put_slot(out, number, &slot)?;
+        number += 1;
+    }
+    Ok(())
+}
+
+#[tactic(auto, unfolding(crate::specs::MessageText::buffer_lines))]
+fn put_buffer(out: &mut Vec<u8>, time: u64, slots: SlotViews) -> Result<(), AllocError>
+    ensures { OnOk result (out.new.items ≡ out.old.items
+        ++ buffer_lines time (slots_left slots.entry)) }
+{
+    put_number_line(out, b"EventLTime", time)?;
+    put_slots(out, slots)
+}
+
+#[tactic(auto, unfolding(crate::specs::MessageText::response_name))]
+fn put_response_name(out: &mut Vec<u8>) -> Result<(), AllocError>
+    ensures { OnOk result (out.new.items ≡ out.old.items ++ response_name) }
+{
+    out.extend_from_slice(b"queryResponse\n")
+}
+
+fn put_user_event(
+    out: &mut Vec<u8>,
+    time: u64,
+    name: &[u8],
+    payload: &[u8],
+    coalesce: bool,
+) -> Result<(), AllocError>
+    ensures { OnOk result (out.new.items ≡ out.old.items
+        ++ message_text (user_event_of time name.now payload.now coalesce)) }
+{
+    out.extend_from_slice(b"userEvent\n")?;
+    put_number_line(out, b"LTime", time)?;
+    put_content(out, name, payload)?;
+    put_flag_line(out, b"CC", coalesce)
+}
+
+/// Appends the lines of a query that come before its filters.
+#[tactic(auto, unfolding(crate::specs::MessageText::query_head))]
+fn put_query_head(
+    out: &mut Vec<u8>,
+    time: u64,
+    id: u32,
+    addr: &[u8],
+    port: u16,
+    source: &[u8],
+) -> Result<(), AllocError>
+    ensures { OnOk result (out.new.items ≡ out.old.items
+        ++ query_head time id addr.now port source.now) }
+{
+    out.extend_from_slice(b"query\n")?;
+    put_identity(out, time, id)?;
+    put_asker(out, addr, port, source)
+}
+
+fn put_response(
+    out: &mut Vec<u8>,
+    time: u64,
+    id: u32,
+    from: &[u8],
+    flags: u32,
+    payload: &[u8],
+) -> Result<(), AllocError>
+    ensures { OnOk result (out.new.items ≡ out.old.items
+        ++ message_text (response_of time id from.now flags payload.now)) }
+{
+    put_response_name(out)?;
+    put_identity(out, time, id)?;
+    put_answer(out, from, flags, payload)
+}
+
+/// Appends the lines of a push/pull that come before its last clock.
+#[tactic(auto, unfolding(crate::specs::MessageText::push_pull_head))]
+fn put_push_pull_head(
+    out: &mut Vec<u8>,
+    member_clock: u64,
+    status: StatusTimes,
+    left: Texts,
+    event_clock: u64,
+    slots: SlotViews,
+) -> Result<(), AllocError>
+    ensures { OnOk result (out.new.items ≡ out.old.items ++ push_pull_head member_clock
+        (status_left status.entry) (texts_left left.entry) event_clock (slots_left slots.entry)) }
+{
+    out.extend_from_slice(b"pushPull\n")?;
+    put_members(out, member_clock, status, left)?;
+    put_buffer(out, event_clock, slots)
+}
+
+/// Appends the lines of a message. After an `AllocError`, which comes where there is no memory for them, `out` may have
+/// a front of them.
+pub fn put_message(out: &mut Vec<u8>, message: &Message) -> Result<(), AllocError>
+    ensures { OnOk result (out.new.items ≡ out.old.items ++ message_text (message_of message.now)) }
+{
+    match message {
+        Message::UserEvent {
+            time,
+            name,
+            payload,
+            coalesce,
+        } => put_user_event(out, time.get(), name, payload, *coalesce),
+        Message::Query {
+            time,
+            id,
+            addr,
+            port,
+            source,
+            filters,
+            flags,
+            relay_factor,
+            timeout,
+            name,
+            payload,
+        } => {
+            put_query_head(out, time.get(), *id, addr, *port, source)?;
+            put_hex_lines(out, b"filter", *filters)?;
+            put_handling(out, *flags, *relay_factor, *timeout)?;
+            put_content(out, name, payload)
+        }
+        Message::QueryResponse {
+            time,
+            id,
+            from,
+            flags,
+            payload,
+        } => put_response(out, *time, *id, from, *flags, payload),
+        Message::PushPull {
+            member_clock,
+            status,
+            left,
+            event_clock,
+            slots,
+            query_clock,
+        } => {
+            put_push_pull_head(out, *member_clock, *status, *left, *event_clock, *slots)?;
+            put_number_line(out, b"QueryLTime", *query_clock)
+        }
+        Message::Foreign(kind) => put_number_line(out, b"foreign", u64::from(*kind)),
+    }
+}
+
+fn message_text_of(alloc: Global, message: &Message) -> Result<Vec<u8>, AllocError>
+    ensures { IfOk result (λ text. text.items ≡ message_text (message_of message.now)) }
+{
+    let mut out = Vec::new(alloc);
+    put_message(&mut out, message)?;
+    Ok(out)
+}
+
+/// The text of a packet's message: what Serf calls its type, and then a line for each field, by Serf's names.
+///
+/// Texts and bytes are in lower case hex, `-` for none; numbers are in decimal, a timeout with its sign. Each filter
+/// has a line of its own. The slots of a push/pull are numbered from 0, and each held slot is followed by its
+/// events. A type that is not read is `foreign` and its number.
+///
+/// `Refused` comes just where the packet spells no message, with its first fault, and takes no memory.
+/// `OutOfMemory` comes only where the packet spells one.
+pub fn decode_text(alloc: Global, packet: &[u8]) -> Result<Vec<u8>, DecodeTextFault>
+    // A packet that spells a message has that message's text.
+    ensures text { (m : Meaning) → Spells m packet.now
+        → IfOk result (λ text. text.items ≡ message_text m) }
+    // A packet that spells none is refused with its first fault,
+    ensures refused { (f : Fault) → IsFirstFault packet.now f
+        → result ≡ Err (Refused (record { fault = f })) }
+    // and no other is.
+    ensures only_refused { (w : Words) → result ≡ Err (Refused w)
+        → IsFirstFault packet.now w.fault }
+    // The same by what the packet decodes to.
+    ensures exact { IfOk result (λ text. text_or_fault (decoded packet.now) ≡ Ok text.items) }
+    ensures exact_refused { (f : Fault) → decoded packet.now ≡ Err f
+        → result ≡ Err (Refused (record { fault = f })) }
+    ensures exact_only { (w : Words) → result ≡ Err (Refused w) → decoded packet.now ≡ Err w.fault }
+{
+    match decode(packet) {
+        Ok(message) => {
+            message_text_of(alloc, &message).map_err(|_| DecodeTextFault::OutOfMemory)
+        }
+        Err(fault) => Err(DecodeTextFault::Refused(WireWords::new(fault))),
+    }
+}

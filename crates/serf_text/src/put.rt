@@ -1,0 +1,135 @@
+//! Parts of printed lines.
+ghost use Rattle.std.specs.Prelude.{◌≡◌, ◌+◌, ◌*◌, ◌++◌, OnOk, decimal, take, vec_len};
+ghost use Rattle.std.specs.Fmt.{signed_decimal};
+ghost use Rattle.serf_text.specs.TextParts.{flag_line, flag_text, hex_line, hex_text, number_line, signed_line, with_hex, with_number};
+
+use itoa::Buffer;
+use std::alloc::AllocError;
+
+/// Appends a number in decimal, or is an `AllocError` where there is no memory for it.
+pub fn put_number(out: &mut Vec<u8>, n: u64) -> Result<(), AllocError>
+    ensures { OnOk result (out.new.items ≡ out.old.items ++ decimal n) }
+{
+    let mut buffer = Buffer::new();
+    out.extend_from_slice(buffer.format(n).as_bytes())
+}
+
+/// Appends a signed number in decimal, or is an `AllocError` where there is no memory for it.
+pub fn put_signed(out: &mut Vec<u8>, n: i64) -> Result<(), AllocError>
+    ensures { OnOk result (out.new.items ≡ out.old.items ++ signed_decimal n) }
+{
+    let mut buffer = Buffer::new();
+    out.extend_from_slice(buffer.format(n).as_bytes())
+}
+
+/// Makes room for two hex digits a byte.
+fn grow(out: &mut Vec<u8>, bytes: usize) -> Result<(), AllocError>
+    ensures front { OnOk result (take (vec_len out.old) out.new.items ≡ out.old.items) }
+    ensures len { OnOk result (vec_len out.new ≡ vec_len out.old + 2 * bytes) }
+{
+    let len = out.len();
+    out.resize(len.saturating_add(bytes.saturating_mul(2)), 0)
+}
+
+/// Appends bytes in lower case hex, or a dash for none. An `AllocError` comes only where there is no memory for
+/// the text.
+#[tactic(auto, unfolding(crate::specs::TextParts::hex_text))]
+pub fn put_hex(out: &mut Vec<u8>, bytes: &[u8]) -> Result<(), AllocError>
+    ensures { OnOk result (out.new.items ≡ out.old.items ++ hex_text bytes.now) }
+{
+    if bytes.is_empty() {
+        return out.extend_from_slice(b"-");
+    }
+    let from = out.len();
+    grow(out, bytes.len())?;
+    match hex::encode_to_slice(bytes, &mut out[from..]) {
+        Ok(()) => Ok(()),
+        Err(_) => unreachable!(),
+    }
+}
+
+/// `1` for true and `0` for false. Takes no memory.
+pub fn flag(flag: bool) -> &'static [u8]
+    ensures { result.now ≡ flag_text flag }
+{
+    if flag { b"1" } else { b"0" }
+}
+
+/// Appends a text, a space and a number in decimal. After an `AllocError`, which comes where there is no memory for
+/// them, `out` may have a front of them.
+#[tactic(auto, unfolding(crate::specs::TextParts::with_number))]
+pub fn put_with_number(out: &mut Vec<u8>, text: &[u8], n: u64) -> Result<(), AllocError>
+    ensures { OnOk result (out.new.items ≡ out.old.items ++ with_number text.now n) }
+{
+    out.extend_from_slice(text)?;
+    out.extend_from_slice(b" ")?;
+    put_number(out, n)
+}
+
+/// Appends a text and two numbers, with a space before each.
+#[tactic(auto, unfolding(crate::specs::TextParts::with_number))]
+pub(crate) fn put_with_numbers(
+    out: &mut Vec<u8>,
+    text: &[u8],
+    m: u64,
+    n: u64,
+) -> Result<(), AllocError>
+    ensures { OnOk result (out.new.items ≡ out.old.items
+        ++ with_number (with_number text.now m) n) }
+{
+    put_with_number(out, text, m)?;
+    out.extend_from_slice(b" ")?;
+    put_number(out, n)
+}
+
+/// Appends a text, a space and bytes in hex. After an `AllocError`, which comes where there is no memory for them,
+/// `out` may have a front of them.
+#[tactic(auto, unfolding(crate::specs::TextParts::with_hex))]
+pub fn put_with_hex(out: &mut Vec<u8>, text: &[u8], bytes: &[u8]) -> Result<(), AllocError>
+    ensures { OnOk result (out.new.items ≡ out.old.items ++ with_hex text.now bytes.now) }
+{
+    out.extend_from_slice(text)?;
+    out.extend_from_slice(b" ")?;
+    put_hex(out, bytes)
+}
+
+/// Appends a line of a name and a number. After an `AllocError`, which comes where there is no memory for it, `out` may
+/// have a front of it.
+#[tactic(auto, unfolding(crate::specs::TextParts::number_line))]
+pub fn put_number_line(out: &mut Vec<u8>, name: &[u8], n: u64) -> Result<(), AllocError>
+    ensures { OnOk result (out.new.items ≡ out.old.items ++ number_line name.now n) }
+{
+    put_with_number(out, name, n)?;
+    out.extend_from_slice(b"\n")
+}
+
+/// Appends a line of a name and a signed number.
+#[tactic(auto, unfolding(crate::specs::TextParts::signed_line))]
+pub(crate) fn put_signed_line(out: &mut Vec<u8>, name: &[u8], n: i64) -> Result<(), AllocError>
+    ensures { OnOk result (out.new.items ≡ out.old.items ++ signed_line name.now n) }
+{
+    out.extend_from_slice(name)?;
+    out.extend_from_slice(b" ")?;
+    put_signed(out, n)?;
+    out.extend_from_slice(b"\n")
+}
+
+/// Appends a line of a name and bytes.
+#[tactic(auto, unfolding(crate::specs::TextParts::hex_line))]
+pub(crate) fn put_hex_line(out: &mut Vec<u8>, name: &[u8], bytes: &[u8]) -> Result<(), AllocError>
+    ensures { OnOk result (out.new.items ≡ out.old.items ++ hex_line name.now bytes.now) }
+{
+    put_with_hex(out, name, bytes)?;
+    out.extend_from_slice(b"\n")
+}
+
+/// Appends a line of a name and `1` or `0`.
+#[tactic(auto, unfolding(crate::specs::TextParts::flag_line))]
+pub(crate) fn put_flag_line(out: &mut Vec<u8>, name: &[u8], value: bool) -> Result<(), AllocError>
+    ensures { OnOk result (out.new.items ≡ out.old.items ++ flag_line name.now value) }
+{
+    out.extend_from_slice(name)?;
+    out.extend_from_slice(b" ")?;
+    out.extend_from_slice(flag(value))?;
+    out.extend_from_slice(b"\n")
+}

@@ -1,0 +1,157 @@
+//! A whole stream of lines.
+
+ghost use Rattle.std.specs.Prelude.{◌≡◌, ◌++◌, [], List, ℕ, Option, Ok, IfErr, OnErr, OnOk};
+ghost use Rattle.std.specs.Io.KnownBytes.{Appends, Consumes, IsAtEnd};
+ghost use Rattle.serf_text.specs.Io.{AppendsFront};
+ghost use Rattle.serf_text.specs.Lines.{lines_of, text_behind};
+ghost use Rattle.serf_text.specs.Streams.{HasRead, IsDone, IsStopped, WaitsFor};
+
+use crate::kept::{Kept, end_line, hold};
+use crate::line_job::LineJob;
+use crate::output::write_output;
+use crate::stream_fault::StreamFault;
+use crate::words::cut;
+use std::alloc::Global;
+use std::io::{Read, Write};
+
+/// How many bytes are asked of the reader at once.
+const CHUNK: usize = 8192;
+
+/// Answers the lines that end within these bytes, and holds what is behind the last of them.
+fn take_bytes<J: LineJob>(
+    alloc: Global,
+    job: &mut J,
+    kept: &mut Kept,
+    bytes: &[u8],
+) -> Result<(), StreamFault<J::Fault>>
+    ensures done { (before : List ℕ) (first now : Option (List ℕ)) → HasRead J.follows J.answer
+        job.old kept.old.held.items kept.old.number kept.old.waiting.items before first now
+        → OnOk result (HasRead J.follows J.answer job.new kept.new.held.items kept.new.number
+        kept.new.waiting.items (before ++ bytes.now) first now) }
+    ensures stopped { (before : List ℕ) (first now : Option (List ℕ)) → HasRead J.follows J.answer
+        job.old kept.old.held.items kept.old.number kept.old.waiting.items before first now
+        → IfErr result (λ fault.
+        WaitsFor J.answer fault (lines_of (before ++ bytes.now)) kept.new.waiting.items first now) }
+{
+    let mut rest = bytes;
+    'lines: loop {
+        let (line, more) = cut(rest, b'\n');
+        match more {
+            Some(next) => match end_line(alloc, job, kept, line) {
+                Ok(()) => rest = next,
+                Err(fault) => return Err(fault),
+            },
+            None => return hold(kept.number, &mut kept.held, line),
+        }
+    }
+}
+
+/// Writes the answers that wait.
+fn write_waiting<W: Write, F>(writer: &mut W, waiting: &mut Vec<u8>) -> Result<(), StreamFault<F>>
+    ensures done { OnOk result
+        (Appends (W.contents writer.old) (W.contents writer.new) waiting.old.items) }
+    ensures empty { waiting.new.items ≡ [] }
+    ensures front { OnErr result
+        (AppendsFront (W.contents writer.old) (W.contents writer.new) waiting.old.items) }
+    ensures fault { IfErr result (λ fault. fault ≡ StreamFault.WriteFault) }
+{
+    let written = write_output(writer, waiting);
+    waiting.clear();
+    match written {
+        Ok(()) => Ok(()),
+        Err(_) => Err(StreamFault::WriteFault),
+    }
+}
+
+/// Takes what was read, and writes the answers.
+fn step<W: Write, J: LineJob>(
+    alloc: Global,
+    job: &mut J,
+    kept: &mut Kept,
+    bytes: &[u8],
+    writer: &mut W,
+) -> Result<(), StreamFault<J::Fault>>
+    ensures done { (before : List ℕ) (first : Option (List ℕ))
+        → HasRead J.follows J.answer job.old kept.old.held.items kept.old.number
+        kept.old.waiting.items before first (W.contents writer.old)
+        → OnOk result (HasRead J.follows J.answer job.new kept.new.held.items kept.new.number
+        kept.new.waiting.items (before ++ bytes.now) first (W.contents writer.new)) }
+    ensures empty { kept.new.waiting.items ≡ [] }
+    ensures stopped { (before : List ℕ) (first : Option (List ℕ))
+        → HasRead J.follows J.answer job.old kept.old.held.items kept.old.number
+        kept.old.waiting.items before first (W.contents writer.old)
+        → IfErr result (λ fault.
+        IsStopped J.answer fault (lines_of (before ++ bytes.now)) first (W.contents writer.new)) }
+{
+    let taken = take_bytes(alloc, job, kept, bytes);
+    match write_waiting(writer, &mut kept.waiting) {
+        Ok(()) => taken,
+        Err(fault) => Err(fault),
+    }
+}
+
+/// Answers the line that the end of the stream ends, and writes its answer.
+fn finish<W: Write, J: LineJob>(
+    alloc: Global,
+    job: &mut J,
+    kept: &mut Kept,
+    writer: &mut W,
+) -> Result<(), StreamFault<J::Fault>>
+    ensures done { (before : List ℕ) (first : Option (List ℕ))
+        → HasRead J.follows J.answer job.old kept.old.held.items kept.old.number
+        kept.old.waiting.items before first (W.contents writer.old)
+        → OnOk result (IsDone J.follows J.answer job.new (lines_of before) first
+        (W.contents writer.new)) }
+    ensures stopped { (before : List ℕ) (first : Option (List ℕ))
+        → HasRead J.follows J.answer job.old kept.old.held.items kept.old.number
+        kept.old.waiting.items before first (W.contents writer.old)
+        → IfErr result (λ fault.
+        IsStopped J.answer fault (lines_of before) first (W.contents writer.new)) }
+{
+    let ended = end_line(alloc, job, kept, &[]);
+    match write_waiting(writer, &mut kept.waiting) {
+        Ok(()) => ended,
+        Err(fault) => Err(fault),
+    }
+}
+
+/// Answers the lines of a reader, one after another, until its end.
+///
+/// The lines are what stands between newlines; the last one has none, and may be empty. A line is let go as soon as it
+/// is answered, and the answers to the lines that are over are written before more is read: a read that fails shows
+/// how it stands there. So the memory that is taken is bounded by the longest line, by the answers to a few thousand
+/// bytes and by what the job keeps. A line may have 16,777,216 bytes.
+pub fn answer_lines<R: Read, W: Write, J: LineJob>(
+    alloc: Global,
+    reader: &mut R,
+    writer: &mut W,
+    job: &mut J,
+) -> Result<(), StreamFault<J::Fault>>
+    // Just the answers to all lines were written.
+    ensures done { J.follows job.old []
+        → OnOk result ((bytes : List ℕ)
+        × Consumes (R.remaining reader.old) (R.remaining reader.new) bytes
+        × IsAtEnd (R.remaining reader.new)
+        × IsDone J.follows J.answer job.new (lines_of bytes) (W.contents writer.old)
+        (W.contents writer.new)) }
+    // Of the lines that were read some were answered; what else is said of them depends on the fault.
+    ensures stopped { J.follows job.old []
+        → IfErr result (λ fault. (bytes : List ℕ)
+        × Consumes (R.remaining reader.old) (R.remaining reader.new) bytes
+        × IsStopped J.answer fault (lines_of bytes) (W.contents writer.old)
+        (W.contents writer.new)) }
+{
+    let mut kept = Kept::new(alloc);
+    let mut chunk = [0u8; CHUNK];
+    for _turn in 0..u64::MAX {
+        match reader.read(&mut chunk) {
+            Err(_) => return Err(StreamFault::ReadFault),
+            Ok(0) => return finish(alloc, job, &mut kept, writer),
+            Ok(n) => match step(alloc, job, &mut kept, &chunk[..n], writer) {
+                Ok(()) => {}
+                Err(fault) => return Err(fault),
+            },
+        }
+    }
+    Err(StreamFault::ReadFault)
+}

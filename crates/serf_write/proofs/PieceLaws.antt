@@ -1,0 +1,27 @@
+-- The parts of a line behind an opening quote.
+use Rattle.std.proofs.Common.{◌≡◌, ◌+◌, ◌++◌, ◌∷◌, ℕ, List, [], Some, None, true, false, arith, length, refl}
+use Rattle.std.specs.Prelude.{◌==◌}
+use Rattle.std.specs.List.{slice_split}
+use Rattle.std.proofs.lemmas.Grind.{common_steps}
+use Rattle.std.proofs.lemmas.List.Splits.{length-slice_split}
+use Rattle.serf_write.specs.declared.fault.Wanted.TheVariants.{ClosingQuote, Escape}
+use Rattle.serf_write.specs.declared.piece.Piece.{Piece}
+use Rattle.serf_write.specs.declared.piece.Piece.TheVariants.{Text}
+use Rattle.serf_write.specs.Gives.{wrong}
+use Rattle.serf_write.specs.Pieces.{pieces_from, text_within}
+
+some_parts : (xs : List ℕ) → (length (slice_split (λ b. b == 34) xs) == 0) ≡ false
+some_parts xs = let n = length-slice_split (λ (b : ℕ). b == 34) xs in grind (arith, common_steps, n)
+
+pub quote_open : (before : List Piece) (quoted part : List ℕ) → slice_split (λ b. b == 34) quoted ≡ part ∷ []
+    → pieces_from true before (slice_split (λ b. b == 34) quoted) ≡ wrong (length before + 1) ClosingQuote
+quote_open before quoted part cut = rw cut refl
+
+pub text_wrong : (before : List Piece) (quoted part rest : List ℕ) → slice_split (λ b. b == 34) quoted ≡ part ∷ slice_split (λ b. b == 34) rest
+    → text_within part ≡ None → pieces_from true before (slice_split (λ b. b == 34) quoted) ≡ wrong (length before + 1) Escape
+text_wrong before quoted part rest cut none = rw (cut, some_parts rest, none) refl
+
+pub text_read : (before : List Piece) (quoted part rest text : List ℕ) → slice_split (λ b. b == 34) quoted ≡ part ∷ slice_split (λ b. b == 34) rest
+    → text_within part ≡ Some text
+    → pieces_from true before (slice_split (λ b. b == 34) quoted) ≡ pieces_from false (before ++ Text text ∷ []) (slice_split (λ b. b == 34) rest)
+text_read before quoted part rest text cut found = rw (cut, some_parts rest, found) refl

@@ -1,0 +1,16 @@
+-- How many packets were sent.
+use Rattle.std.proofs.Common.{◌≡◌, List, [], ap, length, refl, sym}
+use Rattle.serf_agent.specs.declared.config.Config.{Config}
+use Rattle.serf_model.specs.declared.action.Action.{Action}
+use Rattle.serf_world.specs.View.{WorldState}
+use Rattle.serf_write.specs.Running.{HasWorld}
+use Rattle.serf_write.specs.Written.{sent_count}
+
+pub sent_is : (configs : List Config) (actions : List Action) (world : WorldState) → HasWorld configs actions world
+    → length world.sent ≡ sent_count configs actions
+unfolding sent_count
+sent_is configs actions world run = ap length (sym run.1.view.sent)
+
+pub none_sent : (configs : List Config) (actions : List Action) → actions ≡ [] → 0 ≡ sent_count configs actions
+unfolding sent_count
+none_sent configs actions none = rw none refl

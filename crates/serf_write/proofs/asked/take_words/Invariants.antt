@@ -1,0 +1,11 @@
+use Rattle.std.proofs.Common.{◌≡◌, ◌+◌, ◌≤◌, length}
+use Rattle.serf_write.specs.Queries.{options_from}
+use Rattle.serf_write.proofs.asked.take_words.Given as goal
+
+-- the options that are left, after those so far, give the answer
+abbrev pub invariant-options : goal.invariant-options
+invariant-options l = (options_from l.place l.asked l.rest ≡ options_from l.fn.first l.fn.asked l.fn.pieces)
+    × (l.place + length l.rest ≤ length l.fn.pieces + l.fn.first)
+
+abbrev pub decreases-options : goal.decreases-options
+decreases-options l = length l.rest

@@ -1,0 +1,30 @@
+use Rattle.std.proofs.Common.{◌≡◌, ◌+◌, ◌∙◌, ℕ, List, Some, None, ap, false, length, rules, sym}
+use Rattle.std.specs.Prelude.{◌==◌}
+use Rattle.std.specs.List.{slice_split}
+use Rattle.serf_write.specs.declared.fault.Wanted.TheVariants.{ClosingQuote, Escape}
+use Rattle.serf_write.specs.declared.piece.Piece.{Piece}
+use Rattle.serf_write.specs.Gives.{wrong}
+use Rattle.serf_write.specs.Pieces.{pieces_from, text_within}
+use Rattle.serf_write.proofs.PieceLaws.{quote_open, text_read, text_wrong}
+use Rattle.serf_write.proofs.piece.put_text.Goals as goal
+
+pub returns-in-None-clause-parts : goal.returns-in-None-clause-parts
+returns-in-None-clause-parts c =
+    let cut = rw c.in-None.is at c.cut.ensures.parts in
+    let count : c.len.result ≡ length c.args.pieces.now.items = search rules in
+    rw c.bad.ensures (quote_open c.args.pieces.now.items c.args.quoted.now c.cut.result.0.now cut ∙ ap (λ (n : ℕ). wrong {A = List Piece} (n + 1) ClosingQuote) (sym count))
+
+pub returns-in_ok-put_piece-in-Some-2-clause-parts :
+    goal.returns-in_ok-put_piece-in-Some-2-clause-parts
+returns-in_ok-put_piece-in-Some-2-clause-parts c =
+    let cut = rw c.in-Some.is at c.cut.ensures.parts in
+    let found : text_within c.cut.result.0.now ≡ Some c.in-Some-2.text = sym c.in_ok-text-in-Some.ensures ∙ c.in-Some-2.is in
+    text_read c.args.pieces.now.items c.args.quoted.now c.cut.result.0.now c.in-Some.rest.now c.in-Some-2.text cut found
+    ∙ ap (λ (p : List Piece). pieces_from false p (slice_split (λ b. b == 34) c.in-Some.rest.now)) (sym c.in_ok-put_piece-in-Some-2.ensures)
+
+pub returns-in-None-2-clause-parts : goal.returns-in-None-2-clause-parts
+returns-in-None-2-clause-parts c =
+    let cut = rw c.in-Some.is at c.cut.ensures.parts in
+    let none : text_within c.cut.result.0.now ≡ None = sym c.in_ok-text-in-Some.ensures ∙ c.in-None-2.is in
+    let count : c.len-in-None-2.result ≡ length c.args.pieces.now.items = search rules in
+    rw c.bad-in-None-2.ensures (text_wrong c.args.pieces.now.items c.args.quoted.now c.cut.result.0.now c.in-Some.rest.now cut none ∙ ap (λ (n : ℕ). wrong {A = List Piece} (n + 1) Escape) (sym count))

@@ -1,0 +1,13 @@
+use Rattle.std.proofs.Common.{◌≡◌, ◌+◌, ◌≤◌, length}
+use Rattle.std.specs.Prelude.{◌==◌}
+use Rattle.std.specs.List.{slice_split}
+use Rattle.serf_write.specs.Written.{after_lines, written_of}
+use Rattle.serf_write.proofs.schedule.read_lines.Given as goal
+
+-- the lines that are left, after those so far, give the answer
+abbrev pub invariant-lines : goal.invariant-lines
+invariant-lines l = (after_lines l.number l.writing (slice_split (λ b. b == 10) l.rest) ≡ written_of l.fn.text)
+    × (l.number + length l.rest ≤ length l.fn.text + 1)
+
+abbrev pub decreases-lines : goal.decreases-lines
+decreases-lines l = length l.rest

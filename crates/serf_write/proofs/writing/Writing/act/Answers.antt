@@ -1,0 +1,18 @@
+use Rattle.std.proofs.Common.{◌≡◌, ◌++◌, ◌∷◌, List, [], All, rules, subst, sym}
+use Rattle.std.proofs.lemmas.List.Elements.{All-push}
+use Rattle.serf_model.specs.declared.action.Action.{Action}
+use Rattle.serf_schedule.specs.Sayable.{IsSayable}
+use Rattle.serf_write.specs.Running.{HasWorld}
+use Rattle.serf_write.proofs.writing.Writing.act.Goals as goal
+
+pub invariant_of-self-2 : goal.invariant_of-self-2
+invariant_of-self-2 c =
+    let before : List Action = c.self.inside.actions.items in
+    let items : c.push.new.self.items ≡ before ++ c.args.action ∷ [] = c.in_ok-push.ensures.items in
+    let done : HasWorld c.self.inside.agents (before ++ c.args.action ∷ []) c.in_ok-world-2.world =
+    subst (λ (x : List Action). HasWorld c.self.inside.agents (x ++ c.args.action ∷ []) c.in_ok-world-2.world) c.as_slice-2.ensures.value c.in_ok-world-2.ensures in
+    let sayable : IsSayable c.args.action = search rules in
+    let all : All IsSayable (before ++ c.args.action ∷ []) = All-push IsSayable before c.args.action c.self.invariant.1 sayable in (
+      subst (λ (x : List Action). HasWorld c.self.inside.agents x c.in_ok-world-2.world) (sym items) done,
+      subst (All IsSayable) (sym items) all,
+    )

@@ -1,0 +1,16 @@
+use Rattle.std.proofs.Common.{◌≡◌, ◌∙◌, [], ap, arith, length}
+use Rattle.std.proofs.lemmas.Grind.{common_steps}
+use Rattle.serf_write.specs.Written.{Written, sent_count}
+use Rattle.serf_write.proofs.RunLaws.{none_sent, sent_is}
+use Rattle.serf_write.proofs.writing.Writing.sent.Goals as goal
+
+pub returns-in-Some : goal.returns-in-Some
+returns-in-Some c =
+    let run = rw c.in-Some.is at c.self.invariant.0 in
+    ap length c.sent.ensures ∙ sent_is c.self.inside.agents c.self.inside.actions.items c.in-Some.world run
+    ∙ ap (λ (w : Written). sent_count w.configs w.actions) c.self.view_is
+
+pub returns-then-is_empty : goal.returns-then-is_empty
+returns-then-is_empty c =
+    let none : c.self.inside.actions.items ≡ [] = grind (arith, common_steps) in
+    none_sent c.self.inside.agents c.self.inside.actions.items none ∙ ap (λ (w : Written). sent_count w.configs w.actions) c.self.view_is

@@ -1,0 +1,262 @@
+//! The actions of a line.
+
+ghost use Rattle.std.specs.Prelude.{◌^◌, ◌-◌, ◌≡◌, ◌<◌};
+ghost use Rattle.serf_text.specs.Words.{between};
+ghost use Rattle.serf_model.specs.declared.action.Action.TheVariants.{State, Save, Compact};
+ghost use Rattle.serf_write.specs.Gives.{Gives};
+ghost use Rattle.serf_write.specs.Lines.{actions_of, answer_of, break_of, closing_of, coalesce_in, count_in, delivery_of, firing_of, giving_of, injection_of, lone_of, merging_of, restart_of, tail_in, taking_of};
+
+use crate::fault::{LineFault, Wanted, bad};
+use crate::label::Label;
+use crate::piece::Piece;
+use crate::values::{
+    agent_at, bytes_at, end_behind, mode_at, moment_at, number_at, optional_bytes_at, packet_at,
+    sink_call_at, word,
+};
+use serf_agent::Config;
+use serf_model::Action;
+use serf_text::{is_word, number};
+use serf_wire::Bytes;
+use std::alloc::Global;
+
+/// What a line does: one action, or two.
+#[derive(Drop)]
+pub(crate) enum Deed {
+    One(Action),
+    Two(Action, Action),
+}
+
+/// Whether `coalesce` stands at a place, or the line ends before it.
+#[tactic(auto, unfolding(crate::specs::Lines::coalesce_in))]
+fn coalesce_at(pieces: &[Piece], place: usize) -> Result<bool, LineFault>
+    ensures { Gives (λ b. b) result (coalesce_in place pieces.now) }
+{
+    if pieces.len() < place {
+        Ok(false)
+    } else if is_word(word(pieces, place), b"coalesce") {
+        Ok(true)
+    } else {
+        Err(bad(place, Wanted::Coalesce))
+    }
+}
+
+/// The bytes behind `tail`; none where the line ends before it.
+#[tactic(auto, unfolding(crate::specs::Lines::tail_in))]
+fn tail_at(alloc: Global, pieces: &[Piece], place: usize) -> Result<Bytes, LineFault>
+    requires { place < 100 }
+    ensures { Gives (λ b. b) result (tail_in place pieces.now) }
+{
+    if pieces.len() < place {
+        Ok(Bytes::from_vec(Vec::new(alloc)))
+    } else if is_word(word(pieces, place), b"tail") {
+        bytes_at(alloc, pieces, place + 1)
+    } else {
+        Err(bad(place, Wanted::Tail))
+    }
+}
+
+fn from_one(number: Option<u64>) -> Option<u64>
+    ensures { result ≡ between 1 (2 ^ 64 - 1) number }
+{
+    match number {
+        Some(found) => { if found >= 1 { Some(found) } else { None } }
+        None => None,
+    }
+}
+
+/// The number of a sink's call, from 1 on; 1 where the line ends before it.
+#[tactic(auto, unfolding(crate::specs::Lines::count_in))]
+fn count_at(pieces: &[Piece], place: usize) -> Result<u64, LineFault>
+    ensures { Gives (λ n. n) result (count_in place pieces.now) }
+{
+    if pieces.len() < place {
+        return Ok(1);
+    }
+    match from_one(number(word(pieces, place))) {
+        Some(found) => Ok(found),
+        None => Err(bad(place, Wanted::Count)),
+    }
+}
+
+#[tactic(auto, unfolding(crate::specs::Lines::firing_of))]
+pub(crate) fn firing(alloc: Global, agents: &[Config], pieces: &[Piece]) -> Result<Deed, LineFault>
+    ensures { Gives actions_of result (firing_of agents.now pieces.now) }
+{
+    let agent = agent_at(agents, pieces, 2)?;
+    let name = bytes_at(alloc, pieces, 3)?;
+    let payload = optional_bytes_at(alloc, pieces, 4)?;
+    let coalesce = coalesce_at(pieces, 5)?;
+    end_behind(pieces, 5)?;
+    Ok(Deed::One(Action::Fire {
+        agent,
+        name,
+        payload,
+        coalesce,
+    }))
+}
+
+#[tactic(auto, unfolding(crate::specs::Lines::delivery_of))]
+pub(crate) fn delivery(
+    agents: &[Config],
+    labels: &[Label],
+    pieces: &[Piece],
+) -> Result<Deed, LineFault>
+    ensures { Gives actions_of result (delivery_of agents.now labels.now pieces.now) }
+{
+    let to = agent_at(agents, pieces, 2)?;
+    let packet = packet_at(labels, pieces, 3)?;
+    let now = moment_at(pieces, 4)?;
+    end_behind(pieces, 5)?;
+    Ok(Deed::One(Action::Deliver { to, packet, now }))
+}
+
+#[tactic(auto, unfolding(crate::specs::Lines::merging_of))]
+pub(crate) fn merging(
+    agents: &[Config],
+    labels: &[Label],
+    pieces: &[Piece],
+) -> Result<Deed, LineFault>
+    ensures { Gives actions_of result (merging_of agents.now labels.now pieces.now) }
+{
+    let to = agent_at(agents, pieces, 2)?;
+    let packet = packet_at(labels, pieces, 3)?;
+    let join = mode_at(pieces, 4)?;
+    end_behind(pieces, 4)?;
+    Ok(Deed::One(Action::Merge { to, packet, join }))
+}
+
+#[tactic(auto, unfolding(crate::specs::Lines::answer_of))]
+pub(crate) fn answer(alloc: Global, agents: &[Config], pieces: &[Piece]) -> Result<Deed, LineFault>
+    ensures { Gives actions_of result (answer_of agents.now pieces.now) }
+{
+    let agent = agent_at(agents, pieces, 2)?;
+    let handed = number_at(pieces, 3)?;
+    let payload = bytes_at(alloc, pieces, 4)?;
+    let now = moment_at(pieces, 5)?;
+    end_behind(pieces, 6)?;
+    Ok(Deed::One(Action::Respond {
+        agent,
+        handed,
+        now,
+        payload,
+    }))
+}
+
+#[tactic(auto, unfolding(crate::specs::Lines::restart_of))]
+pub(crate) fn restarting(
+    alloc: Global,
+    agents: &[Config],
+    pieces: &[Piece],
+) -> Result<Deed, LineFault>
+    ensures { Gives actions_of result (restart_of agents.now pieces.now) }
+{
+    let agent = agent_at(agents, pieces, 2)?;
+    let tail = tail_at(alloc, pieces, 3)?;
+    end_behind(pieces, 4)?;
+    Ok(Deed::One(Action::Restart { agent, tail }))
+}
+
+#[tactic(auto, unfolding(crate::specs::Lines::break_of))]
+pub(crate) fn breaking(agents: &[Config], pieces: &[Piece]) -> Result<Deed, LineFault>
+    ensures { Gives actions_of result (break_of agents.now pieces.now) }
+{
+    let agent = agent_at(agents, pieces, 2)?;
+    let call = sink_call_at(pieces, 3)?;
+    let count = count_at(pieces, 4)?;
+    end_behind(pieces, 4)?;
+    Ok(Deed::One(Action::Break { agent, call, count }))
+}
+
+#[tactic(auto, unfolding(crate::specs::Lines::injection_of))]
+pub(crate) fn injection(alloc: Global, pieces: &[Piece]) -> Result<Deed, LineFault>
+    ensures { Gives actions_of result (injection_of pieces.now) }
+{
+    let bytes = bytes_at(alloc, pieces, 2)?;
+    end_behind(pieces, 2)?;
+    Ok(Deed::One(Action::Inject { bytes }))
+}
+
+#[tactic(auto, unfolding(crate::specs::Lines::closing_of))]
+pub(crate) fn closing(agents: &[Config], pieces: &[Piece]) -> Result<Deed, LineFault>
+    ensures { Gives actions_of result (closing_of agents.now pieces.now) }
+{
+    let agent = agent_at(agents, pieces, 2)?;
+    let now = moment_at(pieces, 3)?;
+    end_behind(pieces, 4)?;
+    Ok(Deed::One(Action::Close { agent, now }))
+}
+
+#[tactic(auto, unfolding(crate::specs::Lines::lone_of))]
+pub(crate) fn sending_state(agents: &[Config], pieces: &[Piece]) -> Result<Deed, LineFault>
+    ensures { Gives actions_of result (lone_of (λ agent. State agent) agents.now pieces.now) }
+{
+    let agent = agent_at(agents, pieces, 2)?;
+    end_behind(pieces, 2)?;
+    Ok(Deed::One(Action::State { agent }))
+}
+
+#[tactic(auto, unfolding(crate::specs::Lines::lone_of))]
+pub(crate) fn saving(agents: &[Config], pieces: &[Piece]) -> Result<Deed, LineFault>
+    ensures { Gives actions_of result (lone_of (λ agent. Save agent) agents.now pieces.now) }
+{
+    let agent = agent_at(agents, pieces, 2)?;
+    end_behind(pieces, 2)?;
+    Ok(Deed::One(Action::Save { agent }))
+}
+
+#[tactic(auto, unfolding(crate::specs::Lines::lone_of))]
+pub(crate) fn compacting(agents: &[Config], pieces: &[Piece]) -> Result<Deed, LineFault>
+    ensures { Gives actions_of result (lone_of (λ agent. Compact agent) agents.now pieces.now) }
+{
+    let agent = agent_at(agents, pieces, 2)?;
+    end_behind(pieces, 2)?;
+    Ok(Deed::One(Action::Compact { agent }))
+}
+
+/// Bytes are injected, as the packet of the number `sent`, and the agent gets them.
+#[tactic(auto, unfolding(crate::specs::Lines::giving_of))]
+pub(crate) fn giving(
+    alloc: Global,
+    agents: &[Config],
+    sent: u64,
+    pieces: &[Piece],
+) -> Result<Deed, LineFault>
+    ensures { Gives actions_of result (giving_of agents.now sent pieces.now) }
+{
+    let to = agent_at(agents, pieces, 2)?;
+    let bytes = bytes_at(alloc, pieces, 3)?;
+    let now = moment_at(pieces, 4)?;
+    end_behind(pieces, 5)?;
+    Ok(Deed::Two(
+        Action::Inject { bytes },
+        Action::Deliver {
+            to,
+            packet: sent,
+            now,
+        },
+    ))
+}
+
+/// Bytes are injected, as the packet of the number `sent`, and the agent merges them.
+#[tactic(auto, unfolding(crate::specs::Lines::taking_of))]
+pub(crate) fn taking(
+    alloc: Global,
+    agents: &[Config],
+    sent: u64,
+    pieces: &[Piece],
+) -> Result<Deed, LineFault>
+    ensures { Gives actions_of result (taking_of agents.now sent pieces.now) }
+{
+    let to = agent_at(agents, pieces, 2)?;
+    let bytes = bytes_at(alloc, pieces, 3)?;
+    let join = mode_at(pieces, 4)?;
+    end_behind(pieces, 4)?;
+    Ok(Deed::Two(
+        Action::Inject { bytes },
+        Action::Merge {
+            to,
+            packet: sent,
+            join,
+        },
+    ))
+}

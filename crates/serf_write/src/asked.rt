@@ -1,0 +1,194 @@
+//! Queries.
+
+ghost use Rattle.std.specs.Prelude.{◌≡◌, ◌==◌, ◌<◌, ◌≤◌, IfOk, IfSome, position};
+ghost use Rattle.serf_model.specs.declared.action.Action.TheVariants.{Query};
+ghost use Rattle.serf_text.specs.Words.{between};
+ghost use Rattle.serf_write.specs.Gives.{Gives};
+ghost use Rattle.serf_write.specs.Lines.{actions_of};
+ghost use Rattle.serf_write.specs.Queries.{option_value, options_from, options_in, plain_query, query_moment, query_of, with_option, with_pair};
+
+use crate::actions::Deed;
+use crate::fault::{LineFault, Wanted, bad};
+use crate::piece::Piece;
+use crate::settings::{behind, word_in};
+use crate::values::{agent_at, bytes_at, halves, time, time_at, word};
+use serf_agent::{BytesList, Config, QueryParams};
+use serf_model::{Action, BoxedBytes, BoxedParams};
+use serf_text::{hex_bytes, is_word, number};
+use serf_wire::Bytes;
+use std::alloc::{AllocError, Global};
+
+/// What a query's line says beside its texts.
+#[derive(Debug, Drop)]
+pub(crate) struct Asked {
+    pub(crate) id: u32,
+    pub(crate) params: QueryParams,
+}
+
+/// A query of whose line nothing but its texts is said.
+fn plain(alloc: Global) -> Asked
+    ensures { result ≡ plain_query }
+{
+    Asked {
+        id: 0,
+        params: QueryParams {
+            filters: BytesList::new(alloc),
+            want_ack: false,
+            no_broadcast: false,
+            timeout: 1_000_000_000,
+            addr: Bytes::from_vec(Vec::new(alloc)),
+            port: 0,
+            relay_factor: 0,
+        },
+    }
+}
+
+fn up_to(number: Option<u64>, most: u64) -> Option<u64>
+    ensures value { result ≡ between 0 most number }
+    ensures within { IfSome result (λ n. n ≤ most) }
+{
+    match number {
+        Some(found) => { if found <= most { Some(found) } else { None } }
+        None => None,
+    }
+}
+
+/// Takes the value of a key.
+fn take_value(
+    alloc: Global,
+    asked: &mut Asked,
+    place: usize,
+    key: &[u8],
+    value: &[u8],
+) -> Result<(), LineFault>
+    ensures { Gives (λ _. asked.new) result (option_value place asked.old key.now value.now) }
+{
+    if is_word(key, b"id") {
+        match up_to(number(value), u64::from(u32::MAX)) {
+            Some(id) => asked.id = id as u32,
+            None => return Err(bad(place, Wanted::Option)),
+        }
+    } else if is_word(key, b"timeout") {
+        match up_to(time(value), i64::MAX as u64) {
+            Some(time) => asked.params.timeout = time as i64,
+            None => return Err(bad(place, Wanted::Option)),
+        }
+    } else if is_word(key, b"filter") {
+        match hex_bytes(alloc, value)? {
+            Some(filter) => asked.params.filters.push(filter)?,
+            None => return Err(bad(place, Wanted::Option)),
+        }
+    } else {
+        return Err(bad(place, Wanted::Option));
+    }
+    Ok(())
+}
+
+fn take_pair(alloc: Global, asked: &mut Asked, place: usize, word: &[u8]) -> Result<(), LineFault>
+    ensures { Gives (λ _. asked.new) result
+        (with_pair place asked.old word.now (position (λ b. b == 61) word.now)) }
+{
+    match halves(word, b'=') {
+        Some((key, value)) => take_value(alloc, asked, place, key, value),
+        None => Err(bad(place, Wanted::Option)),
+    }
+}
+
+#[tactic(auto, unfolding(crate::specs::Queries::with_option))]
+fn take_word(alloc: Global, asked: &mut Asked, place: usize, word: &[u8]) -> Result<(), LineFault>
+    ensures { Gives (λ _. asked.new) result (with_option place asked.old word.now) }
+{
+    if is_word(word, b"ack") {
+        asked.params.want_ack = true;
+        Ok(())
+    } else if is_word(word, b"quiet") {
+        asked.params.no_broadcast = true;
+        Ok(())
+    } else {
+        take_pair(alloc, asked, place, word)
+    }
+}
+
+/// What the pieces from a place on say of a query.
+fn take_words(
+    alloc: Global,
+    asked: Asked,
+    first: usize,
+    pieces: &[Piece],
+) -> Result<Asked, LineFault>
+    requires { first < 100 }
+    ensures { Gives (λ a. a) result (options_from first asked pieces.now) }
+{
+    let mut asked = asked;
+    let mut place: usize = first;
+    let mut rest = pieces;
+    'options: loop {
+        match rest.split_first() {
+            Some((piece, more)) => {
+                take_word(alloc, &mut asked, place, word_in(piece))?;
+                place += 1;
+                rest = more;
+            }
+            None => return Ok(asked),
+        }
+    }
+}
+
+/// The moment behind `at` at the fifth place, or 0.
+#[tactic(auto, unfolding(crate::specs::Queries::query_moment))]
+fn moment(pieces: &[Piece]) -> Result<u64, LineFault>
+    ensures { Gives (λ n. n) result (query_moment pieces.now) }
+{
+    if is_word(word(pieces, 5), b"at") {
+        time_at(pieces, 6)
+    } else {
+        Ok(0)
+    }
+}
+
+/// What the pieces behind the payload, and behind the moment, say of a query.
+#[tactic(auto, unfolding(crate::specs::Queries::options_in))]
+fn options(alloc: Global, pieces: &[Piece]) -> Result<Asked, LineFault>
+    ensures { Gives (λ a. a) result (options_in pieces.now) }
+{
+    if is_word(word(pieces, 5), b"at") {
+        take_words(alloc, plain(alloc), 7, behind(pieces, 6))
+    } else {
+        take_words(alloc, plain(alloc), 5, behind(pieces, 4))
+    }
+}
+
+/// The query of these parts, some of them in places of their own.
+fn boxed(
+    alloc: Global,
+    agent: u64,
+    now: u64,
+    name: Bytes,
+    payload: Bytes,
+    asked: Asked,
+) -> Result<Action, AllocError>
+    ensures { IfOk result (λ a. a ≡ Query agent now asked.id name payload asked.params) }
+{
+    let Asked { id, params } = asked;
+    Ok(Action::Query {
+        agent,
+        now,
+        id,
+        name: BoxedBytes::new(alloc, name)?,
+        payload: BoxedBytes::new(alloc, payload)?,
+        params: BoxedParams::new(alloc, params)?,
+    })
+}
+
+/// The query of a line.
+#[tactic(auto, unfolding(crate::specs::Queries::query_of))]
+pub(crate) fn query(alloc: Global, agents: &[Config], pieces: &[Piece]) -> Result<Deed, LineFault>
+    ensures { Gives actions_of result (query_of agents.now pieces.now) }
+{
+    let agent = agent_at(agents, pieces, 2)?;
+    let name = bytes_at(alloc, pieces, 3)?;
+    let payload = bytes_at(alloc, pieces, 4)?;
+    let now = moment(pieces)?;
+    let asked = options(alloc, pieces)?;
+    Ok(Deed::One(boxed(alloc, agent, now, name, payload, asked)?))
+}

@@ -1,0 +1,91 @@
+//! What is wrong with a line.
+
+use std::alloc::AllocError;
+use thiserror::Error;
+
+/// What may stand at the place of a word that is wrong. It prints as a sentence.
+#[derive(Clone, Copy, Debug, Drop, Error, PartialEq, Eq)]
+pub enum Wanted {
+    #[error("the text that begins here needs a closing quote; a quote within a text is written \\x22")]
+    ClosingQuote,
+    #[error("in a text a backslash stands only before x and two hex digits, as in \\x0a")]
+    Escape,
+    #[error("a label is a new word that is no number and has no slash, with a colon behind it")]
+    Label,
+    #[error("here may stand agent, fire, deliver, state, merge, query, respond, restart, break, inject, close, save, compact, give or take")]
+    Command,
+    #[error("all agents stand before the first action")]
+    AgentsFirst,
+    #[error("here stands the agent's name, which no agent above has")]
+    NewName,
+    #[error("here may stand events=N, queries=N, limit=N, responders=N, pertime=N, keep or ignore")]
+    Setting,
+    #[error("a name has 1 to 128 bytes, limit is at most 9216, and the other numbers of an agent are 1 to 65536")]
+    Bounds,
+    #[error("here stands the name of an agent above, or an agent's number")]
+    Agent,
+    #[error("here stands a label above whose line sent a packet, as in d2, or in d2/1 for its second one; or a packet's number")]
+    Packet,
+    #[error("here stands a text in quotes, bytes in hex digits, or - for none")]
+    Bytes,
+    #[error("here stands a number")]
+    Number,
+    #[error("here stands a number from 1 on")]
+    Count,
+    #[error("here stands join or sync")]
+    Mode,
+    #[error("here stands append, flush, replace-old or replace-new")]
+    SinkCall,
+    #[error("here may stand coalesce, or the line ends")]
+    Coalesce,
+    #[error("here may stand tail with its bytes, or the line ends")]
+    Tail,
+    #[error("here may stand at with a moment, or the line ends")]
+    At,
+    #[error("here stands a time, as in 10ms, with ns, us, ms or s behind its number")]
+    Time,
+    #[error("here may stand id=N, timeout=TIME, ack, quiet or filter=HEX, or the line ends")]
+    Option,
+    #[error("the line ends before this word")]
+    End,
+}
+
+/// The first word that is wrong, counted from 1 in its line, and what may stand there. It may be the word behind the
+/// last one, where a word is missing.
+#[derive(Clone, Copy, Debug, Drop, PartialEq, Eq)]
+pub struct Fault {
+    pub place: u64,
+    pub wanted: Wanted,
+}
+
+/// Why a line is not taken.
+#[derive(Clone, Copy, Debug, Drop, PartialEq, Eq)]
+pub(crate) enum LineFault {
+    /// It is not sound.
+    Bad(Fault),
+    /// There was no memory for what it says.
+    OutOfMemory,
+}
+
+impl From<AllocError> for LineFault {
+    ghost use Rattle.std.specs.Prelude.{◌≡◌};
+    ghost use Rattle.serf_write.specs.declared.fault.LineFault.TheVariants.{OutOfMemory};
+
+    ghost from_gives = { λ _ e. e ≡ OutOfMemory };
+
+    fn from(_error: AllocError) -> LineFault {
+        LineFault::OutOfMemory
+    }
+}
+
+ghost use Rattle.std.specs.Prelude.{◌≡◌};
+
+/// A word that is wrong.
+pub(crate) fn bad(place: usize, wanted: Wanted) -> LineFault
+    ensures { result ≡ LineFault.Bad (record { place = place; wanted = wanted }) }
+{
+    LineFault::Bad(Fault {
+        place: place as u64,
+        wanted,
+    })
+}

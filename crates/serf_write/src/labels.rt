@@ -1,0 +1,53 @@
+//! Labels of lines.
+
+ghost use Rattle.std.specs.Prelude.{◌≡◌, ◌==◌};
+ghost use Rattle.std.specs.List.{list_any};
+ghost use Rattle.std.specs.Option.{option_map};
+ghost use Rattle.serf_write.specs.Written.{is_new_label, label_of};
+ghost use Rattle.serf_write.specs.Placed.{placed_behind};
+
+use crate::fault::{Fault, LineFault};
+use crate::label::Label;
+use crate::values::named_label;
+use serf_text::number;
+
+/// What stands before the colon that ends a word.
+pub(crate) fn label_in(word: &[u8]) -> Option<&[u8]>
+    ensures { option_map (λ name. name.now) result ≡ label_of word.now }
+{
+    let size = word.len();
+    if size > 0 && word[size - 1] == b':' {
+        Some(&word[..size - 1])
+    } else {
+        None
+    }
+}
+
+fn has_slash(name: &[u8]) -> bool
+    ensures { result ≡ list_any (λ b. b == 47) name.now }
+{
+    name.iter().any(|b| *b == b'/')
+}
+
+/// Whether a name can be that of a new label: it is no number, has no slash, and no label has it.
+pub(crate) fn may_be_label(labels: &[Label], name: &[u8]) -> bool
+    ensures { result ≡ is_new_label labels.now name.now }
+{
+    let is_number = number(name).is_some();
+    let has_slash = has_slash(name);
+    let is_taken = named_label(labels, name).is_some();
+    !name.is_empty() && !is_number && !has_slash && !is_taken
+}
+
+/// The same fault, whose place counts a label too.
+pub(crate) fn behind_label(fault: LineFault) -> LineFault
+    ensures { result ≡ placed_behind fault }
+{
+    match fault {
+        LineFault::Bad(Fault { place, wanted }) => LineFault::Bad(Fault {
+            place: place.saturating_add(1),
+            wanted,
+        }),
+        LineFault::OutOfMemory => LineFault::OutOfMemory,
+    }
+}

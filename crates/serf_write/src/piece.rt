@@ -1,0 +1,156 @@
+//! The pieces of a line.
+
+ghost use Rattle.std.specs.Prelude.{◌≡◌, ◌==◌, ◌<◌, ◌++◌, ◌∷◌, IfOk, OnOk, MatchResult, length, false, true, []};
+ghost use Rattle.std.specs.List.{slice_split};
+ghost use Rattle.std.specs.Option.{option_map};
+ghost use Rattle.serf_text.specs.Words.{words_of};
+ghost use Rattle.serf_write.specs.Gives.{Fails, Gives};
+ghost use Rattle.serf_write.specs.Pieces.{before_return, escaped_of, pieces_from, pieces_of, text_within, words_behind};
+
+use crate::fault::{LineFault, Wanted, bad};
+use hex::FromHexError;
+use serf_text::cut;
+use serf_wire::Bytes;
+use std::alloc::{AllocError, Global};
+
+/// A word between spaces, or a text between quotes.
+#[derive(Debug, Drop)]
+pub enum Piece {
+    Word(Bytes),
+    Text(Bytes),
+}
+
+/// A line without the carriage return that ends it.
+fn without_return(line: &[u8]) -> &[u8]
+    ensures { result.now ≡ before_return line.now }
+{
+    let size = line.len();
+    if size > 0 && line[size - 1] == b'\r' {
+        &line[..size - 1]
+    } else {
+        line
+    }
+}
+
+/// What stands behind a backslash: x, two hex digits and more text. `None` for anything else.
+fn escaped(alloc: Global, rest: &[u8]) -> Result<Option<Vec<u8>>, AllocError>
+    ensures { IfOk result (λ found. option_map (λ text. text.items) found ≡ escaped_of rest.now) }
+{
+    if rest.len() < 3 || rest[0] != b'x' {
+        return Ok(None);
+    }
+    match hex::decode(alloc, &rest[1..3]) {
+        Ok(mut text) => {
+            text.extend_from_slice(&rest[3..])?;
+            Ok(Some(text))
+        }
+        Err(FromHexError::OutOfMemory) => Err(AllocError),
+        Err(_) => Ok(None),
+    }
+}
+
+/// The text that stands between two quotes; `None` where a backslash is not followed as it may be.
+#[tactic(auto, unfolding(crate::specs::Pieces::text_within))]
+fn text(alloc: Global, quoted: &[u8]) -> Result<Option<Bytes>, AllocError>
+    ensures { IfOk result (λ found. found ≡ text_within quoted.now) }
+{
+    let (first, more) = cut(quoted, b'\\');
+    let mut text = Vec::from_slice(alloc, first)?;
+    let Some(mut rest) = more else {
+        return Ok(Some(Bytes::from_vec(text)));
+    };
+    'parts: loop {
+        let (part, more) = cut(rest, b'\\');
+        let Some(found) = escaped(alloc, part)? else {
+            return Ok(None);
+        };
+        text.extend_from_slice(&found)?;
+        match more {
+            Some(next) => rest = next,
+            None => return Ok(Some(Bytes::from_vec(text))),
+        }
+    }
+}
+
+/// Puts a piece behind the others.
+fn put_piece(pieces: &mut Vec<Piece>, piece: Piece) -> Result<(), AllocError>
+    ensures { OnOk result (pieces.new.items ≡ pieces.old.items ++ piece ∷ []) }
+{
+    pieces.push(piece)?;
+    Ok(())
+}
+
+/// Puts the words of a part outside of quotes behind the pieces, and says whether a comment ends the line.
+fn put_words(alloc: Global, part: &[u8], pieces: &mut Vec<Piece>) -> Result<bool, AllocError>
+    ensures { IfOk result (λ is_over. words_behind pieces.old.items (words_of part.now)
+        ≡ record { pieces = pieces.new.items; is_over = is_over }) }
+{
+    let mut rest = part;
+    'words: loop {
+        let (word, more) = cut(rest, b' ');
+        if !word.is_empty() {
+            if word[0] == b'#' {
+                return Ok(true);
+            }
+            put_piece(pieces, Piece::Word(Bytes::copy_of(alloc, word)?))?;
+        }
+        match more {
+            Some(next) => rest = next,
+            None => return Ok(false),
+        }
+    }
+}
+
+/// Puts the text behind an opening quote behind the pieces, and gives what follows its closing quote.
+fn put_text<'a>(
+    alloc: Global,
+    quoted: &'a [u8],
+    pieces: &mut Vec<Piece>,
+) -> Result<&'a [u8], LineFault>
+    ensures parts { MatchResult result
+        (λ rest. pieces_from true pieces.old.items (slice_split (λ b. b == 34) quoted.entry.now)
+        ≡ pieces_from false pieces.new.items (slice_split (λ b. b == 34) rest.now)) (λ fault. Fails
+        fault (pieces_from true pieces.old.items (slice_split (λ b. b == 34) quoted.entry.now))) }
+    ensures shorter { IfOk result (λ rest. length rest.now < length quoted.entry.now) }
+{
+    let (inside, more) = cut(quoted, b'"');
+    match more {
+        None => Err(bad(pieces.len() + 1, Wanted::ClosingQuote)),
+        Some(rest) => match text(alloc, inside)? {
+            Some(text) => {
+                put_piece(pieces, Piece::Text(text))?;
+                Ok(rest)
+            }
+            None => Err(bad(pieces.len() + 1, Wanted::Escape)),
+        },
+    }
+}
+
+/// The pieces of the parts of a line between its quotes.
+fn all_pieces(alloc: Global, line: &[u8]) -> Result<Vec<Piece>, LineFault>
+    ensures { Gives (λ pieces. pieces.items) result
+        (pieces_from false [] (slice_split (λ b. b == 34) line.now)) }
+{
+    let mut pieces = Vec::new(alloc);
+    let mut rest = line;
+    'parts: loop {
+        let (part, more) = cut(rest, b'"');
+        if put_words(alloc, part, &mut pieces)? {
+            return Ok(pieces);
+        }
+        match more {
+            Some(quoted) => rest = put_text(alloc, quoted, &mut pieces)?,
+            None => return Ok(pieces),
+        }
+    }
+}
+
+/// The pieces of a line: words between spaces and texts between quotes, up to a word that begins with `#`.
+///
+/// A carriage return at the line's end is left out. In a text `\x` and two hex digits stand for a byte.
+#[tactic(auto, unfolding(crate::specs::Pieces::pieces_of))]
+pub(crate) fn pieces(alloc: Global, line: &[u8]) -> Result<Vec<Piece>, LineFault>
+    ensures { Gives (λ pieces. pieces.items) result (pieces_of line.now) }
+{
+    all_pieces(alloc, without_return(line))
+}

@@ -1,0 +1,169 @@
+//! The agents of a written schedule.
+
+ghost use Rattle.std.specs.Prelude.{◌≡◌, ◌==◌, IfOk, Some, drop, position};
+ghost use Rattle.serf_agent.specs.Defaults.{default_config};
+ghost use Rattle.serf_write.specs.Gives.{Gives, or_wrong};
+ghost use Rattle.serf_write.specs.Lines.{agent_behind, agent_of, name_of, set_key, set_number, settings_from, with_agent, with_setting};
+ghost use Rattle.std.specs.Option.{option_map};
+ghost use Rattle.serf_write.specs.Values.{piece_at, word_of};
+ghost use Rattle.serf_write.specs.declared.fault.Wanted.TheVariants.{NewName};
+
+use crate::fault::{LineFault, Wanted, bad};
+use crate::piece::Piece;
+use crate::values::{halves, nth};
+use serf_agent::{
+    Config, DEFAULT_EVENT_LIMIT, DEFAULT_PER_TIME, DEFAULT_RESPONDERS, DEFAULT_SLOTS,
+};
+use serf_text::{is_word, number};
+use serf_wire::Bytes;
+use serf_world::{Roster, RosterFault};
+use std::alloc::{AllocError, Global};
+
+/// The agent of a name whose line says nothing else.
+fn plain(name: Bytes) -> Config
+    ensures { result ≡ default_config name }
+{
+    Config {
+        name,
+        event_buffer: DEFAULT_SLOTS,
+        query_buffer: DEFAULT_SLOTS,
+        event_limit: DEFAULT_EVENT_LIMIT,
+        responders: DEFAULT_RESPONDERS,
+        per_time: DEFAULT_PER_TIME,
+        ignore_old: false,
+    }
+}
+
+/// Sets the number of a key.
+fn set(config: &mut Config, place: usize, key: &[u8], value: u64) -> Result<(), LineFault>
+    ensures { Gives (λ _. config.new) result (set_number place config.old key.now (Some value)) }
+{
+    if is_word(key, b"events") {
+        config.event_buffer = value;
+    } else if is_word(key, b"queries") {
+        config.query_buffer = value;
+    } else if is_word(key, b"limit") {
+        config.event_limit = value;
+    } else if is_word(key, b"responders") {
+        config.responders = value;
+    } else if is_word(key, b"pertime") {
+        config.per_time = value;
+    } else {
+        return Err(bad(place, Wanted::Setting));
+    }
+    Ok(())
+}
+
+fn set_pair(config: &mut Config, place: usize, word: &[u8]) -> Result<(), LineFault>
+    ensures { Gives (λ _. config.new) result
+        (set_key place config.old word.now (position (λ b. b == 61) word.now)) }
+{
+    match halves(word, b'=') {
+        Some((key, value)) => match number(value) {
+            Some(value) => set(config, place, key, value),
+            None => Err(bad(place, Wanted::Setting)),
+        },
+        None => Err(bad(place, Wanted::Setting)),
+    }
+}
+
+#[tactic(auto, unfolding(crate::specs::Lines::with_setting))]
+fn set_word(config: &mut Config, place: usize, word: &[u8]) -> Result<(), LineFault>
+    ensures { Gives (λ _. config.new) result (with_setting place config.old word.now) }
+{
+    if is_word(word, b"keep") {
+        config.ignore_old = false;
+        Ok(())
+    } else if is_word(word, b"ignore") {
+        config.ignore_old = true;
+        Ok(())
+    } else {
+        set_pair(config, place, word)
+    }
+}
+
+/// The bytes of a word; a text has none.
+pub(crate) fn word_in(piece: &Piece) -> &[u8]
+    ensures { result.now ≡ word_of (Some piece.now) }
+{
+    match piece {
+        Piece::Word(word) => word.as_slice(),
+        Piece::Text(_) => &[],
+    }
+}
+
+/// The settings of the pieces, of which the first stands at the third place.
+fn settings(config: Config, pieces: &[Piece]) -> Result<Config, LineFault>
+    ensures { Gives (λ c. c) result (settings_from 3 config pieces.now) }
+{
+    let mut config = config;
+    let mut place: usize = 3;
+    let mut rest = pieces;
+    'settings: loop {
+        match rest.split_first() {
+            Some((piece, more)) => {
+                set_word(&mut config, place, word_in(piece))?;
+                place += 1;
+                rest = more;
+            }
+            None => return Ok(config),
+        }
+    }
+}
+
+/// The pieces behind so many.
+pub(crate) fn behind(pieces: &[Piece], count: usize) -> &[Piece]
+    ensures { result.now ≡ drop count pieces.now }
+{
+    if count <= pieces.len() {
+        &pieces[count..]
+    } else {
+        &[]
+    }
+}
+
+/// A copy of the name that a piece is.
+fn name(alloc: Global, piece: Option<&Piece>) -> Result<Option<Bytes>, AllocError>
+    ensures { IfOk result (λ found. found ≡ name_of (option_map (λ p. p.now) piece.entry)) }
+{
+    match piece {
+        Some(Piece::Word(word)) => Ok(Some(Bytes::copy_of(alloc, word.as_slice())?)),
+        Some(Piece::Text(text)) => Ok(Some(Bytes::copy_of(alloc, text.as_slice())?)),
+        None => Ok(None),
+    }
+}
+
+fn name_at(alloc: Global, pieces: &[Piece]) -> Result<Bytes, LineFault>
+    ensures { Gives (λ n. n) result (or_wrong 2 NewName (name_of (piece_at 2 pieces.now))) }
+{
+    match name(alloc, nth(pieces, 2))? {
+        Some(found) => Ok(found),
+        None => Err(bad(2, Wanted::NewName)),
+    }
+}
+
+/// The agent of an agent line.
+#[tactic(auto, unfolding(crate::specs::Lines::agent_of))]
+fn agent(alloc: Global, pieces: &[Piece]) -> Result<Config, LineFault>
+    ensures { Gives (λ c. c) result (agent_of pieces.now) }
+{
+    let name = name_at(alloc, pieces)?;
+    settings(plain(name), behind(pieces, 2))
+}
+
+/// Adds the agent of an agent line to the others.
+pub(crate) fn add_agent(
+    alloc: Global,
+    agents: &mut Roster,
+    pieces: &[Piece],
+) -> Result<(), LineFault>
+    ensures { Gives (λ _. agents.new) result (agent_behind agents.old pieces.now) }
+{
+    let config = agent(alloc, pieces)?;
+    match agents.add(alloc, config) {
+        Ok(()) => Ok(()),
+        Err(RosterFault::BadConfig) => Err(bad(2, Wanted::Bounds)),
+        Err(RosterFault::NameTwice) => Err(bad(2, Wanted::NewName)),
+        Err(RosterFault::OutOfMemory) => Err(LineFault::OutOfMemory),
+    }
+}

@@ -1,0 +1,333 @@
+//! What the pieces of a line stand for.
+
+ghost use Rattle.std.specs.Prelude.{◌≡◌, ◌==◌, ◌+◌, ◌<◌, ℕ, IfOk, IfSome, MatchOption, drop, length, not, position, take};
+ghost use Rattle.std.specs.Char.{is_ascii_digit};
+ghost use Rattle.std.specs.Str.{bytes_eq};
+ghost use Rattle.std.specs.Option.{option_map};
+ghost use Rattle.serf_write.specs.Gives.{Gives};
+ghost use Rattle.serf_write.specs.Values.{agent_in, agent_named, agent_said, bytes_in, bytes_or_none, bytes_said, ends_behind, label_named, mode_in, moment_in, number_in, packet_behind, packet_cut, packet_in, packet_of, piece_at, sink_call_in, time_in, time_of, times, unit_of, word_at, word_of};
+
+use crate::fault::{LineFault, Wanted, bad};
+use crate::label::Label;
+use crate::piece::Piece;
+use serf_agent::Config;
+use serf_model::SinkCall;
+use serf_schedule::sink_call;
+use serf_text::{choice, hex_bytes, is_word, number};
+use serf_wire::Bytes;
+use std::alloc::{AllocError, Global};
+
+/// The piece at a place, counting from 1. Place 0 is the first too.
+pub(crate) fn nth(pieces: &[Piece], place: usize) -> Option<&Piece>
+    ensures { option_map (λ p. p.now) result ≡ piece_at place pieces.now }
+{
+    pieces.get(place.saturating_sub(1))
+}
+
+/// The bytes of the word at a place; none where a text stands there, or nothing.
+pub(crate) fn word(pieces: &[Piece], place: usize) -> &[u8]
+    ensures { result.now ≡ word_at place pieces.now }
+{
+    match nth(pieces, place) {
+        Some(Piece::Word(word)) => word.as_slice(),
+        _ => &[],
+    }
+}
+
+fn place_of(word: &[u8], byte: u8) -> Option<usize>
+    ensures place { result ≡ position (λ b. b == byte) word.now }
+    ensures within { IfSome result (λ at. at < length word.now) }
+{
+    word.iter().position(|b| *b == byte)
+}
+
+/// The bytes before a byte, and those behind it; `None` where there is no such byte.
+pub(crate) fn halves(word: &[u8], byte: u8) -> Option<(&[u8], &[u8])>
+    ensures { MatchOption result (position (λ b. b == byte) word.now ≡ None) (λ parts. (at : ℕ)
+        × (position (λ b. b == byte) word.now ≡ Some at) × (parts.0.now ≡ take at word.now)
+        × (parts.1.now ≡ drop (at + 1) word.now)) }
+{
+    match place_of(word, byte) {
+        Some(at) => Some((&word[..at], &word[at + 1..])),
+        None => None,
+    }
+}
+
+/// A line that has no more than so many pieces.
+#[tactic(auto, unfolding(crate::specs::Values::ends_behind))]
+pub(crate) fn end_behind(pieces: &[Piece], count: usize) -> Result<(), LineFault>
+    requires { count < 100 }
+    ensures { Gives (λ _. tt) result (ends_behind count pieces.now) }
+{
+    if pieces.len() <= count {
+        Ok(())
+    } else {
+        Err(bad(count + 1, Wanted::End))
+    }
+}
+
+/// The number at a place.
+#[tactic(auto, unfolding(crate::specs::Values::number_in))]
+pub(crate) fn number_at(pieces: &[Piece], place: usize) -> Result<u64, LineFault>
+    ensures { Gives (λ n. n) result (number_in place pieces.now) }
+{
+    match number(word(pieces, place)) {
+        Some(found) => Ok(found),
+        None => Err(bad(place, Wanted::Number)),
+    }
+}
+
+/// How many nanoseconds a unit has.
+fn unit(word: &[u8]) -> Option<u64>
+    ensures { result ≡ unit_of word.now }
+{
+    if is_word(word, b"ns") {
+        Some(1)
+    } else if is_word(word, b"us") {
+        Some(1_000)
+    } else if is_word(word, b"ms") {
+        Some(1_000_000)
+    } else if is_word(word, b"s") {
+        Some(1_000_000_000)
+    } else {
+        None
+    }
+}
+
+fn product(number: Option<u64>, unit: Option<u64>) -> Option<u64>
+    ensures { result ≡ times number unit }
+{
+    match number {
+        Some(number) => match unit {
+            Some(unit) => number.checked_mul(unit),
+            None => None,
+        },
+        None => None,
+    }
+}
+
+fn end_of_digits(word: &[u8]) -> Option<usize>
+    ensures place { result ≡ position (λ b. not (is_ascii_digit b)) word.now }
+    ensures within { IfSome result (λ at. at < length word.now) }
+{
+    word.iter().position(|b| !b.is_ascii_digit())
+}
+
+/// A time in nanoseconds, below 2^64: digits and `ns`, `us`, `ms`, `s` or nothing.
+#[tactic(auto, unfolding(crate::specs::Values::time_of))]
+pub(crate) fn time(word: &[u8]) -> Option<u64>
+    ensures { result ≡ time_of word.now }
+{
+    match end_of_digits(word) {
+        Some(at) => product(number(&word[..at]), unit(&word[at..])),
+        None => number(word),
+    }
+}
+
+/// The time at a place.
+#[tactic(auto, unfolding(crate::specs::Values::time_in))]
+pub(crate) fn time_at(pieces: &[Piece], place: usize) -> Result<u64, LineFault>
+    ensures { Gives (λ n. n) result (time_in place pieces.now) }
+{
+    match time(word(pieces, place)) {
+        Some(found) => Ok(found),
+        None => Err(bad(place, Wanted::Time)),
+    }
+}
+
+/// The moment behind `at`, or 0 where the line ends before it.
+#[tactic(auto, unfolding(crate::specs::Values::moment_in))]
+pub(crate) fn moment_at(pieces: &[Piece], place: usize) -> Result<u64, LineFault>
+    requires { place < 100 }
+    ensures { Gives (λ n. n) result (moment_in place pieces.now) }
+{
+    if pieces.len() < place {
+        Ok(0)
+    } else if is_word(word(pieces, place), b"at") {
+        time_at(pieces, place + 1)
+    } else {
+        Err(bad(place, Wanted::At))
+    }
+}
+
+/// The bytes that a piece stands for: a text, or hex digits.
+fn said_bytes(alloc: Global, piece: Option<&Piece>) -> Result<Option<Bytes>, AllocError>
+    ensures { IfOk result (λ found. found ≡ bytes_said (option_map (λ p. p.now) piece.entry)) }
+{
+    match piece {
+        Some(Piece::Word(word)) => hex_bytes(alloc, word.as_slice()),
+        Some(Piece::Text(text)) => Ok(Some(Bytes::copy_of(alloc, text.as_slice())?)),
+        None => Ok(None),
+    }
+}
+
+/// The bytes at a place: a text, or hex digits.
+#[tactic(auto, unfolding(crate::specs::Values::bytes_in))]
+pub(crate) fn bytes_at(alloc: Global, pieces: &[Piece], place: usize) -> Result<Bytes, LineFault>
+    ensures { Gives (λ b. b) result (bytes_in place pieces.now) }
+{
+    match said_bytes(alloc, nth(pieces, place))? {
+        Some(found) => Ok(found),
+        None => Err(bad(place, Wanted::Bytes)),
+    }
+}
+
+/// The bytes at a place; none where the line ends before it.
+#[tactic(auto, unfolding(crate::specs::Values::bytes_or_none))]
+pub(crate) fn optional_bytes_at(
+    alloc: Global,
+    pieces: &[Piece],
+    place: usize,
+) -> Result<Bytes, LineFault>
+    ensures { Gives (λ b. b) result (bytes_or_none place pieces.now) }
+{
+    if pieces.len() < place {
+        Ok(Bytes::from_vec(Vec::new(alloc)))
+    } else {
+        bytes_at(alloc, pieces, place)
+    }
+}
+
+fn has_name(config: &Config, name: &[u8]) -> bool
+    ensures { result ≡ bytes_eq config.now.name name.now }
+{
+    config.name.as_slice() == name
+}
+
+fn place_of_agent(agents: &[Config], name: &[u8]) -> Option<usize>
+    ensures { result ≡ position (λ c. bytes_eq c.name name.now) agents.now }
+{
+    agents.iter().position(|config| has_name(config, name))
+}
+
+/// The number of the agent of a name.
+#[tactic(auto, unfolding(crate::specs::Values::agent_named))]
+fn named_agent(agents: &[Config], name: &[u8]) -> Option<u64>
+    ensures { result ≡ agent_named agents.now name.now }
+{
+    match place_of_agent(agents, name) {
+        Some(number) => Some(number as u64),
+        None => None,
+    }
+}
+
+/// The number of the agent that a piece names: a word of digits is the number itself.
+fn said_agent(agents: &[Config], piece: Option<&Piece>) -> Option<u64>
+    ensures { result ≡ agent_said agents.now (option_map (λ p. p.now) piece.entry) }
+{
+    match piece {
+        Some(Piece::Word(word)) => match number(word.as_slice()) {
+            Some(found) => Some(found),
+            None => named_agent(agents, word.as_slice()),
+        },
+        Some(Piece::Text(text)) => named_agent(agents, text.as_slice()),
+        None => None,
+    }
+}
+
+/// The number of the agent at a place.
+#[tactic(auto, unfolding(crate::specs::Values::agent_in))]
+pub(crate) fn agent_at(agents: &[Config], pieces: &[Piece], place: usize) -> Result<u64, LineFault>
+    ensures { Gives (λ n. n) result (agent_in agents.now place pieces.now) }
+{
+    match said_agent(agents, nth(pieces, place)) {
+        Some(found) => Ok(found),
+        None => Err(bad(place, Wanted::Agent)),
+    }
+}
+
+fn is_named(label: &Label, name: &[u8]) -> bool
+    ensures { result ≡ bytes_eq label.now.name name.now }
+{
+    label.name.as_slice() == name
+}
+
+fn place_of_label(labels: &[Label], name: &[u8]) -> Option<usize>
+    ensures { result ≡ position (λ l. bytes_eq l.name name.now) labels.now }
+{
+    labels.iter().position(|label| is_named(label, name))
+}
+
+/// The label of a name.
+#[tactic(auto, unfolding(crate::specs::Values::label_named))]
+pub(crate) fn named_label<'a>(labels: &'a [Label], name: &[u8]) -> Option<&'a Label>
+    ensures { option_map (λ l. l.now) result ≡ label_named labels.now name.now }
+{
+    match place_of_label(labels, name) {
+        Some(at) => labels.get(at),
+        None => None,
+    }
+}
+
+/// The packet of this number, counted from 0, of those that the line of a label sent.
+fn packet_from(label: Option<&Label>, number: Option<u64>) -> Option<u64>
+    ensures { result ≡ packet_behind (option_map (λ l. l.now) label.entry) number }
+{
+    match label {
+        Some(label) => match number {
+            Some(number) => {
+                if number < label.past.saturating_sub(label.first) {
+                    Some(label.first + number)
+                } else {
+                    None
+                }
+            }
+            None => None,
+        },
+        None => None,
+    }
+}
+
+/// The packet that a word names, where it is no number.
+fn labelled_packet(labels: &[Label], word: &[u8]) -> Option<u64>
+    ensures { result ≡ packet_cut labels.now word.now (position (λ b. b == 47) word.now) }
+{
+    match halves(word, b'/') {
+        Some((name, place)) => packet_from(named_label(labels, name), number(place)),
+        None => packet_from(named_label(labels, word), Some(0)),
+    }
+}
+
+/// The packet that a word names: a number, a label, or a label with the number of its packet.
+#[tactic(auto, unfolding(crate::specs::Values::packet_of))]
+fn packet(labels: &[Label], word: &[u8]) -> Option<u64>
+    ensures { result ≡ packet_of labels.now word.now }
+{
+    match number(word) {
+        Some(found) => Some(found),
+        None => labelled_packet(labels, word),
+    }
+}
+
+/// The packet at a place.
+#[tactic(auto, unfolding(crate::specs::Values::packet_in))]
+pub(crate) fn packet_at(labels: &[Label], pieces: &[Piece], place: usize) -> Result<u64, LineFault>
+    ensures { Gives (λ n. n) result (packet_in labels.now place pieces.now) }
+{
+    match packet(labels, word(pieces, place)) {
+        Some(found) => Ok(found),
+        None => Err(bad(place, Wanted::Packet)),
+    }
+}
+
+/// How a state at a place is merged: true for `join`.
+#[tactic(auto, unfolding(crate::specs::Values::mode_in))]
+pub(crate) fn mode_at(pieces: &[Piece], place: usize) -> Result<bool, LineFault>
+    ensures { Gives (λ b. b) result (mode_in place pieces.now) }
+{
+    match choice(word(pieces, place), b"sync", b"join") {
+        Some(found) => Ok(found),
+        None => Err(bad(place, Wanted::Mode)),
+    }
+}
+
+/// The call of a sink at a place.
+#[tactic(auto, unfolding(crate::specs::Values::sink_call_in))]
+pub(crate) fn sink_call_at(pieces: &[Piece], place: usize) -> Result<SinkCall, LineFault>
+    ensures { Gives (λ c. c) result (sink_call_in place pieces.now) }
+{
+    match sink_call(word(pieces, place)) {
+        Some(found) => Ok(found),
+        None => Err(bad(place, Wanted::SinkCall)),
+    }
+}

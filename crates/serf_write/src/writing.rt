@@ -1,0 +1,208 @@
+//! A written schedule, read line by line.
+
+ghost use Rattle.std.specs.Prelude.{◌≡◌, ◌++◌, ◌∷◌, [], All, IfOk, OnOk};
+ghost use Rattle.serf_schedule.specs.Sayable.{IsSayable};
+ghost use Rattle.serf_schedule.specs.Schedule.{parsed_of};
+ghost use Rattle.serf_write.specs.Gives.{Gives};
+ghost use Rattle.serf_write.specs.Lines.{actions_of};
+ghost use Rattle.serf_write.specs.Written.{act_line, after_line, agent_line, labelled_line, nothing, plain_line, said_by, schedule_meant, sent_count, with_acts};
+
+use crate::actions::Deed;
+use crate::fault::{LineFault, Wanted, bad};
+use crate::label::Label;
+use crate::labels::{behind_label, label_in, may_be_label};
+use crate::piece::{Piece, pieces};
+use crate::said::said_deed;
+use crate::settings::{add_agent, behind};
+use crate::stepping::{world_behind, world_of};
+use crate::values::word;
+use serf_model::Action;
+use serf_schedule::{Schedule, is_sayable};
+use serf_text::is_word;
+use serf_wire::Bytes;
+use serf_world::{Roster, World};
+use std::alloc::{AllocError, Global};
+use std::marker::Model;
+
+/// The agents, the actions and the labels of the lines so far, and the cluster that has done the actions.
+///
+/// Contracts see the first three.
+#[derive(Drop)]
+pub(crate) struct Writing {
+    agents: Roster,
+    actions: Vec<Action>,
+    labels: Vec<Label>,
+    /// There is none before the first action, and where memory ran out.
+    world: Option<World>,
+}
+
+impl Model for Writing {
+    ghost use Rattle.serf_write.specs.Written.{Written};
+    ghost use Rattle.std.specs.Prelude.{All};
+    ghost use Rattle.serf_schedule.specs.Sayable.{IsSayable};
+    ghost use Rattle.serf_write.specs.Running.{HasRun};
+
+    ghost Value = { Written };
+
+    ghost view = { λ w.
+        record { configs = w.agents; actions = w.actions.items; labels = w.labels.items } };
+
+    ghost invariant = { λ w. HasRun w.agents w.actions.items w.world
+        × All IsSayable w.actions.items };
+}
+
+impl Writing {
+    /// Nothing is read yet. Takes no memory.
+    pub(crate) fn new(alloc: Global) -> Writing
+        ensures { result ≡ nothing }
+    {
+        Writing {
+            agents: Roster::new(alloc),
+            actions: Vec::new(alloc),
+            labels: Vec::new(alloc),
+            world: None,
+        }
+    }
+
+    /// How many packets were sent. `AllocError` where memory ran out before.
+    fn sent(&self) -> Result<u64, AllocError>
+        ensures { IfOk result (λ n. n ≡ sent_count self.now.configs self.now.actions) }
+    {
+        match &self.world {
+            Some(world) => Ok(world.sent().len() as u64),
+            None => {
+                if self.actions.is_empty() {
+                    Ok(0)
+                } else {
+                    Err(AllocError)
+                }
+            }
+        }
+    }
+
+    /// Does an action. Lines say only actions that a schedule can say.
+    fn act(&mut self, alloc: Global, action: Action) -> Result<(), AllocError>
+        ensures { OnOk result (self.new
+            ≡ record self.old { actions = self.old.actions ++ action ∷ [] }) }
+    {
+        if !is_sayable(&action) {
+            return Err(AllocError);
+        }
+        let world = self.world.take();
+        let world = world_of(alloc, world, &self.agents, self.actions.as_slice())?;
+        let world = world_behind(alloc, world, &self.agents, self.actions.as_slice(), &action)?;
+        self.actions.push(action)?;
+        self.world = Some(world);
+        Ok(())
+    }
+
+    fn act_all(&mut self, alloc: Global, deed: Deed) -> Result<(), LineFault>
+        ensures { Gives (λ _. self.new) result (with_acts self.old (actions_of deed)) }
+    {
+        match deed {
+            Deed::One(action) => self.act(alloc, action)?,
+            Deed::Two(first, second) => {
+                self.act(alloc, first)?;
+                self.act(alloc, second)?;
+            }
+        }
+        Ok(())
+    }
+
+    /// Reads a line of actions.
+    fn add_actions(&mut self, alloc: Global, pieces: &[Piece]) -> Result<(), LineFault>
+        ensures { Gives (λ _. self.new) result (act_line self.old pieces.now) }
+    {
+        let sent = self.sent()?;
+        let deed = said_deed(
+            alloc,
+            self.agents.as_slice(),
+            self.labels.as_slice(),
+            sent,
+            pieces,
+        )?;
+        self.act_all(alloc, deed)
+    }
+
+    /// Reads an agent line.
+    fn add_agent(&mut self, alloc: Global, pieces: &[Piece]) -> Result<(), LineFault>
+        ensures { Gives (λ _. self.new) result (agent_line self.old pieces.now) }
+    {
+        if !self.actions.is_empty() {
+            return Err(bad(1, Wanted::AgentsFirst));
+        }
+        self.world = None;
+        add_agent(alloc, &mut self.agents, pieces)
+    }
+
+    /// Reads a line without a label.
+    fn add_plain(&mut self, alloc: Global, pieces: &[Piece]) -> Result<(), LineFault>
+        ensures { Gives (λ _. self.new) result (plain_line self.old pieces.now) }
+    {
+        if is_word(word(pieces, 1), b"agent") {
+            self.add_agent(alloc, pieces)
+        } else {
+            self.add_actions(alloc, pieces)
+        }
+    }
+
+    /// Reads a line of actions behind its label.
+    fn add_labelled(
+        &mut self,
+        alloc: Global,
+        name: &[u8],
+        pieces: &[Piece],
+    ) -> Result<(), LineFault>
+        ensures { Gives (λ _. self.new) result (labelled_line self.old name.now pieces.now) }
+    {
+        if !may_be_label(self.labels.as_slice(), name) {
+            return Err(bad(1, Wanted::Label));
+        }
+        let first = self.sent()?;
+        match self.add_actions(alloc, pieces) {
+            Ok(()) => {}
+            Err(fault) => return Err(behind_label(fault)),
+        }
+        let past = self.sent()?;
+        let name = Bytes::copy_of(alloc, name)?;
+        match self.labels.push(Label { name, first, past }) {
+            Ok(()) => Ok(()),
+            Err(_) => Err(LineFault::OutOfMemory),
+        }
+    }
+
+    /// Reads the pieces of a line.
+    fn add_pieces(&mut self, alloc: Global, pieces: &[Piece]) -> Result<(), LineFault>
+        ensures { Gives (λ _. self.new) result (said_by self.old pieces.now) }
+    {
+        if pieces.is_empty() {
+            return Ok(());
+        }
+        match label_in(word(pieces, 1)) {
+            Some(name) => self.add_labelled(alloc, name, behind(pieces, 1)),
+            None => self.add_plain(alloc, pieces),
+        }
+    }
+
+    /// Reads a line.
+    #[tactic(auto, unfolding(crate::specs::Written::after_line))]
+    pub(crate) fn add_line(&mut self, alloc: Global, line: &[u8]) -> Result<(), LineFault>
+        ensures { Gives (λ _. self.new) result (after_line self.old line.now) }
+    {
+        let pieces = pieces(alloc, line)?;
+        self.add_pieces(alloc, pieces.as_slice())
+    }
+
+    /// The schedule of all lines. A schedule's text can say its actions.
+    pub(crate) fn into_schedule(self) -> Schedule
+        ensures meant { parsed_of result ≡ schedule_meant self }
+        ensures sayable { All IsSayable result.actions.items }
+    {
+        let Writing {
+            agents,
+            actions,
+            ..
+        } = self;
+        Schedule { agents, actions }
+    }
+}
