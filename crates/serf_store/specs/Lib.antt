@@ -1,2 +1,4 @@
 pub mod Paths
 pub mod Store
+pub mod SystemFile
+pub mod TextFile
