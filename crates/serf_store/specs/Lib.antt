@@ -1,3 +1,4 @@
+pub mod MemFile
 pub mod Paths
 pub mod Store
 pub mod SystemFile

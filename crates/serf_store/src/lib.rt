@@ -6,9 +6,11 @@
 //! a crash gives free, and [`MemFile`] is one in memory, which fails where it is told to.
 #![tactic(auto)]
 
+mod bytes;
 mod fault;
 mod file;
 mod lock;
+mod memory;
 mod opening;
 mod paths;
 mod store;
@@ -17,5 +19,6 @@ mod system;
 pub use fault::StoreFault;
 pub use file::TextFile;
 pub use lock::LockFile;
+pub use memory::MemFile;
 pub use store::FileStore;
 pub use system::SystemFile;
