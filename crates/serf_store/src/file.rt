@@ -22,7 +22,8 @@ pub trait TextFile {
 
     /// All bytes of the text.
     fn read(&mut self, alloc: Global) -> io::Result<Vec<u8>>
-        ensures bytes { IfOk result (λ text. IfSome (kept self.old) (λ k. text.items ≡ all_of k.text)) }
+        ensures bytes { IfOk result (λ text. IfSome (kept self.old)
+            (λ k. text.items ≡ all_of k.text)) }
         ensures kept { kept self.new ≡ kept self.old }
         ensures unfailed { OnOk result (failures self.new ≡ failures self.old) }
         ensures failed { OnErr result (HasFailed (failures self.old) (failures self.new)) };
@@ -68,7 +69,8 @@ pub trait TextFile {
     fn rename_beside(&mut self) -> io::Result<()>
         requires { IsReady (kept self.old) }
         ensures ok { OnOk result (kept self.new ≡ option_map renamed (kept self.old)) }
-        ensures fault { OnErr result (Becomes (λ k l. l.text ≡ k.text) (kept self.old) (kept self.new)) }
+        ensures fault { OnErr result (Becomes (λ k l. l.text ≡ k.text)
+            (kept self.old) (kept self.new)) }
         ensures unfailed { OnOk result (failures self.new ≡ failures self.old) }
         ensures failed { OnErr result (HasFailed (failures self.old) (failures self.new)) };
 

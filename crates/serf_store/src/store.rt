@@ -41,9 +41,11 @@ impl<F: TextFile> Model for FileStore<F> {
 
     ghost Value = { Device };
 
-    ghost view = { λ a. file_device (text_of (F.kept a.file)) a.failures a.append_calls a.flush_calls a.replace_calls };
+    ghost view = { λ a. file_device (text_of (F.kept a.file))
+        a.failures a.append_calls a.flush_calls a.replace_calls };
 
-    ghost invariant = { λ a. (a.failures ≡ 0 → IsSettled (F.kept a.file)) × (a.failures ≡ 0 ↔ F.failures a.file ≡ 0) };
+    ghost invariant = { λ a. (a.failures ≡ 0 → IsSettled (F.kept a.file))
+        × (a.failures ≡ 0 ↔ F.failures a.file ≡ 0) };
 }
 
 impl<F: TextFile + Drop> FileStore<F> {
@@ -57,12 +59,12 @@ impl<F: TextFile + Drop> FileStore<F> {
             (option_map (λ _. on_device r.1.items) (F.kept file)) 0 0 0 0) }
         ensures read { IfOk result (λ r. IfSome (F.kept file) (λ k. r.1.items ≡ all_of k.text)) }
     {
-        let mut file = file;
-        let text = file.read(alloc).map_err(read_fault)?;
-        file.sync().map_err(StoreFault::Sync)?;
-        file.sync_folder().map_err(StoreFault::Folder)?;
+        let mut opened = file;
+        let text = opened.read(alloc).map_err(read_fault)?;
+        opened.sync().map_err(StoreFault::Sync)?;
+        opened.sync_folder().map_err(StoreFault::Folder)?;
         let store = FileStore {
-            file,
+            file: opened,
             failures: 0,
             append_calls: 0,
             flush_calls: 0,
@@ -91,8 +93,10 @@ where
 /// Writes the text beside the file, and puts it in the file's place.
 fn put_in_place<F: TextFile>(file: &mut F, text: &[u8]) -> io::Result<()>
     requires { IsSettled (F.kept file.old) }
-    ensures ok { OnOk result (F.kept file.new ≡ option_map (λ _. kept_text text.now) (F.kept file.old)) }
-    ensures fault { OnErr result (Becomes (HasEither text.now) (F.kept file.old) (F.kept file.new)) }
+    ensures ok { OnOk result (F.kept file.new
+        ≡ option_map (λ _. kept_text text.now) (F.kept file.old)) }
+    ensures fault { OnErr result (Becomes (HasEither text.now)
+        (F.kept file.old) (F.kept file.new)) }
     ensures unfailed { OnOk result (F.failures file.new ≡ F.failures file.old) }
     ensures failed { OnErr result (HasFailed (F.failures file.old) (F.failures file.new)) }
 {
