@@ -14,20 +14,20 @@ MOST = 200
 EVENTS = [f"{time} e{time - 1}" for time in range(1, 6)]
 
 
-def make(count, places):
-    """Makes that library beside its shared one, in a folder of its own: the static library's path, or None."""
-    folder = places.fresh("starved")
-    library, piece = os.path.join(folder, os.path.basename(places.library)), os.path.join(folder, "starved.o")
+def make(places):
+    """Makes that library, in a folder of its own with its shared one; what went wrong, or None."""
+    piece = places.of("starved.o")
     renamed = [word for pair in NAMES.items() for word in ("--redefine-sym", "=".join(pair))]
     steps = [
-        ["objcopy", *renamed, places.library, library],
+        ["objcopy", *renamed, places.library, places.starved],
         [os.environ.get("CC", "cc"), *c_library.STRICT, "-O2", "-fPIC", "-c", "-o", piece, os.path.join(HERE, "starved.c")],
-        ["ar", "r", library, piece],
+        ["ar", "r", places.starved, piece],
     ]
-    faults = [said for status, said in map(c_library.ran, steps) if status]
-    fault = "".join(faults) or c_library.fault_of_shared(shared(library), library)
-    count.check("a library whose merges run out of memory", fault is None, fault)
-    return library if fault is None else None
+    for words in steps:
+        status, said = c_library.ran(words)
+        if status:
+            return said or f"{words[0]} failed"
+    return c_library.fault_of_shared(shared(places.starved), places.starved)
 
 
 def shared(library):
