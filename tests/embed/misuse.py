@@ -12,7 +12,7 @@ import sys
 import threading
 
 sys.path.insert(0, os.path.join(os.path.dirname(os.path.abspath(__file__)), "..", "..", "bindings", "python"))
-from serf_agent import Agent, AgentError, Broken, Code, Forked, Kind, Locked, Settings, Store
+from serf_agent import Agent, AgentError, Broken, Code, Forked, Kind, Library, Locked, Settings, Store
 
 FOLDER = sys.argv[1]
 passed = failed = 0
@@ -199,6 +199,41 @@ def forks():
         check("each time is once in the file", sorted(file.read().split()) == sorted("event-clock: 1 event-clock: 2".split()))
 
 
+class Held(Library):
+    """A library whose next firing takes long."""
+
+    def __init__(self):
+        super().__init__()
+        self.whole, self.begun, self.over = self.fire, threading.Event(), threading.Event()
+        self.fire = self.held
+
+    def held(self, *words):
+        self.begun.set()
+        self.over.wait()
+        return self.whole(*words)
+
+
+def fork_in_a_call():
+    library = Held()
+    with Agent(b"h", path("h"), library=library) as agent:
+        thread = threading.Thread(target=agent.fire, args=[b"x"])
+        thread.start()
+        library.begun.wait()
+
+        def closed():
+            # nobody frees in the child what the thread holds in the parent
+            signal.alarm(10)
+            said = said_of(agent.clocks, [])
+            agent.close()
+            return said
+
+        said = in_child(closed)
+        check("a fork while a thread is in a call", said == Forked.__name__, said)
+        library.over.set()
+        thread.join()
+        check("that call ends well", agent.clocks().event == 2)
+
+
 # A parent whose child is forked, and lives on; it says which one.
 PARENT = """
 import os, sys, time
@@ -228,7 +263,7 @@ def lock_of_a_parent():
         os.kill(child, signal.SIGKILL)
 
 
-for part in (settings, numbers, flags_and_bytes, moments, let_go, forks, lock_of_a_parent):
+for part in (settings, numbers, flags_and_bytes, moments, let_go, forks, fork_in_a_call, lock_of_a_parent):
     part()
 print(f"{passed} passed, {failed} failed")
 sys.exit(1 if failed else 0)

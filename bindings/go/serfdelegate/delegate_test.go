@@ -112,7 +112,7 @@ func TestDroppedPacketsAreToldInOne(t *testing.T) {
 
 func TestBytesThatWaitAreBounded(t *testing.T) {
 	q := newQueue()
-	for q.add(make([]byte, 20<<20), true) {
+	for i := 0; i < 10 && q.add(make([]byte, 20<<20), true); i++ {
 	}
 	if q.bytes > waitingBytes || len(q.pieces) != 3 {
 		t.Errorf("%d states of %d bytes", len(q.pieces), q.bytes)
@@ -332,6 +332,9 @@ func TestMemberlistNeverWaitsForTheDisk(t *testing.T) {
 	t.Parallel()
 	agent, ran := &fake{flush: make(chan struct{})}, &heard{}
 	d := start(t, agent, Handlers{Event: func(event *serfagent.Event) { ran.add(string(event.Name)) }})
+	var flushed sync.Once
+	flush := func() { flushed.Do(func() { close(agent.flush) }) }
+	t.Cleanup(flush)
 	d.NotifyMsg([]byte("packet"))
 	eventually(t, "a flush", agent.isBusy)
 	fired := make(chan struct{})
@@ -355,7 +358,7 @@ func TestMemberlistNeverWaitsForTheDisk(t *testing.T) {
 	if len(ran.all()) > 0 {
 		t.Error("handled before the flush")
 	}
-	close(agent.flush)
+	flush()
 	eventually(t, "all handlers ran", func() bool { return len(ran.all()) == 5 })
 	<-fired
 }
