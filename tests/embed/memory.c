@@ -137,8 +137,11 @@ static void make_packets(void) {
     fire(&other);
     settle(&other, &look);
     memcpy(deploy, look.packet, deploy_len = look.packet_len);
-    fire(&other);
-    settle(&other, &look);
+    /* (three events that only the merge brings) */
+    for (int i = 0; i < 3; i++) {
+        fire(&other);
+        settle(&other, &look);
+    }
     query(&other);
     settle(&other, &look);
     memcpy(ask, look.packet, ask_len = look.packet_len);
