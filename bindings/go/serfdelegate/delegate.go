@@ -168,6 +168,9 @@ func (d *Delegate) inOrder(call func() error) error {
 		events, err := d.agent.Merge(state.data, state.isJoin)
 		// (some may have entered before the memory was out)
 		d.hand(events...)
+		if isClosed(err) {
+			return err
+		}
 		d.fault(err)
 	}
 	return call()

@@ -182,17 +182,24 @@ func TestAnAgentThatIsClosedIsToldOnce(t *testing.T) {
 
 func TestAFileThatFailedIsToldWithItsCause(t *testing.T) {
 	t.Parallel()
-	agent, told := &fake{receive: fmt.Errorf("test: %w", serfagent.ErrFull)}, &heard{}
-	d := start(t, agent, Handlers{Fault: told.fault})
-	for i := 0; i < 10; i++ {
-		d.NotifyMsg([]byte("packet"))
-	}
-	time.Sleep(1500 * time.Millisecond)
-	if faults := told.faults(); len(faults) != 1 || !errors.Is(faults[0], serfagent.ErrFull) {
-		t.Error(faults)
-	}
-	if calls := agent.all(); len(calls) != 1 {
-		t.Error(calls)
+	full := fmt.Errorf("test: %w", serfagent.ErrFull)
+	for name, agent := range map[string]*fake{"receive": {receive: full}, "merge": {merge: full}} {
+		told := &heard{}
+		d := start(t, agent, Handlers{Fault: told.fault})
+		for i := 0; i < 10; i++ {
+			if name == "receive" {
+				d.NotifyMsg([]byte("packet"))
+			} else {
+				d.MergeRemoteState([]byte("state"), false)
+			}
+		}
+		time.Sleep(1500 * time.Millisecond)
+		if faults := told.faults(); len(faults) != 1 || !errors.Is(faults[0], serfagent.ErrFull) {
+			t.Error(name, faults)
+		}
+		if calls := agent.all(); calls[0] != name || len(calls) > 2 {
+			t.Error(name, calls)
+		}
 	}
 }
 
