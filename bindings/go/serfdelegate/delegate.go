@@ -404,9 +404,11 @@ func (d *Delegate) makeStates() {
 		case answer := <-d.asked:
 			state, err := d.agent.LocalState(nil, nil)
 			d.made.Lock()
-			if err == nil {
+			switch {
+			case err == nil:
 				d.state = state
-			} else {
+			case !isClosed(err):
+				// (take tells of an agent that is closed)
 				d.stateFault = err
 			}
 			state = d.state

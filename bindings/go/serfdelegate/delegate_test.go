@@ -166,6 +166,9 @@ func TestAnAgentThatIsClosedIsToldOnce(t *testing.T) {
 	agent, told := open(t), &heard{}
 	d := start(t, agent, Handlers{Fault: told.fault})
 	agent.Close()
+	if len(d.LocalState(false)) == 0 {
+		t.Error("no state, where one was made before")
+	}
 	time.Sleep(3500 * time.Millisecond)
 	for i := 0; i < 2*Waiting; i++ {
 		d.NotifyMsg([]byte("\x03\x80"))
