@@ -14,7 +14,7 @@
    - a handle is all 0 at first, is never copied or written, and is used by one thread at a time;
    - a pointer with a length points to that many bytes, which nothing else writes meanwhile; with the length 0 it may be
      any address;
-   - the text that open is given is what the file holds, and no other agent has the file;
+   - the text that open is given is what the file holds, and no other agent has the file, nor a forked child;
    - moments ("now") are nanoseconds of one clock that doesn't go back.
 
    Bytes are read by copying: a getter copies as much as fits into the host's memory and tells the whole length, so a call
@@ -35,7 +35,7 @@ enum serf_agent_code {
     SERF_AGENT_IN_USE = 2,           /* open: the handle has an agent already */
     SERF_AGENT_UNWRITTEN = 3,        /* bytes for the host's file aren't written yet */
     SERF_AGENT_NOTHING = 4,          /* a getter: the last call gave no such thing */
-    SERF_AGENT_OUT_OF_MEMORY = 5,    /* the agent is as before the call, but for what a merge took */
+    SERF_AGENT_OUT_OF_MEMORY = 5,    /* the agent is as before the call, but for what a merge took: read its events */
     SERF_AGENT_BAD_CONFIG = 6,       /* open: settings out of bounds */
     SERF_AGENT_SINK_FAULT = 7,       /* the agent's sink failed; not with this library's own sink */
     SERF_AGENT_STOPPED = 8,          /* the agent's sink failed before; not with this library's own sink */
@@ -229,7 +229,8 @@ uint32_t serf_agent_written(struct serf_agent *handle);
 uint32_t serf_agent_fire(struct serf_agent *handle, const uint8_t *name, size_t name_len, const uint8_t *payload,
                          size_t payload_len, bool coalesce);
 uint32_t serf_agent_receive(struct serf_agent *handle, uint64_t now, const uint8_t *packet, size_t packet_len);
-/* Merges another agent's whole state. */
+/* Merges another agent's whole state. Also where it answers SERF_AGENT_OUT_OF_MEMORY its events are read, where
+   serf_agent_gave says MERGED: they entered before, and no later call gives them. */
 uint32_t serf_agent_merge(struct serf_agent *handle, const uint8_t *packet, size_t packet_len, bool is_join);
 /* The agent's whole state, to send, with the members that serf_agent_add_status and serf_agent_add_left named since the
    last that was tried; it forgets them. */

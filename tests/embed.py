@@ -2,8 +2,9 @@
 
     tests/embed.py [--library FILE] [--program FILE] [--over-ci]
 
-C and Python have to be there. Rust and Go are built and run where `cargo` and `go` are on PATH, and without the network;
-which were not is printed. --library takes another static library than that of crates/serf_agent_c, which else is built by
+C and Python have to be there. Rust and Go are built and run where `cargo` and `go` are on PATH, and without the network; the
+delegate in Go where memberlist is there as well (Debian's package). Each part has a line such as `python: N passed, M failed`
+or `go: not run, since go is not on PATH`, and the last line is their sum. --library takes another static library than that of crates/serf_agent_c, which else is built by
 `rt lib`; no declaration of Rattle is compared then. --program takes another program than the proved one, which
 conformance/c is held against. --over-ci builds the library over those that `rt ci` left, as the gate does.
 """
@@ -25,6 +26,7 @@ import c_library
 import conform
 import declarations
 import programs
+import starved
 import stores
 
 HEADER = os.path.join(c_library.INCLUDE, "serf_agent.h")
@@ -40,6 +42,15 @@ SEEDS = 40
 KINDS = ["mixed", "tiny", "merges", "restarts", "devices", "injections", "queries", "limits", "exhaustion", "per-time", "compactions", "gossip"]
 
 
+# Where Debian has Go's packages, and memberlist among them.
+GO_CODE = "/usr/share/gocode"
+MEMBERLIST = os.path.join(GO_CODE, "src", "github.com", "hashicorp", "memberlist")
+
+
+class NotRun(Exception):
+    """A part can't be run here, for this reason."""
+
+
 class Count:
     def __init__(self):
         self.passed = self.failed = 0
@@ -51,13 +62,18 @@ class Count:
             self.failed += 1
             print(f"FAILED {name}: {said}")
 
+    def add(self, passed, failed):
+        self.passed += passed
+        self.failed += failed
+
 
 class Places:
-    """Where what is built and run here stands."""
+    """Where what is built and run here stands. `starved` is a library whose merges run out of memory."""
 
     def __init__(self, folder, library):
         self.folder, self.library = folder, library
         self.shared = os.path.join(folder, "libserf_agent.so")
+        self.starved = os.path.join(self.fresh("starved"), "libserf_agent_c.a")
 
     def of(self, name):
         return os.path.join(self.folder, name)
@@ -69,10 +85,10 @@ class Places:
         return path
 
 
-def compile_c(count, places, name, source, more=()):
+def compile_c(count, places, name, source, more=(), library=None):
     """Compiles a host; its path, or None."""
     path = places.of(name)
-    fault = c_library.fault_of_host(path, source, places.library, more)
+    fault = c_library.fault_of_host(path, source, library or places.library, more)
     count.check(f"{name} compiles", fault is None, fault)
     return path if fault is None else None
 
@@ -83,9 +99,17 @@ def counted(count, name, words, **more):
     found = re.search(r"^(\d+) passed, (\d+) failed$", said, re.M)
     count.check(f"{name} ends", found is not None and status == (int(found[2]) > 0), f"{status}: {said[-1500:]}")
     if found:
-        count.passed += int(found[1])
-        count.failed += int(found[2])
+        count.add(int(found[1]), int(found[2]))
         print("".join(line + "\n" for line in said.split("\n") if line.startswith("FAILED")), end="")
+
+
+def counted_tests(count, name, line, words, **more):
+    """Runs the tests of a language; `line` finds each test's name and end."""
+    status, said = c_library.ran(words, **more)
+    found = list(re.finditer(line, said, re.M))
+    for one in found:
+        count.check(f"{name}: {one['name']}", one["end"].lower() in ("pass", "ok"), said[-2000:])
+    count.check(f"{name} end well", status == 0 and found and "warning" not in said, f"{status}: {said[-2000:]}")
 
 
 def bad_input(count, places):
@@ -108,13 +132,16 @@ def bad_input(count, places):
 
 
 def memory(count, places):
-    """Each call where memory is wanting, under valgrind too: its requests go through a count."""
+    """Each call where memory is wanting, under valgrind too: its requests go through a count. And the library for hosts whose
+    merges run out of memory."""
     wrapped = ["-g", "-Wl,--wrap=malloc,--wrap=realloc"]
     path = compile_c(count, places, "memory", os.path.join(SOURCES, "memory.c"), wrapped)
     if path:
         counted(count, "want of memory", [path])
         if shutil.which("valgrind"):
             counted(count, "want of memory, under valgrind", ["valgrind", "-q", "--error-exitcode=9", "--leak-check=full", path])
+    fault = starved.make(places)
+    count.check("a library whose merges run out of memory", fault is None, fault)
 
 
 def example(count, name, places, words, **more):
@@ -140,48 +167,85 @@ def in_c(count, places):
             example(count, "C under valgrind", places, ["valgrind", "-q", "--error-exitcode=9", "--leak-check=full", run])
     made = c_library.ran(["make", "-s", "-C", os.path.join(BINDINGS, "c"), f"OUT={places.of('made')}", f"LIBRARY={places.library}"])
     count.check("the Makefile", made[0] == 0, made[1])
+    driver = compile_c(count, places, "merge_driver", os.path.join(SOURCES, "merge_driver.c"), library=places.starved)
+    if driver:
+        starved.try_merges(count, "C", places, [driver])
 
 
 def in_python(count, places):
     more = {"env": dict(os.environ, SERF_AGENT_LIBRARY=places.shared, PYTHONDONTWRITEBYTECODE="1")}
     stores.try_store(count, "Python", places, [sys.executable, os.path.join(SOURCES, "store_driver.py")])
     example(count, "Python", places, [sys.executable, os.path.join(BINDINGS, "python", "example.py")], **more)
-    counted(count, "bad input in Python", [sys.executable, os.path.join(SOURCES, "bad_input.py"), places.fresh("bad")], **more)
+    for name in ("bad_input", "misuse"):
+        counted(count, f"{name} in Python", [sys.executable, os.path.join(SOURCES, f"{name}.py"), places.fresh(name)], **more)
+    more["env"]["SERF_AGENT_LIBRARY"] = starved.shared(places.starved)
+    starved.try_merges(count, "Python", places, [sys.executable, os.path.join(SOURCES, "merge_driver.py")], **more)
 
 
 def in_rust(count, places):
     if shutil.which("cargo") is None:
-        print("not run: Rust, since cargo isn't on PATH")
-        return
+        raise NotRun("cargo is not on PATH")
     target = places.of("target")
     more = {"env": dict(os.environ, SERF_AGENT_LIBRARY=places.library, CARGO_TARGET_DIR=target), "cwd": os.path.join(BINDINGS, "rust")}
     status, said = c_library.ran(["cargo", "build", "--offline", "--examples"], **more)
     count.check("Rust builds, with no warning", status == 0 and "warning" not in said, said[-2000:])
+    if status:
+        return
+    stores.try_store(count, "Rust", places, [os.path.join(target, "debug", "examples", "store_driver")])
+    example(count, "Rust", places, [os.path.join(target, "debug", "examples", "two_agents")])
+    counted_tests(count, "Rust's tests", r"^test (?P<name>\S+) \.\.\. (?P<end>\w+)$", ["cargo", "test", "--offline", "--tests"], **more)
+    more["env"]["SERF_AGENT_LIBRARY"] = places.starved
+    status, said = c_library.ran(["cargo", "build", "--offline", "--example", "merge_driver"], **more)
+    count.check("Rust: merge_driver builds", status == 0, said[-2000:])
     if status == 0:
-        stores.try_store(count, "Rust", places, [os.path.join(target, "debug", "examples", "store_driver")])
-        example(count, "Rust", places, [os.path.join(target, "debug", "examples", "two_agents")])
-        status, said = c_library.ran(["cargo", "test", "--offline", "--test", "faults"], **more)
-        count.check("Rust: its tests", status == 0 and "warning" not in said, said[-2000:])
+        starved.try_merges(count, "Rust", places, [os.path.join(target, "debug", "examples", "merge_driver")])
 
 
 def in_go(count, places):
     if shutil.which("go") is None:
-        print("not run: Go, since go isn't on PATH")
-        return
+        raise NotRun("go is not on PATH")
     env = dict(os.environ, CGO_LDFLAGS=f"-L{os.path.dirname(places.library)}", GOFLAGS="-mod=mod", GOPROXY="off", GO111MODULE="on", GOCACHE=places.of("go_cache"))
     more = {"env": env, "cwd": os.path.join(BINDINGS, "go")}
-    for name in ("store_driver", "example"):
+    programs_in_go = {"store_driver": places.library, "example": places.library, "merge_driver": places.starved}
+    for name, library in programs_in_go.items():
+        env["CGO_LDFLAGS"] = f"-L{os.path.dirname(library)}"
         status, said = c_library.ran(["go", "build", "-o", places.of(f"go_{name}"), f"./{name}"], **more)
         count.check(f"Go: {name} builds", status == 0, said[-2000:])
         if status:
             return
     stores.try_store(count, "Go", places, [places.of("go_store_driver")])
     example(count, "Go", places, [places.of("go_example")])
-    status, said = c_library.ran(["go", "test", "-count=1", "./serfagent"], **more)
-    count.check("Go: its tests", status == 0, said[-2000:])
+    starved.try_merges(count, "Go", places, [places.of("go_merge_driver")])
+    env["CGO_LDFLAGS"] = f"-L{os.path.dirname(places.library)}"
+    said = c_library.ran(["gofmt", "-l", "."], cwd=more["cwd"])
+    count.check("Go is formatted", said == (0, ""), said)
+    tests_in_go(count, "serfagent", "./serfagent", more)
+    delegate_in_go(count, places, env)
 
 
-def in_conform(count, places, program):
+def tests_in_go(count, name, package, more):
+    """A package's tests, watched for races where the detector is there, and what `go vet` says of it."""
+    status, said = c_library.ran(["go", "vet", package], **more)
+    count.check(f"Go: vet of {name}", status == 0, said[-2000:])
+    race = ["-race"] if c_library.ran(["go", "test", "-race", "-run", "NONE", package], **more)[0] == 0 else []
+    if not race:
+        print(f"not run: {name} under Go's race detector, which isn't here")
+    counted_tests(count, f"Go's tests of {name}", r"^--- (?P<end>PASS|FAIL): (?P<name>\S+)", ["go", "test", "-v", "-count=1", *race, package], **more)
+
+
+def delegate_in_go(count, places, env):
+    """The delegate for memberlist, whose sources are found as Debian has them."""
+    if not os.path.isdir(MEMBERLIST):
+        print(f"not run: serfdelegate, since {MEMBERLIST} isn't there")
+        return
+    own = places.fresh("go")
+    os.mkdir(os.path.join(own, "src"))
+    os.symlink(TOP, os.path.join(own, "src", "serf_agent"))
+    env = dict(env, GO111MODULE="off", GOFLAGS="", GOPATH=f"{own}:{GO_CODE}")
+    tests_in_go(count, "serfdelegate", "serf_agent/bindings/go/serfdelegate", {"env": env})
+
+
+def in_pipe(count, places, program):
     """The library behind the pipe, held against the reference on each example, each row and random schedules."""
     conform.PROGRAM = program or conform.PROGRAM
     fault = None if program else programs.fault_of_build("serf_replay_program")
@@ -199,13 +263,31 @@ def in_conform(count, places, program):
         count.check(f"conform on random schedules, {kind}", status == 0 and f"{SEEDS} seeds and" in report, f"{status}: {report[-600:]}")
 
 
+def declared(count, places, crate):
+    """Header and library are one, and the library is small."""
+    size = os.path.getsize(places.library)
+    count.check("the library's size", size <= LARGEST, f"{size} bytes")
+    declarations.compare(count, places, HEADER, crate)
+
+
+def run(total, name, part, *words):
+    """Runs a part, prints its line, and adds it up."""
+    count = Count()
+    try:
+        part(count, *words)
+        print(f"{name}: {count.passed} passed, {count.failed} failed", flush=True)
+    except NotRun as why:
+        print(f"{name}: not run, since {why}", flush=True)
+    total.add(count.passed, count.failed)
+
+
 def main():
     words = argparse.ArgumentParser(description=__doc__, formatter_class=argparse.RawDescriptionHelpFormatter)
     words.add_argument("--library")
     words.add_argument("--over-ci", action="store_true")
     words.add_argument("--program")
     asked = words.parse_args()
-    count = Count()
+    total = Count()
     folder = tempfile.mkdtemp(prefix="embed-")
     os.chmod(folder, 0o755)
     try:
@@ -216,20 +298,19 @@ def main():
             print(fault)
             print("0 passed, 1 failed")
             return 1
-        size = os.path.getsize(places.library)
-        count.check("the library's size", size <= LARGEST, f"{size} bytes")
-        declarations.compare(count, places, HEADER, None if asked.library else c_library.CRATE)
-        bad_input(count, places)
-        memory(count, places)
-        in_c(count, places)
-        in_python(count, places)
-        in_rust(count, places)
-        in_go(count, places)
-        in_conform(count, places, asked.program)
+        crate = None if asked.library else c_library.CRATE
+        run(total, "declarations", declared, places, crate)
+        run(total, "bad input", bad_input, places)
+        run(total, "memory", memory, places)
+        run(total, "c", in_c, places)
+        run(total, "python", in_python, places)
+        run(total, "rust", in_rust, places)
+        run(total, "go", in_go, places)
+        run(total, "pipe", in_pipe, places, asked.program)
     finally:
         shutil.rmtree(folder)
-    print(f"{count.passed} passed, {count.failed} failed")
-    return 1 if count.failed else 0
+    print(f"{total.passed} passed, {total.failed} failed")
+    return 1 if total.failed else 0
 
 
 if __name__ == "__main__":

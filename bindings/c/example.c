@@ -43,12 +43,16 @@ static uint32_t settled(struct node *node, uint32_t code) {
     return code;
 }
 
-static void done(struct node *node, const char *call, uint32_t code) {
+static void demand_ok(struct node *node, const char *call, uint32_t code) {
     char words[32];
-    if (settled(node, code) != SERF_AGENT_OK) {
+    if (code != SERF_AGENT_OK) {
         snprintf(words, sizeof words, "code %u", code);
         stop_at(node, call, words);
     }
+}
+
+static void done(struct node *node, const char *call, uint32_t code) {
+    demand_ok(node, call, settled(node, code));
 }
 
 static void open_node(struct node *node) {
@@ -93,8 +97,10 @@ static void join(struct node *one, struct node *other) {
     static uint8_t state[ROOM];
     done(other, "local_state", serf_agent_local_state(&other->agent));
     size_t len = packet_of(other, state);
-    done(one, "merge", serf_agent_merge(&one->agent, state, len, true));
+    uint32_t code = settled(one, serf_agent_merge(&one->agent, state, len, true));
+    /* a merge that ran out of memory gives what entered before, and no later one gives it again: so first the events */
     handle_events(one);
+    demand_ok(one, "merge", code);
     printf("%s joined %s\n", one->name, other->name);
 }
 

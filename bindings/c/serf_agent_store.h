@@ -4,8 +4,11 @@
  * on anything else of the call. This store does so.
  *
  * One store at a time has a file: it is locked by flock(2), and the system gives the lock free where the process ends,
- * however it ends. A replacement writes FILE.new beside the file, brings it to the disk, and renames it; so a crash
- * leaves the old text or the new one, whole. What a crash left of FILE.new is removed by the next opening.
+ * however it ends. The file is close-on-exec. A forked child that begins no other program has the lock too, until it ends or
+ * closes the store, and must do nothing else with it.
+ *
+ * A replacement writes FILE.new beside the file, brings it to the disk, and renames it; so a crash leaves the old text or the
+ * new one, whole. What a crash left of FILE.new is removed by the next opening.
  *
  * After a fault in an append or a replacement the store is broken: nobody knows what the disk has. It takes no more
  * bytes until it is closed and opened again, and its agent has to be closed and opened with it.

@@ -77,13 +77,15 @@ def queries():
         check("the query", received.kind == Kind.QUERY and said == (7, b"q", b"p", b"a", b"\x7f\0\0\1", 7946), received)
         check("its ack", one.receive(6, received.ack).kind == Kind.ACK)
         refused("a wrong number", Code.NOT_HANDED, other.respond, 6, query.number + 1)
-        refused("too late", Code.PAST_DEADLINE, other.respond, query.deadline + 1, query.number)
         refused("too large", Code.TOO_LARGE, other.respond, 6, query.number, b"x" * 1100)
         response = other.respond(6, query.number, b"r")
         refused("twice", Code.NOT_HANDED, other.respond, 6, query.number)
+        late = other.receive(6, one.query(6, 8, b"late", timeout=2).packet).query
+        refused("too late", Code.PAST_DEADLINE, other.respond, late.deadline + 1, late.number)
         check("the response", one.receive(7, response).kind == Kind.RESPONSE)
         check("again", one.receive(7, response).reason == Reason.RESPONSE_TWICE)
         time = asked.query.time
+        check("the late one is closed", [closed.id for closed in one.close_due(9)] == [8])
         check("none is due", one.close_due(1001) == [] and one.open_queries() == 1)
         closed = one.close_due(1002)
         check("closed", closed == [Closed(time, 7, 1001, (b"b",), (Answer(time, 7, b"b", b"r"),))] and one.open_queries() == 0, closed)

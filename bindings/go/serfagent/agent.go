@@ -225,14 +225,27 @@ func (a *Agent) Fire(name, payload []byte, coalesce bool) (*Event, []byte, error
 }
 
 // Merge merges another agent's whole state: the events that are handed out, in order.
+//
+// Where it ends for want of memory (OutOfMemory), the events that entered before stand beside that error: handle them too,
+// since no later merge hands them out again.
 func (a *Agent) Merge(packet []byte, isJoin bool) ([]*Event, error) {
 	a.mu.Lock()
 	defer a.mu.Unlock()
-	if err := a.settled(C.serf_agent_merge(a.handle, ptr(packet), size(packet), C.bool(isJoin))); err != nil {
+	fault := a.settled(C.serf_agent_merge(a.handle, ptr(packet), size(packet), C.bool(isJoin)))
+	if fault != nil && fault != OutOfMemory {
+		return nil, fault
+	}
+	events, err := a.merged()
+	if err != nil {
 		return nil, err
 	}
+	return events, fault
+}
+
+// merged gives the events that a merge took, in order. One that didn't begin gave nothing, and what came before it stands.
+func (a *Agent) merged() ([]*Event, error) {
 	gave, err := a.gave()
-	if err != nil {
+	if err != nil || gave.kind != C.SERF_AGENT_GAVE_MERGED {
 		return nil, err
 	}
 	events := make([]*Event, gave.events)

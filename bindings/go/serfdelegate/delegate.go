@@ -2,13 +2,18 @@
 //
 // Packets are taken by one goroutine, and handlers run on another, one after another in the order in which the agent handed
 // out. Each runs behind the flush of its line, so it runs once at most, and perhaps not at all where the process ends.
+//
+// What memberlist calls takes no lock that is held while the file is flushed: packets and states wait in queues, and the state
+// that is sent is the agent's last where the agent is busy.
 package serfdelegate
 
 import (
 	"errors"
+	"fmt"
 	"math/rand"
 	"net"
 	"sync"
+	"sync/atomic"
 	"time"
 
 	"github.com/hashicorp/memberlist"
@@ -16,8 +21,15 @@ import (
 	"serf_agent/bindings/go/serfagent"
 )
 
-// Waiting is how many packets may wait for the agent. One that comes above that is dropped, as a network may.
-const Waiting = 4096
+var (
+	// ErrBusy: so many handlers wait (Waiting) that nothing was fired.
+	ErrBusy = errors.New("serfdelegate: too many handlers wait")
+	// ErrShutdown: the delegate was shut down, and nothing was fired.
+	ErrShutdown = errors.New("serfdelegate: it was shut down")
+)
+
+// stateWait is how long memberlist may wait for a state. One that isn't made by then is the last that was made.
+const stateWait = 10 * time.Millisecond
 
 // Handlers are what the agent hands out to. Each may be nil.
 type Handlers struct {
@@ -27,29 +39,70 @@ type Handlers struct {
 	Answer func(kind serfagent.Kind, answer *serfagent.Answer)
 	// Closed gets each query of this node whose time is over, with its answers.
 	Closed func(*serfagent.Closed)
-	// Fault gets what went wrong with the file or the network. After a fault of the file the agent is closed.
+	// Fault gets what went wrong with the file or the network. After a fault of the file the agent is closed, and nothing more
+	// is taken. Packets and states that were dropped are counted, and told once a second at most.
 	Fault func(error)
+}
+
+// agent is what the delegate needs of a *serfagent.Agent.
+type agent interface {
+	Receive(now uint64, packet []byte) (*serfagent.Received, error)
+	Merge(packet []byte, isJoin bool) ([]*serfagent.Event, error)
+	LocalState(statuses []serfagent.Status, left []string) ([]byte, error)
+	Fire(name, payload []byte, coalesce bool) (*serfagent.Event, []byte, error)
+	Query(now uint64, id uint32, name, payload []byte, params serfagent.QueryParams) (*serfagent.Asked, error)
+	Respond(now, number uint64, payload []byte) ([]byte, error)
+	CloseDue(now uint64) ([]*serfagent.Closed, error)
 }
 
 // Delegate is a memberlist.Delegate.
 type Delegate struct {
-	agent    *serfagent.Agent
+	agent    agent
 	handlers Handlers
-	list     *memberlist.Memberlist
+	list     atomic.Pointer[memberlist.Memberlist]
 	queue    *memberlist.TransmitLimitedQueue
 	began    time.Time
-	packets  chan []byte
 	work     *works
 	ended    chan struct{}
-	// what the agent hands out is queued in that order
-	order sync.Mutex
+
+	// What came of the network, and how much of it, or for it, was dropped and isn't told yet.
+	packets, states *queue
+	dropped         atomic.Int64
+	// isDeaf: the agent is closed, and nothing is taken any more.
+	isDeaf atomic.Bool
+
+	// order is held over each call that hands out, and its flush, until what was handed out is queued: so handlers run in the
+	// agent's order. memberlist never takes it.
+	order  sync.Mutex
+	isOver bool
+	// gossiping is held while a packet is queued for broadcast.
+	gossiping sync.Mutex
+
+	// Who wants a state asks here.
+	asked chan chan<- []byte
+	// made guards the last state that was made, and why none was made since, where that isn't told yet.
+	made       sync.Mutex
+	state      []byte
+	stateFault error
 }
 
 var _ memberlist.Delegate = &Delegate{}
 
 // Create makes a member of this configuration whose delegate is an agent. It joins nobody yet.
 func Create(config *memberlist.Config, agent *serfagent.Agent, handlers Handlers) (*Delegate, error) {
-	d := &Delegate{agent: agent, handlers: handlers, began: time.Now(), packets: make(chan []byte, Waiting), work: newWorks(), ended: make(chan struct{})}
+	return create(config, agent, handlers)
+}
+
+func create(config *memberlist.Config, agent agent, handlers Handlers) (*Delegate, error) {
+	d := &Delegate{
+		agent: agent, handlers: handlers, began: time.Now(), work: newWorks(), ended: make(chan struct{}),
+		packets: newQueue(), states: newQueue(), asked: make(chan chan<- []byte),
+	}
+	state, err := agent.LocalState(nil, nil)
+	if err != nil {
+		return nil, err
+	}
+	d.state = state
 	d.queue = &memberlist.TransmitLimitedQueue{RetransmitMult: config.RetransmitMult, NumNodes: d.members}
 	config.Delegate = d
 	// Serf's own numbers
@@ -58,31 +111,36 @@ func Create(config *memberlist.Config, agent *serfagent.Agent, handlers Handlers
 	if err != nil {
 		return nil, err
 	}
-	d.order.Lock()
-	d.list = list
-	d.order.Unlock()
+	d.list.Store(list)
 	go d.take()
+	go d.makeStates()
 	go d.work.run()
 	return d, nil
 }
 
 // List is the member.
-func (d *Delegate) List() *memberlist.Memberlist { return d.list }
+func (d *Delegate) List() *memberlist.Memberlist { return d.list.Load() }
 
-// Shutdown leaves the network at once, without a word to the others. The agent stays open.
+// Shutdown leaves the network at once, without a word to the others, and lets the handlers that wait run. The agent stays
+// open. A second one does nothing.
 func (d *Delegate) Shutdown() error {
-	close(d.ended)
-	d.work.end()
-	return d.list.Shutdown()
+	err := d.List().Shutdown()
+	d.order.Lock()
+	defer d.order.Unlock()
+	if !d.isOver {
+		d.isOver = true
+		close(d.ended)
+		d.work.end()
+	}
+	return err
 }
 
 func (d *Delegate) members() int {
-	d.order.Lock()
-	defer d.order.Unlock()
-	if d.list == nil {
+	list := d.List()
+	if list == nil {
 		return 1
 	}
-	return d.list.NumMembers()
+	return list.NumMembers()
 }
 
 // now is a moment of a clock that doesn't go back.
@@ -94,6 +152,30 @@ func (d *Delegate) fault(err error) {
 	}
 }
 
+// inOrder merges the states that wait, as far as there is room for what they bring, and makes a call, which queues what it
+// hands out.
+func (d *Delegate) inOrder(call func() error) error {
+	d.order.Lock()
+	defer d.order.Unlock()
+	if d.isOver {
+		return ErrShutdown
+	}
+	for !d.work.isFull() {
+		state, more := d.states.next()
+		if !more {
+			break
+		}
+		events, err := d.agent.Merge(state.data, state.isJoin)
+		// (some may have entered before the memory was out)
+		d.hand(events...)
+		if isClosed(err) {
+			return err
+		}
+		d.fault(err)
+	}
+	return call()
+}
+
 func (d *Delegate) hand(events ...*serfagent.Event) {
 	for _, event := range events {
 		if event := event; event != nil && d.handlers.Event != nil {
@@ -102,102 +184,163 @@ func (d *Delegate) hand(events ...*serfagent.Event) {
 	}
 }
 
-func (d *Delegate) handQuery(query *serfagent.Handed, ack []byte) {
-	if query == nil {
-		return
-	}
-	if ack != nil {
-		d.fault(d.send(query, ack))
-	}
-	if d.handlers.Query != nil {
+func (d *Delegate) handQuery(query *serfagent.Handed) {
+	if query != nil && d.handlers.Query != nil {
 		d.work.add(func() { d.handlers.Query(query) })
+	}
+}
+
+// sendAck sends this node's own ack of a query that was handed out, where one is asked for.
+func (d *Delegate) sendAck(query *serfagent.Handed, ack []byte) {
+	if query != nil && ack != nil {
+		d.fault(d.send(query, ack))
 	}
 }
 
 // send sends an answer to where a query says.
 func (d *Delegate) send(query *serfagent.Handed, packet []byte) error {
 	to := net.UDPAddr{IP: query.Addr, Port: int(query.Port)}
-	return d.list.SendToAddress(memberlist.Address{Addr: to.String(), Name: string(query.Source)}, packet)
+	return d.List().SendToAddress(memberlist.Address{Addr: to.String(), Name: string(query.Source)}, packet)
 }
 
-// take takes the packets one after another, and closes the queries whose time is over.
+// gossip queues a packet for broadcast. Where too many wait, those that were sent most often are dropped.
+func (d *Delegate) gossip(packet []byte) {
+	d.gossiping.Lock()
+	defer d.gossiping.Unlock()
+	d.queue.QueueBroadcast(broadcast(packet))
+	if over := d.queue.NumQueued() - Waiting; over > 0 {
+		d.queue.Prune(Waiting)
+		d.dropped.Add(int64(over))
+	}
+}
+
+// isClosed says whether this error means that the agent is closed: its file failed, or somebody closed it.
+func isClosed(err error) bool {
+	var code serfagent.Code
+	return err != nil && (!errors.As(err, &code) || code == serfagent.Empty)
+}
+
+// take takes the packets one after another, merges states, and closes the queries whose time is over, while there is room for
+// what that hands out.
 func (d *Delegate) take() {
-	due := time.NewTicker(time.Second)
-	defer due.Stop()
-	for {
+	second := time.NewTicker(time.Second)
+	defer second.Stop()
+	for d.work.waitForRoom() {
+		var err error
 		select {
 		case <-d.ended:
 			return
-		case packet := <-d.packets:
-			d.receive(packet)
-		case <-due.C:
-			d.closeDue()
+		case <-d.packets.came:
+			err = d.takePacket()
+		case <-d.states.came:
+			err = d.inOrder(func() error { return nil })
+		case <-second.C:
+			d.tellDropped()
+			err = d.closeDue()
+		}
+		if err == ErrShutdown {
+			return
+		}
+		// (the network brings packets that are no messages)
+		if err != serfagent.NoMessage {
+			d.fault(err)
+		}
+		if isClosed(err) {
+			d.isDeaf.Store(true)
+			return
 		}
 	}
 }
 
-func (d *Delegate) closeDue() {
-	all, err := d.agent.CloseDue(d.now())
-	d.fault(err)
-	if d.handlers.Closed == nil {
-		return
+func (d *Delegate) takePacket() error {
+	packet, is := d.packets.next()
+	if !is {
+		return nil
 	}
-	for _, closed := range all {
-		closed := closed
-		d.work.add(func() { d.handlers.Closed(closed) })
-	}
-}
-
-func (d *Delegate) receive(packet []byte) {
-	d.order.Lock()
-	received, err := d.agent.Receive(d.now(), packet)
-	if err == nil {
+	var received *serfagent.Received
+	err := d.inOrder(func() (err error) {
+		if received, err = d.agent.Receive(d.now(), packet.data); err != nil {
+			return err
+		}
 		d.hand(received.Event)
-	}
-	d.order.Unlock()
-	if err == serfagent.NoMessage {
-		// the network brings such
-		return
-	}
+		d.handQuery(received.Query)
+		if received.Answer != nil && d.handlers.Answer != nil {
+			d.work.add(func() { d.handlers.Answer(received.Kind, received.Answer) })
+		}
+		return nil
+	})
 	if err != nil {
-		d.fault(err)
-		return
+		return err
 	}
-	d.handQuery(received.Query, received.Ack)
+	d.sendAck(received.Query, received.Ack)
 	if received.Rebroadcast {
-		d.queue.QueueBroadcast(broadcast(packet))
+		d.gossip(packet.data)
 	}
-	if received.Answer != nil && d.handlers.Answer != nil {
-		d.work.add(func() { d.handlers.Answer(received.Kind, received.Answer) })
-	}
+	return nil
 }
 
-// Fire fires an event in the whole cluster: its time.
-func (d *Delegate) Fire(name string, payload []byte, coalesce bool) (uint64, error) {
-	d.order.Lock()
-	event, packet, err := d.agent.Fire([]byte(name), payload, coalesce)
-	if err == nil {
-		d.hand(event)
+func (d *Delegate) closeDue() error {
+	return d.inOrder(func() error {
+		all, err := d.agent.CloseDue(d.now())
+		for _, closed := range all {
+			if closed := closed; d.handlers.Closed != nil {
+				d.work.add(func() { d.handlers.Closed(closed) })
+			}
+		}
+		return err
+	})
+}
+
+// tellDropped tells how much was dropped since the last time, and why memberlist got no new state.
+func (d *Delegate) tellDropped() {
+	if count := d.dropped.Swap(0); count > 0 {
+		d.fault(fmt.Errorf("serfdelegate: %d packets or states were dropped, since too many wait", count))
 	}
-	d.order.Unlock()
+	d.made.Lock()
+	fault := d.stateFault
+	d.stateFault = nil
+	d.made.Unlock()
+	d.fault(fault)
+}
+
+// Fire fires an event in the whole cluster: its time. It comes behind the states that memberlist brought before.
+func (d *Delegate) Fire(name string, payload []byte, coalesce bool) (uint64, error) {
+	var event *serfagent.Event
+	var packet []byte
+	err := d.inOrder(func() (err error) {
+		if d.work.isFull() {
+			return ErrBusy
+		}
+		event, packet, err = d.agent.Fire([]byte(name), payload, coalesce)
+		d.hand(event)
+		return err
+	})
 	if err != nil {
 		return 0, err
 	}
-	d.queue.QueueBroadcast(broadcast(packet))
+	d.gossip(packet)
 	return event.Time, nil
 }
 
 // Query asks the whole cluster. Answers come to the handler Answer until the timeout is over.
 func (d *Delegate) Query(name string, payload []byte, timeout time.Duration, wantAck bool) error {
-	own := d.list.LocalNode()
-	asked, err := d.agent.Query(d.now(), rand.Uint32(), []byte(name), payload, serfagent.QueryParams{
-		Timeout: int64(timeout), Addr: own.Addr, Port: own.Port, WantAck: wantAck,
+	own := d.List().LocalNode()
+	params := serfagent.QueryParams{Timeout: int64(timeout), Addr: own.Addr, Port: own.Port, WantAck: wantAck}
+	var asked *serfagent.Asked
+	err := d.inOrder(func() (err error) {
+		if d.work.isFull() {
+			return ErrBusy
+		}
+		if asked, err = d.agent.Query(d.now(), rand.Uint32(), []byte(name), payload, params); err == nil {
+			d.handQuery(asked.Query)
+		}
+		return err
 	})
 	if err != nil {
 		return err
 	}
-	d.handQuery(asked.Query, asked.Ack)
-	d.queue.QueueBroadcast(broadcast(asked.Packet))
+	d.sendAck(asked.Query, asked.Ack)
+	d.gossip(asked.Packet)
 	return nil
 }
 
@@ -215,13 +358,16 @@ func (d *Delegate) NodeMeta(int) []byte { return nil }
 
 // NotifyMsg takes a copy of the packet, and doesn't wait for the file.
 func (d *Delegate) NotifyMsg(packet []byte) {
-	if len(packet) == 0 {
-		return
+	if len(packet) > 0 && !d.isDeaf.Load() && !d.packets.add(packet, false) {
+		d.dropped.Add(1)
 	}
-	select {
-	case d.packets <- append([]byte(nil), packet...):
-	default:
-		d.fault(errors.New("serfdelegate: a packet was dropped, since too many wait"))
+}
+
+// MergeRemoteState takes a copy of another agent's whole state, and doesn't wait for the file either: it is merged soon, and
+// before anything that is fired after it.
+func (d *Delegate) MergeRemoteState(state []byte, isJoin bool) {
+	if !d.isDeaf.Load() && !d.states.add(state, isJoin) {
+		d.dropped.Add(1)
 	}
 }
 
@@ -230,72 +376,56 @@ func (d *Delegate) GetBroadcasts(overhead, limit int) [][]byte {
 	return d.queue.GetBroadcasts(overhead, limit)
 }
 
-// LocalState is the agent's whole state.
+// LocalState is the agent's whole state; where the agent is busy for longer than a moment, as it was when it was last made.
 func (d *Delegate) LocalState(bool) []byte {
-	state, err := d.agent.LocalState(nil, nil)
-	d.fault(err)
-	return state
+	late := time.NewTimer(stateWait)
+	defer late.Stop()
+	answer := make(chan []byte, 1)
+	select {
+	case d.asked <- answer:
+		select {
+		case state := <-answer:
+			return state
+		case <-late.C:
+		}
+	case <-late.C:
+	}
+	d.made.Lock()
+	defer d.made.Unlock()
+	return d.state
 }
 
-// MergeRemoteState merges another agent's whole state.
-func (d *Delegate) MergeRemoteState(state []byte, isJoin bool) {
-	d.order.Lock()
-	defer d.order.Unlock()
-	events, err := d.agent.Merge(state, isJoin)
-	d.hand(events...)
-	d.fault(err)
+// makeStates makes the states that memberlist asks for.
+func (d *Delegate) makeStates() {
+	for {
+		select {
+		case <-d.ended:
+			return
+		case answer := <-d.asked:
+			state, err := d.agent.LocalState(nil, nil)
+			d.made.Lock()
+			switch {
+			case err == nil:
+				d.state = state
+			case !isClosed(err):
+				// (take tells of an agent that is closed)
+				d.stateFault = err
+			}
+			state = d.state
+			d.made.Unlock()
+			answer <- state
+		}
+	}
 }
 
+// broadcast is a packet to gossip. None takes another's place.
 type broadcast []byte
+
+var _ memberlist.UniqueBroadcast = broadcast(nil)
 
 func (b broadcast) Invalidates(memberlist.Broadcast) bool { return false }
 func (b broadcast) Message() []byte                       { return b }
 func (b broadcast) Finished()                             {}
 
-// works are run one after another; any number may wait.
-type works struct {
-	mu      sync.Mutex
-	more    *sync.Cond
-	waiting []func()
-	isOver  bool
-}
-
-func newWorks() *works {
-	w := &works{}
-	w.more = sync.NewCond(&w.mu)
-	return w
-}
-
-func (w *works) add(work func()) {
-	w.mu.Lock()
-	defer w.mu.Unlock()
-	w.waiting = append(w.waiting, work)
-	w.more.Signal()
-}
-
-func (w *works) end() {
-	w.mu.Lock()
-	defer w.mu.Unlock()
-	w.isOver = true
-	w.more.Signal()
-}
-
-// run runs them until the end, and then those that wait still.
-func (w *works) run() {
-	for {
-		w.mu.Lock()
-		for len(w.waiting) == 0 && !w.isOver {
-			w.more.Wait()
-		}
-		work := w.waiting
-		w.waiting = nil
-		over := w.isOver
-		w.mu.Unlock()
-		for _, one := range work {
-			one()
-		}
-		if over && len(work) == 0 {
-			return
-		}
-	}
-}
+// UniqueBroadcast marks it for memberlist, which then doesn't look through all that wait.
+func (b broadcast) UniqueBroadcast() {}

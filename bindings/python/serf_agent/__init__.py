@@ -1,6 +1,6 @@
 """The proved Serf agent, by ctypes: ``Agent`` over a snapshot's file. docs/EMBEDDING.md says what to call when."""
 
-from .agent import Agent, AgentError, Answer, Asked, Clocks, Closed, Event, Fired, Handed, Received, Settings
+from .agent import Agent, AgentError, Answer, Asked, Clocks, Closed, Event, Fired, Forked, Handed, Received, Settings
 from .fault import PacketFault, packet_fault
 from .library import Code, DEFAULT_SNAPSHOT_LIMIT, Fault, Kind, Library, Reason
 from .store import Broken, Full, Locked, MissingFolder, NotAFile, ReadOnly, Store, StoreError
@@ -18,6 +18,7 @@ __all__ = [
     "Event",
     "Fault",
     "Fired",
+    "Forked",
     "Full",
     "Handed",
     "Kind",

@@ -1,10 +1,14 @@
 """An agent over the library and a snapshot's file."""
 
+import contextlib
 import ctypes
+import os
 import threading
+import weakref
 from dataclasses import dataclass
 from typing import Optional, Tuple
 
+from .checks import flag, integer, texts
 from .library import CAnswer, CBytes, CClocks, CClosed, CEvent, CGave, CHanded, Code, CParams, CResponse, CSettings, DEFAULT_SNAPSHOT_LIMIT, Handle, Kind, Library, Reason
 from .store import Store
 
@@ -12,12 +16,18 @@ from .store import Store
 class AgentError(Exception):
     """A call was refused, with this code. It has changed nothing, but that a merge without memory keeps what it took.
 
-    Of a packet with ``Code.NO_MESSAGE``, ``packet_fault`` says why.
+    ``events`` has what such a merge took: run their handlers, since no later merge hands them out again. Of a packet with
+    ``Code.NO_MESSAGE``, ``packet_fault`` says why.
     """
 
-    def __init__(self, code):
+    def __init__(self, code, events=()):
         super().__init__(Code(code).name)
         self.code = Code(code)
+        self.events = tuple(events)
+
+
+class Forked(RuntimeError):
+    """The agent is of the process that forked this one: only that one may use it."""
 
 
 @dataclass(frozen=True)
@@ -119,29 +129,40 @@ class Clocks:
     query_minimum: int
 
 
-def texts(*all_bytes):
-    """Bytes as the library takes them: each with its length."""
-    return [word for data in all_bytes for word in (bytes(data), len(data))]
+def c_settings(settings):
+    """An agent's settings in C."""
+    return CSettings(*((flag if kind is ctypes.c_bool else integer)(field, getattr(settings, field)) for field, kind in CSettings._fields_))
+
+
+def let_go(library, handle, store):
+    """Frees an agent and its file."""
+    library.close(handle)
+    store.close()
 
 
 class Agent:
-    """A proved agent whose snapshot is a file. A context manager: leaving it closes both.
+    """A proved agent whose snapshot is a file. A context manager: leaving it closes both, and so does letting it go.
 
     Each method brings what its call wrote to the disk before it returns, and so before a handler runs. Where the file
     fails (a ``StoreError``) the agent is closed; open it again on the file. One call at a time is let through, from
-    whichever thread. Moments are nanoseconds of one clock that never goes back.
+    whichever thread. A forked child has no part of it: there each call but ``close`` raises ``Forked``.
 
-    ``AgentError`` with the code says why the library refused a call.
+    Moments are nanoseconds of one clock that never goes back: a thread's moment that is before its last one is refused
+    by ``ValueError``. A number that doesn't fit is refused by ``OverflowError``, and what is no number, no bool or no bytes
+    by ``TypeError``. ``AgentError`` with the code says why the library refused a call. None of these has changed anything.
     """
 
     def __init__(self, name, path, settings=Settings(), library=None):
+        words, values = texts(name), c_settings(settings)
         self._library = library or Library()
         self._lock = threading.RLock()
+        self._process = os.getpid()
+        self._last = threading.local()
         self._handle = Handle()
         self._store = Store(path)
+        self._let_go = weakref.finalize(self, let_go, self._library, self._handle, self._store)
         try:
-            values = CSettings(*(getattr(settings, field) for field, _ in CSettings._fields_))
-            self._do("open", *texts(name), values, *texts(self._store.read()))
+            self._do("open", *words, values, *texts(self._store.read()))
         except BaseException:
             self.close()
             raise
@@ -154,11 +175,30 @@ class Agent:
 
     def close(self):
         """Closes the agent and its file. One that is closed stays so; its calls raise ``AgentError`` with ``EMPTY``."""
+        if os.getpid() != self._process:
+            # a thread that isn't here may have had the lock
+            self._let_go()
+            return
         with self._lock:
-            self._library.close(self._handle)
-            self._store.close()
+            self._let_go()
 
     # What every call goes through.
+
+    @contextlib.contextmanager
+    def _alone(self):
+        """One call at a time, in the agent's own process."""
+        if os.getpid() != self._process:
+            raise Forked("the agent is of another process, which forked this one")
+        with self._lock:
+            yield
+
+    def _moment(self, now):
+        """A moment that is not before the last one of this thread."""
+        found, last = integer("now", now), getattr(self._last, "now", 0)
+        if found < last:
+            raise ValueError(f"now is {found}, which is before {last}: the clock went back")
+        self._last.now = found
+        return found
 
     def _call(self, name, *words):
         code = getattr(self._library, name)(self._handle, *words)
@@ -198,6 +238,11 @@ class Agent:
         name, payload = (ctypes.create_string_buffer(length) for length in (about.name_len, about.payload_len))
         self._call("event", index, about, name, len(name), payload, len(payload))
         return Event(about.time, name.raw, payload.raw, about.coalesce)
+
+    def _merged(self):
+        """The events that a merge took, in order. One that didn't begin gave nothing, and what came before it stands."""
+        gave = self._gave()
+        return [self._event(index) for index in range(gave.events)] if gave.kind == Kind.MERGED else []
 
     def _answer(self, packet):
         """What an ack's or a response's packet says."""
@@ -254,8 +299,8 @@ class Agent:
 
     def receive(self, now, packet):
         """Takes a packet of the network: ``Received``."""
-        with self._lock:
-            self._do("receive", now, *texts(packet))
+        with self._alone():
+            self._do("receive", self._moment(now), *texts(packet))
             gave = self._gave()
             event = self._event(0) if gave.events else None
             query = self._handed(gave.handed) if gave.handed else None
@@ -265,67 +310,88 @@ class Agent:
 
     def fire(self, name, payload=b"", coalesce=False):
         """Fires an event: ``Fired``."""
-        with self._lock:
-            self._do("fire", *texts(name, payload), coalesce)
+        with self._alone():
+            self._do("fire", *texts(name, payload), flag("coalesce", coalesce))
             return Fired(self._event(0), self._packet())
 
     def merge(self, packet, join=False):
-        """Merges another agent's whole state: the events that are handed out, in order. ``join`` where it is of a join."""
-        with self._lock:
-            self._do("merge", *texts(packet), join)
-            return [self._event(index) for index in range(self._gave().events)]
+        """Merges another agent's whole state: the events that are handed out, in order. ``join`` where it is of a join.
+
+        Where it ends for want of memory (``AgentError`` with ``OUT_OF_MEMORY``), the events that entered before are in the
+        error's ``events``: handle them too.
+        """
+        with self._alone():
+            try:
+                self._do("merge", *texts(packet), flag("join", join))
+            except AgentError as error:
+                if error.code is Code.OUT_OF_MEMORY:
+                    error.events = tuple(self._merged())
+                raise
+            return self._merged()
 
     def local_state(self, statuses=(), left=()):
         """This agent's whole state, to send: with (name, status time) of members, and the names of those that left."""
-        with self._lock:
-            for name, time in statuses:
-                self._call("add_status", *texts(name), time)
-            for name in left:
-                self._call("add_left", *texts(name))
+        with self._alone():
+            named = [(*texts(name), integer("the status time", time)) for name, time in statuses]
+            gone = [texts(name) for name in left]
+            for one in named:
+                self._call("add_status", *one)
+            for one in gone:
+                self._call("add_left", *one)
             self._do("local_state")
             return self._packet()
 
     def query(self, now, id, name, payload=b"", timeout=0, *, filters=(), addr=b"", port=0, relay_factor=0, want_ack=False, no_broadcast=False):
         """Fires a query whose answers are taken for ``timeout`` nanoseconds: ``Asked``. ``id`` is a random number of 32 bits."""
-        with self._lock:
-            for one in filters:
-                self._call("add_filter", *texts(one))
-            self._do("query", now, id, *texts(name, payload, addr), CParams(timeout, port, relay_factor, want_ack, no_broadcast))
+        with self._alone():
+            words, given = texts(name, payload, addr), [texts(one) for one in filters]
+            how = CParams(
+                integer("timeout", timeout, signed=True),
+                integer("port", port, 16),
+                integer("relay_factor", relay_factor, 8),
+                flag("want_ack", want_ack),
+                flag("no_broadcast", no_broadcast),
+            )
+            moment, id = self._moment(now), integer("id", id, 32)
+            for one in given:
+                self._call("add_filter", *one)
+            self._do("query", moment, id, *words, how)
             handed = self._gave().handed
             return Asked(self._packet(), self._handed(handed) if handed else None, self._packet("ack"))
 
     def respond(self, now, number, payload=b""):
         """Answers a query that was handed out: the packet to send to its address and port."""
-        with self._lock:
-            self._do("respond", now, number, *texts(payload))
+        with self._alone():
+            words, which = texts(payload), integer("number", number)
+            self._do("respond", self._moment(now), which, *words)
             return self._packet()
 
     def close_due(self, now):
         """Closes this agent's queries whose deadline is before ``now``: each ``Closed``, in the order in which they were fired."""
-        with self._lock:
+        with self._alone():
             closed = ctypes.c_size_t()
-            self._do("close_due", now, closed)
+            self._do("close_due", self._moment(now), closed)
             return [self._closed(index) for index in range(closed.value)]
 
     def save_member_clock(self):
         """Notes the member clock, so that the next life goes on from there."""
-        with self._lock:
+        with self._alone():
             self._do("save_member_clock")
 
     def compact(self):
         """Replaces the file by one line of each clock."""
-        with self._lock:
+        with self._alone():
             self._do("compact")
 
     def clocks(self):
-        with self._lock:
+        with self._alone():
             found = CClocks()
             self._call("clocks", found)
             return Clocks(*(getattr(found, field) for field, _ in CClocks._fields_))
 
     def next_deadline(self):
         """The least deadline of this agent's open queries, or None."""
-        with self._lock:
+        with self._alone():
             found = ctypes.c_uint64()
             code = self._library.next_deadline(self._handle, found)
             if code == Code.NOTHING:
@@ -336,14 +402,14 @@ class Agent:
 
     def open_queries(self):
         """How many of this agent's own queries still take answers."""
-        with self._lock:
+        with self._alone():
             found = ctypes.c_size_t()
             self._call("open_queries", found)
             return found.value
 
     def should_compact(self, limit=DEFAULT_SNAPSHOT_LIMIT):
         """Whether the file has more bytes than ``limit``, and ``compact`` would take away at least half of them."""
-        with self._lock:
+        with self._alone():
             found = ctypes.c_bool()
-            self._call("should_compact", limit, found)
+            self._call("should_compact", integer("limit", limit), found)
             return found.value

@@ -5,6 +5,7 @@ import errno
 import fcntl
 import os
 import stat
+import weakref
 
 # How often an opening begins anew, because the file was replaced between its opening and its lock.
 TRIES = 100
@@ -76,10 +77,24 @@ def write_all(file, data):
         view = view[os.write(file, view) :]
 
 
+# The stores of this process that may be open.
+STORES = weakref.WeakSet()
+
+
+def close_all():
+    """Closes a forked child's copies of the files: so the lock is the parent's alone, and ends with it."""
+    for store in list(STORES):
+        store.close()
+
+
+os.register_at_fork(after_in_child=close_all)
+
+
 class Store:
     """The snapshot's file, opened or made, and locked: one store at a time has it.
 
-    The system gives the lock free where the process ends, however it ends. A replacement writes ``FILE.new`` beside the
+    The system gives the lock free where the process ends, however it ends. A child that is forked by ``os.fork`` closes its
+    copy of the file at once, and one that is begun by ``exec`` gets none. A replacement writes ``FILE.new`` beside the
     file, brings it to the disk and renames it, so a crash leaves the old text or the new one; what a crash left of
     ``FILE.new`` is removed by the next opening. After a fault in an append or a replacement the store is broken: it takes
     no more bytes until it is opened again, and its agent with it.
@@ -91,6 +106,7 @@ class Store:
         self.path = real_path(os.fspath(path))
         self._file = self._folder = None
         self._is_broken = False
+        STORES.add(self)
         with named(self.path):
             try:
                 self._folder = os.open(os.path.dirname(self.path), os.O_RDONLY | os.O_DIRECTORY)

@@ -7,6 +7,7 @@ use crate::outcome::{Answer, Asked, Clocks, Event, Fired, Handed, Outcome, Recei
 use crate::raw;
 use crate::settings::{QueryParams, Settings};
 use crate::store::Store;
+use std::fmt;
 use std::path::Path;
 
 pub use closing::{Closed, DEFAULT_SNAPSHOT_LIMIT};
@@ -37,6 +38,9 @@ fn answer_of(packet: &[u8]) -> Result<Answer, Error> {
 type Getter = unsafe extern "C" fn(*mut raw::Handle, *mut usize, *mut u8, usize) -> u32;
 const PACKET: Getter = raw::serf_agent_packet;
 const OWN_ACK: Getter = raw::serf_agent_ack;
+
+/// What `serf_agent_gave` says of a merge.
+const MERGED: u32 = 10;
 
 /// A proved agent whose snapshot is a file. Dropping it closes both.
 pub struct Agent {
@@ -210,12 +214,22 @@ impl Agent {
         Ok(Fired { event: self.event(0)?, packet: self.own_packet()? })
     }
 
+    /// The events that a merge took, in order. One that didn't begin gave nothing, and what came before it stands.
+    fn merged(&mut self) -> Result<Vec<Event>, Error> {
+        let gave = self.gave()?;
+        let count = if gave.kind == MERGED { gave.events } else { 0 };
+        (0..count).map(|index| self.event(index)).collect()
+    }
+
     /// Merges another agent's whole state: the events that are handed out, in order.
+    ///
+    /// Where it ends for want of memory, [`Error::MergedInPart`] has the events that entered before: handle them too.
     pub fn merge(&mut self, packet: &[u8], is_join: bool) -> Result<Vec<Event>, Error> {
         // SAFETY: the pointer comes with its length.
-        self.settled(|handle| unsafe { raw::serf_agent_merge(handle, packet.as_ptr(), packet.len(), is_join) })?;
-        let count = self.gave()?.events;
-        (0..count).map(|index| self.event(index)).collect()
+        match self.settled(|handle| unsafe { raw::serf_agent_merge(handle, packet.as_ptr(), packet.len(), is_join) }) {
+            Err(Error::Refused(Code::OutOfMemory)) => Err(Error::MergedInPart(self.merged()?)),
+            other => other.and_then(|()| self.merged()),
+        }
     }
 
     /// This agent's whole state, to send: with the status times of members, and the names of those that left.
@@ -309,6 +323,12 @@ impl Agent {
         // SAFETY: `open` is of the type that the library writes.
         answered(unsafe { raw::serf_agent_open_queries(&mut *self.handle, &mut open) })?;
         Ok(open)
+    }
+}
+
+impl fmt::Debug for Agent {
+    fn fmt(&self, to: &mut fmt::Formatter<'_>) -> fmt::Result {
+        to.debug_struct("Agent").field("is_open", &self.handle.open).field("store", &self.store).finish()
     }
 }
 

@@ -1,5 +1,6 @@
 //! Why a call isn't done.
 
+use crate::outcome::Event;
 use crate::store::StoreError;
 
 /// Why the library refused a call.
@@ -52,8 +53,11 @@ const CODES: [Code; 17] = [
 /// Why a call isn't done.
 #[derive(Debug)]
 pub enum Error {
-    /// The library refused it.
+    /// The library refused it, and nothing has changed.
     Refused(Code),
+    /// A merge ran out of memory. These events entered before it did: run their handlers, since no later merge hands them out
+    /// again.
+    MergedInPart(Vec<Event>),
     /// The file failed, and the agent is closed.
     Store(StoreError),
 }
@@ -62,6 +66,7 @@ impl std::fmt::Display for Error {
     fn fmt(&self, to: &mut std::fmt::Formatter<'_>) -> std::fmt::Result {
         match self {
             Error::Refused(code) => write!(to, "the agent refused the call: {code:?}"),
+            Error::MergedInPart(events) => write!(to, "the merge ran out of memory; events that entered before: {}", events.len()),
             Error::Store(_) => write!(to, "the agent's file failed"),
         }
     }
@@ -70,7 +75,7 @@ impl std::fmt::Display for Error {
 impl std::error::Error for Error {
     fn source(&self) -> Option<&(dyn std::error::Error + 'static)> {
         match self {
-            Error::Refused(_) => None,
+            Error::Refused(_) | Error::MergedInPart(_) => None,
             Error::Store(error) => Some(error),
         }
     }

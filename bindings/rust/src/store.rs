@@ -83,10 +83,12 @@ impl From<TryLockError> for StoreError {
 
 /// The snapshot's file, opened or made, and locked: one store at a time has it.
 ///
-/// The system gives the lock free where the process ends, however it ends. A replacement writes `FILE.new` beside the
-/// file, brings it to the disk and renames it, so a crash leaves the old text or the new one; what a crash left of
-/// `FILE.new` is removed by the next opening. After a fault in an append or a replacement the store is broken: it takes
-/// no more bytes until it is opened again, and its agent with it.
+/// The system gives the lock free where the process ends, however it ends. The file is close-on-exec; a forked child that
+/// begins no other program has the lock too, until it ends.
+///
+/// A replacement writes `FILE.new` beside the file, brings it to the disk and renames it, so a crash leaves the old text or
+/// the new one; what a crash left of `FILE.new` is removed by the next opening. After a fault in an append or a replacement
+/// the store is broken: it takes no more bytes until it is opened again, and its agent with it.
 ///
 /// No contract speaks of it: it is tested.
 #[derive(Debug)]

@@ -1,0 +1,178 @@
+package serfdelegate
+
+import (
+	"io"
+	"sync"
+	"testing"
+	"time"
+
+	"github.com/hashicorp/memberlist"
+
+	"serf_agent/bindings/go/serfagent"
+)
+
+// fake is an agent without a file: each packet and each firing is a new event, and each query is handed out.
+type fake struct {
+	mu    sync.Mutex
+	time  uint64
+	calls []string
+	// What Receive and Merge answer, where it isn't nil.
+	receive error
+	merge   error
+	// Where it isn't nil, Receive holds the agent until it is closed, as one does that waits for a disk.
+	flush chan struct{}
+}
+
+func (f *fake) called(name string) *serfagent.Event {
+	f.time++
+	f.calls = append(f.calls, name)
+	return &serfagent.Event{Time: f.time, Name: []byte(name)}
+}
+
+func (f *fake) all() []string {
+	f.mu.Lock()
+	defer f.mu.Unlock()
+	return append([]string(nil), f.calls...)
+}
+
+// isBusy says whether a call holds the agent.
+func (f *fake) isBusy() bool {
+	if f.mu.TryLock() {
+		f.mu.Unlock()
+		return false
+	}
+	return true
+}
+
+func (f *fake) Receive(_ uint64, packet []byte) (*serfagent.Received, error) {
+	f.mu.Lock()
+	defer f.mu.Unlock()
+	event := f.called("receive")
+	if f.flush != nil {
+		<-f.flush
+	}
+	if f.receive != nil {
+		return nil, f.receive
+	}
+	return &serfagent.Received{Kind: serfagent.NewEvent, Event: event}, nil
+}
+
+// Merge gives two events.
+func (f *fake) Merge([]byte, bool) ([]*serfagent.Event, error) {
+	f.mu.Lock()
+	defer f.mu.Unlock()
+	return []*serfagent.Event{f.called("merge"), f.called("merged")}, f.merge
+}
+
+func (f *fake) LocalState([]serfagent.Status, []string) ([]byte, error) {
+	f.mu.Lock()
+	defer f.mu.Unlock()
+	return []byte("state"), nil
+}
+
+func (f *fake) Fire(name, _ []byte, _ bool) (*serfagent.Event, []byte, error) {
+	f.mu.Lock()
+	defer f.mu.Unlock()
+	return f.called("fire"), name, nil
+}
+
+func (f *fake) Query(_ uint64, id uint32, _, _ []byte, _ serfagent.QueryParams) (*serfagent.Asked, error) {
+	f.mu.Lock()
+	defer f.mu.Unlock()
+	event := f.called("query")
+	return &serfagent.Asked{Packet: []byte("query"), Query: &serfagent.Handed{Number: event.Time, Time: event.Time, ID: id}}, nil
+}
+
+func (f *fake) Respond(uint64, uint64, []byte) ([]byte, error) { return nil, serfagent.NotHanded }
+
+func (f *fake) CloseDue(uint64) ([]*serfagent.Closed, error) { return nil, nil }
+
+// start makes a member that nobody joins.
+func start(t *testing.T, agent agent, handlers Handlers) *Delegate {
+	t.Helper()
+	config := memberlist.DefaultLocalConfig()
+	config.Name, config.BindAddr, config.BindPort, config.AdvertisePort = t.Name(), "127.0.0.1", 0, 0
+	config.LogOutput = io.Discard
+	d, err := create(config, agent, handlers)
+	if err != nil {
+		t.Fatal(err)
+	}
+	t.Cleanup(func() { d.Shutdown() })
+	return d
+}
+
+// open opens an agent on a file.
+func open(t *testing.T) *serfagent.Agent {
+	t.Helper()
+	agent, err := serfagent.Open("test", t.TempDir()+"/test.snapshot", serfagent.DefaultSettings())
+	if err != nil {
+		t.Fatal(err)
+	}
+	t.Cleanup(func() { agent.Close() })
+	return agent
+}
+
+// size is how many pieces wait.
+func size(q *queue) int {
+	q.mu.Lock()
+	defer q.mu.Unlock()
+	return len(q.pieces)
+}
+
+// eventually waits until this holds.
+func eventually(t *testing.T, what string, holds func() bool) {
+	t.Helper()
+	for i := 0; i < 1000; i++ {
+		if holds() {
+			return
+		}
+		time.Sleep(10 * time.Millisecond)
+	}
+	t.Fatalf("never: %s", what)
+}
+
+// soon does this, which has to be done at once.
+func soon(t *testing.T, what string, done func()) {
+	t.Helper()
+	over := make(chan struct{})
+	go func() {
+		done()
+		close(over)
+	}()
+	select {
+	case <-over:
+	case <-time.After(2 * time.Second):
+		t.Fatalf("it waits: %s", what)
+	}
+}
+
+// heard are faults, or other texts, in their order.
+type heard struct {
+	mu    sync.Mutex
+	texts []string
+	errs  []error
+}
+
+func (h *heard) add(text string) {
+	h.mu.Lock()
+	defer h.mu.Unlock()
+	h.texts = append(h.texts, text)
+}
+
+func (h *heard) fault(err error) {
+	h.mu.Lock()
+	defer h.mu.Unlock()
+	h.errs = append(h.errs, err)
+}
+
+func (h *heard) all() []string {
+	h.mu.Lock()
+	defer h.mu.Unlock()
+	return append([]string(nil), h.texts...)
+}
+
+func (h *heard) faults() []error {
+	h.mu.Lock()
+	defer h.mu.Unlock()
+	return append([]error(nil), h.errs...)
+}

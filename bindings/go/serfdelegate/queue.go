@@ -1,0 +1,139 @@
+package serfdelegate
+
+import "sync"
+
+// Waiting is how many packets may wait for the agent, how many for the network, and how many handlers may wait to be run.
+// That is Serf's own number. A packet that comes above it is dropped, as a network may. Where so many handlers wait, no packet
+// is taken, and Fire and Query are refused with ErrBusy: what the agent handed out is never dropped.
+const Waiting = 4096
+
+// waitingBytes is how many bytes of packets may wait for the agent, and how many of states. A state of memberlist's has
+// 20 mebibytes at most.
+const waitingBytes = 64 << 20
+
+// piece is a packet, or a state with whether it is of a join.
+type piece struct {
+	data   []byte
+	isJoin bool
+}
+
+// queue has what came of the network and waits for the agent. Nobody holds its lock for long.
+type queue struct {
+	mu     sync.Mutex
+	pieces []piece
+	bytes  int
+	// came has something where a piece waits.
+	came chan struct{}
+}
+
+func newQueue() *queue { return &queue{came: make(chan struct{}, 1)} }
+
+// add takes a copy, since memberlist lends the data for the call alone; false where there is no room.
+func (q *queue) add(data []byte, isJoin bool) bool {
+	q.mu.Lock()
+	defer q.mu.Unlock()
+	if len(q.pieces) >= Waiting || q.bytes+len(data) > waitingBytes {
+		return false
+	}
+	q.pieces = append(q.pieces, piece{append([]byte(nil), data...), isJoin})
+	q.bytes += len(data)
+	q.tell()
+	return true
+}
+
+// next takes the first piece; false where none waits.
+func (q *queue) next() (piece, bool) {
+	q.mu.Lock()
+	defer q.mu.Unlock()
+	if len(q.pieces) == 0 {
+		return piece{}, false
+	}
+	first := q.pieces[0]
+	q.pieces[0] = piece{}
+	q.pieces = q.pieces[1:]
+	q.bytes -= len(first.data)
+	q.tell()
+	return first, true
+}
+
+func (q *queue) tell() {
+	if len(q.pieces) > 0 {
+		select {
+		case q.came <- struct{}{}:
+		default:
+		}
+	}
+}
+
+// works are run one after another, in order. None is dropped: who adds one first looks whether there is room.
+type works struct {
+	mu      sync.Mutex
+	changed *sync.Cond
+	waiting []func()
+	isOver  bool
+}
+
+func newWorks() *works {
+	w := &works{}
+	w.changed = sync.NewCond(&w.mu)
+	return w
+}
+
+func (w *works) add(work func()) {
+	w.mu.Lock()
+	defer w.mu.Unlock()
+	w.waiting = append(w.waiting, work)
+	w.changed.Broadcast()
+}
+
+func (w *works) isFull() bool {
+	w.mu.Lock()
+	defer w.mu.Unlock()
+	return len(w.waiting) >= Waiting
+}
+
+// waitForRoom waits while there is none; false where the end came.
+func (w *works) waitForRoom() bool {
+	w.mu.Lock()
+	defer w.mu.Unlock()
+	for len(w.waiting) >= Waiting && !w.isOver {
+		w.changed.Wait()
+	}
+	return !w.isOver
+}
+
+// end lets run end, when it has run those that wait.
+func (w *works) end() {
+	w.mu.Lock()
+	defer w.mu.Unlock()
+	w.isOver = true
+	w.changed.Broadcast()
+}
+
+// next waits for a work, and takes it; false where none waits at the end.
+func (w *works) next() (func(), bool) {
+	w.mu.Lock()
+	defer w.mu.Unlock()
+	for len(w.waiting) == 0 && !w.isOver {
+		w.changed.Wait()
+	}
+	if len(w.waiting) == 0 {
+		return nil, false
+	}
+	first := w.waiting[0]
+	w.waiting[0] = nil
+	w.waiting = w.waiting[1:]
+	w.changed.Broadcast()
+	return first, true
+}
+
+// run runs them until the end, and then those that wait still.
+func (w *works) run() {
+	for {
+		work, more := w.next()
+		if !more {
+			return
+		}
+		work()
+	}
+}

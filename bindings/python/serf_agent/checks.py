@@ -1,0 +1,25 @@
+"""What a caller gave, looked at before ctypes sees it, which cuts a number to its field."""
+
+import operator
+
+
+def integer(name, value, bits=64, signed=False):
+    """An integer that fits into so many bits: else ``OverflowError``, and ``TypeError`` where it is none."""
+    found = operator.index(value)
+    least, over = (-(1 << bits - 1), 1 << bits - 1) if signed else (0, 1 << bits)
+    if not least <= found < over:
+        raise OverflowError(f"{name} is {found}, and has to be from {least} to {over - 1}")
+    return found
+
+
+def flag(name, value):
+    """A ``bool``: else ``TypeError``."""
+    if not isinstance(value, bool):
+        raise TypeError(f"{name} has to be a bool, and is of the type {type(value).__name__}")
+    return value
+
+
+def texts(*all_bytes):
+    """Bytes, or what is like them, as the library takes them: each with its length. Else ``TypeError``."""
+    # (bytes(5) would be five zeros, and bytes([5]) one five)
+    return [word for data in map(bytes, map(memoryview, all_bytes)) for word in (data, len(data))]
