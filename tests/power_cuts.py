@@ -52,11 +52,11 @@ LEAST = {"a": 150, "b": 150, "c": 100}
 
 
 class Count:
-    """Checks, and how many cuts were looked at, by store and level."""
+    """Checks; how many cuts were looked at, by store and level; and how many texts were opened again, by store."""
 
     def __init__(self):
         self.passed = self.failed = 0
-        self.cuts = {}
+        self.cuts, self.opened = {}, {}
 
     def check(self, name, holds, said=""):
         if holds:
@@ -113,7 +113,9 @@ class Trial:
     def of_life(self, name, run, drawn):
         """Levels b and c of a life."""
         whole, order, left = lives.of_agent(run, drawn, self.keeps)
-        lives.open_again(whole, self.store, left, run.packets(), self.room)
+        left = lives.some_of(left, drawn, self.store.most_opened)
+        opened = lives.open_again(whole, self.store, left, run.packets(), self.room)
+        self.count.opened[self.store.name] = self.count.opened.get(self.store.name, 0) + opened
         self.count.seen(self.store.name, "b", name, whole)
         self.count.seen(self.store.name, "c", name, order)
 
@@ -141,7 +143,7 @@ class Trial:
             life = self.run(lives.agent_lines(scripts.of_an_agent(drawn)), began, fault=fault)
             whole, order, left = lives.of_agent(life, drawn, True)
             left = lives.some_of(left, drawn, OPENED)
-            lives.open_again(whole, self.store, left, life.packets(), self.room, fault)
+            lives.open_again(whole, self.store, left, life.packets(), self.room)
             found = {level: len(seen.faults) for level, seen in zip("abc", (store, whole, order))}
             print(f"planted in {self.store.name}, {faults.FAULTS[fault]}: found by {found}", flush=True)
             self.count.check(f"{self.store.name}: {faults.FAULTS[fault]} is found", any(found.values()))
@@ -178,11 +180,11 @@ def spent():
 
 
 def table(count):
-    print("cuts            a       b       c")
+    print("cuts            a       b       c   texts opened again")
     for name in hosts.STORES:
         looked = [count.cuts.get((name, level), 0) for level in LEAST]
         if any(looked):
-            print(f"{name:<10}" + "".join(f"{it:>8,}" for it in looked))
+            print(f"{name:<10}" + "".join(f"{it:>8,}" for it in looked) + f"{count.opened[name]:>8,}")
     print(f"{sum(count.cuts.values()):,} cuts")
 
 

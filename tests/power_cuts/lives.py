@@ -88,10 +88,10 @@ def of_agent(run, drawn, opening_keeps):
 
 
 class Openings:
-    """Texts that cuts left, each opened again by the store's own host, in one process."""
+    """Texts that cuts left, each opened again by the store's own host, without a fault, in one process."""
 
-    def __init__(self, store, room, fault=None):
-        self.store, self.room, self.fault = store, room, fault
+    def __init__(self, store, room):
+        self.store, self.room = store, room
 
     def of(self, texts, packets):
         """Of each text what the agent that is opened on it hands out when it is offered all packets, and the times at which
@@ -104,7 +104,7 @@ class Openings:
                     with open(path, "wb") as file:
                         file.write(text)
                 lines += [f"o {again}", *packets, "x", f"o {first}", "f 66", "q 71", "x"]
-            with traces.Host(self.store.words(self.fault), self.store.env(self.fault)) as host:
+            with traces.Host(self.store.words(None), self.store.env(None)) as host:
                 return self.read(host.say_all(lines), len(texts), len(packets))
 
     def read(self, answered, count, packets):
@@ -120,16 +120,20 @@ class Openings:
 
 
 def some_of(left, drawn, most):
-    """So many of the texts that cuts left, with what was handed out before."""
+    """So many of the texts that cuts left, with what was handed out before; all of them where `most` is None."""
+    if most is None:
+        return left
     return {it: left[it] for it in drawn.sample(list(left), min(most, len(left)))}
 
 
-def open_again(seen, store, left, packets, room, fault=None):
-    """Level b: each text that a cut left is opened again, and held against what was handed out before that cut."""
+def open_again(seen, store, left, packets, room):
+    """Level b: each text that a cut left is opened again, and held against what was handed out before that cut. How many
+    they were."""
     texts = list(dict.fromkeys(text for text, _ in left))
-    after = dict(zip(texts, Openings(store, room, fault).of(texts, packets)))
+    after = dict(zip(texts, Openings(store, room).of(texts, packets)))
     for (text, before), greatest in left.items():
         levels.of_opening(seen, text, before, greatest, after[text])
+    return len(texts)
 
 
 def drawn_for(seed, *names):

@@ -3,10 +3,13 @@
 Go's runtime makes its calls itself, so nothing that stands before the C library would see them; strace sees those of all.
 """
 
+import contextlib
 import os
 import re
+import signal
 import subprocess
 import tempfile
+import threading
 from collections import namedtuple
 
 # The calls that the disk plays (disks.py), those that say which file a number is, and those that it refuses to play: a
@@ -27,8 +30,8 @@ TEXT = re.compile(r'"((?:\\x[0-9a-f]{2})*)"(\.\.\.)?')
 # How a line begins that hands something out or over (hosts.py).
 HANDED = ("e ", "h ", "p ")
 
-# How long a host may take that is traced, in seconds.
-LIMIT = 120
+# How long a host may take, in seconds.
+LIMIT = 300
 
 
 class Unread(Exception):
@@ -84,12 +87,19 @@ class Host:
     """A host that is driven by lines."""
 
     def __init__(self, words, env):
-        self.process = subprocess.Popen(words, stdin=subprocess.PIPE, stdout=subprocess.PIPE, text=True, env=env)
+        self.process = subprocess.Popen(words, stdin=subprocess.PIPE, stdout=subprocess.PIPE, text=True, env=env, start_new_session=True)
+        self.timer = threading.Timer(LIMIT, self.kill)
+        self.timer.start()
+
+    def kill(self):
+        """Ends the host, and strace with it."""
+        os.killpg(self.process.pid, signal.SIGKILL)
 
     def says(self, line):
         """What a line was answered: the lines that were handed out, and the last one, `ok` or a fault's name."""
-        self.process.stdin.write(line + "\n")
-        self.process.stdin.flush()
+        with contextlib.suppress(BrokenPipeError):
+            self.process.stdin.write(line + "\n")
+            self.process.stdin.flush()
         handed = []
         for said in self.process.stdout:
             said = said.rstrip("\n")
@@ -100,7 +110,7 @@ class Host:
 
     def say_all(self, lines):
         """What each of these lines was answered; they are said all at once."""
-        said, _ = self.process.communicate("".join(line + "\n" for line in lines), LIMIT)
+        said, _ = self.process.communicate("".join(line + "\n" for line in lines))
         answered, handed = [], []
         for line in said.splitlines():
             if line[:2] in HANDED:
@@ -116,12 +126,13 @@ class Host:
         return self
 
     def __exit__(self, kind, *_):
-        if not self.process.stdin.closed:
+        with contextlib.suppress(BrokenPipeError):
             self.process.stdin.close()
-        if kind is not None:
-            self.process.kill()
+        if kind is not None and self.process.poll() is None:
+            self.kill()
         self.process.stdout.close()
-        self.process.wait(LIMIT)
+        self.process.wait()
+        self.timer.cancel()
 
 
 def traced(words, env, drive, fault=None):
