@@ -11,13 +11,13 @@ use serf_agent::{
     Agent, Answer, BytesList, Config, DEFAULT_SNAPSHOT_LIMIT, EventOut, OpenQuery, Outcome,
     QueryParams,
 };
-use serf_store::FileStore;
+use serf_store::{FileStore, SystemFile};
 use serf_wire::Bytes;
 use std::fs::{File, Files};
 use std::io::ErrorKind;
 
 /// An agent of this program.
-type OnFile<'a, R> = Agent<FileStore<'a, R>>;
+type OnFile<'a, R> = Agent<FileStore<SystemFile<'a, R>>>;
 
 /// Removes the snapshot of an earlier run.
 fn forget<R: Files>(rt: &R, path: &str) -> Result<()> {

@@ -1,2 +1,5 @@
+pub mod MemFile
 pub mod Paths
 pub mod Store
+pub mod SystemFile
+pub mod TextFile

@@ -1,4 +1,4 @@
--- The paths of a store.
+-- The paths of a text's file.
 use Rattle.std.specs.Prelude.{ℕ, List, [], length, unwrap_or, codes, ◌++◌, ◌==◌, if◌then◌else◌}
 use Rattle.std.specs.Path.{path_parent}
 
@@ -10,9 +10,6 @@ or_current folder = if length folder == 0 then codes "." else folder
 abbrev pub folder_of : List ℕ → List ℕ
 folder_of path = or_current (unwrap_or (path_parent path) [])
 
--- what stands behind a path, for the file that is locked and for the text that is to take the file's place
-abbrev pub lock_of : List ℕ → List ℕ
-lock_of path = path ++ codes ".lock"
-
-abbrev pub next_of : List ℕ → List ℕ
-next_of path = path ++ codes ".next"
+-- what stands behind a path, for the text that is to take the file's place
+abbrev pub beside_of : List ℕ → List ℕ
+beside_of path = path ++ codes ".new"

@@ -1,8 +1,14 @@
--- A file as a sink: nothing is known of its bytes, and it has no plan.
-use Rattle.std.specs.Prelude.{ℕ, None}
-use Rattle.serf_snap.specs.Device.{Device}
+-- A store over a file: a sink with the bytes of its text, where the file exposes them, and with no plan.
+use Rattle.std.specs.Prelude.{ℕ, Option, None}
+use Rattle.std.specs.Option.{option_map}
+use Rattle.serf_snap.specs.Device.{Device, Observable}
+use Rattle.serf_store.specs.TextFile.{Kept}
 
--- a device that exposes nothing of its bytes and has no plan, from how often it failed and was called
-abbrev pub file_device : ℕ → ℕ → ℕ → ℕ → Device
-file_device failures appends flushes replaces =
-    record { observed_bytes = None; plan = None; failures = failures; calls = record { appends = appends; flushes = flushes; replaces = replaces } }
+-- what the text's file has
+abbrev pub text_of : Option Kept → Option Observable
+text_of kept = option_map (λ (k : Kept). k.text) kept
+
+-- a device with these bytes, from how often it failed and was called
+abbrev pub file_device : Option Observable → ℕ → ℕ → ℕ → ℕ → Device
+file_device bytes failures appends flushes replaces =
+    record { observed_bytes = bytes; plan = None; failures = failures; calls = record { appends = appends; flushes = flushes; replaces = replaces } }

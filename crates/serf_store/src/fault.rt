@@ -10,21 +10,30 @@ pub enum StoreFault {
     /// There was no memory for the text or the paths.
     #[error("out of memory")]
     OutOfMemory,
-    /// Another store over this path is open, in this process or another.
+    /// Another store has the file, in this process or another, by this name or another.
     #[error("another agent has this snapshot open")]
     InUse,
-    /// The lock's file can't be made, opened or locked.
+    /// The path leads to no place for a file: its folder is missing, or a link goes round in a circle.
+    #[error("the path: {0}")]
+    Path(io::Error),
+    /// Something else than a plain file has the name: a folder, a device, or a link that leads nowhere.
+    #[error("the path names no plain file")]
+    NotAFile,
+    /// The file can't be opened or made: it or its folder may not be written.
+    #[error("the file: {0}")]
+    Open(io::Error),
+    /// The file can't be locked.
     #[error("the lock: {0}")]
     Lock(io::Error),
     /// What a crash left beside the file can't be removed.
     #[error("the file that a crash left: {0}")]
     Leftover(io::Error),
-    /// The file can't be opened or made: it is a folder, read-only, or its folder is missing.
-    #[error("the file: {0}")]
-    Open(io::Error),
     /// The file can't be read.
     #[error("reading the file: {0}")]
     Read(io::Error),
+    /// The file can't be brought to the device, so what was read might not survive a crash.
+    #[error("syncing the file: {0}")]
+    Sync(io::Error),
     /// The folder can't be brought to the device, so a file that was just made might not survive a crash.
     #[error("the folder: {0}")]
     Folder(io::Error),

@@ -1,27 +1,22 @@
-//! The paths of a store: its file, what stands beside it, and their folder.
+//! The paths of a text's file: its own, that of what stands beside it, and their folder's.
 
 ghost use Rattle.std.specs.Prelude.{◌≡◌, ◌++◌, IfOk, string_bytes};
-ghost use Rattle.serf_store.specs.Paths.{folder_of, lock_of, next_of};
+ghost use Rattle.serf_store.specs.Paths.{beside_of, folder_of};
 
 use std::alloc::{AllocError, Global};
 use std::path::Path;
 
-/// What the path of the lock's file has behind the path of the file.
-const LOCK: &str = ".lock";
-
 /// What the path of the text that is to replace the file's has behind the path of the file.
-const NEXT: &str = ".next";
+const BESIDE: &str = ".new";
 
-/// The paths of a store.
+/// The paths of a text's file.
 #[derive(Drop)]
 pub struct Paths {
     /// The file with the text.
     pub file: String,
-    /// The file that is locked, and has no text.
-    pub lock: String,
     /// The file in which a text is written before it takes the file's place.
-    pub next: String,
-    /// The folder of all three.
+    pub beside: String,
+    /// The folder of both.
     pub folder: String,
 }
 
@@ -29,14 +24,12 @@ impl Paths {
     /// The paths beside this path.
     pub fn of(alloc: Global, path: &str) -> Result<Self, AllocError>
         ensures file { IfOk result (λ p. string_bytes p.file ≡ path.now) }
-        ensures lock { IfOk result (λ p. string_bytes p.lock ≡ lock_of path.now) }
-        ensures next { IfOk result (λ p. string_bytes p.next ≡ next_of path.now) }
+        ensures beside { IfOk result (λ p. string_bytes p.beside ≡ beside_of path.now) }
         ensures folder { IfOk result (λ p. string_bytes p.folder ≡ folder_of path.now) }
     {
         Ok(Paths {
             file: String::from_str(alloc, path)?,
-            lock: joined(alloc, path, LOCK)?,
-            next: joined(alloc, path, NEXT)?,
+            beside: joined(alloc, path, BESIDE)?,
             folder: String::from_str(alloc, folder_of(path))?,
         })
     }
@@ -52,7 +45,7 @@ fn joined(alloc: Global, text: &str, more: &str) -> Result<String, AllocError>
 }
 
 /// The folder of a path: its parent, or the current folder where it names none.
-fn folder_of(path: &str) -> &str
+pub fn folder_of(path: &str) -> &str
     ensures { result.now ≡ folder_of path.now }
 {
     let folder = match Path::new(path).parent() {

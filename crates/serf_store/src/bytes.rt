@@ -1,0 +1,68 @@
+//! The bytes of a file in memory.
+
+ghost use Rattle.std.specs.Prelude.{◌≡◌, OnOk, OnErr};
+ghost use Rattle.serf_store.specs.TextFile.{all_of, brought, made_with, on_device, with_more};
+
+use std::alloc::AllocError;
+use std::marker::Model;
+
+/// The bytes of a file in memory: those that are on the device, and behind them those that aren't.
+#[derive(Drop)]
+pub struct MemBytes {
+    bytes: Vec<u8>,
+    durable: usize,
+}
+
+impl Model for MemBytes {
+    ghost use Rattle.std.specs.Prelude.{◌≤◌, drop, take};
+    ghost use Rattle.std.specs.Vec.{vec_len};
+    ghost use Rattle.serf_snap.specs.Device.{Observable};
+
+    ghost Value = { Observable };
+
+    ghost view = { λ a. record {
+      buffered = drop a.durable a.bytes.items;
+      durable = take a.durable a.bytes.items;
+    } };
+
+    ghost invariant = { λ a. a.durable ≤ vec_len a.bytes };
+}
+
+impl MemBytes {
+    /// A file with these bytes, all on the device.
+    pub fn kept(bytes: Vec<u8>) -> Self
+        ensures { result ≡ on_device bytes.items }
+    {
+        let durable = bytes.len();
+        MemBytes { bytes, durable }
+    }
+
+    /// A file that was just made, with these bytes.
+    pub fn made(bytes: Vec<u8>) -> Self
+        ensures { result ≡ made_with bytes.items }
+    {
+        MemBytes { bytes, durable: 0 }
+    }
+
+    /// All bytes.
+    pub fn all(&self) -> &[u8]
+        ensures { result.now ≡ all_of self.now }
+    {
+        &self.bytes
+    }
+
+    /// Writes these bytes behind the others. On want of memory all is as it was.
+    pub fn write(&mut self, bytes: &[u8]) -> Result<(), AllocError>
+        ensures ok { OnOk result (self.new ≡ with_more bytes.now self.old) }
+        ensures fault { OnErr result (self.new ≡ self.old) }
+    {
+        self.bytes.extend_from_slice(bytes)
+    }
+
+    /// Brings all bytes to the device.
+    pub fn sync(&mut self)
+        ensures { self.new ≡ brought self.old }
+    {
+        self.durable = self.bytes.len();
+    }
+}

@@ -1,0 +1,190 @@
+//! A text's file of the system: one call of the system for each of its own.
+
+ghost use Rattle.std.specs.Prelude.{◌≡◌, IfOk, None, OnOk, OnErr};
+ghost use Rattle.serf_snap.specs.Device.{HasFailed};
+
+use crate::fault::StoreFault;
+use crate::file::TextFile;
+use crate::lock::LockFile;
+use crate::opening::{open_locked, real_path, remove_if_there, remove_leftover};
+use crate::paths::Paths;
+use std::alloc::Global;
+use std::fs::{Files, OpenFile, OpenOptions, Permissions};
+use std::io;
+use std::io::{ErrorKind, Read, Write};
+use std::os::unix::fs::{OpenOptionsExt, PermissionsExt};
+
+/// A text's file of the system, opened for reading and appending, and locked: no other opening has the lock.
+///
+/// The lock is the file's own, as that of the stores for other languages: it holds against each name of the file and
+/// each program that asks for it (`flock`). The system gives it free where the process ends. The file that takes the
+/// text's name in a replacement is locked before it does, and has the rights of the old one.
+///
+/// No contract says what the system keeps: this file exposes no bytes, and counts the calls that failed.
+#[derive(Drop)]
+pub struct SystemFile<'a, R: Files> {
+    files: &'a R,
+    paths: Paths,
+    file: R::File,
+    beside: Option<R::File>,
+    failures: u64,
+}
+
+impl<'a, R: Files> SystemFile<'a, R>
+where
+    R::File: LockFile,
+{
+    ghost use Rattle.serf_store.specs.SystemFile.{system_failures};
+
+    /// Opens or makes the file at this path, and locks it. What a crash left beside it is removed.
+    pub fn open(alloc: Global, files: &'a R, path: &str) -> Result<Self, StoreFault>
+        ensures { IfOk result (λ s. system_failures s ≡ 0) }
+    {
+        let real = real_path(alloc, files, path)?;
+        let paths = Paths::of(alloc, real.as_str())?;
+        let file = open_locked(files, &paths.file)?;
+        remove_leftover(files, &paths.beside)?;
+        Ok(SystemFile {
+            files,
+            paths,
+            file,
+            beside: None,
+            failures: 0,
+        })
+    }
+}
+
+impl<'a, R: Files> SystemFile<'a, R> {
+    /// Gives the file beside the name of the text's file, and writes to it from then on.
+    fn take_name(&mut self, file: R::File) -> io::Result<()>
+        ensures { self.new.failures ≡ self.old.failures }
+    {
+        self.files.rename(&self.paths.beside, &self.paths.file)?;
+        self.file = file;
+        Ok(())
+    }
+}
+
+/// This answer, counted where it is a failure.
+fn counted<T>(failures: &mut u64, answer: io::Result<T>) -> io::Result<T>
+    ensures answer { result ≡ answer }
+    ensures unfailed { OnOk answer (failures.new ≡ failures.old) }
+    ensures failed { OnErr answer (HasFailed failures.old failures.new) }
+{
+    if answer.is_err() {
+        *failures = failures.saturating_add(1);
+    }
+    answer
+}
+
+/// All bytes of a file.
+fn read_all<F: Read>(alloc: Global, file: &mut F) -> io::Result<Vec<u8>> {
+    let mut text = Vec::new(alloc);
+    file.read_to_end(&mut text)?;
+    Ok(text)
+}
+
+/// Brings what was written to a file to the device.
+fn bring<F: Write + OpenFile>(file: &mut F) -> io::Result<()> {
+    file.flush()?;
+    file.sync_data()
+}
+
+/// Brings all of a new file to the device, the length and the rights too.
+fn bring_all<F: Write + OpenFile>(file: &mut F) -> io::Result<()> {
+    file.flush()?;
+    file.sync_all()
+}
+
+/// A new file at this path, which only its owner may open.
+fn make_new<R: Files>(files: &R, path: &str) -> io::Result<R::File> {
+    OpenOptions::new()
+        .read(true)
+        .append(true)
+        .create_new(true)
+        .mode(0o600)
+        .open(files, path)
+}
+
+/// Gives a file the rights of another.
+fn copy_rights<F: OpenFile>(from: &F, to: &F) -> io::Result<()> {
+    let rights = from.metadata()?.permissions().mode() & 0o777;
+    to.set_permissions(Permissions::from_mode(rights))
+}
+
+/// A new file at this path with this text, locked, and with the rights of another.
+fn make_beside<R: Files>(files: &R, path: &str, old: &R::File, text: &[u8]) -> io::Result<R::File>
+where
+    R::File: LockFile,
+{
+    remove_if_there(files, path)?;
+    let mut new = make_new(files, path)?;
+    new.lock_now()?;
+    copy_rights(old, &new)?;
+    new.write_all(text)?;
+    Ok(new)
+}
+
+/// Brings the names in a folder to the device.
+fn sync_folder<R: Files>(files: &R, folder: &str) -> io::Result<()> {
+    OpenOptions::new()
+        .read(true)
+        .open(files, folder)?
+        .sync_all()
+}
+
+/// There is no file beside.
+fn nothing_beside() -> io::Error {
+    io::Error::from(ErrorKind::NotFound)
+}
+
+impl<'a, R: Files> TextFile for SystemFile<'a, R>
+where
+    R::File: LockFile,
+{
+    ghost kept = { λ _. None };
+
+    ghost failures = { λ s. s.failures };
+
+    fn read(&mut self, alloc: Global) -> io::Result<Vec<u8>> {
+        let answer = read_all(alloc, &mut self.file);
+        counted(&mut self.failures, answer)
+    }
+
+    fn write(&mut self, bytes: &[u8]) -> io::Result<()> {
+        let answer = self.file.write_all(bytes);
+        counted(&mut self.failures, answer)
+    }
+
+    fn sync(&mut self) -> io::Result<()> {
+        let answer = bring(&mut self.file);
+        counted(&mut self.failures, answer)
+    }
+
+    fn write_beside(&mut self, text: &[u8]) -> io::Result<()> {
+        let made = make_beside(self.files, &self.paths.beside, &self.file, text);
+        self.beside = Some(counted(&mut self.failures, made)?);
+        Ok(())
+    }
+
+    fn sync_beside(&mut self) -> io::Result<()> {
+        let answer = match &mut self.beside {
+            Some(file) => bring_all(file),
+            None => Err(nothing_beside()),
+        };
+        counted(&mut self.failures, answer)
+    }
+
+    fn rename_beside(&mut self) -> io::Result<()> {
+        let answer = match self.beside.take() {
+            Some(file) => self.take_name(file),
+            None => Err(nothing_beside()),
+        };
+        counted(&mut self.failures, answer)
+    }
+
+    fn sync_folder(&mut self) -> io::Result<()> {
+        let answer = sync_folder(self.files, &self.paths.folder);
+        counted(&mut self.failures, answer)
+    }
+}
