@@ -68,7 +68,7 @@ class Count:
     def seen(self, store, level, name, seen):
         """What was looked at in a run: it has no fault."""
         self.cuts[store, level] = self.cuts.get((store, level), 0) + seen.cuts
-        self.check(f"{store}, level {level}, {name}", not seen.faults, f"{len(seen.faults)} of {seen.cuts} cuts; {seen.faults[:2]}")
+        self.check(f"{store}, level {level}, {name}", not seen.faults, f"{len(seen.faults)} faults in {seen.cuts} cuts: {seen.faults[:2]}")
 
 
 class Trial:
@@ -128,17 +128,23 @@ class Trial:
         drawn = self.drawn("compacting")
         self.of_life("a compaction behind each call", self.run(lives.agent_lines(scripts.compacting(drawn)), "a file"), drawn)
 
+    def found(self, fault):
+        """How much is wrong in each level where this fault is on: in a store's lines, and in an agent's life."""
+        began = "a file that was never synced" if fault == "opened_text" else "no file"
+        drawn = self.drawn("planted", fault)
+        store = lives.of_store(self.run(lives.store_lines(drawn), began, fault=fault))
+        life = self.run(lives.agent_lines(scripts.of_an_agent(drawn)), began, fault=fault)
+        whole, order, left = lives.of_agent(life, drawn)
+        lives.open_again(whole, self.store, lives.some_of(left, drawn, OPENED), life.packets(), self.room)
+        return {level: len(seen.faults) for level, seen in zip("abc", (store, whole, order))}
+
     def plants(self):
-        """Each fault that can be planted is found by what a store's lines show, or an agent's life."""
+        """Each fault that can be planted is found; and none is, where none is on."""
         for fault in self.store.plants:
-            began = "a file that was never synced" if fault == "opened_text" else "no file"
-            drawn = self.drawn("planted", fault)
-            store = lives.of_store(self.run(lives.store_lines(drawn), began, fault=fault))
-            life = self.run(lives.agent_lines(scripts.of_an_agent(drawn)), began, fault=fault)
-            whole, order, left = lives.of_agent(life, drawn)
-            left = lives.some_of(left, drawn, OPENED)
-            lives.open_again(whole, self.store, left, life.packets(), self.room)
-            found = {level: len(seen.faults) for level, seen in zip("abc", (store, whole, order))}
+            found = self.found(fault)
+            if fault == faults.NONE:
+                self.count.check(f"{self.store.name}: nothing is found where no fault is on", not any(found.values()), found)
+                continue
             print(f"planted in {self.store.name}, {faults.FAULTS[fault]}: found by {found}", flush=True)
             self.count.check(f"{self.store.name}: {faults.FAULTS[fault]} is found", any(found.values()))
 

@@ -8,6 +8,9 @@ import os
 
 FAULT_NAME = "POWER_CUTS_FAULT"
 
+# The copy that has them all, and none is on: it is as good as the store itself.
+NONE = "none"
+
 # What each fault takes away.
 FAULTS = {
     "line": "no sync of the line",

@@ -52,7 +52,7 @@ def built(words, **more):
 
 class InC(Store):
     def __init__(self, places):
-        super().__init__("C", list(faults.FAULTS))
+        super().__init__("C", [faults.NONE, *faults.FAULTS])
         copy = places.copy("c", os.path.join(BINDINGS, "c"))
         self.paths = {False: places.of("c_host"), True: places.of("c_planted")}
         for is_planted, path in self.paths.items():
@@ -67,7 +67,7 @@ class InC(Store):
 
 class InPython(Store):
     def __init__(self, places):
-        super().__init__("Python", list(faults.FAULTS))
+        super().__init__("Python", [faults.NONE, *faults.FAULTS])
         self.shared = places.shared()
         self.packages = {False: os.path.join(BINDINGS, "python"), True: places.copy("python", os.path.join(BINDINGS, "python"))}
         faults.edit(self.packages[True], faults.PYTHON)
@@ -81,7 +81,7 @@ class InPython(Store):
 
 class InGo(Store):
     def __init__(self, places):
-        super().__init__("Go", list(faults.FAULTS))
+        super().__init__("Go", [faults.NONE, *faults.FAULTS])
         top = places.of("go")
         shutil.copytree(c_library.INCLUDE, os.path.join(top, "include"))
         for part in ("c", "go"):
@@ -102,7 +102,7 @@ class InGo(Store):
 
 class InRust(Store):
     def __init__(self, places):
-        super().__init__("Rust", list(faults.FAULTS))
+        super().__init__("Rust", [faults.NONE, *faults.FAULTS])
         crate, target = places.of("rust"), places.of("target")
         shutil.copytree(os.path.join(BINDINGS, "rust"), crate, ignore=shutil.ignore_patterns("target", "examples", "tests"))
         os.mkdir(os.path.join(crate, "examples"))
