@@ -16,8 +16,8 @@ class File:
 
     def __init__(self, data=b"", sure=0):
         self.data, self.sure = data, sure
-        # what it had when it was given its name by a rename, where it was
-        self.renamed_with = None
+        # where it was given the name of another: the number of that rename, and what it had by then
+        self.renamed, self.renamed_with = 0, b""
 
 
 def changed(names, change):
@@ -39,6 +39,8 @@ class Disk:
     def __init__(self, folder, name):
         self.folder, self.name = os.path.realpath(folder), name
         self.names, self.sure_names, self.pending = {}, {}, []
+        # how many renames there were
+        self.renames = 0
 
     def put(self, name, data, is_sure):
         """A file that was there when the trace began. Not sure: an earlier process left it, and synced nothing."""
@@ -50,6 +52,12 @@ class Disk:
     def change(self, *change):
         self.pending.append(change)
         self.names = changed(self.names, change)
+
+    def rename(self, one, other):
+        file = self.names[one]
+        self.renames += 1
+        file.renamed, file.renamed_with = self.renames, file.data
+        self.change("rename", one, other)
 
     def sync(self):
         self.sure_names, self.pending = dict(self.names), []
@@ -170,8 +178,7 @@ class Walk:
             return False
         if one not in self.disk.names or other is None:
             raise Unread("the store renames a file out of its folder, or into it")
-        self.disk.names[one].renamed_with = self.disk.names[one].data
-        self.disk.change("rename", one, other)
+        self.disk.rename(one, other)
         return True
 
     def removes(self, call):

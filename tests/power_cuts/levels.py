@@ -7,8 +7,13 @@ from scripts import messages
 
 CLOCK = re.compile(rb"^(event-clock|query-clock|clock): (\d+)$")
 
-# What a file was when a call was answered: the file, and its text.
-Promise = namedtuple("Promise", "file text")
+# What a file was when a call was answered: its text, and how many renames there were by then.
+Promise = namedtuple("Promise", "text renames")
+
+
+def promise_of(disk):
+    """What the disk has as a call is answered by Ok."""
+    return Promise(disk.file().data if disk.file() else b"", disk.renames)
 
 
 class Seen:
@@ -25,7 +30,7 @@ def keeps(promise, file, text):
     """Whether a text that a cut leaves has all of what was promised, or is the whole of what replaces it."""
     if promise is None or text.startswith(promise.text):
         return True
-    return file is not None and file is not promise.file and file.renamed_with is not None and text.startswith(file.renamed_with)
+    return file is not None and file.renamed > promise.renames and text.startswith(file.renamed_with)
 
 
 def look(seen, disk, promise, lengths):
@@ -46,8 +51,8 @@ class Told:
     def __init__(self, old, answered):
         self.text, self.answered = old, answered
 
-    def answer(self, number, live):
-        """The text behind the answer of this number; a fault of the store where it isn't what was told."""
+    def is_wrong(self, number, live):
+        """Whether the answer of this number is Ok, and the file isn't what it was told to be."""
         line, answer = self.answered[number]
         call, _, word = line.partition(" ")
         wanted = self.text
@@ -63,12 +68,12 @@ def of_store(walk, old, answered, lengths):
     disk, promise = walk.disk, None
     for said in walk:
         if said is not None:
-            live = disk.file().data if disk.file() else b""
+            promised = promise_of(disk)
             line, answer = answered[number]
-            if told.answer(number, live):
-                seen.wrong(f"{line} was answered, and the file has {live!r}")
+            if told.is_wrong(number, promised.text):
+                seen.wrong(f"{line} was answered, and the file has {promised.text!r}")
             if answer == "ok":
-                promise = Promise(disk.file(), live)
+                promise = promised
             number += 1
         for _ in look(seen, disk, promise, lengths):
             pass
@@ -145,7 +150,7 @@ def of_agent(walk, lengths):
             of_order(order, disk, line, lengths)
             handed.note(line)
         elif line == "ok":
-            promise = Promise(disk.file(), disk.file().data)
+            promise = promise_of(disk)
         for text in look(whole, disk, promise, lengths):
             left[text, handed.all] = (handed.events, handed.queries)
     return whole, order, left

@@ -85,6 +85,22 @@ def try_threads(count):
     count.check("simulated: a sync that ends behind what is said", names == ["write", "fdatasync"], names)
 
 
+def try_promises(count):
+    """A text is kept by itself and by what replaces it, and not by what it replaced."""
+    disk = disks.Disk(FOLDER, "file")
+    for name, text in {"first": b"a", "second": b"b", "third": b"c"}.items():
+        disk.put(name, text, True)
+    disk.rename("first", "file")
+    first = disk.file()
+    disk.rename("second", "file")
+    second, promise = disk.file(), levels.promise_of(disk)
+    disk.rename("third", "file")
+    third = disk.file()
+    cases = {"what was answered": (second, b"b", True), "more": (second, b"bb", True), "what it replaced": (first, b"a", False), "what replaces it": (third, b"c", True), "half of that": (third, b"", False), "no file": (None, b"", False)}
+    for name, (file, text, holds) in cases.items():
+        count.check(f"simulated: {name}", levels.keeps(promise, file, text) == holds)
+
+
 def try_all(count):
     for name, (lines, old, wanted) in CASES.items():
         left = after(lines, old, name != "a file that was never synced")
@@ -92,5 +108,6 @@ def try_all(count):
     for name, lines in REFUSED.items():
         count.check(f"simulated: {name} is refused", is_refused(lines))
     try_threads(count)
+    try_promises(count)
     clocks = levels.clocks_in(b"event-clock: 3\nquery-clock: 12\n\0\0event-clock: 9\nevent-clock: 2\nclock: 7")
     count.check("simulated: the clocks of a text", clocks == {b"event-clock": 3, b"query-clock": 12, b"clock": 0}, clocks)
