@@ -103,6 +103,18 @@ class Trial:
             ran = self.run(lines, beginning, failing=words)
             self.count.check(f"{name}: {words} is a fault once", ran.faults() == 1, ran.answers())
             self.count.seen(name, "a", words, lives.of_store(ran))
+        self.of_full_disk()
+
+    def of_full_disk(self):
+        """Level a with a disk on which a line has room in part alone, until the text is replaced by a shorter one."""
+        lines = [line for line in lives.store_lines(self.drawn("full")) if not line.startswith("replace ")]
+        lines[-1:-1] = ["replace 610a", "append 620a"]
+        size = len(scripts.OLD) + len(bytes.fromhex(lines[1].split()[1])) + 5
+        ran = self.run(lines, "a file", before=lives.with_room(size))
+        in_part = [call for call in ran.calls if call.name == "write" and 0 <= call.result < len(b"".join(call.texts))]
+        self.count.check(f"{self.store.name}: a line is written in part", len(in_part) == 1 and ran.faults() > 0, ran.answers())
+        self.count.check(f"{self.store.name}: a shorter text has room", [answer for _, answer in ran.answers()[-3:]] == ["ok"] * 3, ran.answers())
+        self.count.seen(self.store.name, "a", "a full disk", lives.of_store(ran))
 
     def of_life(self, name, run, drawn):
         """Levels b and c of a life."""

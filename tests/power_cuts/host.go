@@ -6,8 +6,10 @@ import (
 	"encoding/hex"
 	"fmt"
 	"os"
+	"os/signal"
 	"runtime"
 	"strings"
+	"syscall"
 
 	"serf_agent/bindings/go/serfagent"
 )
@@ -143,9 +145,12 @@ func (h *host) answer(call, word string) (err error) {
 	return err
 }
 
+// A fault is played at a thread's call of some number, so all calls are of the first thread.
+func init() { runtime.LockOSThread() }
+
 func main() {
-	// A fault is played at a thread's call of some number, so all calls are of one thread.
-	runtime.LockOSThread()
+	// A file that may not grow is then an error of the write.
+	signal.Ignore(syscall.SIGXFSZ)
 	h := &host{}
 	lines := bufio.NewScanner(os.Stdin)
 	lines.Buffer(nil, 1<<20)

@@ -13,11 +13,17 @@ import traces
 ERRORS = {"write": "ENOSPC", "openat": "ENOSPC", "rename": "ENOSPC", "renameat": "ENOSPC", "renameat2": "ENOSPC", "fsync": "EIO", "fdatasync": "EIO"}
 
 
+def with_room(size):
+    """The words before a host's whose files may have so many bytes: a write beyond them comes through in part, and the next
+    one fails."""
+    return ["env", "--ignore-signal=XFSZ", "prlimit", f"--fsize={size}"]
+
+
 class Run:
     """A store driven by lines from a beginning on: its calls of the system, and each line with what it handed out and its
     answer. After a fault it is opened again, as its user has to."""
 
-    def __init__(self, store, lines, beginning, room, fault=None, failing=None):
+    def __init__(self, store, lines, beginning, room, fault=None, failing=None, before=()):
         self.store, self.beginning = store, beginning
         with tempfile.TemporaryDirectory(dir=room) as folder:
             self.folder, self.path = os.path.realpath(folder), os.path.join(folder, "snapshot")
@@ -26,7 +32,7 @@ class Run:
                 with open(self.path, "wb") as file:
                     file.write(self.text)
             self.lines = [line.replace("PATH", self.path) for line in lines]
-            self.calls, self.answered = traces.traced(store.words(fault), store.env(fault), self.drive, failing)
+            self.calls, self.answered = traces.traced([*before, *store.words(fault)], store.env(fault), self.drive, failing)
 
     def drive(self, host):
         answered = []
