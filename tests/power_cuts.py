@@ -76,7 +76,6 @@ class Trial:
 
     def __init__(self, count, store, seed, room):
         self.count, self.store, self.seed, self.room = count, store, seed, room
-        self.keeps = store.opening_keeps
 
     def drawn(self, *names):
         return lives.drawn_for(self.seed, *names)
@@ -84,14 +83,9 @@ class Trial:
     def run(self, lines, beginning, **more):
         return lives.Run(self.store, lines, beginning, self.room, **more)
 
-    def beginnings(self):
-        return [it for it in scripts.BEGINNINGS if self.keeps or scripts.BEGINNINGS[it][1]]
-
     def failing(self, run, drawn):
         """Some of the calls that can fail, of as many kinds as there are."""
         places = run.failing_places()
-        if not self.keeps:
-            places.pop("fdatasync", None)
         kinds = sorted(places)
         drawn.shuffle(kinds)
         return [drawn.choice(places[kind]) for kind in kinds[:FAILING]]
@@ -99,16 +93,16 @@ class Trial:
     def of_store(self):
         """Level a: from each beginning, and with calls that fail."""
         name = self.store.name
-        for beginning in self.beginnings():
+        for beginning in scripts.BEGINNINGS:
             drawn = self.drawn("store", beginning)
             lines = lives.store_lines(drawn)
             run = self.run(lines, beginning)
             self.count.check(f"{name}: no fault, {beginning}", run.faults() == 0, run.answered)
-            self.count.seen(name, "a", beginning, lives.of_store(run, self.keeps))
+            self.count.seen(name, "a", beginning, lives.of_store(run))
         for words in self.failing(run, drawn):
             ran = self.run(lines, beginning, failing=words)
             self.count.check(f"{name}: {words} is a fault once", ran.faults() == 1, ran.answers())
-            self.count.seen(name, "a", words, lives.of_store(ran, self.keeps))
+            self.count.seen(name, "a", words, lives.of_store(ran))
         self.of_full_disk()
 
     def of_full_disk(self):
@@ -120,11 +114,11 @@ class Trial:
         in_part = [call for call in ran.calls if call.name == "write" and 0 <= call.result < len(b"".join(call.texts))]
         self.count.check(f"{self.store.name}: a line is written in part", len(in_part) == 1 and ran.faults() > 0, ran.answers())
         self.count.check(f"{self.store.name}: a shorter text has room", [answer for _, answer in ran.answers()[-3:]] == ["ok"] * 3, ran.answers())
-        self.count.seen(self.store.name, "a", "a full disk", lives.of_store(ran, self.keeps))
+        self.count.seen(self.store.name, "a", "a full disk", lives.of_store(ran))
 
     def of_life(self, name, run, drawn):
         """Levels b and c of a life."""
-        whole, order, left = lives.of_agent(run, drawn, self.keeps)
+        whole, order, left = lives.of_agent(run, drawn)
         left = lives.some_of(left, drawn, self.store.most_opened)
         opened = lives.open_again(whole, self.store, left, run.packets(), self.room)
         self.count.opened[self.store.name] = self.count.opened.get(self.store.name, 0) + opened
@@ -133,7 +127,7 @@ class Trial:
 
     def of_agent(self):
         """Levels b and c: a life from each beginning, one that compacts behind each call, and lives with calls that fail."""
-        for beginning in self.beginnings():
+        for beginning in scripts.BEGINNINGS:
             drawn = self.drawn("life", beginning)
             lines = lives.agent_lines(scripts.of_an_agent(drawn))
             run = self.run(lines, beginning)
@@ -150,9 +144,9 @@ class Trial:
         """How much is wrong in each level where this fault is on: in a store's lines, and in an agent's life."""
         began = "a file that was never synced" if fault == "opened_text" else "no file"
         drawn = self.drawn("planted", fault)
-        store = lives.of_store(self.run(lives.store_lines(drawn), began, fault=fault), True)
+        store = lives.of_store(self.run(lives.store_lines(drawn), began, fault=fault))
         life = self.run(lives.agent_lines(scripts.of_an_agent(drawn)), began, fault=fault)
-        whole, order, left = lives.of_agent(life, drawn, True)
+        whole, order, left = lives.of_agent(life, drawn)
         lives.open_again(whole, self.store, lives.some_of(left, drawn, OPENED), life.packets(), self.room)
         return {level: len(seen.faults) for level, seen in zip("abc", (store, whole, order))}
 

@@ -179,16 +179,13 @@ impl Agent {
     ],
 }
 
-# Each fault of `FileStore` by itself: what is taken out of which file.
+# Each fault of `FileStore` by itself: what is taken out of src/store.rt.
+NO_SYNC_OF_THE_LINE = ("self.failures > 0 || self.file.sync().is_err()", "self.failures > 0")
 FILE_STORE = {
-    "line": {"src/store.rt": [("self.file.flush().is_err() || self.file.sync_data().is_err()", "self.file.flush().is_err()")]},
-    "text": {"src/store.rt": [("    next.sync_all()?;\n", "")]},
-    "name": {"src/store.rt": [("self.file = next;\n        sync_folder(self.files, &self.paths.folder)", "self.file = next;\n        Ok(())")]},
-    "opened_name": {"src/store.rt": [("        sync_folder(files, &paths.folder).map_err(StoreFault::Folder)?;\n", "")]},
-    "late": {
-        "src/store.rt": [
-            ("self.file.flush().is_err() || self.file.sync_data().is_err()", "self.file.flush().is_err()"),
-            ("if self.file.write_all(bytes).is_err()", "if self.file.sync_data().is_err() || self.file.write_all(bytes).is_err()"),
-        ]
-    },
+    "line": [NO_SYNC_OF_THE_LINE],
+    "text": [("    file.sync_beside()?;\n", "")],
+    "name": [("    file.rename_beside()?;\n    file.sync_folder()\n", "    file.rename_beside()\n")],
+    "opened_text": [("        opened.sync().map_err(StoreFault::Sync)?;\n", "")],
+    "opened_name": [("        opened.sync_folder().map_err(StoreFault::Folder)?;\n", "")],
+    "late": [NO_SYNC_OF_THE_LINE, ("self.failures > 0 || self.file.write(bytes).is_err()", "self.failures > 0 || self.file.sync().is_err() || self.file.write(bytes).is_err()")],
 }

@@ -34,8 +34,6 @@ class Store:
 
     def __init__(self, name, plants):
         self.name, self.plants = name, plants
-        # whether an opening brings to the disk what it found there
-        self.opening_keeps = True
         # how many of the texts that cuts leave in a life are opened again, where not all are
         self.most_opened = None
 
@@ -125,7 +123,6 @@ class InRust(Store):
 class InRattle(Store):
     def __init__(self, places):
         super().__init__("FileStore", list(faults.FILE_STORE))
-        self.opening_keeps = False
         # (the host is slow, since it checks each access)
         self.most_opened = 40
         self.program = file_store.program(places.of("file_store"), OWN)

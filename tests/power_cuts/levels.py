@@ -62,9 +62,8 @@ class Told:
         return answer == "ok" and live != wanted
 
 
-def of_store(walk, old, answered, lengths, opening_keeps):
-    """Level a: nothing that a store answered is lost. answered: each line with its answer; the first is the opening.
-    opening_keeps: whether an opening brings what it found to the disk."""
+def of_store(walk, old, answered, lengths):
+    """Level a: nothing that a store answered is lost. answered: each line with its answer; the first is the opening."""
     seen, told, number = Seen(), Told(old, answered), 0
     disk, promise = walk.disk, None
     for said in walk:
@@ -73,7 +72,7 @@ def of_store(walk, old, answered, lengths, opening_keeps):
             line, answer = answered[number]
             if told.is_wrong(number, promised.text):
                 seen.wrong(f"{line} was answered, and the file has {promised.text!r}")
-            if answer == "ok" and (opening_keeps or not line.startswith("open ")):
+            if answer == "ok":
                 promise = promised
             number += 1
         for _ in look(seen, disk, promise, lengths):
@@ -140,21 +139,18 @@ def of_order(seen, disk, line, lengths):
             seen.wrong(f"{line[:40]} was handed out while a cut leaves {text!r}, and not {live!r}")
 
 
-def of_agent(walk, answered, lengths, opening_keeps):
+def of_agent(walk, lengths):
     """Levels b and c, but for the openings: what was looked at in each, and at each cut the text that is left and what was
-    handed out before it, once each. answered: each line with its answer."""
-    whole, order, handed, number = Seen(), Seen(), Handed(), 0
+    handed out before it, once each."""
+    whole, order, handed = Seen(), Seen(), Handed()
     disk, promise, left = walk.disk, None, {}
     for said in walk:
         line = "" if said is None else said.decode().rstrip("\n")
         if line[:2] in ("e ", "h ", "p "):
             of_order(order, disk, line, lengths)
             handed.note(line)
-        elif line:
-            told, answer = answered[number]
-            if answer == "ok" and (opening_keeps or not told.startswith("o ")):
-                promise = promise_of(disk)
-            number += 1
+        elif line == "ok":
+            promise = promise_of(disk)
         for text in look(whole, disk, promise, lengths):
             left[text, handed.all] = (handed.events, handed.queries)
     return whole, order, left

@@ -83,14 +83,14 @@ def agent_lines(calls):
     return ["o PATH", *calls, "x"]
 
 
-def of_store(run, opening_keeps, lengths=disks.each_length):
+def of_store(run):
     """Level a of a run."""
-    return levels.of_store(run.walk(), run.text or b"", run.answers(), lengths, opening_keeps)
+    return levels.of_store(run.walk(), run.text or b"", run.answers(), disks.each_length)
 
 
-def of_agent(run, drawn, opening_keeps):
+def of_agent(run, drawn):
     """Levels b and c of a run, but for the openings."""
-    return levels.of_agent(run.walk(), run.answers(), disks.few_lengths(drawn), opening_keeps)
+    return levels.of_agent(run.walk(), disks.few_lengths(drawn))
 
 
 class Openings:
