@@ -1,6 +1,6 @@
 //! How a command ends: its status, and the line on standard error that tells of a fault.
 
-use serf_replay::{Cause, write_output};
+use serf_replay::{Cause, ReplayFault, write_output};
 use serf_stream::StreamFault;
 use std::io;
 
