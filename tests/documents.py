@@ -143,7 +143,7 @@ def missing_siblings(page):
 def jobs_of_program():
     """The words that the program's command line knows."""
     text = "\n".join(sources("src"))
-    return set(re.findall(r"^\s+\"([a-z-]+)\" => .*Job::", text, re.M)) | {"--help", "--version", "help"}
+    return set(re.findall(r"^\s+\"([a-z-]+)\" => \w+::run\(", text, re.M)) | {"--help", "--version", "help"}
 
 
 # Where the version of what is built next stands, beside the program's own.

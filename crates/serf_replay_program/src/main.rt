@@ -1,24 +1,14 @@
 //! The program `serf-replay`: runs a written schedule of a whole cluster and prints its trace.
 #![tactic(auto)]
 
-mod command;
-mod conform_job;
-mod decode_lines_job;
-mod draw_job;
-mod encode_job;
-mod explain_job;
-mod hunt_job;
-mod jobs;
-mod judge_job;
-mod judge_text;
+mod commands;
+mod ending;
+mod input;
+mod options;
 mod progress;
-mod random_job;
-mod shrink_job;
-mod stream_job;
-mod summary_job;
-mod write_job;
 
-use jobs::{COMMAND_LINE, DEVICE, run};
+use commands::run;
+use ending::{COMMAND_LINE, DEVICE};
 use std::io::{self, IsTerminal};
 use std::process::ExitCode;
 

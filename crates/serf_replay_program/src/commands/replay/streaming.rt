@@ -1,25 +1,14 @@
-//! The job `replay --stream`: a schedule of any length, line by line.
+//! `replay --stream`: a schedule of any length, line by line.
 
-use crate::jobs::DONE;
-use crate::judge_job::stopped;
-use clap::{Arg, ArgAction};
+use crate::ending::{DONE, stopped};
 use serf_replay::replay_lines;
 use serf_text::StreamFault;
-use std::alloc::Global;
 use std::rt::Files;
 use std::{fs, io};
 
-/// The word that asks for it.
-pub fn stream_flag<'a>(alloc: Global) -> Arg<'a> {
-    Arg::new(alloc, "stream")
-        .long("stream")
-        .help("Does and writes line by line: a schedule of any length")
-        .action(ArgAction::SetTrue)
-}
-
 /// Does the lines of a file, or of standard input, and gives the status. A line that is bad ends it, behind the text of
 /// those before.
-pub fn run_stream<F: Files, R: Input + Print + Eprint + AllocGlobal>(
+pub(crate) fn run<F: Files, R: Input + Print + Eprint + AllocGlobal>(
     files: &F,
     rt: &R,
     file: Option<&str>,

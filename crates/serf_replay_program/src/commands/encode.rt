@@ -1,34 +1,26 @@
-//! The job `encode`: texts of messages, with an empty line behind each.
+//! `encode`: texts of messages to packets, with an empty line behind each text.
 
-use crate::jobs::{DONE, REFUSED, no_memory, read_failed, write_failed};
+use crate::ending::{DONE, REFUSED, bad_line_for, no_memory, read_failed, write_failed};
+use crate::options::bare_command;
 use clap::Command;
 use serf_packets::{Blocks, NeverBad, encode_blocks};
 use serf_text::StreamFault;
 use std::alloc::{AllocError, Global};
 use std::io;
 
-const EXAMPLE: &str = "Example: serf-replay decode < packets | serf-replay encode";
-
-pub(crate) fn encode_command<'a>(alloc: Global) -> Result<Command<'a>, AllocError> {
-    Ok(
-        Command::new(alloc, "encode")
-            .about(
-                "Writes the canonical packet of each message on standard input, as decode writes them",
-            )
-            .after_help(EXAMPLE),
-    )
-}
-
-fn bad_line(rt: &impl Eprint, line: u64, cause: &str) -> u8 {
-    let _ = eprintln!(rt; "bad line {line} {cause}");
-    REFUSED
+/// What the command takes: nothing.
+pub(crate) fn command<'a>(alloc: Global) -> Result<Command<'a>, AllocError> {
+    let about =
+        "Writes the canonical packet of each message on standard input, as decode writes them";
+    let example = "Example: serf-replay decode < packets | serf-replay encode";
+    Ok(bare_command(alloc, "encode", about, example))
 }
 
 fn stopped(rt: &impl Eprint, fault: StreamFault<NeverBad>) -> u8 {
     match fault {
         StreamFault::ReadFault => read_failed(rt),
-        StreamFault::BadLine { line, .. } => bad_line(rt, line, "BadText"),
-        StreamFault::LineTooLong { line } => bad_line(rt, line, "TooLong"),
+        StreamFault::BadLine { line, .. } => bad_line_for(rt, line, "BadText"),
+        StreamFault::LineTooLong { line } => bad_line_for(rt, line, "TooLong"),
         StreamFault::OutOfMemory => no_memory(rt),
         StreamFault::WriteFault => write_failed(rt),
     }
@@ -44,7 +36,7 @@ fn answered(rt: &impl Eprint, blocks: Blocks) -> u8 {
 }
 
 /// Writes the answer to each text on standard input, and gives the status: 1 where one was refused.
-pub(crate) fn run_encode<R: Input + Print + Eprint + AllocGlobal>(rt: &R) -> u8 {
+pub(crate) fn run<R: Input + Print + Eprint + AllocGlobal>(rt: &R) -> u8 {
     match encode_blocks(rt.alloc(), &mut rt.reader(), &mut io::writer(rt)) {
         Ok(blocks) => answered(rt, blocks),
         Err(fault) => stopped(rt, fault),

@@ -1,8 +1,7 @@
 //! `conform --shrink`: the calls at which an agent fails, made fewer.
 
-use crate::conform_job::{no_memory, status_of};
-use crate::jobs::{DEVICE, REFUSED, write_failed};
-use clap::{Arg, ArgAction, ArgMatches};
+use super::report::status_of;
+use crate::ending::{DEVICE, REFUSED, no_memory, write_failed};
 use serf_agent::Config;
 use serf_conform::{ConformFault, End, Rules, Verdict};
 use serf_hunt::{Case, Shrunk, alone_schedule, calls_of, shrink};
@@ -14,41 +13,10 @@ use std::rt::Files;
 
 /// Whether the calls at which an agent fails are made fewer, and where the schedule of what is left goes.
 #[derive(Clone, Copy)]
-pub struct Shrinking<'a> {
-    pub is_wanted: bool,
+pub(super) struct Shrinking<'a> {
+    pub(super) is_wanted: bool,
     /// Its file; `None` for standard error.
-    pub save: Option<&'a str>,
-}
-
-/// The word that asks for fewer calls.
-pub fn shrink_flag<'a>(alloc: Global) -> Arg<'a> {
-    Arg::new(alloc, "shrink")
-        .long("shrink")
-        .help(
-            "Tries fewer of the calls at which an agent fails, until no single one can be left out",
-        )
-        .action(ArgAction::SetTrue)
-}
-
-/// The file of what is left.
-pub fn save_option<'a>(alloc: Global) -> Arg<'a> {
-    Arg::new(alloc, "save")
-        .long("save")
-        .value_name("FILE")
-        .help(
-            "Where --shrink writes the schedule of what is left; standard error where it is left out",
-        )
-        .action(ArgAction::Set)
-}
-
-/// What the words ask for; `None` where a file is named, and nothing is to be shrunk.
-pub fn shrinking_of<'a>(matches: &ArgMatches<'a>) -> Option<Shrinking<'a>> {
-    let is_wanted = matches.get_flag("shrink");
-    let save = matches.get_str("save");
-    if save.is_some() && !is_wanted {
-        return None;
-    }
-    Some(Shrinking { is_wanted, save })
+    pub(super) save: Option<&'a str>,
 }
 
 /// The calls of an agent up to the one at which it fails, made fewer.
@@ -117,7 +85,7 @@ fn tell_shrunk<F: Files, R: Eprint + AllocGlobal>(
 
 /// Makes the calls fewer at which an agent of a case fails, and gives the status: as without this, or that of a device
 /// that fails. Where the calls by themselves don't fail, that is told.
-pub fn shrink_found<F: Files, R: Eprint + AllocGlobal, I: Read, O: Write>(
+pub(super) fn shrink_found<F: Files, R: Eprint + AllocGlobal, I: Read, O: Write>(
     files: &F,
     rt: &R,
     asked: &Shrinking,
@@ -159,6 +127,6 @@ pub fn shrink_found<F: Files, R: Eprint + AllocGlobal, I: Read, O: Write>(
 }
 
 /// Whether the calls are to be made fewer: where a reply was another one than is wanted.
-pub fn is_shrunk(asked: &Shrinking, verdict: &Verdict) -> bool {
+pub(super) fn is_shrunk(asked: &Shrinking, verdict: &Verdict) -> bool {
     asked.is_wanted && matches!(&verdict.end, End::Differs(_))
 }

@@ -1,25 +1,14 @@
-//! The job `replay --summary`: what came of a schedule's run, in few lines.
+//! `replay --summary`: what came of a schedule's run, in few lines.
 
-use crate::jobs::{finish, no_memory, read_failed, replayed, too_long};
+use crate::ending::{bad_line, finish, no_memory};
+use crate::input::input_of;
 use crate::progress::Progress;
-use clap::{Arg, ArgAction};
 use serf_replay::{Spread, Summary, summarize};
-use serf_schedule::{ReplayFault, Schedule, ScheduleFault, parse_schedule};
-use serf_text::{InputFault, put_hex, put_with_number, read_input};
+use serf_schedule::{Schedule, ScheduleFault, parse_schedule};
+use serf_text::{put_hex, put_with_number};
 use std::alloc::{AllocError, Global};
-use std::fs;
 use std::rt::Files;
 use std::time::Clock;
-
-/// The word that asks for it.
-pub(crate) fn summary_flag<'a>(alloc: Global) -> Arg<'a> {
-    Arg::new(alloc, "summary")
-        .long("summary")
-        .help(
-            "Writes in place of the trace how often each answer came, and who was handed what by when",
-        )
-        .action(ArgAction::SetTrue)
-}
 
 /// Appends how often, and when at last, and ends the line.
 fn put_spread(out: &mut Vec<u8>, spread: &Spread) -> Result<(), AllocError> {
@@ -70,46 +59,45 @@ fn text_of(alloc: Global, summary: &Summary) -> Result<Vec<u8>, AllocError> {
     Ok(out)
 }
 
+/// Writes the text of a summary.
+fn print_summary<R: Print + Eprint + AllocGlobal>(rt: &R, summary: &Summary) -> u8 {
+    match text_of(rt.alloc(), summary) {
+        Ok(text) => finish(rt, &text),
+        Err(_) => no_memory(rt),
+    }
+}
+
+/// Runs a schedule, and writes its summary.
 fn summarized<R: Clock + Print + Eprint + AllocGlobal>(
     rt: &R,
     is_terminal: bool,
     schedule: Schedule,
 ) -> u8 {
     let mut progress = Progress::new(rt, is_terminal);
-    let Ok(summary) = summarize(rt.alloc(), schedule, &mut progress) else {
-        return no_memory(rt);
-    };
-    match text_of(rt.alloc(), &summary) {
-        Ok(text) => finish(rt, &text),
+    match summarize(rt.alloc(), schedule, &mut progress) {
+        Ok(summary) => print_summary(rt, &summary),
         Err(_) => no_memory(rt),
     }
 }
 
+/// Runs the schedule of a text, and writes its summary.
+fn run_text<R: Clock + Print + Eprint + AllocGlobal>(rt: &R, is_terminal: bool, text: &[u8]) -> u8 {
+    match parse_schedule(rt.alloc(), text) {
+        Ok(schedule) => summarized(rt, is_terminal, schedule),
+        Err(ScheduleFault::BadLine { line, cause }) => bad_line(rt, line, cause),
+        Err(ScheduleFault::OutOfMemory) => no_memory(rt),
+    }
+}
+
 /// Runs the schedule of a file, or of standard input, and writes its summary; gives the status.
-pub(crate) fn run_summary<F: Files, R: Clock + Input + Print + Eprint + AllocGlobal>(
+pub(crate) fn run<F: Files, R: Clock + Input + Print + Eprint + AllocGlobal>(
     files: &F,
     rt: &R,
     is_terminal: bool,
     file: Option<&str>,
 ) -> u8 {
-    let input = match file {
-        None | Some("-") => read_input(rt.alloc(), &mut rt.reader()),
-        Some(path) => match fs::open(files, path) {
-            Ok(mut reader) => read_input(rt.alloc(), &mut reader),
-            Err(_) => Err(InputFault::ReadFault),
-        },
-    };
-    let text = match input {
-        Ok(text) => text,
-        Err(InputFault::ReadFault) => return read_failed(rt),
-        Err(InputFault::ReadTooLong) => return too_long(rt),
-        Err(InputFault::OutOfMemory) => return no_memory(rt),
-    };
-    match parse_schedule(rt.alloc(), &text) {
-        Ok(schedule) => summarized(rt, is_terminal, schedule),
-        Err(ScheduleFault::BadLine { line, cause }) => {
-            replayed(rt, Err(ReplayFault::BadLine { line, cause }))
-        }
-        Err(ScheduleFault::OutOfMemory) => no_memory(rt),
+    match input_of(files, rt, file) {
+        Ok(text) => run_text(rt, is_terminal, &text),
+        Err(status) => status,
     }
 }

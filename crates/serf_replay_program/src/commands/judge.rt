@@ -1,15 +1,30 @@
-//! The job `judge`.
+//! `judge`: the promises of events and queries, on the log of any Serf.
 
-use crate::jobs::{
-    COMMAND_LINE, DONE, REFUSED, finish, no_memory, read_failed, too_long, write_failed,
-};
-use crate::judge_text::Verdicts;
+mod verdicts;
+
+use crate::ending::{COMMAND_LINE, DONE, REFUSED, finish, no_memory, stopped};
+use crate::input::file_of;
+use crate::options::{bare_command, many_of, place, with};
+use clap::{ArgMatches, Command};
 use serf_judge::{Log, read_log};
 use serf_snap::read_clocks;
-use serf_text::{Cause, InputFault, StreamFault, read_input};
+use serf_text::StreamFault;
+use std::alloc::{AllocError, Global};
 use std::fs;
-use std::io::Read;
 use std::rt::Files;
+use verdicts::Verdicts;
+
+/// What the command takes.
+pub(crate) fn command<'a>(alloc: Global) -> Result<Command<'a>, AllocError> {
+    let about = "Judges the promises of events and queries on a log of any Serf";
+    let example =
+        "Example: serf-replay judge examples/incident/handlers.log --kept beta=examples/incident/beta.snapshot";
+    let log = "The log; standard input where it is left out or `-`";
+    let kept = "What a node's snapshot keeps; may be given many times";
+    let bare = Ok(bare_command(alloc, "judge", about, example));
+    let command = with(bare, place(alloc, "LOG", log));
+    with(command, many_of(alloc, "kept", "NODE=SNAPSHOT", kept))
+}
 
 /// The log of a file, or of standard input; or the status of a fault.
 fn log_of<F: Files, R: Input + Print + Eprint + AllocGlobal>(
@@ -27,37 +42,10 @@ fn log_of<F: Files, R: Input + Print + Eprint + AllocGlobal>(
     read.map_err(|fault| stopped(rt, fault))
 }
 
-fn bad_line(rt: &impl Eprint, line: u64, cause: Cause) -> u8 {
-    let _ = eprintln!(rt; "bad line {line} {cause}");
-    REFUSED
-}
-
-/// The status of a stream of lines that ended at a fault, which gets a line on standard error.
-pub(crate) fn stopped(rt: &impl Eprint, fault: StreamFault<Cause>) -> u8 {
-    match fault {
-        StreamFault::ReadFault => read_failed(rt),
-        StreamFault::BadLine { line, fault } => bad_line(rt, line, fault),
-        StreamFault::LineTooLong { line } => {
-            let _ = eprintln!(rt; "bad line {line} TooLong");
-            REFUSED
-        }
-        StreamFault::OutOfMemory => no_memory(rt),
-        StreamFault::WriteFault => write_failed(rt),
-    }
-}
-
 /// The event clock that the snapshot in a file keeps; or the status of a fault.
 fn clock_of<F: Files, R: Eprint + AllocGlobal>(files: &F, rt: &R, path: &str) -> Result<u64, u8> {
-    let input = match fs::open(files, path) {
-        Ok(mut reader) => read_input(rt.alloc(), &mut reader),
-        Err(_) => Err(InputFault::ReadFault),
-    };
-    match input {
-        Ok(text) => Ok(read_clocks(&text).event_clock),
-        Err(InputFault::ReadFault) => Err(read_failed(rt)),
-        Err(InputFault::ReadTooLong) => Err(too_long(rt)),
-        Err(InputFault::OutOfMemory) => Err(no_memory(rt)),
-    }
+    let snapshot = file_of(files, rt, path)?;
+    Ok(read_clocks(&snapshot).event_clock)
 }
 
 /// Judges what a snapshot leaves open, which is given as `NODE=SNAPSHOT`; or gives the status of a fault.
@@ -94,13 +82,13 @@ fn verdicts_on<F: Files, R: Input + Print + Eprint + AllocGlobal>(
 }
 
 /// Writes the verdicts on a log, and gives the status: 1 where a promise is broken.
-pub fn run_judge<F: Files, R: Input + Print + Eprint + AllocGlobal>(
+pub(crate) fn run<F: Files, R: Input + Print + Eprint + AllocGlobal>(
     files: &F,
     rt: &R,
-    file: Option<&str>,
-    kept: &[&str],
+    matches: &ArgMatches,
 ) -> u8 {
-    match verdicts_on(files, rt, file, kept) {
+    let kept = matches.get_strs("kept").unwrap_or(&[]);
+    match verdicts_on(files, rt, matches.get_str("LOG"), kept) {
         Ok(verdicts) => match finish(rt, &verdicts.text) {
             DONE if verdicts.is_broken => REFUSED,
             status => status,

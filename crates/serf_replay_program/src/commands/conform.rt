@@ -1,0 +1,131 @@
+//! `conform`: any agent, held against the reference. Calls go to standard output, replies come on standard input, and the
+//! report goes to standard error.
+
+mod holding;
+mod report;
+mod seeds;
+mod shrinking;
+
+use super::random::{actions, agents, kind, rules_of};
+use crate::options::{bad_option, bare_command, flag, option, option_of, place, with};
+use clap::{ArgMatches, Command};
+use holding::hold_file;
+use seeds::{hold_seeds, seeds_of};
+use serf_conform::Rules;
+use shrinking::Shrinking;
+use std::alloc::{AllocError, Global};
+use std::rt::Files;
+
+/// How agents are held, whatever the schedule.
+#[derive(Clone, Copy)]
+struct Asked<'a> {
+    /// The agent's number; `None` for all of them, one after another.
+    agent: Option<u64>,
+    rules: Rules,
+    shrinking: Shrinking<'a>,
+}
+
+/// What the command takes for schedules of seeds.
+fn with_seeds<'a>(
+    alloc: Global,
+    command: Result<Command<'a>, AllocError>,
+) -> Result<Command<'a>, AllocError> {
+    let random = "Seeds as A-B: the random schedules of these are made, and their calls";
+    let command = with(command, option(alloc, "random", random));
+    let command = with(command, kind(alloc));
+    let command = with(command, agents(alloc));
+    with(command, actions(alloc))
+}
+
+/// What the command takes for fewer calls.
+fn with_shrinking<'a>(
+    alloc: Global,
+    command: Result<Command<'a>, AllocError>,
+) -> Result<Command<'a>, AllocError> {
+    let shrink =
+        "Tries fewer of the calls at which an agent fails, until no single one can be left out";
+    let save =
+        "Where --shrink writes the schedule of what is left; standard error where it is left out";
+    let command = with(command, flag(alloc, "shrink", shrink));
+    with(command, option_of(alloc, "save", "FILE", save))
+}
+
+/// What the command takes.
+pub(crate) fn command<'a>(alloc: Global) -> Result<Command<'a>, AllocError> {
+    let about = "Holds an agent on standard input and output against the reference (docs/PIPE.md)";
+    let example =
+        "Example: mkfifo f; ./my-agent <f | serf-replay conform examples/what_is_refused.schedule >f";
+    let file = "The schedule whose calls are made; left out where --random is given";
+    let agent =
+        "The number of the only agent of a schedule that is held; all of them where it is left out";
+    let rules =
+        "`serf` ends before the first turn that rests on a rule of this project's own; `own` (as when left out) compares all";
+    let bare = Ok(bare_command(alloc, "conform", about, example));
+    let command = with(bare, place(alloc, "FILE", file));
+    let command = with(command, option(alloc, "agent", agent));
+    let command = with(command, option(alloc, "rules", rules));
+    with_shrinking(alloc, with_seeds(alloc, command))
+}
+
+/// The number of the agent that the words name.
+fn agent_of(matches: &ArgMatches) -> Result<Option<u64>, &'static str> {
+    match matches.get_str("agent") {
+        None => Ok(None),
+        Some(word) => match word.parse::<u64>() {
+            Ok(agent) => Ok(Some(agent)),
+            Err(_) => Err("agent"),
+        },
+    }
+}
+
+/// Whether fewer calls are tried; `None` where a file is named for them, and they aren't.
+fn shrinking_of<'a>(matches: &ArgMatches<'a>) -> Option<Shrinking<'a>> {
+    let is_wanted = matches.get_flag("shrink");
+    let save = matches.get_str("save");
+    if save.is_some() && !is_wanted {
+        return None;
+    }
+    Some(Shrinking { is_wanted, save })
+}
+
+/// What the words ask for; or the name of the option whose word is bad.
+fn asked_of<'a>(matches: &ArgMatches<'a>) -> Result<Asked<'a>, &'static str> {
+    let agent = agent_of(matches)?;
+    let rules = rules_of(matches).ok_or("rules")?;
+    let shrinking = shrinking_of(matches).ok_or("save")?;
+    Ok(Asked {
+        agent,
+        rules,
+        shrinking,
+    })
+}
+
+/// Holds agents against a schedule, or an agent against those of seeds.
+fn hold_asked<F: Files, R: Input + Print + Eprint + AllocGlobal>(
+    files: &F,
+    rt: &R,
+    matches: &ArgMatches,
+    asked: &Asked,
+) -> u8 {
+    match (matches.get_str("FILE"), matches.get_str("random")) {
+        (Some(file), None) => hold_file(files, rt, file, asked),
+        (None, Some(_)) if asked.agent.is_some() => bad_option(rt, "agent"),
+        (None, Some(word)) => match seeds_of(word, matches) {
+            Ok(seeds) => hold_seeds(files, rt, &seeds, asked),
+            Err(name) => bad_option(rt, name),
+        },
+        _ => bad_option(rt, "random"),
+    }
+}
+
+/// Holds what the words ask for against the reference.
+pub(crate) fn run<F: Files, R: Input + Print + Eprint + AllocGlobal>(
+    files: &F,
+    rt: &R,
+    matches: &ArgMatches,
+) -> u8 {
+    match asked_of(matches) {
+        Ok(asked) => hold_asked(files, rt, matches, &asked),
+        Err(name) => bad_option(rt, name),
+    }
+}

@@ -1,0 +1,207 @@
+//! What is told of an agent that was held, on standard error.
+
+use crate::ending::{DEVICE, DONE, REFUSED, no_memory};
+use serf_conform::{
+    ConformFault, End, Reply, Verdict, given_packet, opening, put_call, put_open, put_reply_line,
+    wanted,
+};
+use serf_hunt::Case;
+use serf_model::Line;
+use std::alloc::{AllocError, Global};
+
+/// How many bytes of a line are shown.
+const SHOWN: usize = 240;
+
+/// A byte as it is shown: one that is no printable ASCII as `?`.
+fn shown_byte(byte: u8) -> char {
+    if byte.is_ascii_graphic() || byte == b' ' {
+        char::from(byte)
+    } else {
+        '?'
+    }
+}
+
+/// The first bytes of a line as they are shown.
+fn shown_text(alloc: Global, text: &[u8]) -> Result<String, AllocError> {
+    let mut shown = String::new(alloc);
+    for byte in text.iter().take(SHOWN) {
+        shown.push(shown_byte(*byte))?;
+    }
+    Ok(shown)
+}
+
+/// Prints a line on standard error; of a long one so many bytes, and `..`.
+fn say<R: Eprint + AllocGlobal>(rt: &R, text: &[u8]) {
+    if let Ok(shown) = shown_text(rt.alloc(), text) {
+        let rest = if text.len() > SHOWN { ".." } else { "" };
+        let _ = eprintln!(rt; "{shown}{rest}");
+    }
+}
+
+/// Prints each line of a text behind this word.
+fn say_lines<R: Eprint + AllocGlobal>(rt: &R, word: &[u8], text: &[u8]) -> Result<(), AllocError> {
+    let mut before = word;
+    for line in text.split(|b| *b == b'\n') {
+        if line.is_empty() {
+            continue;
+        }
+        let mut out = Vec::from_slice(rt.alloc(), before)?;
+        out.extend_from_slice(line)?;
+        say(rt, &out);
+        before = b"       ";
+    }
+    Ok(())
+}
+
+/// The lines of a reply.
+fn reply_text(alloc: Global, reply: &Reply) -> Result<Vec<u8>, AllocError> {
+    let mut out = Vec::from_slice(alloc, reply.answer.as_slice())?;
+    for line in &reply.lines {
+        out.extend_from_slice(b"\n")?;
+        put_reply_line(&mut out, line)?;
+    }
+    Ok(out)
+}
+
+/// The number of the line that has the action of this number, both counted from 1.
+fn line_of_action(text: &[u8], agents: usize, number: u64) -> u64 {
+    let mut left = (agents as u64).saturating_add(number);
+    let mut place: u64 = 0;
+    for line in text.split(|b| *b == b'\n') {
+        place = place.saturating_add(1);
+        let is_comment = line.first() == Some(&b'#');
+        if is_comment || line.iter().all(|b| *b == b' ') {
+            continue;
+        }
+        left = left.saturating_sub(1);
+        if left == 0 {
+            return place;
+        }
+    }
+    place
+}
+
+/// How many packets were sent before the action of this number.
+fn sent_before(lines: &[Line], number: u64) -> usize {
+    let mut count: usize = 0;
+    for line in lines.iter().take((number as usize).saturating_sub(1)) {
+        count = count.saturating_add(line.sent.as_slice().len());
+    }
+    count
+}
+
+/// The text of the call at which a verdict stands, and the reply that is wanted of it.
+fn call_and_wanted(
+    alloc: Global,
+    case: &Case,
+    agent: u64,
+    number: u64,
+) -> Result<(Vec<u8>, Reply), AllocError> {
+    let mut call = Vec::new(alloc);
+    let place = (number as usize).saturating_sub(1);
+    let lines = case.trace.lines.as_slice();
+    match (case.actions.get(place), lines.get(place)) {
+        (Some(action), Some(line)) if number > 0 => {
+            let sent = case.trace.sent.as_slice();
+            let count = sent_before(lines, number).min(sent.len());
+            let given = given_packet(action, &sent[..count]).unwrap_or(&[]);
+            put_call(&mut call, action, given)?;
+            let own = line.sent.as_slice().len().min(sent.len() - count);
+            let reply = wanted(alloc, line, given, &sent[count..count + own])?;
+            Ok((call, reply))
+        }
+        _ => {
+            if let Some(config) = case.configs.get(agent as usize) {
+                put_open(&mut call, config, &[])?;
+            }
+            let reply = opening(alloc)?;
+            Ok((call, reply))
+        }
+    }
+}
+
+/// Where a call stands: its agent, and its action with the line of the schedule, or no action for the opening.
+fn place_text(
+    alloc: Global,
+    text: &[u8],
+    agents: usize,
+    agent: u64,
+    number: u64,
+) -> Result<String, AllocError> {
+    if number == 0 {
+        return format!(in alloc; "agent {agent}: ");
+    }
+    let line = line_of_action(text, agents, number);
+    format!(in alloc; "agent {agent}: action {number}, line {line}: ")
+}
+
+/// The place of a call, and its words.
+fn head_of(alloc: Global, place: &str, call: &[u8]) -> Result<Vec<u8>, AllocError> {
+    let mut head = Vec::from_slice(alloc, place.as_bytes())?;
+    let words = call.len().saturating_sub(1);
+    head.extend_from_slice(&call[..words])?;
+    Ok(head)
+}
+
+/// Tells where an agent is told apart from the reference, and how.
+fn tell<R: Eprint + AllocGlobal>(
+    rt: &R,
+    text: &[u8],
+    case: &Case,
+    agent: u64,
+    number: u64,
+    got: &[u8],
+) -> Result<(), AllocError> {
+    let (call, reply) = call_and_wanted(rt.alloc(), case, agent, number)?;
+    let place = place_text(rt.alloc(), text, case.configs.len(), agent, number)?;
+    let head = head_of(rt.alloc(), &place, &call)?;
+    say(rt, &head);
+    let wanted = reply_text(rt.alloc(), &reply)?;
+    say_lines(rt, b"  wanted: ", &wanted)?;
+    say_lines(rt, b"  got: ", got)
+}
+
+/// Prints a verdict, and gives its status.
+pub(super) fn report<R: Eprint + AllocGlobal>(
+    rt: &R,
+    text: &[u8],
+    case: &Case,
+    agent: u64,
+    verdict: &Verdict,
+) -> u8 {
+    let Verdict { calls, action, end } = verdict;
+    match end {
+        End::AllAgree => {
+            let _ = eprintln!(rt; "agent {agent}: {calls} calls agree");
+            DONE
+        }
+        End::OwnRule => {
+            let _ = eprintln!(rt;
+                "agent {agent}: {calls} calls agree; action {action} rests on an own rule"
+            );
+            DONE
+        }
+        End::Unsupported => {
+            let _ = eprintln!(rt;
+                "agent {agent}: {calls} calls agree; action {action} is unsupported"
+            );
+            DONE
+        }
+        End::Differs(got) => match tell(rt, text, case, agent, *action, got.as_slice()) {
+            Ok(()) => REFUSED,
+            Err(_) => no_memory(rt),
+        },
+        End::Ended => match tell(rt, text, case, agent, *action, b"the agent ended") {
+            Ok(()) => DEVICE,
+            Err(_) => no_memory(rt),
+        },
+    }
+}
+
+/// The status of a fault: a reply that is too long is a disagreement.
+pub(super) fn status_of(fault: ConformFault) -> u8 {
+    match fault {
+        ConformFault::ReplyTooLong => REFUSED,
+        _ => DEVICE,
+    }
+}

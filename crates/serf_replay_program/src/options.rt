@@ -1,0 +1,90 @@
+//! The words of a command line: what each command takes, and what is told where an option has a bad word.
+
+use crate::ending::COMMAND_LINE;
+use clap::{Arg, ArgAction, Command, value_parser};
+use std::alloc::{AllocError, Global};
+
+/// The words that name a kind of random schedules.
+pub(crate) const KINDS: &str =
+    "mixed (where left out), tiny, merges, restarts, devices, injections, queries, limits, exhaustion, per-time, compactions or gossip";
+
+/// A word that is given in its place.
+pub(crate) fn place<'a>(alloc: Global, name: &'a str, help: &'a str) -> Arg<'a> {
+    Arg::new(alloc, name).help(help).action(ArgAction::Set)
+}
+
+/// An option that takes one word.
+pub(crate) fn option<'a>(alloc: Global, name: &'a str, help: &'a str) -> Arg<'a> {
+    place(alloc, name, help).long(name)
+}
+
+/// An option that takes one word, which help calls by this name.
+pub(crate) fn option_of<'a>(
+    alloc: Global,
+    name: &'a str,
+    value: &'a str,
+    help: &'a str,
+) -> Arg<'a> {
+    option(alloc, name, help).value_name(value)
+}
+
+/// An option that takes a number.
+pub(crate) fn number<'a>(alloc: Global, name: &'a str, help: &'a str) -> Arg<'a> {
+    option(alloc, name, help).value_parser(value_parser!(u64))
+}
+
+/// An option that takes a number, which help calls by this name.
+pub(crate) fn number_of<'a>(
+    alloc: Global,
+    name: &'a str,
+    value: &'a str,
+    help: &'a str,
+) -> Arg<'a> {
+    number(alloc, name, help).value_name(value)
+}
+
+/// An option that takes one word, may be given many times, and is called by this name in help.
+pub(crate) fn many_of<'a>(alloc: Global, name: &'a str, value: &'a str, help: &'a str) -> Arg<'a> {
+    option_of(alloc, name, value, help).action(ArgAction::Append)
+}
+
+/// An option that takes no word.
+pub(crate) fn flag<'a>(alloc: Global, name: &'a str, help: &'a str) -> Arg<'a> {
+    option(alloc, name, help).action(ArgAction::SetTrue)
+}
+
+/// A command that takes no word yet.
+pub(crate) fn bare_command<'a>(
+    alloc: Global,
+    name: &'a str,
+    about: &'a str,
+    example: &'a str,
+) -> Command<'a> {
+    Command::new(alloc, name).about(about).after_help(example)
+}
+
+/// A command, with this argument too.
+pub(crate) fn with<'a>(
+    command: Result<Command<'a>, AllocError>,
+    arg: Arg<'a>,
+) -> Result<Command<'a>, AllocError> {
+    command?.arg(arg)
+}
+
+/// What may stand behind an option.
+fn words_for(option: &str) -> &'static str {
+    match option {
+        "agent" => "the number of an agent, counted from 0, where a schedule is given",
+        "kind" => KINDS,
+        "random" => "seeds as A-B, where no schedule is given, or a schedule without it",
+        "rules" => "serf or own",
+        _ => "a number",
+    }
+}
+
+/// Tells that the word of an option is none that it may have, and which it may.
+pub(crate) fn bad_option(rt: &impl Eprint, name: &str) -> u8 {
+    let words = words_for(name);
+    let _ = eprintln!(rt; "error: a bad word for --{name}: here may stand {words}");
+    COMMAND_LINE
+}

@@ -1,0 +1,179 @@
+#!/usr/bin/env python3
+"""Where the processor seconds of a crate's proof go.
+
+    python3 tools/profile.py CRATE [ROWS]
+
+proves the crate from nothing by one job, over the libraries below it as they stand built, into a folder of its own. So
+nothing in the repository changes. The toolchain tells no times, but it writes a file for each module that it has checked.
+What the processor spent from one file to the next is what the later one took. The table has the dearest rows, 40 where
+no number is given, and then the sums of kinds of rows. CONTRIBUTING.md says how to read it.
+
+Status 0 where the crate is proved, 1 where it isn't (the table then ends where the proof did), 2 for a bad command line,
+and 3 where the toolchain isn't there, or a library below isn't built.
+"""
+
+import bisect
+import os
+import re
+import subprocess
+import sys
+import tempfile
+import threading
+import time
+
+TOP = os.path.dirname(os.path.dirname(os.path.abspath(__file__)))
+sys.dont_write_bytecode = True
+import costs
+import toolchain
+
+# How often the processor time is looked at.
+PERIOD_SECONDS = 0.05
+
+ROWS = 40
+
+BEFORE = "(before the first module)"
+BEHIND = "(behind the last module)"
+FACADE = "(the facade, once all else is proved)"
+LINKS = "(links of functions)"
+
+# The kinds of rows that are added up behind the table. A row counts for the first kind that fits.
+KINDS = [
+    ("drops", r"Destruct|-drop$"),
+    ("derived Debug", r"Debug"),
+    ("derived PartialEq, Eq, Clone, Copy", r"PartialEq|Eq\b|Clone|Copy"),
+    ("Display", r"Display"),
+    ("reading, links, facade, report", r"^\("),
+    ("files of specs/ and proofs/", r"^(?:specs|proofs|Rattle)"),
+    ("functions", r"^fn "),
+    ("other", r""),
+]
+
+
+class Unready(Exception):
+    """Why nothing was proved."""
+
+
+def crate_of(name):
+    """The crate, and the words that begin a command of the toolchain, which ends with this script."""
+    rt = toolchain.load()
+    if rt is None:
+        raise Unready("rt, the command of the Rattle toolchain, is not on PATH")
+    folder = os.path.join(TOP, "crates", name)
+    if not os.path.isdir(os.path.join(folder, "src")):
+        raise Unready(f"there is no crate {name}")
+    crate = rt.rtlib.Crate(folder, TOP, {})
+    missing = [below.name for below in crate.below() if not os.path.isdir(below.rlib)]
+    if missing:
+        raise Unready(f"not built: {' '.join(missing)}. `rt check` in the crate builds what is below it")
+    return crate, [*rt.rtlib.guarded(), rt.rtlib.RATTLE]
+
+
+class Meter:
+    """How much of the processor a process had used at each time, by looks at it until it ends."""
+
+    def __init__(self, process):
+        self.times, self.used = [time.time()], [0.0]
+        self.looks = threading.Thread(target=self.look_on, args=(process.pid,), daemon=True)
+        self.looks.start()
+
+    def look_on(self, pid):
+        try:
+            while True:
+                _, used = costs.stat_of(pid)
+                self.times.append(time.time())
+                self.used.append(used)
+                time.sleep(PERIOD_SECONDS)
+        except (OSError, IndexError):
+            return
+
+    def used_at(self, when):
+        """What it had used at this time, taken as even between two looks."""
+        at = bisect.bisect(self.times, when)
+        if at in (0, len(self.times)):
+            return self.used[min(at, len(self.times) - 1)]
+        (t0, t1), (u0, u1) = self.times[at - 1 : at + 1], self.used[at - 1 : at + 1]
+        return u0 + (u1 - u0) * (when - t0) / max(t1 - t0, 1e-9)
+
+
+def checked_modules(folder):
+    """When each module was checked, and its name, in this order."""
+    found = []
+    for at, _, names in os.walk(folder):
+        if os.path.basename(at) != "records":
+            found += [(os.stat(os.path.join(at, name)).st_mtime, name.removesuffix(".oantt")) for name in names if name.endswith(".oantt")]
+    return sorted(found)
+
+
+def row_of(module, crate, functions):
+    """The function, or the file, that a module belongs to."""
+    if module == f"Rattle-{crate}":
+        return FACADE
+    part, _, path = module.removeprefix(f"Rattle-{crate}-").partition(".")
+    words = re.sub(r"^(?:contracts|declared)\.", "", path).split(".")
+    for end in range(len(words), 0, -1):
+        name = "::".join(words[:end])
+        if name in functions:
+            return f"fn {name}"
+    if "TheLinks" in words:
+        return LINKS
+    return f"{part}/{words[0] if len(words) < 3 else '/'.join(words[:2])}"
+
+
+class Profile:
+    """What each row of a crate's proof took, and of how many modules."""
+
+    def __init__(self, name, meter, modules, functions):
+        self.seconds, self.count = {}, {}
+        before = meter.used_at(modules[0][0]) if modules else 0
+        self.add(BEFORE, before, 0)
+        for when, module in modules[1:]:
+            used = meter.used_at(when)
+            self.add(row_of(module, name, functions), used - before, 1)
+            before = used
+        self.add(BEHIND, meter.used[-1] - before, 0)
+
+    def add(self, row, seconds, count):
+        self.seconds[row] = self.seconds.get(row, 0) + seconds
+        self.count[row] = self.count.get(row, 0) + count
+
+    def show(self, rows):
+        for row in sorted(self.seconds, key=self.seconds.get, reverse=True)[:rows]:
+            print(f"{self.seconds[row]:8.1f} s {self.count[row]:5} modules  {row}")
+        left = dict(self.seconds)
+        for kind, pattern in KINDS:
+            own = [row for row in left if re.search(pattern, row)]
+            if own:
+                print(f"{sum(left.pop(row) for row in own):8.1f} s  in all: {kind} ({len(own)} rows)")
+
+
+def proved(crate, begin):
+    """Proves a crate from nothing: the process's meter, what it said, its status, and the checked modules."""
+    with tempfile.TemporaryDirectory() as kept, tempfile.TemporaryFile("w+") as crate.out:
+        words = [*begin, "check", *crate.words(["--jobs", "1"]), "--incremental", kept]
+        with subprocess.Popen(words, cwd=crate.folder, stdin=subprocess.DEVNULL, stdout=subprocess.PIPE, stderr=subprocess.STDOUT, text=True, errors="replace") as ran:
+            meter = Meter(ran)
+            said = ran.stdout.read()
+        return meter, said, ran.returncode, checked_modules(kept)
+
+
+def main(name, rows=ROWS):
+    try:
+        crate, begin = crate_of(name)
+    except Unready as why:
+        print(f"profile: {why}", file=sys.stderr)
+        return 3
+    meter, said, status, modules = proved(crate, begin)
+    functions = set(re.findall(rf"^(?:fn|struct|impl) {name}::(\S+): proved", said, re.M))
+    print(f"{name}: {meter.used[-1]:.0f} processor seconds, {len(modules)} modules, {len(functions)} functions")
+    Profile(name, meter, modules, functions).show(rows)
+    if status:
+        print(f"{said[-2000:]}\nprofile: {name} is not proved; the last lines are above", file=sys.stderr)
+        return 1
+    return 0
+
+
+if __name__ == "__main__":
+    if len(sys.argv) not in (2, 3) or len(sys.argv) == 3 and not sys.argv[2].isdigit():
+        print("usage: python3 tools/profile.py CRATE [ROWS]", file=sys.stderr)
+        sys.exit(2)
+    sys.exit(main(sys.argv[1], *map(int, sys.argv[2:])))
