@@ -2,7 +2,6 @@
 use Rattle.std.specs.Prelude.{◌≡◌, ◌++◌, ◌&&◌, Bool, false, not, List, length, map, Option, Some}
 use Rattle.std.specs.Option.{option_to_list}
 use Rattle.serf_agent.specs.Handed.{Handed}
-use Rattle.serf_agent_c.specs.declared.gave.Gave.{Gave}
 use Rattle.serf_agent_c.specs.declared.session.Session.{Session}
 use Rattle.serf_agent_c.specs.Gaves.{handed_in, unsettled_in}
 use Rattle.serf_agent_c.specs.Reads.{GivesNothing}
