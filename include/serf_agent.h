@@ -14,7 +14,7 @@
    - a handle is all 0 at first, is never copied or written, and is used by one thread at a time;
    - a pointer with a length points to that many bytes, which nothing else writes meanwhile; with the length 0 it may be
      any address;
-   - the text that open is given is what the file holds, and no other agent has the file, nor a forked child;
+   - the text that open is given is what the file holds, and no other agent has the file;
    - moments ("now") are nanoseconds of one clock that doesn't go back.
 
    Bytes are read by copying: a getter copies as much as fits into the host's memory and tells the whole length, so a call
@@ -35,7 +35,7 @@ enum serf_agent_code {
     SERF_AGENT_IN_USE = 2,           /* open: the handle has an agent already */
     SERF_AGENT_UNWRITTEN = 3,        /* bytes for the host's file aren't written yet */
     SERF_AGENT_NOTHING = 4,          /* a getter: the last call gave no such thing */
-    SERF_AGENT_OUT_OF_MEMORY = 5,    /* the agent is as before the call, but for what a merge took: read its events */
+    SERF_AGENT_OUT_OF_MEMORY = 5,    /* nothing was done, but that a merge gives the events that it took before */
     SERF_AGENT_BAD_CONFIG = 6,       /* open: settings out of bounds */
     SERF_AGENT_SINK_FAULT = 7,       /* the agent's sink failed; not with this library's own sink */
     SERF_AGENT_STOPPED = 8,          /* the agent's sink failed before; not with this library's own sink */
@@ -62,7 +62,7 @@ enum serf_agent_kind {
     SERF_AGENT_GAVE_PUSH_PULL = 7, /* receive: a push/pull, which is for serf_agent_merge */
     SERF_AGENT_GAVE_FIRED = 8,     /* fire: the packet to send, and the event as it is handed out here */
     SERF_AGENT_GAVE_ASKED = 9,     /* query: the packet to send, perhaps the query and an ack */
-    SERF_AGENT_GAVE_MERGED = 10,   /* merge: the events that are new, in order */
+    SERF_AGENT_GAVE_MERGED = 10,   /* merge: the events that are new, in order; OUT_OF_MEMORY: those taken before */
     SERF_AGENT_GAVE_STATE = 11,    /* local_state: the packet to send */
     SERF_AGENT_GAVE_REPLY = 12,    /* respond: the packet to send to the address and port of the handed query */
     SERF_AGENT_GAVE_CLOSED = 13    /* close_due: the queries that it closed, with their answers */
@@ -229,15 +229,16 @@ uint32_t serf_agent_written(struct serf_agent *handle);
 uint32_t serf_agent_fire(struct serf_agent *handle, const uint8_t *name, size_t name_len, const uint8_t *payload,
                          size_t payload_len, bool coalesce);
 uint32_t serf_agent_receive(struct serf_agent *handle, uint64_t now, const uint8_t *packet, size_t packet_len);
-/* Merges another agent's whole state. Also where it answers SERF_AGENT_OUT_OF_MEMORY its events are read, where
-   serf_agent_gave says MERGED: they entered before, and no later call gives them. */
+/* Merges another agent's whole state. Where it ends with SERF_AGENT_OUT_OF_MEMORY it gives the events that it took before, if
+   it was begun: the host writes their lines and hands them out, as ever. Made again it gives the others alone. */
 uint32_t serf_agent_merge(struct serf_agent *handle, const uint8_t *packet, size_t packet_len, bool is_join);
 /* The agent's whole state, to send, with the members that serf_agent_add_status and serf_agent_add_left named since the
-   last that was tried; it forgets them. */
+   last that was tried; it forgets them, unless for want of memory. */
 uint32_t serf_agent_local_state(struct serf_agent *handle);
 uint32_t serf_agent_add_status(struct serf_agent *handle, const uint8_t *name, size_t name_len, uint64_t status_time);
 uint32_t serf_agent_add_left(struct serf_agent *handle, const uint8_t *name, size_t name_len);
-/* Fires a query, with the filters that serf_agent_add_filter gave since the last that was tried; it forgets them. */
+/* Fires a query, with the filters that serf_agent_add_filter gave since the last that was tried; it forgets them, unless for
+   want of memory. */
 uint32_t serf_agent_query(struct serf_agent *handle, uint64_t now, uint32_t id, const uint8_t *name, size_t name_len,
                           const uint8_t *payload, size_t payload_len, const uint8_t *addr, size_t addr_len,
                           const struct serf_agent_params *params);

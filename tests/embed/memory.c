@@ -1,5 +1,6 @@
 /* Each call with its first, second and every further request for memory refused, and all behind that one: it answers so and
- * leaves the agent as it was, and made again does what it does where memory is there. A repeat takes none.
+ * leaves the agent as it was, and made again does what it does where memory is there. A merge gives what it took before: all
+ * its tries together hand out what one with memory does, and leave its lines. A repeat takes none.
  *
  * Linked with malloc and realloc wrapped. Prints `FAILED ..` for each that doesn't hold, and `N passed, M failed`. */
 #include "serf_agent.h"
@@ -43,8 +44,8 @@ static void holds(const char *what, long number, bool is) {
 }
 
 static const struct serf_agent_settings settings = {8, 8, 512, 8, 8, false};
-static uint8_t deploy[256], ask[256], state[1024];
-static size_t deploy_len, ask_len, state_len;
+static uint8_t deploy[256], ask[256], state[2048], more[2048];
+static size_t deploy_len, ask_len, state_len, more_len;
 
 static uint32_t open_one(struct serf_agent *agent) {
     return serf_agent_open(agent, (const uint8_t *)"a", 1, &settings, (const uint8_t *)"clock: 3\n", 9);
@@ -52,6 +53,10 @@ static uint32_t open_one(struct serf_agent *agent) {
 
 static uint32_t fire(struct serf_agent *agent) {
     return serf_agent_fire(agent, (const uint8_t *)"deploy", 6, (const uint8_t *)"v1", 2, false);
+}
+
+static uint32_t fire_long(struct serf_agent *agent) {
+    return serf_agent_fire(agent, (const uint8_t *)"rollback", 8, (const uint8_t *)"to the version of yesterday", 27, true);
 }
 
 static uint32_t query(struct serf_agent *agent) {
@@ -73,6 +78,10 @@ static uint32_t receive_query(struct serf_agent *agent) {
 
 static uint32_t merge(struct serf_agent *agent) {
     return serf_agent_merge(agent, state, state_len, true);
+}
+
+static uint32_t merge_more(struct serf_agent *agent) {
+    return serf_agent_merge(agent, more, more_len, false);
 }
 
 static uint32_t close_due(struct serf_agent *agent) {
@@ -98,11 +107,12 @@ static const struct {
 } steps[] = {
     {"open", open_one},           {"fire", fire},
     {"receive an event", receive_event}, {"receive a query", receive_query},
-    {"respond", respond},         {"query", query},
-    {"save", serf_agent_save_member_clock}, {"merge", merge},
-    {"close_due", close_due},     {"local_state", serf_agent_local_state},
-    {"compact", serf_agent_compact}, {"add_filter", add_filter},
+    {"merge after a query", merge}, {"respond", respond},
+    {"query", query},             {"save", serf_agent_save_member_clock},
+    {"merge", merge_more},        {"close_due", close_due},
+    {"add_filter", add_filter},   {"query with a filter", query},
     {"add_status", add_status},   {"add_left", add_left},
+    {"local_state", serf_agent_local_state}, {"compact", serf_agent_compact},
 };
 
 /* All that C reads of an agent behind a call. */
@@ -111,9 +121,16 @@ struct look {
     struct serf_agent_gave gave;
     struct serf_agent_bytes about;
     struct serf_agent_closed closed;
+    struct serf_agent_handed handed[3];
     uint64_t deadline;
     size_t packet_len, ack_len, open;
-    uint8_t unwritten[256], packet[1024], ack[256];
+    uint32_t handed_code[3];
+    uint8_t unwritten[1024], packet[2048], ack[256];
+};
+
+/* The lines and the events that the tries of a call left, one behind the other. */
+struct told {
+    char lines[4096], events[4096];
 };
 
 /* What the call left for the file is looked at, and said to be written; what it gave is looked at then. */
@@ -128,6 +145,21 @@ static void settle(struct serf_agent *agent, struct look *look) {
     serf_agent_open_queries(agent, &look->open);
     serf_agent_next_deadline(agent, &look->deadline);
     serf_agent_closed(agent, 0, &look->closed);
+    for (uint64_t i = 0; i < 3; i++) {
+        look->handed_code[i] = serf_agent_handed(agent, i + 1, &look->handed[i], NULL, 0, NULL, 0, NULL, 0, NULL, 0);
+    }
+}
+
+/* The same, and what a try of a call left is told behind what the tries before it left. */
+static void tell(struct serf_agent *agent, struct look *look, struct told *told) {
+    settle(agent, look);
+    snprintf(told->lines + strlen(told->lines), sizeof told->lines - strlen(told->lines), "%.*s", (int)look->about.len, look->unwritten);
+    for (size_t i = 0; i < look->gave.events; i++) {
+        struct serf_agent_event event;
+        uint8_t name[64] = {0}, payload[64] = {0};
+        serf_agent_event(agent, i, &event, name, sizeof name - 1, payload, sizeof payload - 1);
+        snprintf(told->events + strlen(told->events), sizeof told->events - strlen(told->events), "%llu %s %s\n", (unsigned long long)event.time, name, payload);
+    }
 }
 
 static void make_packets(void) {
@@ -137,52 +169,83 @@ static void make_packets(void) {
     fire(&other);
     settle(&other, &look);
     memcpy(deploy, look.packet, deploy_len = look.packet_len);
-    /* (three events that only the merge brings) */
-    for (int i = 0; i < 3; i++) {
-        fire(&other);
-        settle(&other, &look);
-    }
+    fire(&other);
+    settle(&other, &look);
     query(&other);
     settle(&other, &look);
     memcpy(ask, look.packet, ask_len = look.packet_len);
     serf_agent_local_state(&other);
     settle(&other, &look);
     memcpy(state, look.packet, state_len = look.packet_len);
+    for (int i = 0; i < 6; i++) {
+        (i % 2 == 0 ? fire : fire_long)(&other);
+        settle(&other, &look);
+    }
+    serf_agent_local_state(&other);
+    settle(&other, &look);
+    memcpy(more, look.packet, more_len = look.packet_len);
     serf_agent_close(&other);
 }
 
-/* How many events a merge gave, also one that ran out of memory. */
-static size_t merged(const struct look *look) {
-    return look->gave.kind == SERF_AGENT_GAVE_MERGED ? look->gave.events : 0;
+static bool is_merge(size_t number) {
+    return steps[number].call == merge || steps[number].call == merge_more;
+}
+
+static bool adds(size_t number) {
+    return steps[number].call == add_filter || steps[number].call == add_status || steps[number].call == add_left;
+}
+
+static bool is_same(const void *one, const void *other, size_t len) {
+    return memcmp(one, other, len) == 0;
+}
+
+/* For want of memory nothing was given and nothing is lost: a call that adds leaves what the call before gave. */
+static bool is_as_before(size_t number, const struct look *before, const struct look *after) {
+    static const struct serf_agent_gave nothing;
+    const struct serf_agent_gave *gave = adds(number) ? &before->gave : &nothing;
+    return is_same(&after->gave, gave, sizeof nothing) && is_same(&after->clocks, &before->clocks, sizeof after->clocks)
+        && after->about.len == 0 && !after->about.replaces && after->open == before->open && after->deadline == before->deadline
+        && is_same(after->handed_code, before->handed_code, sizeof after->handed_code)
+        && is_same(after->handed, before->handed, sizeof after->handed);
+}
+
+/* A merge that took nothing is as no merge; else the file lacks the lines of the events that it gave. */
+static bool is_told(const struct look *before, const struct look *after) {
+    return after->gave.kind == SERF_AGENT_GAVE_MERGED
+        ? after->about.len >= after->gave.events && (after->gave.events > 0 || after->about.len == 0)
+        : after->gave.kind == SERF_AGENT_GAVE_NOTHING && after->gave.events == 0 && after->about.len == 0
+            && is_same(&after->clocks, &before->clocks, sizeof after->clocks);
 }
 
 /* A step on an agent that runs out of memory at each of its requests in turn, and once on its twin. */
 static void try_step(size_t number, struct serf_agent *agent, struct serf_agent *twin) {
     struct look before, after, wanted;
+    static struct told told, twins;
     uint32_t code = SERF_AGENT_OUT_OF_MEMORY;
-    long tried = 0;
-    size_t events = 0;
+    long tried = 0, with_events = 0;
+    memset(&told, 0, sizeof told);
+    memset(&twins, 0, sizeof twins);
     settle(agent, &before);
     for (; code == SERF_AGENT_OUT_OF_MEMORY && tried < 1000; tried++) {
         granted = tried;
         code = steps[number].call(agent);
         granted = -1;
-        if (code == SERF_AGENT_OUT_OF_MEMORY && steps[number].call == merge) {
-            settle(agent, &after);
-            events += merged(&after);
-        } else if (code == SERF_AGENT_OUT_OF_MEMORY) {
-            settle(agent, &after);
-            holds(steps[number].name, tried, memcmp(&after.clocks, &before.clocks, sizeof after.clocks) == 0 && after.about.len == 0 && !after.about.replaces && after.open == before.open);
+        tell(agent, &after, &told);
+        if (code == SERF_AGENT_OUT_OF_MEMORY) {
+            with_events += after.gave.events > 0;
+            holds(steps[number].name, tried, is_merge(number) ? is_told(&before, &after) : is_as_before(number, &before, &after));
+            before = after;
         }
     }
-    settle(agent, &after);
     uint32_t other = steps[number].call(twin);
-    settle(twin, &wanted);
+    tell(twin, &wanted, &twins);
     holds(steps[number].name, tried, code == SERF_AGENT_OK && other == code);
-    /* (what entered before the memory was out was given then, and not again) */
-    holds(steps[number].name, tried, steps[number].call != merge || (events + merged(&after) == merged(&wanted) && events > 0));
-    /* (a merge keeps what it took before) */
-    holds(steps[number].name, tried, steps[number].call == merge ? memcmp(&after.clocks, &wanted.clocks, sizeof after.clocks) == 0 : memcmp(&after, &wanted, sizeof after) == 0);
+    /* (of a merge all tries together) */
+    holds(steps[number].name, tried, is_merge(number) ? is_same(&after.clocks, &wanted.clocks, sizeof after.clocks) : is_same(&after, &wanted, sizeof after));
+    holds(steps[number].name, tried, is_same(&told, &twins, sizeof told));
+    if (steps[number].call == merge_more) {
+        holds("a merge without memory gives events", tried, with_events > 0);
+    }
 }
 
 int main(void) {

@@ -15,9 +15,9 @@ use Rattle.serf_agent_c.specs.declared.heads.Params.{Params}
 use Rattle.serf_agent_c.specs.declared.session.Session.{Session}
 use Rattle.serf_agent_c.specs.Calls.{answer_code}
 use Rattle.serf_agent_c.specs.Codes.{respond_code}
-use Rattle.serf_agent_c.specs.Gaves.{closed_in, handed_in}
+use Rattle.serf_agent_c.specs.Gaves.{closed_in, unsettled_in}
 use Rattle.serf_agent_c.specs.Reads.{kind_of}
-use Rattle.serf_agent_c.specs.Sessions.{is_ready, settled}
+use Rattle.serf_agent_c.specs.Sessions.{Appends, KeepsFilters, KeepsMembers, Numbers, Rests, is_ready, settled}
 
 -- how a query is fired
 abbrev pub params_of : List (List ℕ) → List ℕ → Params → QueryParams
@@ -50,16 +50,28 @@ AddsFilter filter s t code =
     (code ≡ Done → t.filters ≡ s.filters ++ filter ∷ [])
     × (code ≢ Done → t.filters ≡ s.filters)
     × (is_ready s ≡ true → code ≢ Done → code ≡ OutOfMemory)
-    × (t.agent ≡ s.agent) × (t.gave ≡ s.gave) × (t.written ≡ s.written) × (t.replaces ≡ s.replaces) × (t.waiting ≡ s.waiting)
+    × (t.agent ≡ s.agent) × (t.gave ≡ s.gave) × (t.written ≡ s.written) × (t.replaces ≡ s.replaces) × (t.waiting ≡ s.waiting) × KeepsMembers s t
 
--- A query that waits is answered, and a success spends it; a number that no waiting query has is answered by its code.
+-- What was added for the next query is forgotten once it was tried; for want of memory it wasn't.
+abbrev pub ForgetsFilters : Session → Session → Code → Type 0
+ForgetsFilters s t code = is_ready s ≡ true → (code ≡ OutOfMemory → KeepsFilters s t) × (code ≢ OutOfMemory → t.filters ≡ []) × Appends s t × Numbers s t × KeepsMembers s t
+
+-- A query that waits is answered, and a success spends it.
 abbrev pub Responds : ℕ → ℕ → List ℕ → Session → Session → Code → Type 0
 Responds number now payload s t code =
-    is_ready s ≡ true → code ≢ OutOfMemory
-    → (waiting_at number (settled s) ≡ None → code ≡ NotHanded)
-    × ((q : Handed) → waiting_at number (settled s) ≡ Some q
+    is_ready s ≡ true → code ≢ OutOfMemory → (q : Handed) → waiting_at number (settled s) ≡ Some q
     → (t.gave ≡ Replied (reply_of q now payload)) × (code ≡ answer_code respond_code (reply_of q now payload))
-    × (t.waiting.items ≡ slice_set (settled s) (number - 1) (left_of q (reply_of q now payload))))
+    × (t.waiting.items ≡ slice_set (settled s) (number - 1) (left_of q (reply_of q now payload)))
+
+-- A number that no waiting query has is answered by its code; for that, and for want of memory, nothing is given, and each
+-- query that was handed out keeps its number.
+abbrev pub Declines : ℕ → Session → Session → Code → Type 0
+Declines number s t code =
+    is_ready s ≡ true
+    → (waiting_at number (settled s) ≡ None → code ≢ OutOfMemory → code ≡ NotHanded)
+    × (code ≡ NotHanded → Rests s t)
+    × (code ≡ OutOfMemory → Rests s t)
+    × Appends s t × KeepsFilters s t × KeepsMembers s t
 
 -- The open queries whose deadline is past are closed, as the ideal agent does, and the sink isn't called: just these are what
 -- was given, as they stood and in order, with the answers that were counted.
@@ -72,6 +84,6 @@ Closes now closed s t code =
     × ((i : IdealAgent) → IsSound i → s.agent.concrete ≡ view_of i
     → (closed ≡ (close_due i now).answer) × (t.agent.concrete ≡ view_of (close_due i now).agent) × IsSound (close_due i now).agent)
 
--- Where the last call handed no query out and no open query is due, memory isn't wanting.
+-- Where each query that was handed out is with those that wait, and no open query is due, memory isn't wanting.
 abbrev pub Spares : ℕ → Session → Code → Type 0
-Spares now s code = is_ready s ≡ true → handed_in s.gave ≡ None → filter (is_due now) s.agent.concrete.asked ≡ [] → code ≢ OutOfMemory
+Spares now s code = is_ready s ≡ true → unsettled_in s.gave ≡ None → filter (is_due now) s.agent.concrete.asked ≡ [] → code ≢ OutOfMemory

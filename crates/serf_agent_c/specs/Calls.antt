@@ -9,7 +9,7 @@ use Rattle.serf_agent_c.specs.declared.code.Code.{Code}
 use Rattle.serf_agent_c.specs.declared.code.Code.TheVariants.{Done, Unwritten, OutOfMemory}
 use Rattle.serf_agent_c.specs.declared.gave.Gave.{Gave}
 use Rattle.serf_agent_c.specs.declared.session.Session.{Session}
-use Rattle.serf_agent_c.specs.Sessions.{Begins, is_ready}
+use Rattle.serf_agent_c.specs.Sessions.{Rests, Settles, is_ready}
 
 -- the code of an answer, from that of its refusal
 abbrev pub answer_code : {R E : Type 0} → (E → Code) → Result R E → Code
@@ -20,11 +20,15 @@ answer_code fault_code (Err e) = fault_code e
 abbrev pub Waits : Session → Session → Code → Type 0
 Waits s t code = is_ready s ≡ false → (code ≡ Unwritten) × (t ≡ s)
 
--- Where a call is made and memory was there, the bytes that it appended are those that the file lacks;
-abbrev pub Tells : Session → Session → Code → Type 0
-Tells s t code = is_ready s ≡ true → code ≢ OutOfMemory → Begins s t
+-- Else what the last call gave is settled, whatever the code.
+abbrev pub Tells : Session → Session → Type 0
+Tells s t = is_ready s ≡ true → Settles s t
 
--- its answer is what was given, and its code;
+-- For want of memory the agent is as before, and nothing is given.
+abbrev pub Forgoes : Session → Session → Code → Type 0
+Forgoes s t code = code ≡ OutOfMemory → (t.agent ≡ s.agent) × Rests s t
+
+-- Where memory was there, what the agent answered is what was given, and its code;
 abbrev pub Gives : {R E : Type 0} → (Result R E → Gave) → (E → Code) → Session → Session → Code → Type 0
 Gives {R} {E} gave fault_code s t code = is_ready s ≡ true → code ≢ OutOfMemory → (r : Result R E) × (t.gave ≡ gave r) × (code ≡ answer_code fault_code r)
 
@@ -33,7 +37,3 @@ abbrev pub Takes : {R E : Type 0} → (Result R E → Gave) → (IdealAgent → 
 Takes {R} {E} gave call s t code =
     is_ready s ≡ true → code ≢ OutOfMemory → (r : Result R E) → t.gave ≡ gave r
     → (i : IdealAgent) → IsSound i → s.agent.concrete ≡ view_of i → Steps i (call i) r s.agent.device t.agent
-
--- For want of memory the agent is as before.
-abbrev pub Forgoes : Session → Session → Code → Type 0
-Forgoes s t code = code ≡ OutOfMemory → t.agent ≡ s.agent

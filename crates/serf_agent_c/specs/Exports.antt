@@ -2,6 +2,7 @@
 use Rattle.std.specs.Prelude.{◌≡◌, ℕ, Option, Some, None, IsSomeAnd}
 use Rattle.serf_agent_c.specs.declared.code.Code.{Code}
 use Rattle.serf_agent_c.specs.declared.code.Code.TheVariants.{Empty}
+use Rattle.serf_agent_c.specs.declared.handle.Handle.{Handle}
 use Rattle.serf_agent_c.specs.declared.session.Session.{Session}
 use Rattle.serf_agent_c.specs.Codes.{number_of}
 
@@ -14,3 +15,10 @@ Through P (Some s) new n = IsSomeAnd new (λ t. (code : Code) × (n ≡ number_o
 abbrev pub Reads : (Session → Code → Type 0) → Option Session → Option Session → ℕ → Type 0
 Reads P None new n = (new ≡ None) × (n ≡ number_of Empty)
 Reads P (Some s) new n = (new ≡ Some s) × ((code : Code) × (n ≡ number_of code) × P s code)
+
+-- the same, of the handle itself: a call and its code, and a reading
+abbrev pub Answers : (Session → Session → Code → Type 0) → Handle → Handle → ℕ → Type 0
+Answers P old new n = Through P old.place.value new.place.value n
+
+abbrev pub Shows : (Session → Code → Type 0) → Handle → Handle → ℕ → Type 0
+Shows P old new n = Reads P old.place.value new.place.value n

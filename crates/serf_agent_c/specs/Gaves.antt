@@ -5,7 +5,7 @@ use Rattle.serf_agent.specs.declared.open_query.OpenQuery.{OpenQuery}
 use Rattle.serf_agent.specs.declared.outcome.EventOut.{EventOut}
 use Rattle.serf_agent.specs.declared.outcome.Outcome.TheVariants as outcomes
 use Rattle.serf_agent_c.specs.declared.gave.Gave.{Gave}
-use Rattle.serf_agent_c.specs.declared.gave.Gave.TheVariants.{Received, Fired, Asked, Merged, State, Replied, Closed}
+use Rattle.serf_agent_c.specs.declared.gave.Gave.TheVariants.{Kept, Received, Fired, Asked, Merged, State, Replied, Closed}
 
 -- the events that are handed out, in order
 abbrev pub events_in : Gave → List EventOut
@@ -19,6 +19,12 @@ abbrev pub handed_in : Gave → Option Handed
 handed_in (Received (Ok (outcomes.Query handed ack rebroadcast))) = handed
 handed_in (Asked (Ok fired)) = fired.handed
 handed_in _ = None
+
+-- the last query that was handed out, while it isn't yet with those that wait: by the last call, or by an earlier one where
+-- there was no memory since to put it there
+abbrev pub unsettled_in : Gave → Option Handed
+unsettled_in (Kept query) = query
+unsettled_in gave = handed_in gave
 
 -- the packet to send
 abbrev pub packet_in : Gave → Option (List ℕ)

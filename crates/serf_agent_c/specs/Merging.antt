@@ -1,5 +1,6 @@
 -- What a session does with whole states, and with a compaction.
 use Rattle.std.specs.Prelude.{map, ◌≡◌, ◌≢◌, ℕ, Bool, true, false, List, [], Option, Some, None, Ok}
+use Rattle.serf_snap.specs.Device.{durable_of}
 use Rattle.serf_wire.specs.Decoded.{decoded}
 use Rattle.serf_wire.specs.Message.{PushPull, push_pull}
 use Rattle.serf_agent.specs.declared.outcome.MergeFault.{MergeFault}
@@ -10,12 +11,12 @@ use Rattle.serf_agent.specs.View.{view_of}
 use Rattle.serf_agent_c.specs.declared.code.Code.{Code}
 use Rattle.serf_agent_c.specs.declared.code.Code.TheVariants.{Done, OutOfMemory}
 use Rattle.serf_agent_c.specs.declared.gave.Gave.{Gave}
-use Rattle.serf_agent_c.specs.declared.gave.Gave.TheVariants.{Merged, State, Noted}
+use Rattle.serf_agent_c.specs.declared.gave.Gave.TheVariants.{Merged, State}
 use Rattle.serf_agent_c.specs.declared.session.Session.{Session}
 use Rattle.serf_agent_c.specs.Codes.{merge_code}
 use Rattle.serf_agent_c.specs.Gaves.{events_in}
 use Rattle.serf_agent_c.specs.Members.{named}
-use Rattle.serf_agent_c.specs.Sessions.{is_ready}
+use Rattle.serf_agent_c.specs.Sessions.{Appends, KeepsFilters, KeepsMembers, Numbers, Rests, is_ready}
 
 abbrev pub merged_code : Option MergeFault → Code
 merged_code None = Done
@@ -26,26 +27,42 @@ abbrev pub fault_of : Gave → Option (Option MergeFault)
 fault_of (Merged events fault) = Some fault
 fault_of _ = None
 
--- A packet that isn't merged changes nothing, and its fault is the code.
+-- Where C reads no merge, there was no memory to begin one, and nothing was done.
+abbrev pub IsUnbegun : Session → Session → Code → Type 0
+IsUnbegun s t code = is_ready s ≡ true → fault_of t.gave ≡ None → (code ≡ OutOfMemory) × (t.agent ≡ s.agent) × Rests s t
+
+-- Else its fault is the code. A packet that isn't merged changes nothing.
 abbrev pub IsUnmerged : List ℕ → Session → Session → Code → Type 0
 IsUnmerged packet s t code =
-    is_ready s ≡ true → code ≢ OutOfMemory → (f : MergeFault) → merge_refusal s.agent.concrete.snapshot (decoded packet) ≡ Some f
+    is_ready s ≡ true → (fault : Option MergeFault) → fault_of t.gave ≡ Some fault → (f : MergeFault) → merge_refusal s.agent.concrete.snapshot (decoded packet) ≡ Some f
     → (code ≡ merge_code f) × (events_in t.gave ≡ []) × (t.agent ≡ s.agent)
 
--- A sound agent merges the packet, and the events that are handed out are those that C reads.
+-- A sound agent merges any other, to its end or to the event that its fault stopped it at: the events that were handed out
+-- so far are those that C reads, and the sink has the lines of just these.
 abbrev pub MergesFrom : List ℕ → Bool → Session → Session → Code → Type 0
 MergesFrom packet is_join s t code =
-    is_ready s ≡ true → code ≢ OutOfMemory → (fault : Option MergeFault) → fault_of t.gave ≡ Some fault
+    is_ready s ≡ true → (fault : Option MergeFault) → fault_of t.gave ≡ Some fault
     → (code ≡ merged_code fault)
     × ((i : IdealAgent) (m : PushPull) → IsSound i → s.agent.concrete ≡ view_of i → i.snapshot.stopped ≡ false → decoded packet ≡ Ok (push_pull m)
     → Merges i m is_join [] (events_in t.gave) s.agent.device t.agent fault)
 
--- The packet says the agent's whole state, with the members that were named, which are forgotten; the agent is as before.
+-- The packet says the agent's whole state, with the members that were named; the agent is as before.
 abbrev pub SendsState : Session → Session → Code → Type 0
-SendsState s t code =
-    is_ready s ≡ true → code ≢ OutOfMemory
-    → (t.gave ≡ State (send_state s.agent.concrete (map named s.status.items) s.left)) × (t.agent ≡ s.agent) × (t.status.items ≡ []) × (t.left ≡ [])
+SendsState s t code = is_ready s ≡ true → code ≢ OutOfMemory → (t.gave ≡ State (send_state s.agent.concrete (map named s.status.items) s.left)) × (t.agent ≡ s.agent)
 
--- After a compaction the whole text replaces the file's.
+-- The members are forgotten once a state was tried; for want of memory it wasn't.
+abbrev pub ForgetsMembers : Session → Session → Code → Type 0
+ForgetsMembers s t code =
+    is_ready s ≡ true → (code ≡ OutOfMemory → KeepsMembers s t) × (code ≢ OutOfMemory → (t.status.items ≡ []) × (t.left ≡ [])) × Appends s t × Numbers s t × KeepsFilters s t
+
+-- After a compaction the whole text replaces the file's; else the file lacks what a call appended.
 abbrev pub Compacts : Session → Session → Code → Type 0
-Compacts s t code = is_ready s ≡ true → code ≢ OutOfMemory → t.gave ≡ Noted (Ok tt) → (t.written ≡ 0) × (t.replaces ≡ true)
+Compacts s t code =
+    is_ready s ≡ true
+    → (code ≡ Done → (t.written ≡ 0) × (t.replaces ≡ true))
+    × (code ≢ Done → Appends s t)
+    × Numbers s t × KeepsFilters s t × KeepsMembers s t
+
+-- For want of memory a compaction changes nothing of the agent or its text, and nothing is given.
+abbrev pub IsUncompacted : Session → Session → Code → Type 0
+IsUncompacted s t code = code ≡ OutOfMemory → (t.agent.concrete ≡ s.agent.concrete) × (durable_of t.agent.device ≡ durable_of s.agent.device) × Rests s t

@@ -1,25 +1,35 @@
 -- What a session is once it is opened.
-use Rattle.std.specs.Prelude.{◌≡◌, ℕ, List, [], length, false}
+use Rattle.std.specs.Prelude.{◌≡◌, ◌⊎◌, ℕ, List, [], length, true, false, Option, Some, None}
 use Rattle.serf_snap.specs.Device.{fresh_device}
 use Rattle.serf_snap.specs.Notes.{opened, opened_device}
 use Rattle.serf_agent.specs.declared.config.Config.{Config}
+use Rattle.serf_agent.specs.Config.{is_sound}
 use Rattle.serf_agent.specs.Ideal.{IdealAgent}
 use Rattle.serf_agent.specs.Restart.{IsInText, restarted, unopened}
 use Rattle.serf_agent.specs.Sound.{IsSound}
 use Rattle.serf_agent.specs.View.{view_of}
+use Rattle.serf_agent_c.specs.declared.code.Code.TheVariants.{Done, OutOfMemory, BadConfig}
 use Rattle.serf_agent_c.specs.declared.gave.Gave.TheVariants.{Nothing}
 use Rattle.serf_agent_c.specs.declared.heads.Settings.{Settings}
 use Rattle.serf_agent_c.specs.declared.session.Session.{Session}
+use Rattle.serf_agent_c.specs.Codes.{number_of}
 
 abbrev pub config_of : List ℕ → Settings → Config
 config_of name s =
     record { name = name; event_buffer = s.event_buffer; query_buffer = s.query_buffer; event_limit = s.event_limit; responders = s.responders; per_time = s.per_time; ignore_old = s.ignore_old }
 
--- For each agent whose times the text has, it is that agent in its next life.
+-- an agent with these settings
+abbrev pub with_config : Config → IdealAgent → IdealAgent
+with_config config i = record { config = config; life = i.life; member_clock = i.member_clock; events = i.events; queries = i.queries; snapshot = i.snapshot; asked = i.asked }
+
+-- an agent in its next life, with these settings
+abbrev pub next_life : Config → List ℕ → IdealAgent → IdealAgent
+next_life config text i = restarted (opened text (fresh_device text)) (with_config config i)
+
+-- For each agent whose times the text has, whatever its settings were, it is that agent in its next life, which is sound.
 abbrev pub GoesOn : List ℕ → Settings → List ℕ → Session → Type 0
 GoesOn name settings text s =
-    (i : IdealAgent) → IsSound i → i.config ≡ config_of name settings → IsInText i text
-    → (s.agent.concrete ≡ view_of (restarted (opened text (fresh_device text)) i)) × IsSound (restarted (opened text (fresh_device text)) i)
+    (i : IdealAgent) → IsSound i → IsInText i text → (s.agent.concrete ≡ view_of (next_life (config_of name settings) text i)) × IsSound (next_life (config_of name settings) text i)
 
 -- On any text it is the next life of an agent that has entered nothing.
 abbrev pub IsFirst : List ℕ → Settings → List ℕ → Session → Type 0
@@ -30,3 +40,9 @@ IsFirst name settings text s =
 -- It gave nothing yet; its text is the file's, behind which stands the end of a torn last line, which the file lacks.
 abbrev pub IsFresh : List ℕ → Session → Type 0
 IsFresh text s = (s.agent.device ≡ opened_device text (fresh_device text)) × (s.written ≡ length text) × (s.replaces ≡ false) × (s.gave ≡ Nothing) × (s.waiting.items ≡ []) × (s.filters ≡ []) × (s.status.items ≡ []) × (s.left ≡ [])
+
+-- How an opening ends into an empty handle: with a session; or with none, where the settings are out of bounds, or for want of
+-- memory.
+abbrev pub EndsAs : Config → Option Session → ℕ → Type 0
+EndsAs config (Some s) n = (n ≡ number_of Done) × (is_sound config ≡ true)
+EndsAs config None n = ((n ≡ number_of BadConfig) × (is_sound config ≡ false)) ⊎ (n ≡ number_of OutOfMemory)

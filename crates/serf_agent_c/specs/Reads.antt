@@ -1,5 +1,5 @@
 -- What C reads of a session.
-use Rattle.std.specs.Prelude.{◌≢◌, ◌<◌, ◌↔◌, filter, ◌≡◌, ℕ, Bool, true, false, length, Option, Some, None, Ok}
+use Rattle.std.specs.Prelude.{◌≢◌, ◌<◌, ◌↔◌, filter, ◌≡◌, ℕ, Bool, true, false, length, [], Option, Some, None, Ok}
 use Rattle.serf_agent.specs.Handed.{Handed}
 use Rattle.serf_agent.specs.declared.outcome.EventOut.{EventOut}
 use Rattle.serf_agent.specs.declared.outcome.Reason.{Reason}
@@ -15,6 +15,7 @@ use Rattle.serf_agent_c.specs.declared.gave.Gave.TheVariants as gaves
 use Rattle.serf_agent_c.specs.declared.heads.EventHead.{EventHead}
 use Rattle.serf_agent_c.specs.declared.heads.HandedHead.{HandedHead}
 use Rattle.serf_agent_c.specs.declared.heads.ClocksHead.{ClocksHead}
+use Rattle.serf_agent_c.specs.Gaves.{ack_in, closed_in, events_in, handed_in, packet_in}
 
 -- Something is read once the host's file has all of the agent's text, where it is there.
 abbrev pub ReadsAs : {A : Type 0} → Bool → Option A → (A → Type 0) → Code → Type 0
@@ -101,3 +102,12 @@ abbrev pub rebroadcast_of : Gave → Bool
 rebroadcast_of (gaves.Received (Ok (outcomes.Event event))) = true
 rebroadcast_of (gaves.Received (Ok (outcomes.Query handed ack rebroadcast))) = rebroadcast
 rebroadcast_of _ = false
+
+-- C reads `SERF_AGENT_GAVE_NOTHING`, and no event, query, packet, ack or closed query.
+pub record GivesNothing (g : Gave) : Type 0 where
+  pub kind : kind_of g ≡ 0
+  pub events : events_in g ≡ []
+  pub handed : handed_in g ≡ None
+  pub packet : packet_in g ≡ None
+  pub ack : ack_in g ≡ None
+  pub closed : closed_in g ≡ []

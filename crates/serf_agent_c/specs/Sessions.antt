@@ -1,22 +1,42 @@
--- What a session is between two calls, and what each call does with it.
+-- What a session is between two calls, and what each call leaves of it.
 use Rattle.std.specs.Prelude.{◌≡◌, ◌++◌, ◌&&◌, Bool, false, not, List, length, map, Option, Some}
 use Rattle.std.specs.Option.{option_to_list}
 use Rattle.serf_agent.specs.Handed.{Handed}
 use Rattle.serf_agent_c.specs.declared.session.Session.{Session}
-use Rattle.serf_agent_c.specs.Gaves.{handed_in}
+use Rattle.serf_agent_c.specs.Gaves.{handed_in, unsettled_in}
+use Rattle.serf_agent_c.specs.Reads.{GivesNothing}
 use Rattle.serf_agent_c.specs.Texts.{is_written, text_of}
 
 -- whether the host's file has all of the agent's text, and no text is to replace it
 abbrev pub is_ready : Session → Bool
 is_ready s = not s.replaces && is_written s.agent.device s.written
 
--- the queries that were handed out, by number from 1 on, that of the last call too; one that was answered is gone
+-- the queries that were handed out, by number from 1 on, the last one too; one that was answered is gone
 abbrev pub settled : Session → List (Option Handed)
-settled s = s.waiting.items ++ map (λ (q : Handed). Some q) (option_to_list (handed_in s.gave))
+settled s = s.waiting.items ++ map (λ (q : Handed). Some q) (option_to_list (unsettled_in s.gave))
 
--- what each call of the agent leaves of a session: the bytes that the file lacks are those behind the text that was
--- there, and no query that was handed out is lost
-pub record Begins (s t : Session) : Type 0 where
-  pub written : t.written ≡ length (text_of s.agent.device)
-  pub replaces : t.replaces ≡ false
-  pub waiting : t.waiting.items ≡ settled s
+-- A session after a call, once what the call before gave was settled. Its file lacks the bytes behind the text that was there;
+abbrev pub Appends : Session → Session → Type 0
+Appends s t = (t.written ≡ length (text_of s.agent.device)) × (t.replaces ≡ false)
+
+-- each query that was handed out keeps its number, and one that this call hands out has the next;
+abbrev pub Numbers : Session → Session → Type 0
+Numbers s t = settled t ≡ settled s ++ map (λ (q : Handed). Some q) (option_to_list (handed_in t.gave))
+
+-- the filters of the next query stay, and so do the members that the next state names.
+abbrev pub KeepsFilters : Session → Session → Type 0
+KeepsFilters s t = t.filters ≡ s.filters
+
+abbrev pub KeepsMembers : Session → Session → Type 0
+KeepsMembers s t = (t.status ≡ s.status) × (t.left ≡ s.left)
+
+-- All of this is so.
+pub record Settles (s t : Session) : Type 0 where
+  pub text : Appends s t
+  pub waiting : Numbers s t
+  pub filters : KeepsFilters s t
+  pub members : KeepsMembers s t
+
+-- Nothing was given, and each query that was handed out keeps its number.
+abbrev pub Rests : Session → Session → Type 0
+Rests s t = GivesNothing t.gave × (settled t ≡ settled s)

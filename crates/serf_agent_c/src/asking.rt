@@ -3,10 +3,10 @@
 ghost use Rattle.std.specs.Prelude.{◌≡◌, ◌≢◌, ◌-◌, ◌++◌, ◌∷◌, [], true, IfOk, None, Some, Err, slice_set};
 ghost use Rattle.serf_agent.specs.Queries.{fire_query};
 ghost use Rattle.serf_agent.specs.Handed.{Handed};
-ghost use Rattle.serf_agent_c.specs.Asking.{AddsFilter, Closes, Responds, Spares, left_of, params_of, reply_of, waiting_at};
+ghost use Rattle.serf_agent_c.specs.Asking.{AddsFilter, Closes, Declines, ForgetsFilters, Responds, Spares, left_of, params_of, reply_of, waiting_at};
 ghost use Rattle.serf_agent_c.specs.Calls.{Forgoes, Gives, Takes, Tells, Waits, answer_code};
 ghost use Rattle.serf_agent_c.specs.Codes.{query_code, respond_code};
-ghost use Rattle.serf_agent_c.specs.Sessions.{is_ready};
+ghost use Rattle.serf_agent_c.specs.Sessions.{KeepsFilters, KeepsMembers};
 
 use crate::code::Code;
 use crate::gave::Gave;
@@ -16,7 +16,7 @@ use serf_agent::{
     BytesList, FiredQuery, HandedQuery, QueryFault, QueryParams, Reply, RespondFault,
 };
 use serf_wire::Bytes;
-use std::alloc::{AllocError, Global};
+use std::alloc::Global;
 
 /// The code of a query that was fired or refused.
 fn asked_code(answer: &Result<FiredQuery, QueryFault>) -> Code
@@ -41,23 +41,18 @@ fn replied_code(answer: &Result<Reply, RespondFault>) -> Code
 }
 
 /// How a query is fired.
-fn params_with(
-    alloc: Global,
-    filters: BytesList,
-    addr: &[u8],
-    params: &Params,
-) -> Result<QueryParams, AllocError>
-    ensures { IfOk result (λ p. p ≡ params_of filters addr.now params.now) }
+fn params_with(filters: BytesList, addr: Bytes, params: &Params) -> QueryParams
+    ensures { result ≡ params_of filters addr params.now }
 {
-    Ok(QueryParams {
+    QueryParams {
         filters,
         want_ack: params.want_ack,
         no_broadcast: params.no_broadcast,
         timeout: params.timeout,
-        addr: Bytes::copy_of(alloc, addr)?,
+        addr,
         port: params.port,
         relay_factor: params.relay_factor,
-    })
+    }
 }
 
 /// Answers the query in a slot, if there is one; a success leaves the slot empty.
@@ -68,6 +63,7 @@ fn respond_in(
     payload: &[u8],
 ) -> Option<Result<Reply, RespondFault>>
     ensures none { slot.old ≡ None → result ≡ None }
+    ensures unknown { result ≡ None → slot.new ≡ slot.old }
     ensures some { (q : Handed) → slot.old ≡ Some q → result ≢ Some (Err RespondFault.OutOfMemory)
         → (result ≡ Some (reply_of q now payload.now))
         × (slot.new ≡ left_of q (reply_of q now payload.now)) }
@@ -92,6 +88,9 @@ fn respond_at(
     payload: &[u8],
 ) -> Option<Result<Reply, RespondFault>>
     ensures none { waiting_at number waiting.old.items ≡ None → result ≡ None }
+    ensures memory { result ≡ Some (Err RespondFault.OutOfMemory)
+        → waiting.new.items ≡ waiting.old.items }
+    ensures unknown { result ≡ None → waiting.new.items ≡ waiting.old.items }
     ensures some { (q : Handed) → waiting_at number waiting.old.items ≡ Some q
         → result ≢ Some (Err RespondFault.OutOfMemory)
         → (result ≡ Some (reply_of q now payload.now)) × (waiting.new.items
@@ -122,6 +121,20 @@ impl Session {
         }
     }
 
+    /// Takes the filters of a query back that was not tried: memory was wanting.
+    fn take_back(&mut self, filters: BytesList, code: Code)
+        ensures kept { code ≡ Code.OutOfMemory → self.new.filters ≡ filters }
+        ensures forgotten { code ≢ Code.OutOfMemory → KeepsFilters self.old self.new }
+        ensures rest { (self.new.agent ≡ self.old.agent) × (self.new.gave ≡ self.old.gave)
+            × (self.new.written ≡ self.old.written) × (self.new.replaces ≡ self.old.replaces)
+            × (self.new.waiting ≡ self.old.waiting) × KeepsMembers self.old self.new }
+    {
+        match code {
+            Code::OutOfMemory => self.filters = filters,
+            _ => {}
+        }
+    }
+
     /// Fires a query.
     pub(crate) fn query(
         &mut self,
@@ -134,11 +147,9 @@ impl Session {
         params: &Params,
     ) -> Code
         ensures waits { Waits self.old self.new result }
+        ensures forgets { ForgetsFilters self.old self.new result }
         ensures memory { Forgoes self.old self.new result }
-        ensures tells { Tells self.old self.new result }
         ensures gives { Gives (λ r. Gave.Asked r) query_code self.old self.new result }
-        ensures forgets { is_ready self.old ≡ true → result ≢ Code.OutOfMemory
-            → self.new.filters ≡ [] }
         ensures takes { Takes (λ r. Gave.Asked r) (λ i. fire_query i now id name.now payload.now
             (params_of self.old.filters addr.now params.now)) self.old self.new result }
     {
@@ -146,13 +157,15 @@ impl Session {
             Ok(()) => {}
             Err(code) => return code,
         }
-        let filters = std::mem::replace(&mut self.filters, BytesList::new(alloc));
-        let Ok(params) = params_with(alloc, filters, addr, params) else {
+        let Ok(addr) = Bytes::copy_of(alloc, addr) else {
             return Code::OutOfMemory;
         };
+        let filters = std::mem::replace(&mut self.filters, BytesList::new(alloc));
+        let params = params_with(filters, addr, params);
         let answer = self.agent.query(alloc, now, id, name, payload, &params);
         let code = asked_code(&answer);
         self.give(Gave::Asked(answer));
+        self.take_back(params.filters, code);
         code
     }
 
@@ -160,6 +173,7 @@ impl Session {
     pub(crate) fn respond(&mut self, alloc: Global, now: u64, number: u64, payload: &[u8]) -> Code
         ensures waits { Waits self.old self.new result }
         ensures agent { self.new.agent ≡ self.old.agent }
+        ensures declines { Declines number self.old self.new result }
         ensures responds { Responds number now payload.now self.old self.new result }
     {
         match self.begin() {
@@ -177,9 +191,10 @@ impl Session {
     /// Closes the open queries whose deadline is before a moment, and gives them.
     pub(crate) fn close_due(&mut self, alloc: Global, now: u64, closed: &mut usize) -> Code
         ensures waits { Waits self.old self.new result }
+        ensures tells { Tells self.old self.new }
         ensures memory { Forgoes self.old self.new result }
-        ensures tells { Tells self.old self.new result }
         ensures closes { Closes now closed.new self.old self.new result }
+        ensures refused { result ≢ Code.Done → closed.new ≡ closed.old }
         ensures spares { Spares now self.old result }
     {
         match self.begin() {

@@ -6,6 +6,7 @@ ghost use Rattle.serf_agent.specs.Events.{fire};
 ghost use Rattle.serf_agent.specs.Receive.{receive};
 ghost use Rattle.serf_agent_c.specs.Calls.{Forgoes, Gives, Takes, Tells, Waits, answer_code};
 ghost use Rattle.serf_agent_c.specs.Codes.{fire_code, receive_code};
+ghost use Rattle.serf_agent_c.specs.Sessions.{KeepsFilters, KeepsMembers};
 
 use crate::code::Code;
 use crate::gave::Gave;
@@ -42,7 +43,7 @@ impl Session {
         ensures gave { self.new.gave ≡ gave }
         ensures rest { (self.new.agent ≡ self.old.agent) × (self.new.written ≡ self.old.written)
             × (self.new.replaces ≡ self.old.replaces) × (self.new.waiting ≡ self.old.waiting)
-            × (self.new.filters ≡ self.old.filters) }
+            × KeepsFilters self.old self.new × KeepsMembers self.old self.new }
     {
         self.gave = gave;
     }
@@ -56,8 +57,8 @@ impl Session {
         coalesce: bool,
     ) -> Code
         ensures waits { Waits self.old self.new result }
+        ensures tells { Tells self.old self.new }
         ensures memory { Forgoes self.old self.new result }
-        ensures tells { Tells self.old self.new result }
         ensures gives { Gives (λ r. Gave.Fired r) fire_code self.old self.new result }
         ensures takes { Takes (λ r. Gave.Fired r)
             (λ i. fire i (event_of name.now payload.now) coalesce) self.old self.new result }
@@ -75,8 +76,8 @@ impl Session {
     /// Takes a packet that comes.
     pub(crate) fn receive(&mut self, alloc: Global, now: u64, packet: &[u8]) -> Code
         ensures waits { Waits self.old self.new result }
+        ensures tells { Tells self.old self.new }
         ensures memory { Forgoes self.old self.new result }
-        ensures tells { Tells self.old self.new result }
         ensures gives { Gives (λ r. Gave.Received r) receive_code self.old self.new result }
         ensures takes { Takes (λ r. Gave.Received r) (λ i. receive i now packet.now)
             self.old self.new result }

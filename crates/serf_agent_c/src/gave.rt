@@ -1,7 +1,7 @@
 //! What the last call of an agent gave, as the agent answered it.
 
 ghost use Rattle.std.specs.Prelude.{◌≡◌, option_copied, slice_get};
-ghost use Rattle.serf_agent_c.specs.Gaves.{ack_in, closed_in, events_in, handed_in, packet_in};
+ghost use Rattle.serf_agent_c.specs.Gaves.{ack_in, closed_in, events_in, handed_in, packet_in, unsettled_in};
 
 use serf_agent::{
     EventOut, FireFault, Fired, FiredQuery, HandedQuery, MergeFault, OpenQuery, Outcome,
@@ -15,6 +15,8 @@ use serf_wire::Bytes;
 pub enum Gave {
     /// Nothing was called, or nothing that gives.
     Nothing,
+    /// Nothing, since there was no memory to put the query that an earlier call handed out with those that wait.
+    Kept(Option<HandedQuery>),
     Received(Result<Outcome, ReceiveFault>),
     Fired(Result<Fired, FireFault>),
     Asked(Result<FiredQuery, QueryFault>),
@@ -85,11 +87,22 @@ impl Gave {
         }
     }
 
-    /// The query that was handed out, as its own.
-    pub(crate) fn into_handed(self) -> Option<HandedQuery>
-        ensures { result ≡ handed_in self }
+    /// The last query that was handed out, while it isn't with those that wait.
+    pub(crate) fn unsettled(&self) -> Option<&HandedQuery>
+        ensures { option_copied result ≡ unsettled_in self.now }
     {
         match self {
+            Gave::Kept(query) => query.as_ref(),
+            _ => self.handed(),
+        }
+    }
+
+    /// That query, as its own.
+    pub(crate) fn into_unsettled(self) -> Option<HandedQuery>
+        ensures { result ≡ unsettled_in self }
+    {
+        match self {
+            Gave::Kept(query) => query,
             Gave::Received(Ok(Outcome::Query { handed, .. })) => handed,
             Gave::Asked(Ok(fired)) => fired.handed,
             _ => None,

@@ -8,7 +8,7 @@ ghost use Rattle.serf_agent_c.specs.Answers.{ReadsAnswer, answer_head};
 ghost use Rattle.serf_agent_c.specs.Asking.{waiting_at};
 ghost use Rattle.serf_agent_c.specs.Closings.{TellsCompaction, ack_of, closed_head, response_head, response_of};
 ghost use Rattle.serf_agent_c.specs.Codes.{number_of};
-ghost use Rattle.serf_agent_c.specs.Exports.{Reads};
+ghost use Rattle.serf_agent_c.specs.Exports.{Shows};
 ghost use Rattle.serf_agent_c.specs.Faults.{ReadsFault};
 ghost use Rattle.serf_agent_c.specs.Gaves.{ack_in, closed_in, events_in, handed_in, packet_in};
 ghost use Rattle.serf_agent_c.specs.Reads.{ReadsAs, ReadsQuery, TellsDeadline, clocks_head, event_head, foreign_of, handed_head, kind_of, reason_of, rebroadcast_of};
@@ -27,7 +27,7 @@ use std::alloc::Global;
 /// What the last call gave.
 #[unsafe(no_mangle)]
 pub extern "C" fn serf_agent_gave(alloc: Global, handle: &mut Handle, gave: &mut GaveHead) -> u32
-    ensures { Reads (λ s code. (code ≡ Code.Done) × (gave.new
+    ensures { Shows (λ s code. (code ≡ Code.Done) × (gave.new
         ≡ record {
           kind = kind_of s.gave;
           reason = reason_of s.gave;
@@ -36,7 +36,7 @@ pub extern "C" fn serf_agent_gave(alloc: Global, handle: &mut Handle, gave: &mut
           foreign = foreign_of s.gave;
           rebroadcast = rebroadcast_of s.gave;
         }))
-        handle.old.place.value handle.new.place.value result }
+        handle.old handle.new result }
 {
     let Some(session) = handle.take(alloc) else {
         return Code::Empty.number();
@@ -56,10 +56,10 @@ pub extern "C" fn serf_agent_event(
     name: &mut [u8],
     payload: &mut [u8],
 ) -> u32
-    ensures { Reads (λ s code. ReadsAs (is_ready s) (slice_get (events_in s.gave) index)
+    ensures { Shows (λ s code. ReadsAs (is_ready s) (slice_get (events_in s.gave) index)
         (λ o. (event.new ≡ event_head o) × (name.new ≡ copied o.name name.old)
         × (payload.new ≡ copied o.payload payload.old)) code)
-        handle.old.place.value handle.new.place.value result }
+        handle.old handle.new result }
 {
     let Some(session) = handle.take(alloc) else {
         return Code::Empty.number();
@@ -102,8 +102,8 @@ pub extern "C" fn serf_agent_packet(
     len: &mut usize,
     to: &mut [u8],
 ) -> u32
-    ensures { Reads (λ s code. ReadsAs (is_ready s) (packet_in s.gave) (λ p. (len.new ≡ length p)
-        × (to.new ≡ copied p to.old)) code) handle.old.place.value handle.new.place.value result }
+    ensures { Shows (λ s code. ReadsAs (is_ready s) (packet_in s.gave) (λ p. (len.new ≡ length p)
+        × (to.new ≡ copied p to.old)) code) handle.old handle.new result }
 {
     let Some(session) = handle.take(alloc) else {
         return Code::Empty.number();
@@ -121,8 +121,8 @@ pub extern "C" fn serf_agent_ack(
     len: &mut usize,
     to: &mut [u8],
 ) -> u32
-    ensures { Reads (λ s code. ReadsAs (is_ready s) (ack_in s.gave) (λ p. (len.new ≡ length p)
-        × (to.new ≡ copied p to.old)) code) handle.old.place.value handle.new.place.value result }
+    ensures { Shows (λ s code. ReadsAs (is_ready s) (ack_in s.gave) (λ p. (len.new ≡ length p)
+        × (to.new ≡ copied p to.old)) code) handle.old handle.new result }
 {
     let Some(session) = handle.take(alloc) else {
         return Code::Empty.number();
@@ -144,11 +144,11 @@ pub extern "C" fn serf_agent_handed(
     source: &mut [u8],
     addr: &mut [u8],
 ) -> u32
-    ensures { Reads (λ s code. ReadsQuery (is_ready s) (waiting_at number (settled s))
+    ensures { Shows (λ s code. ReadsQuery (is_ready s) (waiting_at number (settled s))
         (λ q. (handed.new ≡ handed_head q) × (name.new ≡ copied q.name name.old)
         × (payload.new ≡ copied q.payload payload.old) × (source.new ≡ copied q.source source.old)
         × (addr.new ≡ copied q.addr addr.old)) code)
-        handle.old.place.value handle.new.place.value result }
+        handle.old handle.new result }
 {
     let Some(session) = handle.take(alloc) else {
         return Code::Empty.number();
@@ -165,8 +165,8 @@ pub extern "C" fn serf_agent_clocks(
     handle: &mut Handle,
     clocks: &mut ClocksHead,
 ) -> u32
-    ensures { Reads (λ s code. ReadsAs (is_ready s) (Some (clocks_head s.agent.concrete))
-        (λ head. clocks.new ≡ head) code) handle.old.place.value handle.new.place.value result }
+    ensures { Shows (λ s code. ReadsAs (is_ready s) (Some (clocks_head s.agent.concrete))
+        (λ head. clocks.new ≡ head) code) handle.old handle.new result }
 {
     let Some(session) = handle.take(alloc) else {
         return Code::Empty.number();
@@ -183,9 +183,9 @@ pub extern "C" fn serf_agent_next_deadline(
     handle: &mut Handle,
     deadline: &mut u64,
 ) -> u32
-    ensures { Reads (λ s code. (is_ready s ≡ false → code ≡ Code.Unwritten)
+    ensures { Shows (λ s code. (is_ready s ≡ false → code ≡ Code.Unwritten)
         × (is_ready s ≡ true → TellsDeadline s.agent.concrete deadline.new code))
-        handle.old.place.value handle.new.place.value result }
+        handle.old handle.new result }
 {
     let Some(session) = handle.take(alloc) else {
         return Code::Empty.number();
@@ -202,9 +202,9 @@ pub extern "C" fn serf_agent_open_queries(
     handle: &mut Handle,
     total: &mut usize,
 ) -> u32
-    ensures { Reads (λ s code. ReadsAs (is_ready s)
+    ensures { Shows (λ s code. ReadsAs (is_ready s)
         (Some (min (length s.agent.concrete.asked) (2 ^ 64 - 1))) (λ n. total.new ≡ n) code)
-        handle.old.place.value handle.new.place.value result }
+        handle.old handle.new result }
 {
     let Some(session) = handle.take(alloc) else {
         return Code::Empty.number();
@@ -222,9 +222,9 @@ pub extern "C" fn serf_agent_closed(
     index: usize,
     closed: &mut ClosedHead,
 ) -> u32
-    ensures { Reads (λ s code. ReadsAs (is_ready s) (slice_get (closed_in s.gave) index)
+    ensures { Shows (λ s code. ReadsAs (is_ready s) (slice_get (closed_in s.gave) index)
         (λ q. closed.new ≡ closed_head q) code)
-        handle.old.place.value handle.new.place.value result }
+        handle.old handle.new result }
 {
     let Some(session) = handle.take(alloc) else {
         return Code::Empty.number();
@@ -244,10 +244,10 @@ pub extern "C" fn serf_agent_closed_ack(
     len: &mut usize,
     to: &mut [u8],
 ) -> u32
-    ensures { Reads
+    ensures { Shows
         (λ s code. ReadsAs (is_ready s) (ack_of number (slice_get (closed_in s.gave) index))
         (λ name. (len.new ≡ length name) × (to.new ≡ copied name to.old)) code)
-        handle.old.place.value handle.new.place.value result }
+        handle.old handle.new result }
 {
     let Some(session) = handle.take(alloc) else {
         return Code::Empty.number();
@@ -268,11 +268,11 @@ pub extern "C" fn serf_agent_closed_response(
     from: &mut [u8],
     payload: &mut [u8],
 ) -> u32
-    ensures { Reads
+    ensures { Shows
         (λ s code. ReadsAs (is_ready s) (response_of number (slice_get (closed_in s.gave) index))
         (λ r. (response.new ≡ response_head r) × (from.new ≡ copied r.from from.old)
         × (payload.new ≡ copied r.payload payload.old)) code)
-        handle.old.place.value handle.new.place.value result }
+        handle.old handle.new result }
 {
     let Some(session) = handle.take(alloc) else {
         return Code::Empty.number();
@@ -290,9 +290,9 @@ pub extern "C" fn serf_agent_should_compact(
     limit: u64,
     should: &mut bool,
 ) -> u32
-    ensures { Reads (λ s code. (is_ready s ≡ false → code ≡ Code.Unwritten) × (is_ready s ≡ true
+    ensures { Shows (λ s code. (is_ready s ≡ false → code ≡ Code.Unwritten) × (is_ready s ≡ true
         → (code ≡ Code.Done) × TellsCompaction limit s.agent.concrete.snapshot should.new))
-        handle.old.place.value handle.new.place.value result }
+        handle.old handle.new result }
 {
     let Some(session) = handle.take(alloc) else {
         return Code::Empty.number();

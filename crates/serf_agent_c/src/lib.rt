@@ -10,22 +10,21 @@
 //! answered by a [`Code`].
 #![tactic(auto)]
 
-ghost use Rattle.std.specs.Prelude.{true, ◌≡◌, ◌≢◌, ◌++◌, ◌∷◌, if◌then◌else◌, ◌==◌, [], None, Some, IfSome, false, length};
+ghost use Rattle.std.specs.Prelude.{true, ◌≡◌, ◌≢◌, ◌++◌, ◌∷◌, if◌then◌else◌, [], None, Some, IfSome, false, length};
 ghost use Rattle.std.specs.Option.{is_some};
 ghost use Rattle.serf_window.specs.Texts.{event_of};
-ghost use Rattle.serf_agent.specs.Config.{is_sound};
 ghost use Rattle.serf_agent.specs.Events.{fire};
 ghost use Rattle.serf_agent.specs.Queries.{fire_query};
 ghost use Rattle.serf_agent.specs.Receive.{receive};
 ghost use Rattle.serf_agent.specs.States.{compact, save};
-ghost use Rattle.serf_agent_c.specs.Asking.{AddsFilter, Closes, Responds, Spares, params_of};
+ghost use Rattle.serf_agent_c.specs.Asking.{AddsFilter, Closes, Declines, ForgetsFilters, Responds, Spares, params_of};
 ghost use Rattle.serf_agent_c.specs.Calls.{Forgoes, Gives, Takes, Tells, Waits};
-ghost use Rattle.serf_agent_c.specs.Codes.{fire_code, note_code, query_code, receive_code, state_code};
-ghost use Rattle.serf_agent_c.specs.Exports.{Reads, Through};
+ghost use Rattle.serf_agent_c.specs.Codes.{fire_code, note_code, number_of, query_code, receive_code, state_code};
+ghost use Rattle.serf_agent_c.specs.Exports.{Answers, Shows};
 ghost use Rattle.serf_agent_c.specs.Members.{AddsLeft, AddsStatus};
-ghost use Rattle.serf_agent_c.specs.Merging.{Compacts, IsUnmerged, MergesFrom, SendsState};
-ghost use Rattle.serf_agent_c.specs.Opening.{GoesOn, IsFirst, IsFresh, config_of};
-ghost use Rattle.serf_agent_c.specs.Sessions.{is_ready};
+ghost use Rattle.serf_agent_c.specs.Merging.{Compacts, ForgetsMembers, IsUnbegun, IsUncompacted, IsUnmerged, MergesFrom, SendsState};
+ghost use Rattle.serf_agent_c.specs.Opening.{EndsAs, GoesOn, IsFirst, IsFresh, config_of};
+ghost use Rattle.serf_agent_c.specs.Sessions.{KeepsFilters, KeepsMembers};
 ghost use Rattle.serf_agent_c.specs.Texts.{copied, lacking, text_of};
 
 mod answers;
@@ -72,10 +71,9 @@ pub extern "C" fn serf_agent_open(
     text: &[u8],
 ) -> u32
     ensures in_use { IfSome handle.old.place.value (λ s. (handle.new.place.value ≡ Some s)
-        × (result ≡ 2)) }
-    ensures code { handle.old.place.value ≡ None → is_some handle.new.place.value ≡ (result == 0) }
-    ensures config { handle.old.place.value ≡ None → result ≡ 6
-        → is_sound (config_of name.now settings.now) ≡ false }
+        × (result ≡ number_of Code.InUse)) }
+    ensures code { handle.old.place.value ≡ None
+        → EndsAs (config_of name.now settings.now) handle.new.place.value result }
     ensures goes_on { handle.old.place.value ≡ None
         → IfSome handle.new.place.value (λ t. GoesOn name.now settings.now text.now t) }
     ensures first { handle.old.place.value ≡ None
@@ -103,7 +101,8 @@ pub extern "C" fn serf_agent_open(
 #[unsafe(no_mangle)]
 pub extern "C" fn serf_agent_close(alloc: Global, handle: &mut Handle) -> u32
     ensures empty { handle.new.place.value ≡ None }
-    ensures code { result ≡ (if is_some handle.old.place.value then 0 else 1) }
+    ensures code { result
+        ≡ number_of (if is_some handle.old.place.value then Code.Done else Code.Empty) }
 {
     match handle.take(alloc) {
         Some(session) => {
@@ -122,10 +121,10 @@ pub extern "C" fn serf_agent_unwritten(
     bytes: &mut BytesHead,
     to: &mut [u8],
 ) -> u32
-    ensures { Reads (λ s code. (code ≡ Code.Done) × (bytes.new
+    ensures { Shows (λ s code. (code ≡ Code.Done) × (bytes.new
         ≡ record { len = length (lacking s.agent.device s.written); replaces = s.replaces })
         × (to.new ≡ copied (lacking s.agent.device s.written) to.old))
-        handle.old.place.value handle.new.place.value result }
+        handle.old handle.new result }
 {
     let Some(session) = handle.take(alloc) else {
         return Code::Empty.number();
@@ -138,10 +137,10 @@ pub extern "C" fn serf_agent_unwritten(
 /// Says that the host's file has the bytes that it lacked, and was flushed.
 #[unsafe(no_mangle)]
 pub extern "C" fn serf_agent_written(alloc: Global, handle: &mut Handle) -> u32
-    ensures { Through (λ s t code. (code ≡ Code.Done)
+    ensures { Answers (λ s t code. (code ≡ Code.Done)
         × (t.written ≡ length (text_of s.agent.device)) × (t.replaces ≡ false) × (t.agent ≡ s.agent)
-        × (t.gave ≡ s.gave) × (t.waiting ≡ s.waiting)
-        × (t.filters ≡ s.filters)) handle.old.place.value handle.new.place.value result }
+        × (t.gave ≡ s.gave) × (t.waiting ≡ s.waiting) × KeepsFilters s t × KeepsMembers s t)
+        handle.old handle.new result }
 {
     let Some(mut session) = handle.take(alloc) else {
         return Code::Empty.number();
@@ -160,17 +159,14 @@ pub extern "C" fn serf_agent_fire(
     payload: &[u8],
     coalesce: bool,
 ) -> u32
-    ensures waits { Through (λ s t code. Waits s t code)
-        handle.old.place.value handle.new.place.value result }
-    ensures memory { Through (λ s t code. Forgoes s t code)
-        handle.old.place.value handle.new.place.value result }
-    ensures tells { Through (λ s t code. Tells s t code)
-        handle.old.place.value handle.new.place.value result }
-    ensures gives { Through (λ s t code. Gives (λ r. Gave.Fired r) fire_code s t code)
-        handle.old.place.value handle.new.place.value result }
-    ensures takes { Through (λ s t code. Takes (λ r. Gave.Fired r)
+    ensures waits { Answers (λ s t code. Waits s t code) handle.old handle.new result }
+    ensures tells { Answers (λ s t code. Tells s t) handle.old handle.new result }
+    ensures memory { Answers (λ s t code. Forgoes s t code) handle.old handle.new result }
+    ensures gives { Answers (λ s t code. Gives (λ r. Gave.Fired r) fire_code s t code)
+        handle.old handle.new result }
+    ensures takes { Answers (λ s t code. Takes (λ r. Gave.Fired r)
         (λ i. fire i (event_of name.now payload.now) coalesce) s t code)
-        handle.old.place.value handle.new.place.value result }
+        handle.old handle.new result }
 {
     let Some(mut session) = handle.take(alloc) else {
         return Code::Empty.number();
@@ -188,17 +184,14 @@ pub extern "C" fn serf_agent_receive(
     now: u64,
     packet: &[u8],
 ) -> u32
-    ensures waits { Through (λ s t code. Waits s t code)
-        handle.old.place.value handle.new.place.value result }
-    ensures memory { Through (λ s t code. Forgoes s t code)
-        handle.old.place.value handle.new.place.value result }
-    ensures tells { Through (λ s t code. Tells s t code)
-        handle.old.place.value handle.new.place.value result }
-    ensures gives { Through (λ s t code. Gives (λ r. Gave.Received r) receive_code s t code)
-        handle.old.place.value handle.new.place.value result }
-    ensures takes { Through
+    ensures waits { Answers (λ s t code. Waits s t code) handle.old handle.new result }
+    ensures tells { Answers (λ s t code. Tells s t) handle.old handle.new result }
+    ensures memory { Answers (λ s t code. Forgoes s t code) handle.old handle.new result }
+    ensures gives { Answers (λ s t code. Gives (λ r. Gave.Received r) receive_code s t code)
+        handle.old handle.new result }
+    ensures takes { Answers
         (λ s t code. Takes (λ r. Gave.Received r) (λ i. receive i now packet.now) s t code)
-        handle.old.place.value handle.new.place.value result }
+        handle.old handle.new result }
 {
     let Some(mut session) = handle.take(alloc) else {
         return Code::Empty.number();
@@ -216,14 +209,13 @@ pub extern "C" fn serf_agent_merge(
     packet: &[u8],
     is_join: bool,
 ) -> u32
-    ensures waits { Through (λ s t code. Waits s t code)
-        handle.old.place.value handle.new.place.value result }
-    ensures tells { Through (λ s t code. Tells s t code)
-        handle.old.place.value handle.new.place.value result }
-    ensures refused { Through (λ s t code. IsUnmerged packet.now s t code)
-        handle.old.place.value handle.new.place.value result }
-    ensures merges { Through (λ s t code. MergesFrom packet.now is_join s t code)
-        handle.old.place.value handle.new.place.value result }
+    ensures waits { Answers (λ s t code. Waits s t code) handle.old handle.new result }
+    ensures tells { Answers (λ s t code. Tells s t) handle.old handle.new result }
+    ensures memory { Answers (λ s t code. IsUnbegun s t code) handle.old handle.new result }
+    ensures refused { Answers (λ s t code. IsUnmerged packet.now s t code)
+        handle.old handle.new result }
+    ensures merges { Answers (λ s t code. MergesFrom packet.now is_join s t code)
+        handle.old handle.new result }
 {
     let Some(mut session) = handle.take(alloc) else {
         return Code::Empty.number();
@@ -237,9 +229,13 @@ pub extern "C" fn serf_agent_merge(
 /// them.
 #[unsafe(no_mangle)]
 pub extern "C" fn serf_agent_local_state(alloc: Global, handle: &mut Handle) -> u32
-    ensures { Through (λ s t code. Waits s t code × Forgoes s t code × Tells s t code
-        × Gives (λ r. Gave.State r) state_code s t code × SendsState s t code)
-        handle.old.place.value handle.new.place.value result }
+    ensures waits { Answers (λ s t code. Waits s t code) handle.old handle.new result }
+    ensures forgets { Answers (λ s t code. ForgetsMembers s t code)
+        handle.old handle.new result }
+    ensures memory { Answers (λ s t code. Forgoes s t code) handle.old handle.new result }
+    ensures gives { Answers (λ s t code. Gives (λ r. Gave.State r) state_code s t code)
+        handle.old handle.new result }
+    ensures sends { Answers (λ s t code. SendsState s t code) handle.old handle.new result }
 {
     let Some(mut session) = handle.take(alloc) else {
         return Code::Empty.number();
@@ -257,8 +253,8 @@ pub extern "C" fn serf_agent_add_status(
     name: &[u8],
     status_time: u64,
 ) -> u32
-    ensures { Through (λ s t code. Waits s t code × AddsStatus name.now status_time s t code)
-        handle.old.place.value handle.new.place.value result }
+    ensures { Answers (λ s t code. Waits s t code × AddsStatus name.now status_time s t code)
+        handle.old handle.new result }
 {
     let Some(mut session) = handle.take(alloc) else {
         return Code::Empty.number();
@@ -271,8 +267,8 @@ pub extern "C" fn serf_agent_add_status(
 /// Adds a member that left to what the next state names.
 #[unsafe(no_mangle)]
 pub extern "C" fn serf_agent_add_left(alloc: Global, handle: &mut Handle, name: &[u8]) -> u32
-    ensures { Through (λ s t code. Waits s t code × AddsLeft name.now s t code)
-        handle.old.place.value handle.new.place.value result }
+    ensures { Answers (λ s t code. Waits s t code × AddsLeft name.now s t code)
+        handle.old handle.new result }
 {
     let Some(mut session) = handle.take(alloc) else {
         return Code::Empty.number();
@@ -285,8 +281,8 @@ pub extern "C" fn serf_agent_add_left(alloc: Global, handle: &mut Handle, name: 
 /// Adds a filter of the next query.
 #[unsafe(no_mangle)]
 pub extern "C" fn serf_agent_add_filter(alloc: Global, handle: &mut Handle, filter: &[u8]) -> u32
-    ensures { Through (λ s t code. Waits s t code × AddsFilter filter.now s t code)
-        handle.old.place.value handle.new.place.value result }
+    ensures { Answers (λ s t code. Waits s t code × AddsFilter filter.now s t code)
+        handle.old handle.new result }
 {
     let Some(mut session) = handle.take(alloc) else {
         return Code::Empty.number();
@@ -308,19 +304,15 @@ pub extern "C" fn serf_agent_query(
     addr: &[u8],
     params: &Params,
 ) -> u32
-    ensures waits { Through (λ s t code. Waits s t code)
-        handle.old.place.value handle.new.place.value result }
-    ensures memory { Through (λ s t code. Forgoes s t code)
-        handle.old.place.value handle.new.place.value result }
-    ensures tells { Through (λ s t code. Tells s t code)
-        handle.old.place.value handle.new.place.value result }
-    ensures gives { Through (λ s t code. Gives (λ r. Gave.Asked r) query_code s t code)
-        handle.old.place.value handle.new.place.value result }
-    ensures forgets { Through (λ s t code. is_ready s ≡ true → code ≢ Code.OutOfMemory
-        → t.filters ≡ []) handle.old.place.value handle.new.place.value result }
-    ensures takes { Through (λ s t code. Takes (λ r. Gave.Asked r)
+    ensures waits { Answers (λ s t code. Waits s t code) handle.old handle.new result }
+    ensures forgets { Answers (λ s t code. ForgetsFilters s t code)
+        handle.old handle.new result }
+    ensures memory { Answers (λ s t code. Forgoes s t code) handle.old handle.new result }
+    ensures gives { Answers (λ s t code. Gives (λ r. Gave.Asked r) query_code s t code)
+        handle.old handle.new result }
+    ensures takes { Answers (λ s t code. Takes (λ r. Gave.Asked r)
         (λ i. fire_query i now id name.now payload.now (params_of s.filters addr.now params.now))
-        s t code) handle.old.place.value handle.new.place.value result }
+        s t code) handle.old handle.new result }
 {
     let Some(mut session) = handle.take(alloc) else {
         return Code::Empty.number();
@@ -339,9 +331,12 @@ pub extern "C" fn serf_agent_respond(
     number: u64,
     payload: &[u8],
 ) -> u32
-    ensures { Through (λ s t code. Waits s t code × (t.agent ≡ s.agent)
-        × Responds number now payload.now s t code)
-        handle.old.place.value handle.new.place.value result }
+    ensures waits { Answers (λ s t code. Waits s t code) handle.old handle.new result }
+    ensures agent { Answers (λ s t code. t.agent ≡ s.agent) handle.old handle.new result }
+    ensures declines { Answers (λ s t code. Declines number s t code)
+        handle.old handle.new result }
+    ensures responds { Answers (λ s t code. Responds number now payload.now s t code)
+        handle.old handle.new result }
 {
     let Some(mut session) = handle.take(alloc) else {
         return Code::Empty.number();
@@ -359,9 +354,14 @@ pub extern "C" fn serf_agent_close_due(
     now: u64,
     closed: &mut usize,
 ) -> u32
-    ensures { Through (λ s t code. Waits s t code × Forgoes s t code × Tells s t code
-        × Closes now closed.new s t code × Spares now s code)
-        handle.old.place.value handle.new.place.value result }
+    ensures waits { Answers (λ s t code. Waits s t code) handle.old handle.new result }
+    ensures tells { Answers (λ s t code. Tells s t) handle.old handle.new result }
+    ensures memory { Answers (λ s t code. Forgoes s t code) handle.old handle.new result }
+    ensures closes { Answers (λ s t code. Closes now closed.new s t code)
+        handle.old handle.new result }
+    ensures refused { Answers (λ s t code. code ≢ Code.Done → closed.new ≡ closed.old)
+        handle.old handle.new result }
+    ensures spares { Answers (λ s t code. Spares now s code) handle.old handle.new result }
 {
     let Some(mut session) = handle.take(alloc) else {
         return Code::Empty.number();
@@ -374,16 +374,13 @@ pub extern "C" fn serf_agent_close_due(
 /// Notes the member clock, so that a restart goes on from there.
 #[unsafe(no_mangle)]
 pub extern "C" fn serf_agent_save_member_clock(alloc: Global, handle: &mut Handle) -> u32
-    ensures waits { Through (λ s t code. Waits s t code)
-        handle.old.place.value handle.new.place.value result }
-    ensures memory { Through (λ s t code. Forgoes s t code)
-        handle.old.place.value handle.new.place.value result }
-    ensures tells { Through (λ s t code. Tells s t code)
-        handle.old.place.value handle.new.place.value result }
-    ensures gives { Through (λ s t code. Gives (λ r. Gave.Noted r) note_code s t code)
-        handle.old.place.value handle.new.place.value result }
-    ensures takes { Through (λ s t code. Takes (λ r. Gave.Noted r) (λ i. save i) s t code)
-        handle.old.place.value handle.new.place.value result }
+    ensures waits { Answers (λ s t code. Waits s t code) handle.old handle.new result }
+    ensures tells { Answers (λ s t code. Tells s t) handle.old handle.new result }
+    ensures memory { Answers (λ s t code. Forgoes s t code) handle.old handle.new result }
+    ensures gives { Answers (λ s t code. Gives (λ r. Gave.Noted r) note_code s t code)
+        handle.old handle.new result }
+    ensures takes { Answers (λ s t code. Takes (λ r. Gave.Noted r) (λ i. save i) s t code)
+        handle.old handle.new result }
 {
     let Some(mut session) = handle.take(alloc) else {
         return Code::Empty.number();
@@ -396,14 +393,14 @@ pub extern "C" fn serf_agent_save_member_clock(alloc: Global, handle: &mut Handl
 /// Makes the text that replaces the file's: one line of each clock.
 #[unsafe(no_mangle)]
 pub extern "C" fn serf_agent_compact(alloc: Global, handle: &mut Handle) -> u32
-    ensures waits { Through (λ s t code. Waits s t code)
-        handle.old.place.value handle.new.place.value result }
-    ensures gives { Through (λ s t code. Gives (λ r. Gave.Noted r) note_code s t code)
-        handle.old.place.value handle.new.place.value result }
-    ensures takes { Through (λ s t code. Takes (λ r. Gave.Noted r) (λ i. compact i) s t code)
-        handle.old.place.value handle.new.place.value result }
-    ensures replaces { Through (λ s t code. Compacts s t code)
-        handle.old.place.value handle.new.place.value result }
+    ensures waits { Answers (λ s t code. Waits s t code) handle.old handle.new result }
+    ensures memory { Answers (λ s t code. IsUncompacted s t code) handle.old handle.new result }
+    ensures gives { Answers (λ s t code. Gives (λ r. Gave.Noted r) note_code s t code)
+        handle.old handle.new result }
+    ensures takes { Answers (λ s t code. Takes (λ r. Gave.Noted r) (λ i. compact i) s t code)
+        handle.old handle.new result }
+    ensures replaces { Answers (λ s t code. Compacts s t code)
+        handle.old handle.new result }
 {
     let Some(mut session) = handle.take(alloc) else {
         return Code::Empty.number();

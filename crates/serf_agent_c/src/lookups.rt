@@ -57,7 +57,7 @@ impl Session {
         ensures { option_copied result ≡ waiting_at number (settled self.now) }
     {
         if number == self.waiting.len() as u64 + 1 {
-            self.gave.handed()
+            self.gave.unsettled()
         } else {
             waiting_at(self.waiting.as_slice(), number)
         }

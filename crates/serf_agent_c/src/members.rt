@@ -5,6 +5,7 @@ ghost use Rattle.serf_wire.specs.Lists.{status_of};
 ghost use Rattle.serf_agent.specs.States.{send_state};
 ghost use Rattle.serf_agent_c.specs.Calls.{Waits};
 ghost use Rattle.serf_agent_c.specs.Members.{AddsLeft, AddsStatus, named};
+ghost use Rattle.serf_agent_c.specs.Sessions.{KeepsFilters, KeepsMembers};
 
 use crate::code::Code;
 use crate::session::Session;
@@ -104,14 +105,21 @@ impl Session {
             .local_state(alloc, status.as_slice(), left.as_slice())
     }
 
-    /// Forgets the members that were named.
-    pub(crate) fn forget_members(&mut self, alloc: Global)
-        ensures members { (self.new.status.items ≡ []) × (self.new.left ≡ []) }
+    /// Forgets the members that were named, once a state was tried with them: memory was there.
+    pub(crate) fn forget_members(&mut self, alloc: Global, code: Code)
+        ensures kept { code ≡ Code.OutOfMemory → KeepsMembers self.old self.new }
+        ensures forgotten { code ≢ Code.OutOfMemory
+            → (self.new.status.items ≡ []) × (self.new.left ≡ []) }
         ensures rest { (self.new.agent ≡ self.old.agent) × (self.new.gave ≡ self.old.gave)
             × (self.new.written ≡ self.old.written) × (self.new.replaces ≡ self.old.replaces)
-            × (self.new.waiting ≡ self.old.waiting) × (self.new.filters ≡ self.old.filters) }
+            × (self.new.waiting ≡ self.old.waiting) × KeepsFilters self.old self.new }
     {
-        self.status = Vec::new(alloc);
-        self.left = BytesList::new(alloc);
+        match code {
+            Code::OutOfMemory => {}
+            _ => {
+                self.status = Vec::new(alloc);
+                self.left = BytesList::new(alloc);
+            }
+        }
     }
 }

@@ -9,7 +9,8 @@ ghost use Rattle.serf_agent.specs.States.{Merges, compact, merge_refusal, save};
 ghost use Rattle.serf_agent.specs.View.{view_of};
 ghost use Rattle.serf_agent_c.specs.Calls.{Forgoes, Gives, Takes, Tells, Waits, answer_code};
 ghost use Rattle.serf_agent_c.specs.Codes.{note_code, state_code};
-ghost use Rattle.serf_agent_c.specs.Merging.{Compacts, IsUnmerged, MergesFrom, SendsState, merged_code};
+ghost use Rattle.serf_agent_c.specs.Merging.{Compacts, ForgetsMembers, IsUnbegun, IsUncompacted, IsUnmerged, MergesFrom, SendsState, merged_code};
+ghost use Rattle.serf_agent_c.specs.Sessions.{KeepsFilters, KeepsMembers};
 
 use crate::code::Code;
 use crate::gave::Gave;
@@ -76,7 +77,8 @@ impl Session {
     /// Merges another agent's whole state.
     pub(crate) fn merge(&mut self, alloc: Global, packet: &[u8], is_join: bool) -> Code
         ensures waits { Waits self.old self.new result }
-        ensures tells { Tells self.old self.new result }
+        ensures tells { Tells self.old self.new }
+        ensures memory { IsUnbegun self.old self.new result }
         ensures refused { IsUnmerged packet.now self.old self.new result }
         ensures merges { MergesFrom packet.now is_join self.old self.new result }
     {
@@ -93,8 +95,8 @@ impl Session {
     /// Makes the packet of the agent's whole state, with the members that were named, and forgets them.
     pub(crate) fn local_state(&mut self, alloc: Global) -> Code
         ensures waits { Waits self.old self.new result }
+        ensures forgets { ForgetsMembers self.old self.new result }
         ensures memory { Forgoes self.old self.new result }
-        ensures tells { Tells self.old self.new result }
         ensures gives { Gives (λ r. Gave.State r) state_code self.old self.new result }
         ensures sends { SendsState self.old self.new result }
     {
@@ -105,15 +107,15 @@ impl Session {
         let answer = self.state(alloc);
         let code = state_code(&answer);
         self.give(Gave::State(answer));
-        self.forget_members(alloc);
+        self.forget_members(alloc, code);
         code
     }
 
     /// Notes the member clock.
     pub(crate) fn save_member_clock(&mut self, alloc: Global) -> Code
         ensures waits { Waits self.old self.new result }
+        ensures tells { Tells self.old self.new }
         ensures memory { Forgoes self.old self.new result }
-        ensures tells { Tells self.old self.new result }
         ensures gives { Gives (λ r. Gave.Noted r) note_code self.old self.new result }
         ensures takes { Takes (λ r. Gave.Noted r) (λ i. save i) self.old self.new result }
     {
@@ -132,7 +134,8 @@ impl Session {
         ensures written { self.new.written ≡ (if is_replaced then 0 else self.old.written) }
         ensures replaces { self.new.replaces ≡ (if is_replaced then true else self.old.replaces) }
         ensures rest { (self.new.agent ≡ self.old.agent) × (self.new.gave ≡ self.old.gave)
-            × (self.new.waiting ≡ self.old.waiting) × (self.new.filters ≡ self.old.filters) }
+            × (self.new.waiting ≡ self.old.waiting) × KeepsFilters self.old self.new
+            × KeepsMembers self.old self.new }
     {
         if is_replaced {
             self.written = 0;
@@ -143,6 +146,7 @@ impl Session {
     /// Makes the text that replaces the file's.
     pub(crate) fn compact(&mut self, alloc: Global) -> Code
         ensures waits { Waits self.old self.new result }
+        ensures memory { IsUncompacted self.old self.new result }
         ensures gives { Gives (λ r. Gave.Noted r) note_code self.old self.new result }
         ensures takes { Takes (λ r. Gave.Noted r) (λ i. compact i) self.old self.new result }
         ensures replaces { Compacts self.old self.new result }

@@ -47,8 +47,7 @@ impl Session {
         ensures ok { OnOk result (is_sound (config_of name.now settings.now) ≡ true) }
         ensures bad { IfErr result (λ fault. fault ≡ OpenFault.BadConfig
             → is_sound (config_of name.now settings.now) ≡ false) }
-        ensures sound { IfErr result (λ fault. is_sound (config_of name.now settings.now) ≡ false
-            → fault ≢ OpenFault.SinkFault) }
+        ensures memory { IfErr result (λ fault. fault ≢ OpenFault.SinkFault) }
     {
         let Ok(config) = config_of(alloc, name, settings) else {
             return Err(OpenFault::OutOfMemory);

@@ -1,10 +1,8 @@
 //! An agent, what its last call gave, and what the host's file lacks.
 
-ghost use Rattle.std.specs.Prelude.{◌≡◌, ◌<◌, ◌++◌, ◌∷◌, [], false, true, length, map, Err, IsOk, None, OnOk, OnErr, Some};
-ghost use Rattle.std.specs.Vec.{vec_capacity, vec_len};
-ghost use Rattle.std.specs.Option.{option_to_list};
-ghost use Rattle.serf_agent_c.specs.Gaves.{handed_in};
-ghost use Rattle.serf_agent_c.specs.Sessions.{Begins, is_ready, settled};
+ghost use Rattle.std.specs.Prelude.{◌≡◌, false, true, length, Err, IsOk, None, OnOk, OnErr};
+ghost use Rattle.serf_agent_c.specs.Gaves.{unsettled_in};
+ghost use Rattle.serf_agent_c.specs.Sessions.{Appends, KeepsFilters, KeepsMembers, Numbers, Rests, is_ready, settled};
 ghost use Rattle.serf_agent_c.specs.Texts.{is_written, lacking, text_of};
 
 use crate::code::Code;
@@ -34,17 +32,6 @@ pub struct Session {
     pub(crate) left: BytesList,
 }
 
-/// Adds a query where there is room for it.
-fn add(waiting: &mut Vec<Option<HandedQuery>>, query: HandedQuery)
-    requires { vec_len waiting.old < vec_capacity waiting.old }
-    ensures { waiting.new.items ≡ waiting.old.items ++ Some query ∷ [] }
-{
-    match waiting.push(Some(query)) {
-        Ok(()) => {}
-        Err(_) => unreachable!(),
-    }
-}
-
 impl Session {
     /// The bytes that the host's file lacks.
     pub(crate) fn lacking(&self) -> &[u8]
@@ -69,57 +56,58 @@ impl Session {
         ensures written { self.new.written ≡ length (text_of self.old.agent.device) }
         ensures replaces { self.new.replaces ≡ false }
         ensures rest { (self.new.agent ≡ self.old.agent) × (self.new.gave ≡ self.old.gave)
-            × (self.new.waiting ≡ self.old.waiting) × (self.new.filters ≡ self.old.filters) }
-        ensures members { (self.new.status ≡ self.old.status) × (self.new.left ≡ self.old.left) }
+            × (self.new.waiting ≡ self.old.waiting) × KeepsFilters self.old self.new
+            × KeepsMembers self.old self.new }
     {
         self.written = self.agent.sink().durable().len();
         self.replaces = false;
     }
 
-    /// Puts the query that the last call handed out with those that wait for an answer, and forgets what else it gave.
+    /// Puts the last query that was handed out with those that wait for an answer, and forgets what else was given.
     fn settle(&mut self) -> Result<(), AllocError>
         ensures ok { OnOk result ((self.new.waiting.items ≡ settled self.old)
             × (self.new.gave ≡ Gave.Nothing)) }
+        ensures rests { Rests self.old self.new }
         ensures rest { (self.new.agent ≡ self.old.agent) × (self.new.written ≡ self.old.written)
-            × (self.new.replaces ≡ self.old.replaces) × (self.new.filters ≡ self.old.filters) }
-        ensures members { (self.new.status ≡ self.old.status) × (self.new.left ≡ self.old.left) }
-        ensures err { OnErr result ((self.new.waiting.items ≡ self.old.waiting.items)
-            × (self.new.gave ≡ self.old.gave)) }
-        ensures none_handed { handed_in self.old.gave ≡ None → IsOk result }
+            × (self.new.replaces ≡ self.old.replaces) × KeepsFilters self.old self.new
+            × KeepsMembers self.old self.new }
+        ensures none { unsettled_in self.old.gave ≡ None → IsOk result }
     {
-        if self.gave.handed().is_none() {
-            self.gave = Gave::Nothing;
-            return Ok(());
-        }
-        self.waiting.reserve(1)?;
         let gave = std::mem::replace(&mut self.gave, Gave::Nothing);
-        match gave.into_handed() {
-            Some(query) => add(&mut self.waiting, query),
-            None => {}
+        let Some(query) = gave.into_unsettled() else {
+            return Ok(());
+        };
+        match self.waiting.push(Some(query)) {
+            Ok(()) => Ok(()),
+            Err(refused) => {
+                self.gave = Gave::Kept(refused.value);
+                Err(AllocError)
+            }
         }
-        Ok(())
     }
 
     /// Makes ready for a call of the agent: the host's file has all of its text, and what the last call gave is settled.
     pub(crate) fn begin(&mut self) -> Result<(), Code>
-        ensures ok { OnOk result ((is_ready self.old ≡ true) × Begins self.old self.new
-            × (self.new.gave ≡ Gave.Nothing)) }
+        ensures ok { OnOk result ((is_ready self.old ≡ true)
+            × (self.new.waiting.items ≡ settled self.old) × (self.new.gave ≡ Gave.Nothing)) }
         ensures agent { self.new.agent ≡ self.old.agent }
-        ensures filters { self.new.filters ≡ self.old.filters }
-        ensures members { (self.new.status ≡ self.old.status) × (self.new.left ≡ self.old.left) }
+        ensures keeps { KeepsFilters self.old self.new × KeepsMembers self.old self.new }
         ensures unwritten { is_ready self.old ≡ false
             → (result ≡ Err Code.Unwritten) × (self.new ≡ self.old) }
+        ensures text { is_ready self.old ≡ true → Appends self.old self.new }
+        ensures rests { is_ready self.old ≡ true → Rests self.old self.new }
+        ensures numbers { is_ready self.old ≡ true → Numbers self.old self.new }
         ensures refused { is_ready self.old ≡ true → OnErr result (result ≡ Err Code.OutOfMemory) }
-        ensures none_handed { is_ready self.old ≡ true
-            → handed_in self.old.gave ≡ None → IsOk result }
+        ensures none { is_ready self.old ≡ true
+            → unsettled_in self.old.gave ≡ None → IsOk result }
     {
         if !self.is_ready() {
             return Err(Code::Unwritten);
         }
-        let Ok(()) = self.settle() else {
-            return Err(Code::OutOfMemory);
-        };
         self.note_written();
-        Ok(())
+        match self.settle() {
+            Ok(()) => Ok(()),
+            Err(_) => Err(Code::OutOfMemory),
+        }
     }
 }

@@ -1,23 +1,17 @@
-use Rattle.std.proofs.Common.{arith, ◌≡◌, ◌==◌, false, refl}
+use Rattle.std.proofs.Common.{◌≡◌, ◌≢◌, false, inl, inr, refl, None}
+use Rattle.serf_agent.specs.declared.config.Config.{Config}
 use Rattle.serf_agent.specs.declared.outcome.OpenFault.{OpenFault}
 use Rattle.serf_agent.specs.declared.outcome.OpenFault.TheVariants.{BadConfig, OutOfMemory, SinkFault}
+use Rattle.serf_agent.specs.Config.{is_sound}
 use Rattle.serf_agent_c.specs.Codes.{number_of, open_code}
+use Rattle.serf_agent_c.specs.Opening.{EndsAs, config_of}
 use Rattle.serf_agent_c.proofs.serf_agent_open.Goals as goal
 
--- a refusal isn't numbered 0
-refused : (fault : OpenFault) → false ≡ (number_of (open_code fault) == 0)
-refused BadConfig = refl
-refused OutOfMemory = refl
-refused SinkFault = refl
+-- how a refusal ends an opening
+refused : (config : Config) (fault : OpenFault) → (fault ≡ BadConfig → is_sound config ≡ false) → fault ≢ SinkFault → EndsAs config None (number_of (open_code fault))
+refused config BadConfig bad other = inl (refl, bad refl)
+refused config OutOfMemory bad other = inr refl
+refused config SinkFault bad other = absurd (other refl)
 
 pub returns-clause-code : goal.returns-clause-code
-returns-clause-code c = λ none. rw (c.take.ensures.empty, c.number-in-Err.ensures, c.of_open.ensures) (refused _)
-
--- the refusal that is numbered 6
-numbered_6 : (fault : OpenFault) → number_of (open_code fault) ≡ 6 → fault ≡ BadConfig
-numbered_6 BadConfig e = refl
-numbered_6 OutOfMemory e = absurd (omega (arith, e))
-numbered_6 SinkFault e = absurd (omega (arith, e))
-
-pub returns-clause-config : goal.returns-clause-config
-returns-clause-config c = λ none six. c.in-Err.ensures.bad (numbered_6 _ (rw (c.number-in-Err.ensures, c.of_open.ensures) at six))
+returns-clause-code c = λ none. rw (c.take.ensures.empty, c.number-in-Err.ensures, c.of_open.ensures) (refused (config_of c.args.name.now c.args.settings.now) _ c.in-Err.ensures.bad c.in-Err.ensures.memory)
