@@ -27,6 +27,10 @@ UNPROVED = "this program is compiled without its proofs"
 SECOND_SECONDS = 10
 
 
+# (what `./test --quick` sets is not for the clones)
+os.environ.pop("SERF_UNPROVED", None)
+
+
 class Count:
     """How many checks passed, and how many failed."""
 
