@@ -224,6 +224,13 @@ def kinds(count):
     ):
         count.check(name, edit_checks.refusal_of(edit, own, has_twin).kind == kind)
     count.check("no open goal", edit_checks.refusal_of(plain, [], True) is None)
+    for name, line, is_proved in (
+        ("a function without a hole", "fn serf_high::double: no holes", True),
+        ("a function that calls one whose proof is a hole", "fn serf_high::double: depends on a hole in `Rattle.serf_high.proofs.half.Proof.half_spec`", True),
+        ("a function with an open goal", "fn serf_high::double: not proved; it stands on `Rattle.serf_high.proofs.double.Goals`", False),
+        ("another function", "fn serf_high::double_twice: no holes", False),
+    ):
+        count.check(name, edit_checks.is_proved(f"note: one\n{line}\nonly=1 holes=0\n", "double") == is_proved)
     count.check("a twin's texts", twin.twin().pairs[0][2] == "if a == 0 { add(a, a) } else { add(a, a) }")
 
 
