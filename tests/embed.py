@@ -68,7 +68,7 @@ class Count:
 
 
 class Places:
-    """Where what is built and run here stands. `starved` is a library whose merges run out of memory."""
+    """Where what is built and run here stands. `starved` is a library whose calls run out of memory."""
 
     def __init__(self, folder, library):
         self.folder, self.library = folder, library
@@ -133,7 +133,7 @@ def bad_input(count, places):
 
 def memory(count, places):
     """Each call where memory is wanting, under valgrind too: its requests go through a count. And the library for hosts whose
-    merges run out of memory."""
+    calls run out of memory."""
     wrapped = ["-g", "-Wl,--wrap=malloc,--wrap=realloc"]
     path = compile_c(count, places, "memory", os.path.join(SOURCES, "memory.c"), wrapped)
     if path:
@@ -141,7 +141,7 @@ def memory(count, places):
         if shutil.which("valgrind"):
             counted(count, "want of memory, under valgrind", ["valgrind", "-q", "--error-exitcode=9", "--leak-check=full", path])
     fault = starved.make(places)
-    count.check("a library whose merges run out of memory", fault is None, fault)
+    count.check("a library whose calls run out of memory", fault is None, fault)
 
 
 def example(count, name, places, words, **more):
@@ -167,9 +167,9 @@ def in_c(count, places):
             example(count, "C under valgrind", places, ["valgrind", "-q", "--error-exitcode=9", "--leak-check=full", run])
     made = c_library.ran(["make", "-s", "-C", os.path.join(BINDINGS, "c"), f"OUT={places.of('made')}", f"LIBRARY={places.library}"])
     count.check("the Makefile", made[0] == 0, made[1])
-    driver = compile_c(count, places, "merge_driver", os.path.join(SOURCES, "merge_driver.c"), library=places.starved)
+    driver = compile_c(count, places, "starved_driver", os.path.join(SOURCES, "starved_driver.c"), library=places.starved)
     if driver:
-        starved.try_merges(count, "C", places, [driver])
+        starved.try_calls(count, "C", places, [driver])
 
 
 def in_python(count, places):
@@ -179,7 +179,7 @@ def in_python(count, places):
     for name in ("bad_input", "misuse"):
         counted(count, f"{name} in Python", [sys.executable, os.path.join(SOURCES, f"{name}.py"), places.fresh(name)], **more)
     more["env"]["SERF_AGENT_LIBRARY"] = starved.shared(places.starved)
-    starved.try_merges(count, "Python", places, [sys.executable, os.path.join(SOURCES, "merge_driver.py")], **more)
+    starved.try_calls(count, "Python", places, [sys.executable, os.path.join(SOURCES, "starved_driver.py")], **more)
 
 
 def in_rust(count, places):
@@ -195,10 +195,10 @@ def in_rust(count, places):
     example(count, "Rust", places, [os.path.join(target, "debug", "examples", "two_agents")])
     counted_tests(count, "Rust's tests", r"^test (?P<name>\S+) \.\.\. (?P<end>\w+)$", ["cargo", "test", "--offline", "--tests"], **more)
     more["env"]["SERF_AGENT_LIBRARY"] = places.starved
-    status, said = c_library.ran(["cargo", "build", "--offline", "--example", "merge_driver"], **more)
-    count.check("Rust: merge_driver builds", status == 0, said[-2000:])
+    status, said = c_library.ran(["cargo", "build", "--offline", "--example", "starved_driver"], **more)
+    count.check("Rust: starved_driver builds", status == 0, said[-2000:])
     if status == 0:
-        starved.try_merges(count, "Rust", places, [os.path.join(target, "debug", "examples", "merge_driver")])
+        starved.try_calls(count, "Rust", places, [os.path.join(target, "debug", "examples", "starved_driver")])
 
 
 def in_go(count, places):
@@ -206,7 +206,7 @@ def in_go(count, places):
         raise NotRun("go is not on PATH")
     env = dict(os.environ, CGO_LDFLAGS=f"-L{os.path.dirname(places.library)}", GOFLAGS="-mod=mod", GOPROXY="off", GO111MODULE="on", GOCACHE=places.of("go_cache"))
     more = {"env": env, "cwd": os.path.join(BINDINGS, "go")}
-    programs_in_go = {"store_driver": places.library, "example": places.library, "merge_driver": places.starved}
+    programs_in_go = {"store_driver": places.library, "example": places.library, "starved_driver": places.starved}
     for name, library in programs_in_go.items():
         env["CGO_LDFLAGS"] = f"-L{os.path.dirname(library)}"
         status, said = c_library.ran(["go", "build", "-o", places.of(f"go_{name}"), f"./{name}"], **more)
@@ -215,7 +215,7 @@ def in_go(count, places):
             return
     stores.try_store(count, "Go", places, [places.of("go_store_driver")])
     example(count, "Go", places, [places.of("go_example")])
-    starved.try_merges(count, "Go", places, [places.of("go_merge_driver")])
+    starved.try_calls(count, "Go", places, [places.of("go_starved_driver")])
     env["CGO_LDFLAGS"] = f"-L{os.path.dirname(places.library)}"
     said = c_library.ran(["gofmt", "-l", "."], cwd=more["cwd"])
     count.check("Go is formatted", said == (0, ""), said)

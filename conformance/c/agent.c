@@ -97,7 +97,10 @@ static uint32_t query(void) {
     struct serf_agent_params params = {.timeout = (int64_t)number_of(5), .want_ack = flags & 1, .no_broadcast = (flags & 2) != 0};
     for (size_t i = 7; i < count; i++) {
         struct bytes filter = bytes_of(words[i]);
-        serf_agent_add_filter(&agent, filter.at, filter.len);
+        uint32_t code = serf_agent_add_filter(&agent, filter.at, filter.len);
+        if (code != SERF_AGENT_OK) {
+            return code;
+        }
     }
     return serf_agent_query(&agent, number_of(1), (uint32_t)number_of(2), called.at, called.len, payload.at, payload.len, NULL, 0, &params);
 }

@@ -6,6 +6,7 @@
 #include "serf_agent.h"
 
 #include <stdio.h>
+#include <stdlib.h>
 #include <string.h>
 
 void *__real_malloc(size_t size);
@@ -128,9 +129,10 @@ struct look {
     uint8_t unwritten[1024], packet[2048], ack[256];
 };
 
-/* The lines and the events that the tries of a call left, one behind the other. */
+/* The lines and the events that all calls left so far, one behind the other, and the greatest time of these events. */
 struct told {
     char lines[4096], events[4096];
+    uint64_t greatest;
 };
 
 /* What the call left for the file is looked at, and said to be written; what it gave is looked at then. */
@@ -150,7 +152,7 @@ static void settle(struct serf_agent *agent, struct look *look) {
     }
 }
 
-/* The same, and what a try of a call left is told behind what the tries before it left. */
+/* The same, and what a try of a call left is told behind what was left before. */
 static void tell(struct serf_agent *agent, struct look *look, struct told *told) {
     settle(agent, look);
     snprintf(told->lines + strlen(told->lines), sizeof told->lines - strlen(told->lines), "%.*s", (int)look->about.len, look->unwritten);
@@ -159,7 +161,18 @@ static void tell(struct serf_agent *agent, struct look *look, struct told *told)
         uint8_t name[64] = {0}, payload[64] = {0};
         serf_agent_event(agent, i, &event, name, sizeof name - 1, payload, sizeof payload - 1);
         snprintf(told->events + strlen(told->events), sizeof told->events - strlen(told->events), "%llu %s %s\n", (unsigned long long)event.time, name, payload);
+        told->greatest = event.time > told->greatest ? event.time : told->greatest;
     }
+}
+
+/* The event clock of the last line that was told. */
+static uint64_t clock_of(const struct told *told) {
+    static const char begin[] = "event-clock: ";
+    const char *last = NULL;
+    for (const char *line = told->lines; (line = strstr(line, begin)) != NULL; line++) {
+        last = line;
+    }
+    return last == NULL ? 0 : strtoull(last + strlen(begin), NULL, 10);
 }
 
 static void make_packets(void) {
@@ -209,10 +222,11 @@ static bool is_as_before(size_t number, const struct look *before, const struct 
         && is_same(after->handed, before->handed, sizeof after->handed);
 }
 
-/* A merge that took nothing is as no merge; else the file lacks the lines of the events that it gave. */
-static bool is_told(const struct look *before, const struct look *after) {
+/* A merge that couldn't begin is as no merge; else there are lines up to the greatest event that was given, and none where
+ * none was given. */
+static bool is_told(const struct look *before, const struct look *after, const struct told *told) {
     return after->gave.kind == SERF_AGENT_GAVE_MERGED
-        ? after->about.len >= after->gave.events && (after->gave.events > 0 || after->about.len == 0)
+        ? clock_of(told) >= told->greatest && (after->gave.events > 0 || after->about.len == 0)
         : after->gave.kind == SERF_AGENT_GAVE_NOTHING && after->gave.events == 0 && after->about.len == 0
             && is_same(&after->clocks, &before->clocks, sizeof after->clocks);
 }
@@ -223,8 +237,6 @@ static void try_step(size_t number, struct serf_agent *agent, struct serf_agent 
     static struct told told, twins;
     uint32_t code = SERF_AGENT_OUT_OF_MEMORY;
     long tried = 0, with_events = 0;
-    memset(&told, 0, sizeof told);
-    memset(&twins, 0, sizeof twins);
     settle(agent, &before);
     for (; code == SERF_AGENT_OUT_OF_MEMORY && tried < 1000; tried++) {
         granted = tried;
@@ -233,7 +245,7 @@ static void try_step(size_t number, struct serf_agent *agent, struct serf_agent 
         tell(agent, &after, &told);
         if (code == SERF_AGENT_OUT_OF_MEMORY) {
             with_events += after.gave.events > 0;
-            holds(steps[number].name, tried, is_merge(number) ? is_told(&before, &after) : is_as_before(number, &before, &after));
+            holds(steps[number].name, tried, is_merge(number) ? is_told(&before, &after, &told) : is_as_before(number, &before, &after));
             before = after;
         }
     }

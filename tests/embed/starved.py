@@ -1,17 +1,22 @@
-"""The library with a merge that runs out of memory, and what each binding's driver of such a merge has to print."""
+"""The library with calls that run out of memory, and what each language's driver of such calls has to print."""
 
 import os
+import re
 
 import c_library
 
 HERE = os.path.dirname(os.path.abspath(__file__))
 
 # The library's calls that starved.c stands before, and their names then.
-NAMES = {"rattle_alloc": "starved_alloc", "rattle_realloc": "starved_realloc", "serf_agent_merge": "whole_merge"}
+CALLS = ["merge", "add_filter", "query", "add_status", "add_left", "local_state"]
+NAMES = {"rattle_alloc": "starved_alloc", "rattle_realloc": "starved_realloc"} | {f"serf_agent_{call}": f"whole_{call}" for call in CALLS}
 
 # How many requests a merge of five events may make.
 MOST = 200
 EVENTS = [f"{time} e{time - 1}" for time in range(1, 6)]
+
+# The nodes that the first, the second and the third query and state name: two filters; two members, the second of which left.
+NODES = {"query": [["a1", "a2"], ["b1", "b2"], ["c1", "c2"]], "state": [["a1", "a2", "a2"], ["b1", "b2", "b2"], ["c1", "c2", "c2"]]}
 
 
 def make(places):
@@ -40,21 +45,34 @@ def greatest_kept(path):
         return max((int(line.split(" ")[1]) for line in file if line.startswith("event-clock: ")), default=0)
 
 
-def try_merges(count, language, places, words, **more):
-    """Runs a driver with one request granted more each time, until its first merge ends well: each event comes just once."""
-    env, parts = dict(more.pop("env", os.environ)), set()
+def named(kind, lines):
+    """What each query or state named, or None where it had no memory."""
+    words = [line.split(" ")[1] for line in lines if line.startswith(kind)]
+    return [None if word == "refused" else [name.decode() for name in re.findall(rb"node-(..)", bytes.fromhex(word))] for word in words]
+
+
+def try_calls(count, language, places, words, **more):
+    """Runs a driver with one request granted more each time, until the first calls of all three kinds end well."""
+    env, parts, ends = dict(more.pop("env", os.environ)), set(), []
     for granted in range(MOST):
-        folder = places.fresh("merges")
+        folder = places.fresh("starved")
         env["SERF_AGENT_GRANTED"] = str(granted)
         status, said = c_library.ran([*words, folder], env=env, **more)
         lines = said.splitlines()
         ends = [line for line in lines if line in ("ok", "out of memory")]
-        handed = [line for line in lines if line not in ends]
+        handed = [line for line in lines if re.match(r"\d", line)]
+        # each event comes just once
         whole = status == 0 and sorted(handed) == EVENTS and ends[1:] == ["ok"]
         kept = greatest_kept(os.path.join(folder, "other.snapshot")) if whole else None
         count.check(f"{language}: a merge with {granted} requests for memory", whole and kept == 5, f"{status}, {kept}: {said[-600:]}")
-        if not ends or ends[0] == "ok":
+        if "out of memory" in lines:
+            parts.add(lines.index("out of memory"))
+        # each query and each state names just its own, and the first that is refused leaves nothing for the third
+        for kind, nodes in NODES.items():
+            found = named(kind, lines) if status == 0 else []
+            count.check(f"{language}: a {kind} with {granted} requests for memory", found in ([None, None, nodes[2]], [nodes[0], None, nodes[2]]), f"{status}, {found}")
+            ends += ["out of memory"] if found[:1] == [None] else []
+        if status or "out of memory" not in ends:
             break
-        parts.add(lines.index("out of memory"))
     # nothing, one event, two, and so on, entered before the memory was out
     count.check(f"{language}: merges that end in each place", parts >= set(range(5)) and granted < MOST - 1, f"{sorted(parts)}, {granted}")

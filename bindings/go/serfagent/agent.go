@@ -27,6 +27,8 @@ type Agent struct {
 	mu     sync.Mutex
 	handle *C.struct_serf_agent // in C's memory, which Go neither moves nor copies
 	store  *Store
+	// whether a call that failed may have left filters, or members, which the next one would take
+	staleFilters, staleMembers bool
 }
 
 var nothing [1]byte
@@ -263,10 +265,39 @@ type Status struct {
 	Time uint64
 }
 
+// forgotten says whether a call has forgotten what was added for one that failed: each does, but for want of memory.
+func forgotten(code C.uint32_t) error {
+	if code == C.SERF_AGENT_OUT_OF_MEMORY {
+		return OutOfMemory
+	}
+	return nil
+}
+
+// forgetMembers forgets the members of a state that failed, by one that nobody reads.
+func (a *Agent) forgetMembers() error {
+	if !a.staleMembers {
+		return nil
+	}
+	return forgotten(C.serf_agent_local_state(a.handle))
+}
+
+// forgetFilters forgets the filters of a query that failed, by one of no time, which is never fired.
+func (a *Agent) forgetFilters() error {
+	if !a.staleFilters {
+		return nil
+	}
+	var how C.struct_serf_agent_params
+	return forgotten(C.serf_agent_query(a.handle, 0, 0, ptr(nil), 0, ptr(nil), 0, ptr(nil), 0, &how))
+}
+
 // LocalState is this agent's whole state, to send: with members' status times, and the names of those that left.
 func (a *Agent) LocalState(statuses []Status, left []string) ([]byte, error) {
 	a.mu.Lock()
 	defer a.mu.Unlock()
+	if err := a.forgetMembers(); err != nil {
+		return nil, err
+	}
+	a.staleMembers = len(statuses)+len(left) > 0
 	for _, status := range statuses {
 		name := []byte(status.Name)
 		if err := refused(C.serf_agent_add_status(a.handle, ptr(name), size(name), C.uint64_t(status.Time))); err != nil {
@@ -282,6 +313,7 @@ func (a *Agent) LocalState(statuses []Status, left []string) ([]byte, error) {
 	if err := a.settled(C.serf_agent_local_state(a.handle)); err != nil {
 		return nil, err
 	}
+	a.staleMembers = false
 	return a.packet(false)
 }
 
@@ -289,6 +321,10 @@ func (a *Agent) LocalState(statuses []Status, left []string) ([]byte, error) {
 func (a *Agent) Query(now uint64, id uint32, name, payload []byte, params QueryParams) (*Asked, error) {
 	a.mu.Lock()
 	defer a.mu.Unlock()
+	if err := a.forgetFilters(); err != nil {
+		return nil, err
+	}
+	a.staleFilters = len(params.Filters) > 0
 	for _, filter := range params.Filters {
 		if err := refused(C.serf_agent_add_filter(a.handle, ptr(filter), size(filter))); err != nil {
 			return nil, err
@@ -302,6 +338,7 @@ func (a *Agent) Query(now uint64, id uint32, name, payload []byte, params QueryP
 		ptr(params.Addr), size(params.Addr), &how)); err != nil {
 		return nil, err
 	}
+	a.staleFilters = false
 	gave, err := a.gave()
 	if err != nil {
 		return nil, err

@@ -159,6 +159,8 @@ class Agent:
         self._process = os.getpid()
         self._last = threading.local()
         self._handle = Handle()
+        # whether a call that failed may have left filters, or members, which the next one would take
+        self._stale_filters = self._stale_members = False
         self._store = Store(path)
         self._let_go = weakref.finalize(self, let_go, self._library, self._handle, self._store)
         try:
@@ -211,6 +213,14 @@ class Agent:
             self._call(name, *words)
         finally:
             self._settle()
+
+    def _forget(self, name, *words):
+        """Forgets what was added for a call that failed, by one that changes nothing and whose answer nobody wants."""
+        try:
+            self._call(name, *words)
+        except AgentError as error:
+            if error.code is Code.OUT_OF_MEMORY:
+                raise
 
     def _settle(self):
         about = CBytes()
@@ -334,11 +344,15 @@ class Agent:
         with self._alone():
             named = [(*texts(name), integer("the status time", time)) for name, time in statuses]
             gone = [texts(name) for name in left]
+            if self._stale_members:
+                self._forget("local_state")
+            self._stale_members = bool(named or gone)
             for one in named:
                 self._call("add_status", *one)
             for one in gone:
                 self._call("add_left", *one)
             self._do("local_state")
+            self._stale_members = False
             return self._packet()
 
     def query(self, now, id, name, payload=b"", timeout=0, *, filters=(), addr=b"", port=0, relay_factor=0, want_ack=False, no_broadcast=False):
@@ -353,9 +367,14 @@ class Agent:
                 flag("no_broadcast", no_broadcast),
             )
             moment, id = self._moment(now), integer("id", id, 32)
+            if self._stale_filters:
+                # a query of no time is never fired
+                self._forget("query", moment, id, *texts(b"", b"", b""), CParams())
+            self._stale_filters = bool(given)
             for one in given:
                 self._call("add_filter", *one)
             self._do("query", moment, id, *words, how)
+            self._stale_filters = False
             handed = self._gave().handed
             return Asked(self._packet(), self._handed(handed) if handed else None, self._packet("ack"))
 

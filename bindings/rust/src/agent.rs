@@ -42,11 +42,22 @@ const OWN_ACK: Getter = raw::serf_agent_ack;
 /// What `serf_agent_gave` says of a merge.
 const MERGED: u32 = 10;
 
+/// What a call that forgets what was added for one that failed has done: each forgets it, but for want of memory.
+fn forgotten(answer: Result<(), Error>) -> Result<(), Error> {
+    match answer {
+        Err(Error::Refused(code)) if code != Code::OutOfMemory => Ok(()),
+        other => other,
+    }
+}
+
 /// A proved agent whose snapshot is a file. Dropping it closes both.
 pub struct Agent {
     // in a box, since the library is promised that nobody copies it
     handle: Box<raw::Handle>,
     store: Store,
+    // whether a call that failed may have left filters, or members, which the next one would take
+    stale_filters: bool,
+    stale_members: bool,
 }
 
 // SAFETY: the library keeps nothing of a thread's own, and `&mut` lets one thread at a time through.
@@ -58,7 +69,8 @@ impl Agent {
         let store = Store::open(path)?;
         let text = store.read()?;
         let place = raw::Place { at: std::ptr::null_mut() };
-        let mut agent = Agent { handle: Box::new(raw::Handle { open: false, place }), store };
+        let handle = Box::new(raw::Handle { open: false, place });
+        let mut agent = Agent { handle, store, stale_filters: false, stale_members: false };
         let settings = raw::Settings {
             event_buffer: settings.event_buffer,
             query_buffer: settings.query_buffer,
@@ -232,8 +244,19 @@ impl Agent {
         }
     }
 
+    /// Makes the packet of the whole state, with the members that were added.
+    fn make_state(&mut self) -> Result<(), Error> {
+        // SAFETY: the handle is the agent's own.
+        self.settled(|handle| unsafe { raw::serf_agent_local_state(handle) })
+    }
+
     /// This agent's whole state, to send: with the status times of members, and the names of those that left.
     pub fn local_state(&mut self, statuses: &[(&[u8], u64)], left: &[&[u8]]) -> Result<Vec<u8>, Error> {
+        if self.stale_members {
+            // a state that nobody reads
+            forgotten(self.make_state())?;
+        }
+        self.stale_members = !statuses.is_empty() || !left.is_empty();
         for (name, time) in statuses {
             // SAFETY: the pointer comes with its length.
             answered(unsafe { raw::serf_agent_add_status(&mut *self.handle, name.as_ptr(), name.len(), *time) })?;
@@ -242,25 +265,13 @@ impl Agent {
             // SAFETY: the pointer comes with its length.
             answered(unsafe { raw::serf_agent_add_left(&mut *self.handle, name.as_ptr(), name.len()) })?;
         }
-        // SAFETY: the handle is the agent's own.
-        self.settled(|handle| unsafe { raw::serf_agent_local_state(handle) })?;
+        self.make_state()?;
+        self.stale_members = false;
         self.own_packet()
     }
 
-    /// Fires a query; `id` is a random number.
-    pub fn query(&mut self, now: u64, id: u32, name: &[u8], payload: &[u8], params: &QueryParams) -> Result<Asked, Error> {
-        for filter in &params.filters {
-            // SAFETY: the pointer comes with its length.
-            answered(unsafe { raw::serf_agent_add_filter(&mut *self.handle, filter.as_ptr(), filter.len()) })?;
-        }
-        let addr = &params.addr;
-        let params = raw::Params {
-            timeout: params.timeout,
-            port: params.port,
-            relay_factor: params.relay_factor,
-            want_ack: params.want_ack,
-            no_broadcast: params.no_broadcast,
-        };
+    /// Fires a query with the filters that were added.
+    fn ask(&mut self, now: u64, id: u32, name: &[u8], payload: &[u8], addr: &[u8], params: &raw::Params) -> Result<(), Error> {
         self.settled(|handle| unsafe {
             // SAFETY: each pointer comes with its length.
             raw::serf_agent_query(
@@ -273,9 +284,31 @@ impl Agent {
                 payload.len(),
                 addr.as_ptr(),
                 addr.len(),
-                &params,
+                params,
             )
-        })?;
+        })
+    }
+
+    /// Fires a query; `id` is a random number.
+    pub fn query(&mut self, now: u64, id: u32, name: &[u8], payload: &[u8], params: &QueryParams) -> Result<Asked, Error> {
+        if self.stale_filters {
+            // a query of no time is never fired
+            forgotten(self.ask(now, id, b"", b"", b"", &raw::Params::default()))?;
+        }
+        self.stale_filters = !params.filters.is_empty();
+        for filter in &params.filters {
+            // SAFETY: the pointer comes with its length.
+            answered(unsafe { raw::serf_agent_add_filter(&mut *self.handle, filter.as_ptr(), filter.len()) })?;
+        }
+        let how = raw::Params {
+            timeout: params.timeout,
+            port: params.port,
+            relay_factor: params.relay_factor,
+            want_ack: params.want_ack,
+            no_broadcast: params.no_broadcast,
+        };
+        self.ask(now, id, name, payload, &params.addr, &how)?;
+        self.stale_filters = false;
         let number = self.gave()?.handed;
         Ok(Asked { packet: self.own_packet()?, handed: self.handed(number)?, ack: self.packet(OWN_ACK)? })
     }

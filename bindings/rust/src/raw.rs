@@ -51,6 +51,7 @@ pub struct Event {
 }
 
 #[repr(C)]
+#[derive(Default)]
 pub struct Params {
     pub timeout: i64,
     pub port: u16,

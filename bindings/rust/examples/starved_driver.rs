@@ -1,0 +1,57 @@
+//! Calls that may run out of memory, as tests/embed/starved_driver.c says.
+
+use serf_agent::{Agent, Code, Error, QueryParams, Settings};
+use std::path::Path;
+
+fn merge(agent: &mut Agent, state: &[u8]) -> Result<(), Error> {
+    let (events, end) = match agent.merge(state, false) {
+        Ok(events) => (events, "ok"),
+        Err(Error::MergedInPart(events)) => (events, "out of memory"),
+        Err(error) => return Err(error),
+    };
+    for event in events {
+        println!("{} {}", event.time, String::from_utf8_lossy(&event.name));
+    }
+    println!("{end}");
+    Ok(())
+}
+
+fn put(kind: &str, packet: Result<Vec<u8>, Error>) -> Result<(), Error> {
+    let said = match packet {
+        Ok(packet) => packet.iter().map(|byte| format!("{byte:02x}")).collect(),
+        Err(Error::Refused(Code::OutOfMemory)) => "refused".to_string(),
+        Err(error) => return Err(error),
+    };
+    println!("{kind} {said}");
+    Ok(())
+}
+
+fn query(agent: &mut Agent, letter: char) -> Result<(), Error> {
+    let filters = [1, 2].map(|number| [&b"\x00\x91\xa7"[..], format!("node-{letter}{number}").as_bytes()].concat());
+    let params = QueryParams { filters: filters.to_vec(), timeout: 9, ..QueryParams::default() };
+    put("query", agent.query(1, 7, b"load", b"", &params).map(|asked| asked.packet))
+}
+
+fn state(agent: &mut Agent, letter: char) -> Result<(), Error> {
+    let [first, second] = [1, 2].map(|number| format!("node-{letter}{number}"));
+    put("state", agent.local_state(&[(first.as_bytes(), 3), (second.as_bytes(), 4)], &[second.as_bytes()]))
+}
+
+fn main() -> Result<(), Error> {
+    let folder = std::env::args().nth(1).expect("starved_driver FOLDER");
+    let path = |name| Path::new(&folder).join(name);
+    let mut one = Agent::open(b"one", path("one.snapshot"), Settings::default())?;
+    for number in 0..5 {
+        one.fire(format!("e{number}").as_bytes(), b"", false)?;
+    }
+    let whole = one.local_state(&[], &[])?;
+    let load = one.query(1, 8, b"load", b"", &QueryParams { timeout: 9, ..QueryParams::default() })?.packet;
+    let mut other = Agent::open(b"other", path("other.snapshot"), Settings::default())?;
+    merge(&mut other, &whole)?;
+    merge(&mut other, &whole)?;
+    query(&mut other, 'a')?;
+    other.receive(1, &load)?;
+    query(&mut other, 'b')?;
+    query(&mut other, 'c')?;
+    ['a', 'b', 'c'].into_iter().try_for_each(|letter| state(&mut other, letter))
+}
