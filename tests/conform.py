@@ -257,7 +257,10 @@ def by_meaning(cases):
         cases.replies(name, replies, schedule, 3, ["the agent ended"], words)
     cases.run("an agent that isn't there", ["false"], schedule, 3, [], words)
     cases.run("no agent", None, schedule, 3, [], words)
-    cases.replies("a reply that is too long", [good[0], b"a" * 67_200_000], schedule, 1, ["the reply is too long"], words)
+    if programs.IS_UNPROVED:
+        print("not run: a reply that is too long, over a program that was compiled with checks")
+    else:
+        cases.replies("a reply that is too long", [good[0], b"a" * 67_200_000], schedule, 1, ["the reply is too long"], words)
 
 
 def states(cases):
