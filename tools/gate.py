@@ -108,8 +108,8 @@ def section(title):
 
 def table(title):
     """The rows of GATE.md under a title that name something and a number."""
-    rows = re.findall(r"^\| `?([^|`]+?)`? \| (\d+) \|", section(title), re.M)
-    return {name: int(count) for name, count in rows}
+    rows = re.findall(r"^\| ([^|]+?) \| (\d+) \|", section(title), re.M)
+    return {name.replace("`", ""): int(count) for name, count in rows}
 
 
 def crate_costs():
