@@ -32,7 +32,7 @@ static void *counted_realloc(void *old, size_t size) {
 #undef malloc
 #undef realloc
 
-enum { SLOTS = 512, SAMPLES = 200, FLUSHED = 500 };
+enum { SLOTS = 512, SAMPLES = 200, FLUSHED = 500, BURST = 64 };
 
 static const struct serf_agent_settings settings = {SLOTS, SLOTS, 512, 8, 1024, false};
 static uint8_t packets[SLOTS][64];
@@ -57,7 +57,7 @@ static void open_agent(struct serf_agent *agent, const char *name) {
 
 /* What the call left is said to be written, and is thrown away. */
 static void forget(struct serf_agent *agent) {
-    static uint8_t room[256];
+    static uint8_t room[4096];
     struct serf_agent_bytes about;
     serf_agent_unwritten(agent, &about, room, sizeof room);
     serf_agent_written(agent);
@@ -75,6 +75,34 @@ static bool receive_fresh(struct serf_agent *agent, size_t number) {
     serf_agent_receive(agent, 0, packets[number], lens[number]);
     forget(agent);
     return serf_agent_event(agent, 0, &event, name, sizeof name, payload, sizeof payload) == SERF_AGENT_OK;
+}
+
+/* The calls of a burst from a number on; its outcomes are read once its lines are settled. */
+static void begin_burst(struct serf_agent *agent, size_t first) {
+    for (size_t i = 0; i < BURST; i++) {
+        must(serf_agent_burst_receive(agent, 0, packets[first + i], lens[first + i]) == SERF_AGENT_OK, "a call of a burst");
+    }
+}
+
+static void read_burst(struct serf_agent *agent) {
+    struct serf_agent_event event;
+    uint8_t name[64], payload[64];
+    uint32_t answered;
+    size_t events = 0;
+    while (serf_agent_next(agent, &answered) == SERF_AGENT_OK) {
+        events += serf_agent_event(agent, 0, &event, name, sizeof name, payload, sizeof payload) == SERF_AGENT_OK;
+    }
+    must(events == BURST, "an event of a burst");
+}
+
+/* A call for each slot, in bursts. */
+static bool receive_burst(struct serf_agent *agent, size_t number) {
+    if (number % BURST == 0) {
+        begin_burst(agent, number);
+        forget(agent);
+        read_burst(agent);
+    }
+    return true;
 }
 
 static bool receive_repeated(struct serf_agent *agent, size_t number) {
@@ -110,14 +138,16 @@ static double least(double one, double other) {
 }
 
 static void bench_calls(void) {
-    struct serf_agent firing = {0}, one = {0};
-    double fired = 1e18, fresh = 1e18, repeated = 1e18, seen = 1e18, clocks = 1e18;
+    struct serf_agent firing = {0}, one = {0}, bursting = {0};
+    double fired = 1e18, fresh = 1e18, repeated = 1e18, seen = 1e18, clocks = 1e18, bursts = 1e18;
     unsigned long for_repeats = 0;
     open_agent(&firing, "b");
     open_agent(&one, "a");
+    open_agent(&bursting, "d");
     for (int i = 0; i < SAMPLES; i++) {
         fired = least(fired, sample(&firing, fire));
         fresh = least(fresh, sample(&one, receive_fresh));
+        bursts = least(bursts, sample(&bursting, receive_burst));
         unsigned long before = taken;
         repeated = least(repeated, sample(&one, receive_repeated));
         for_repeats += taken - before;
@@ -127,12 +157,57 @@ static void bench_calls(void) {
     printf("handle: receive a repeated event's packet, 1 event a time: %.1f ns\n", repeated / SLOTS);
     printf("handle: read what it gave: %.1f ns\n", seen / SLOTS);
     printf("handle: receive a fresh event's packet, 1 event a time: %.1f ns\n", fresh / SLOTS);
+    printf("handle: receive a fresh event's packet in a burst of %d: %.1f ns\n", BURST, bursts / SLOTS);
     printf("handle: fire an event: %.1f ns\n", fired / SLOTS);
     printf("handle: read the clocks: %.1f ns\n", clocks / SLOTS);
     printf("handle: memory taken in %d repeats: %lu times\n", SAMPLES * SLOTS, for_repeats);
     must(for_repeats == 0, "a repeat takes memory");
     serf_agent_close(&firing);
     serf_agent_close(&one);
+    serf_agent_close(&bursting);
+}
+
+/* A line of the usual length appended and flushed, and nothing else. */
+static void bench_flush(const char *folder) {
+    struct serf_agent_store store = {0};
+    char path[4096];
+    double spent = 1e18;
+    snprintf(path, sizeof path, "%s/flush.snapshot", folder);
+    must(serf_agent_store_open(&store, path) == SERF_AGENT_STORE_OK, path);
+    for (int i = 0; i < 5; i++) {
+        double began = now();
+        for (size_t k = 0; k < FLUSHED; k++) {
+            must(serf_agent_store_append(&store, (const uint8_t *)"event-clock: 1234\n", 18) == SERF_AGENT_STORE_OK, path);
+        }
+        spent = least(spent, now() - began);
+    }
+    printf("handle: a line flushed in %s, and nothing else: %.0f ns\n", folder, spent / FLUSHED);
+    serf_agent_store_close(&store);
+    unlink(path);
+}
+
+/* Bursts with their lines flushed: the least of five samples. */
+static void bench_bursts(const char *folder) {
+    double spent = 1e18;
+    char path[4096];
+    snprintf(path, sizeof path, "%s/bursts.snapshot", folder);
+    for (int i = 0; i < 5; i++) {
+        struct serf_agent_store store = {0};
+        struct serf_agent one = {0};
+        must(serf_agent_store_open(&store, path) == SERF_AGENT_STORE_OK, path);
+        open_agent(&one, "c");
+        double began = now();
+        for (size_t first = 0; first + BURST <= SLOTS; first += BURST) {
+            begin_burst(&one, first);
+            must(serf_agent_store_settle(&store, &one) == SERF_AGENT_STORE_OK, path);
+            read_burst(&one);
+        }
+        spent = least(spent, now() - began);
+        serf_agent_close(&one);
+        serf_agent_store_close(&store);
+        unlink(path);
+    }
+    printf("handle: receive a fresh event's packet in a burst of %d, flushed in %s: %.0f ns\n", BURST, folder, spent / SLOTS);
 }
 
 static void bench_file(const char *folder) {
@@ -156,7 +231,9 @@ static void bench_file(const char *folder) {
 int main(int count, char **words) {
     bench_calls();
     for (int i = 1; i < count; i++) {
+        bench_flush(words[i]);
         bench_file(words[i]);
+        bench_bursts(words[i]);
     }
     return 0;
 }

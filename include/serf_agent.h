@@ -3,10 +3,11 @@
    The library holds no file and no socket. A call answers a code, and what it gave is then read by the getters:
    bytes for the host's file, events and a query for the host's handlers, and packets to send.
 
-   1. A call that writes (open, fire, query, receive, merge, save_member_clock, compact) may leave bytes for the file:
-      serf_agent_unwritten tells them. The host appends them to its file and flushes it (fdatasync); where they replace the
-      file it writes them beside it, flushes, and renames. Then it calls serf_agent_written.
-   2. Until then all other calls but serf_agent_unwritten, serf_agent_gave and serf_agent_close answer
+   1. A call that writes (open, fire, query, receive, merge, save_member_clock, compact, burst_receive, burst_fire,
+      burst_query) may leave bytes for the file: serf_agent_unwritten tells them. The host appends them to its file and
+      flushes it (fdatasync); where they replace the file it writes them beside it, flushes, and renames. Then it calls
+      serf_agent_written.
+   2. Until then all other calls but serf_agent_unwritten, gave, close, outcomes and the four serf_agent_burst_.. answer
       SERF_AGENT_UNWRITTEN, so nothing is handed out whose line isn't durable.
    3. A host whose file failed closes the handle, and opens anew from what the file holds.
 
@@ -34,7 +35,7 @@ enum serf_agent_code {
     SERF_AGENT_EMPTY = 1,            /* the handle has no agent */
     SERF_AGENT_IN_USE = 2,           /* open: the handle has an agent already */
     SERF_AGENT_UNWRITTEN = 3,        /* bytes for the host's file aren't written yet */
-    SERF_AGENT_NOTHING = 4,          /* a getter: the last call gave no such thing */
+    SERF_AGENT_NOTHING = 4,          /* a getter: the last call gave no such thing; next: no outcome waits */
     SERF_AGENT_OUT_OF_MEMORY = 5,    /* nothing was done, but that a merge gives the events that it took before */
     SERF_AGENT_BAD_CONFIG = 6,       /* open: settings out of bounds */
     SERF_AGENT_SINK_FAULT = 7,       /* the agent's sink failed; not with this library's own sink */
@@ -226,8 +227,10 @@ uint32_t serf_agent_written(struct serf_agent *handle);
 
 /* Calls */
 
+/* Fires an event: it is handed out here (serf_agent_event, number 0), and its packet is to be broadcast. */
 uint32_t serf_agent_fire(struct serf_agent *handle, const uint8_t *name, size_t name_len, const uint8_t *payload,
                          size_t payload_len, bool coalesce);
+/* Takes a packet of the network; serf_agent_gave says what came of it. */
 uint32_t serf_agent_receive(struct serf_agent *handle, uint64_t now, const uint8_t *packet, size_t packet_len);
 /* Merges another agent's whole state. Where it ends with SERF_AGENT_OUT_OF_MEMORY it gives the events that it took before, if
    it was begun: the host writes their lines and hands them out, as ever. Made again it gives the others alone. */
@@ -235,13 +238,16 @@ uint32_t serf_agent_merge(struct serf_agent *handle, const uint8_t *packet, size
 /* The agent's whole state, to send, with the members that serf_agent_add_status and serf_agent_add_left named since the
    last that was tried; it forgets them, unless for want of memory. */
 uint32_t serf_agent_local_state(struct serf_agent *handle);
+/* Names a member and its status time for the next state. */
 uint32_t serf_agent_add_status(struct serf_agent *handle, const uint8_t *name, size_t name_len, uint64_t status_time);
+/* Names a member that left for the next state. */
 uint32_t serf_agent_add_left(struct serf_agent *handle, const uint8_t *name, size_t name_len);
 /* Fires a query, with the filters that serf_agent_add_filter gave since the last that was tried; it forgets them, unless for
    want of memory. */
 uint32_t serf_agent_query(struct serf_agent *handle, uint64_t now, uint32_t id, const uint8_t *name, size_t name_len,
                           const uint8_t *payload, size_t payload_len, const uint8_t *addr, size_t addr_len,
                           const struct serf_agent_params *params);
+/* Adds a filter to the next query: the bytes of a filter as Serf writes them. */
 uint32_t serf_agent_add_filter(struct serf_agent *handle, const uint8_t *filter, size_t filter_len);
 /* Answers the query of this number; a success spends it. */
 uint32_t serf_agent_respond(struct serf_agent *handle, uint64_t now, uint64_t number, const uint8_t *payload,
@@ -254,8 +260,36 @@ uint32_t serf_agent_save_member_clock(struct serf_agent *handle);
 /* Makes the text that replaces the file's: one line of each clock. */
 uint32_t serf_agent_compact(struct serf_agent *handle);
 
+/* Bursts: many packets, and one flush
+
+   The calls of a burst are made one after another, without a flush between them. Each is what the call of its name is alone,
+   and answers the same code; but what it gave waits, behind what the calls before it gave. The host then brings the lines of
+   all of them to its file at once (serf_agent_unwritten, one flush, serf_agent_written), and goes through the outcomes by
+   serf_agent_next, in the order of the calls. A call that is refused has an outcome too, unless it ran out of memory: then
+   nothing was done, and the outcomes before it wait on.
+
+   A burst is begun by its first call, behind any other call; what that one gave stays until serf_agent_next or another call.
+   Other calls may be made while outcomes wait, once the host's file has the lines. */
+
+uint32_t serf_agent_burst_receive(struct serf_agent *handle, uint64_t now, const uint8_t *packet, size_t packet_len);
+uint32_t serf_agent_burst_fire(struct serf_agent *handle, const uint8_t *name, size_t name_len, const uint8_t *payload,
+                               size_t payload_len, bool coalesce);
+/* Fires a query with the filters that serf_agent_burst_filter or serf_agent_add_filter gave since the last that was tried; it
+   forgets them, unless for want of memory. */
+uint32_t serf_agent_burst_query(struct serf_agent *handle, uint64_t now, uint32_t id, const uint8_t *name, size_t name_len,
+                                const uint8_t *payload, size_t payload_len, const uint8_t *addr, size_t addr_len,
+                                const struct serf_agent_params *params);
+uint32_t serf_agent_burst_filter(struct serf_agent *handle, const uint8_t *filter, size_t filter_len);
+/* Goes on to the next outcome, and says which code its call answered: the getters read then what that call gave, as after a
+   call that stands alone. SERF_AGENT_NOTHING where none is left; what was given before is no longer read. Want of memory
+   loses no outcome: it comes by the next try. */
+uint32_t serf_agent_next(struct serf_agent *handle, uint32_t *answered);
+/* How many outcomes wait for serf_agent_next. */
+uint32_t serf_agent_outcomes(struct serf_agent *handle, size_t *total);
+
 /* Getters */
 
+/* What the last call gave. */
 uint32_t serf_agent_gave(struct serf_agent *handle, struct serf_agent_gave *gave);
 /* An event that the last call handed out, from 0 on, and as much of its texts as fits. */
 uint32_t serf_agent_event(struct serf_agent *handle, size_t index, struct serf_agent_event *event, uint8_t *name,
@@ -275,6 +309,7 @@ uint32_t serf_agent_ack(struct serf_agent *handle, size_t *len, uint8_t *to, siz
 uint32_t serf_agent_handed(struct serf_agent *handle, uint64_t number, struct serf_agent_handed *handed, uint8_t *name,
                            size_t name_room, uint8_t *payload, size_t payload_room, uint8_t *source, size_t source_room,
                            uint8_t *addr, size_t addr_room);
+/* The agent's clocks, and the least times that it takes. */
 uint32_t serf_agent_clocks(struct serf_agent *handle, struct serf_agent_clocks *clocks);
 /* The least deadline of the open queries; SERF_AGENT_NOTHING where none is open. */
 uint32_t serf_agent_next_deadline(struct serf_agent *handle, uint64_t *deadline);

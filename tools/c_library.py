@@ -155,7 +155,7 @@ def fault_of_host(to, source, library=LIBRARY, more=()):
 
 
 def fault_of_shared(to, library=LIBRARY):
-    """Makes the shared library for other languages; what went wrong, or None."""
-    cc = os.environ.get("CC", "cc")
-    status, said = ran([cc, *STRICT, "-O2", "-fPIC", "-shared", "-o", to, HEAP, "-Wl,--whole-archive", library, "-Wl,--no-whole-archive"])
-    return said[-2000:] or f"{cc} failed" if status else None
+    """Makes the shared library for other languages, as bindings/c does: a file of the name libserf_agent.so. What went wrong,
+    or None."""
+    status, said = ran(["make", "-s", "-C", BINDINGS_C, f"OUT={os.path.dirname(to)}", f"LIBRARY={library}", to])
+    return said[-2000:] or "make failed" if status else None

@@ -111,6 +111,9 @@ if __name__ == "__main__":
         sys.exit(2)
     try:
         print(built(sys.argv[1]))
-    except (Stopped, OSError) as why:
+    except Stopped as why:
         print(f"unproved: {why}", file=sys.stderr)
+        sys.exit(3)
+    except OSError as error:
+        print(f"unproved: {error.filename}: {error.strerror}", file=sys.stderr)
         sys.exit(3)

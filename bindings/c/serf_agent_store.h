@@ -13,7 +13,7 @@
  * After a fault in an append or a replacement the store is broken: nobody knows what the disk has. It takes no more
  * bytes until it is closed and opened again, and its agent has to be closed and opened with it.
  *
- * Tested by tests/embed.py and tests/crashes.py; no contract speaks of it.
+ * Tested by tests/library/embed.py and tests/library/crashes.py; no contract speaks of it.
  */
 #ifndef SERF_AGENT_STORE_H
 #define SERF_AGENT_STORE_H
@@ -66,8 +66,8 @@ enum serf_agent_store_fault serf_agent_store_append(struct serf_agent_store *sto
 /* Replaces all of the file by these bytes, on the disk. */
 enum serf_agent_store_fault serf_agent_store_replace(struct serf_agent_store *store, const uint8_t *bytes, size_t len);
 
-/* Brings to the file what the agent's last call left for it, and tells the agent so; after each call that writes, before the
- * host acts on anything else of it. After a fault the agent is closed: a host opens the store and the agent again. */
+/* Brings to the file what the agent's last call left for it, or all calls of a burst, and tells the agent so; after each call
+ * that writes, or once behind the calls of a burst, before the host acts on anything else of it. After a fault the agent is closed: a host opens the store and the agent again. */
 enum serf_agent_store_fault serf_agent_store_settle(struct serf_agent_store *store, struct serf_agent *agent);
 
 /* Gives the lock free and closes. A store that isn't open stays so. */

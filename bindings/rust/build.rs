@@ -1,21 +1,43 @@
-//! Links the static library: the one that `SERF_AGENT_LIBRARY` names, or that of a release's archive, or of the repository.
+//! Links the static library: the one that `SERF_AGENT_LIBRARY` names, or that of the package, or of a clone of the repository.
 
 use std::path::{Path, PathBuf};
 
-/// Where an archive and a repository have it.
-const PLACES: [&str; 2] = ["../../lib/libserf_agent_c.a", "../../crates/serf_agent_c/out/libserf_agent_c.a"];
+/// Where a package and a clone have it.
+const PLACES: [&str; 2] = ["native/libserf_agent_c.a", "../../crates/serf_agent_c/out/libserf_agent_c.a"];
 
-fn found() -> String {
-    let places = PLACES.map(|place| Path::new(env!("CARGO_MANIFEST_DIR")).join(place));
-    places.iter().find(|place| place.exists()).unwrap_or(&places[1]).display().to_string()
+/// Ends the build, with a sentence.
+fn refuse(why: &str) -> ! {
+    eprintln!("serf_agent: {why}");
+    std::process::exit(1)
+}
+
+fn of_target(name: &str) -> String {
+    std::env::var(format!("CARGO_CFG_TARGET_{name}")).unwrap_or_default()
+}
+
+fn library() -> PathBuf {
+    println!("cargo:rerun-if-env-changed=SERF_AGENT_LIBRARY");
+    if let Some(named) = std::env::var_os("SERF_AGENT_LIBRARY") {
+        return PathBuf::from(named);
+    }
+    // (asked as it runs: a target folder may keep this script of the same package in another place)
+    let package = std::env::var_os("CARGO_MANIFEST_DIR").unwrap_or_default();
+    let places = PLACES.map(|place| Path::new(&package).join(place));
+    places.into_iter().find(|place| place.exists()).unwrap_or_else(|| {
+        refuse("the static library isn't in this package: SERF_AGENT_LIBRARY has to name libserf_agent_c.a of a release's folder lib")
+    })
 }
 
 fn main() {
-    println!("cargo:rerun-if-env-changed=SERF_AGENT_LIBRARY");
-    let library = std::env::var("SERF_AGENT_LIBRARY").unwrap_or_else(|_| found());
-    println!("cargo:rerun-if-changed={library}");
-    let library = PathBuf::from(library);
-    let folder = library.parent().expect("the library stands in a folder");
+    let (system, machine) = (of_target("OS"), of_target("ARCH"));
+    if (system.as_str(), machine.as_str()) != ("linux", "x86_64") {
+        refuse(&format!("the library is for Linux on x86-64, and the target is {system} on {machine}"));
+    }
+    let library = library();
+    let (Some(folder), true) = (library.parent(), library.is_file()) else {
+        refuse(&format!("there is no library at {}", library.display()));
+    };
+    println!("cargo:rerun-if-changed={}", library.display());
     println!("cargo:rustc-link-search=native={}", folder.display());
     println!("cargo:rustc-link-lib=static=serf_agent_c");
 }

@@ -19,16 +19,15 @@ import subprocess
 import sys
 import xml.etree.ElementTree as tree
 
-TOP = os.path.dirname(os.path.dirname(os.path.dirname(os.path.abspath(__file__))))
-sys.path.insert(0, os.path.join(TOP, "tools"))
 sys.dont_write_bytecode = True
+sys.path.insert(0, os.path.dirname(os.path.dirname(os.path.abspath(__file__))))
+import checks
 import programs
+from checks import KINDS, TOP
 
-PROGRAM = os.path.join(TOP, "serf-replay")
 READER = os.path.join(TOP, "tests", "by_hand", "mermaid.js")
 SVG = "{http://www.w3.org/2000/svg}"
 
-KINDS = ("mixed", "tiny", "merges", "restarts", "devices", "injections", "queries", "limits", "exhaustion", "per-time", "compactions", "gossip")
 SEEDS = range(1, 205)
 
 # Mermaid's names of the three arrows.
@@ -86,7 +85,7 @@ class Drawn:
 
 
 def ran(words, given=b""):
-    return subprocess.run([PROGRAM, *words], input=given, capture_output=True, timeout=600, check=True).stdout
+    return subprocess.run([checks.PROGRAM, *words], input=given, capture_output=True, timeout=600, check=True).stdout
 
 
 def read(folder, texts):

@@ -15,14 +15,14 @@ import subprocess
 import sys
 import tempfile
 
-TOP = os.path.dirname(os.path.dirname(os.path.dirname(os.path.abspath(__file__))))
-sys.path[:0] = [os.path.join(TOP, part) for part in ("tests", "tools")]
 sys.dont_write_bytecode = True
-import conform
+sys.path.insert(0, os.path.dirname(os.path.dirname(os.path.abspath(__file__))))
+import checks
+import piped_agents
+from checks import KINDS, TOP
 
 SOURCES = os.environ.get("SERF_GOPATH", "/usr/share/gocode")
 SERF = os.path.join("src", "github.com", "hashicorp", "serf")
-KINDS = ("mixed", "tiny", "merges", "restarts", "devices", "injections", "queries", "limits", "exhaustion", "per-time", "compactions", "gossip")
 
 
 def build(folder):
@@ -52,7 +52,7 @@ def main(words):
                 asked.append(["--random", f"{begin}-{end}", "--kind", kind])
         failed = 0
         for words in asked:
-            status, report = conform.compare([*words, "--rules", "serf"], agent)
+            status, report = piped_agents.compare([*words, "--rules", "serf"], agent, checks.COMMAND)
             print(" ".join(words) + ":\n" + report, end="", flush=True)
             failed += status != 0
     print(f"{len(asked) - failed} passed, {failed} failed")

@@ -15,10 +15,12 @@ import sys
 import tempfile
 from concurrent.futures import ThreadPoolExecutor
 
-TOP = os.path.dirname(os.path.dirname(os.path.dirname(os.path.abspath(__file__))))
-sys.path[:0] = [os.path.join(TOP, part) for part in ("tests", "tools", os.path.join("conformance", "python"))]
 sys.dont_write_bytecode = True
-import conform
+sys.path.insert(0, os.path.dirname(os.path.dirname(os.path.abspath(__file__))))
+import checks
+from piped_agents import PYTHON_AGENT, compare
+
+sys.path.insert(0, os.path.dirname(PYTHON_AGENT))
 from serf_agent import switches
 
 # At least so many of 100 switches are to be found.
@@ -32,13 +34,13 @@ class Found:
     """What came of a switch: the seed that finds it, or None; the report; how many calls are left, or None."""
 
     def __init__(self, name, seeds, path):
-        agent = [sys.executable, conform.AGENT, "--wrong", name]
-        status, self.report = conform.compare(["--random", seeds, "--shrink", "--save", path], agent)
+        agent = [sys.executable, PYTHON_AGENT, "--wrong", name]
+        status, self.report = compare(["--random", seeds, "--shrink", "--save", path], agent, checks.COMMAND)
         seed = re.match(r"seed (\d+): ", self.report)
         self.seed = int(seed.group(1)) if status in (1, 3) and seed else None
         left = re.search(r"^shrunk to (\d+) of ", self.report, re.M)
         self.calls = int(left.group(1)) if left else None
-        self.again = left is None or conform.compare([path], agent)[0] == 1
+        self.again = left is None or compare([path], agent, checks.COMMAND)[0] == 1
 
     def said(self):
         if self.seed is None:

@@ -20,8 +20,8 @@ import (
 	"github.com/hashicorp/memberlist"
 	"github.com/hashicorp/serf/serf"
 
-	"serf_agent/bindings/go/serfagent"
-	"serf_agent/bindings/go/serfdelegate"
+	"kitchenrue.example/serfagent"
+	"kitchenrue.example/serfdelegate"
 )
 
 const firstPort = 17946

@@ -12,7 +12,7 @@ import (
 	"os"
 	"path/filepath"
 
-	"serf_agent/bindings/go/serfagent"
+	"kitchenrue.example/serfagent"
 )
 
 type node struct {

@@ -4,13 +4,14 @@
 // agent is closed: open it again on the file. One call at a time is let through, from whichever goroutine. Moments are
 // nanoseconds of one clock that never goes back.
 //
-// The library is proved; this package is tested. It links bindings/c/serf_agent_heap.c and the static library of a
-// release's lib, or of crates/serf_agent_c/out; CGO_LDFLAGS may name another one in front.
+// The library is proved; this package is tested. It is for Linux on x86-64, and needs cgo. The header and the library's calls
+// for memory stand in its folder, and a release has the library libserf_agent_c.a there too. A clone of the repository links
+// the one that is made in crates/serf_agent_c/out; CGO_LDFLAGS=-L.. names another folder in front.
 package serfagent
 
 /*
-#cgo CFLAGS: -I${SRCDIR}/../../../include
-#cgo LDFLAGS: -L${SRCDIR}/../../../lib -L${SRCDIR}/../../../crates/serf_agent_c/out -lserf_agent_c
+#cgo CFLAGS: -I${SRCDIR}
+#cgo LDFLAGS: -L${SRCDIR} -L${SRCDIR}/../../../crates/serf_agent_c/out -lserf_agent_c
 #include "serf_agent.h"
 #include <stdlib.h>
 */
@@ -19,6 +20,7 @@ import "C"
 import (
 	"runtime"
 	"sync"
+	"sync/atomic"
 	"unsafe"
 )
 
@@ -29,6 +31,10 @@ type Agent struct {
 	store  *Store
 	// whether a call that failed may have left filters, or members, which the next one would take
 	staleFilters, staleMembers bool
+	// the calls of bursts whose outcomes nobody has read yet
+	unread []burstCall
+	// how often the file was flushed
+	flushes atomic.Uint64
 }
 
 var nothing [1]byte
@@ -76,6 +82,7 @@ func (a *Agent) Close() error {
 	a.mu.Lock()
 	defer a.mu.Unlock()
 	C.serf_agent_close(a.handle)
+	a.unread = nil
 	return a.store.Close()
 }
 
@@ -100,14 +107,19 @@ func (a *Agent) settled(code C.uint32_t) error {
 	}
 	if err != nil {
 		C.serf_agent_close(a.handle)
+		a.unread = nil
 		a.store.Close()
 		return err
 	}
+	a.flushes.Add(1)
 	if err := refused(C.serf_agent_written(a.handle)); err != nil {
 		return err
 	}
 	return refused(code)
 }
+
+// Flushes is how often the file was flushed, or replaced, since the agent was opened. It waits for no call.
+func (a *Agent) Flushes() uint64 { return a.flushes.Load() }
 
 func (a *Agent) gave() (C.struct_serf_agent_gave, error) {
 	var gave C.struct_serf_agent_gave
@@ -189,6 +201,11 @@ func (a *Agent) Receive(now uint64, packet []byte) (*Received, error) {
 	if err := a.settled(C.serf_agent_receive(a.handle, C.uint64_t(now), ptr(packet), size(packet))); err != nil {
 		return nil, err
 	}
+	return a.received(packet)
+}
+
+// received gives what came of a packet.
+func (a *Agent) received(packet []byte) (*Received, error) {
 	gave, err := a.gave()
 	if err != nil {
 		return nil, err
@@ -218,6 +235,11 @@ func (a *Agent) Fire(name, payload []byte, coalesce bool) (*Event, []byte, error
 	if err := a.settled(C.serf_agent_fire(a.handle, ptr(name), size(name), ptr(payload), size(payload), C.bool(coalesce))); err != nil {
 		return nil, nil, err
 	}
+	return a.fired()
+}
+
+// fired gives what a firing gave.
+func (a *Agent) fired() (*Event, []byte, error) {
 	event, err := a.event(0)
 	if err != nil {
 		return nil, nil, err
@@ -330,15 +352,25 @@ func (a *Agent) Query(now uint64, id uint32, name, payload []byte, params QueryP
 			return nil, err
 		}
 	}
-	how := C.struct_serf_agent_params{
-		timeout: C.int64_t(params.Timeout), port: C.uint16_t(params.Port), relay_factor: C.uint8_t(params.RelayFactor),
-		want_ack: C.bool(params.WantAck), no_broadcast: C.bool(params.NoBroadcast),
-	}
+	how := params.inC()
 	if err := a.settled(C.serf_agent_query(a.handle, C.uint64_t(now), C.uint32_t(id), ptr(name), size(name), ptr(payload), size(payload),
 		ptr(params.Addr), size(params.Addr), &how)); err != nil {
 		return nil, err
 	}
 	a.staleFilters = false
+	return a.asked()
+}
+
+// inC is how a query is fired, in C.
+func (params *QueryParams) inC() C.struct_serf_agent_params {
+	return C.struct_serf_agent_params{
+		timeout: C.int64_t(params.Timeout), port: C.uint16_t(params.Port), relay_factor: C.uint8_t(params.RelayFactor),
+		want_ack: C.bool(params.WantAck), no_broadcast: C.bool(params.NoBroadcast),
+	}
+}
+
+// asked gives what a query gave.
+func (a *Agent) asked() (*Asked, error) {
 	gave, err := a.gave()
 	if err != nil {
 		return nil, err

@@ -1,24 +1,27 @@
 // Package serfdelegate lets a proved agent join a Serf cluster: it is a delegate for HashiCorp's memberlist.
 //
-// Packets are taken by one goroutine, and handlers run on another, one after another in the order in which the agent handed
-// out. Each runs behind the flush of its line, so it runs once at most, and perhaps not at all where the process ends.
+// Packets are taken by one goroutine, as many as wait behind one flush (Burst at most). Handlers run on another goroutine, one
+// after another in the order in which the agent handed out. Each runs behind the flush of its line, so it runs once at most,
+// and perhaps not at all where the process ends.
 //
 // What memberlist calls takes no lock that is held while the file is flushed: packets and states wait in queues, and the state
 // that is sent is the agent's last where the agent is busy.
+//
+// A handler may call every method but Close, which waits for the handlers.
 package serfdelegate
 
 import (
 	"errors"
-	"fmt"
 	"math/rand"
 	"net"
+	"strings"
 	"sync"
 	"sync/atomic"
 	"time"
 
 	"github.com/hashicorp/memberlist"
 
-	"serf_agent/bindings/go/serfagent"
+	"kitchenrue.example/serfagent"
 )
 
 var (
@@ -35,6 +38,9 @@ const stateWait = 10 * time.Millisecond
 type Handlers struct {
 	Event func(*serfagent.Event)
 	Query func(*serfagent.Handed)
+	// Internal gets the queries that Serf's agents ask among themselves, of keys too: those whose names begin with _serf_. Query
+	// doesn't get them. Where it is nil they are acked, where an ack is asked for, and nobody answers them.
+	Internal func(*serfagent.Handed)
 	// Answer gets each ack and each response that was counted of a query of this node.
 	Answer func(kind serfagent.Kind, answer *serfagent.Answer)
 	// Closed gets each query of this node whose time is over, with its answers.
@@ -42,17 +48,6 @@ type Handlers struct {
 	// Fault gets what went wrong with the file or the network. After a fault of the file the agent is closed, and nothing more
 	// is taken. Packets and states that were dropped are counted, and told once a second at most.
 	Fault func(error)
-}
-
-// agent is what the delegate needs of a *serfagent.Agent.
-type agent interface {
-	Receive(now uint64, packet []byte) (*serfagent.Received, error)
-	Merge(packet []byte, isJoin bool) ([]*serfagent.Event, error)
-	LocalState(statuses []serfagent.Status, left []string) ([]byte, error)
-	Fire(name, payload []byte, coalesce bool) (*serfagent.Event, []byte, error)
-	Query(now uint64, id uint32, name, payload []byte, params serfagent.QueryParams) (*serfagent.Asked, error)
-	Respond(now, number uint64, payload []byte) ([]byte, error)
-	CloseDue(now uint64) ([]*serfagent.Closed, error)
 }
 
 // Delegate is a memberlist.Delegate.
@@ -65,9 +60,10 @@ type Delegate struct {
 	work     *works
 	ended    chan struct{}
 
-	// What came of the network, and how much of it, or for it, was dropped and isn't told yet.
+	// What came of the network; how much of it, or for it, was dropped, and how much of that was told; bursts and their packets.
 	packets, states *queue
-	dropped         atomic.Int64
+	dropped, told   atomic.Uint64
+	bursts, taken   atomic.Uint64
 	// isDeaf: the agent is closed, and nothing is taken any more.
 	isDeaf atomic.Bool
 
@@ -90,7 +86,7 @@ var _ memberlist.Delegate = &Delegate{}
 
 // Create makes a member of this configuration whose delegate is an agent. It joins nobody yet.
 func Create(config *memberlist.Config, agent *serfagent.Agent, handlers Handlers) (*Delegate, error) {
-	return create(config, agent, handlers)
+	return create(config, proved{agent}, handlers)
 }
 
 func create(config *memberlist.Config, agent agent, handlers Handlers) (*Delegate, error) {
@@ -121,8 +117,8 @@ func create(config *memberlist.Config, agent agent, handlers Handlers) (*Delegat
 // List is the member.
 func (d *Delegate) List() *memberlist.Memberlist { return d.list.Load() }
 
-// Shutdown leaves the network at once, without a word to the others, and lets the handlers that wait run. The agent stays
-// open. A second one does nothing.
+// Shutdown leaves the network at once, without a word to the others, and lets the handlers that wait run (Close waits for
+// them). The agent stays open. A second one does nothing.
 func (d *Delegate) Shutdown() error {
 	err := d.List().Shutdown()
 	d.order.Lock()
@@ -184,9 +180,19 @@ func (d *Delegate) hand(events ...*serfagent.Event) {
 	}
 }
 
+// internalPrefix begins the names of the queries that Serf's agents ask among themselves.
+const internalPrefix = "_serf_"
+
 func (d *Delegate) handQuery(query *serfagent.Handed) {
-	if query != nil && d.handlers.Query != nil {
-		d.work.add(func() { d.handlers.Query(query) })
+	if query == nil {
+		return
+	}
+	handle := d.handlers.Query
+	if strings.HasPrefix(string(query.Name), internalPrefix) {
+		handle = d.handlers.Internal
+	}
+	if handle != nil {
+		d.work.add(func() { handle(query) })
 	}
 }
 
@@ -204,103 +210,14 @@ func (d *Delegate) send(query *serfagent.Handed, packet []byte) error {
 }
 
 // gossip queues a packet for broadcast. Where too many wait, those that were sent most often are dropped.
-func (d *Delegate) gossip(packet []byte) {
+func (d *Delegate) gossip(packet memberlist.Broadcast) {
 	d.gossiping.Lock()
 	defer d.gossiping.Unlock()
-	d.queue.QueueBroadcast(broadcast(packet))
+	d.queue.QueueBroadcast(packet)
 	if over := d.queue.NumQueued() - Waiting; over > 0 {
 		d.queue.Prune(Waiting)
-		d.dropped.Add(int64(over))
+		d.dropped.Add(uint64(over))
 	}
-}
-
-// isClosed says whether this error means that the agent is closed: its file failed, or somebody closed it.
-func isClosed(err error) bool {
-	var code serfagent.Code
-	return err != nil && (!errors.As(err, &code) || code == serfagent.Empty)
-}
-
-// take takes the packets one after another, merges states, and closes the queries whose time is over, while there is room for
-// what that hands out.
-func (d *Delegate) take() {
-	second := time.NewTicker(time.Second)
-	defer second.Stop()
-	for d.work.waitForRoom() {
-		var err error
-		select {
-		case <-d.ended:
-			return
-		case <-d.packets.came:
-			err = d.takePacket()
-		case <-d.states.came:
-			err = d.inOrder(func() error { return nil })
-		case <-second.C:
-			d.tellDropped()
-			err = d.closeDue()
-		}
-		if err == ErrShutdown {
-			return
-		}
-		// (the network brings packets that are no messages)
-		if err != serfagent.NoMessage {
-			d.fault(err)
-		}
-		if isClosed(err) {
-			d.isDeaf.Store(true)
-			return
-		}
-	}
-}
-
-func (d *Delegate) takePacket() error {
-	packet, is := d.packets.next()
-	if !is {
-		return nil
-	}
-	var received *serfagent.Received
-	err := d.inOrder(func() (err error) {
-		if received, err = d.agent.Receive(d.now(), packet.data); err != nil {
-			return err
-		}
-		d.hand(received.Event)
-		d.handQuery(received.Query)
-		if received.Answer != nil && d.handlers.Answer != nil {
-			d.work.add(func() { d.handlers.Answer(received.Kind, received.Answer) })
-		}
-		return nil
-	})
-	if err != nil {
-		return err
-	}
-	d.sendAck(received.Query, received.Ack)
-	if received.Rebroadcast {
-		d.gossip(packet.data)
-	}
-	return nil
-}
-
-func (d *Delegate) closeDue() error {
-	return d.inOrder(func() error {
-		all, err := d.agent.CloseDue(d.now())
-		for _, closed := range all {
-			if closed := closed; d.handlers.Closed != nil {
-				d.work.add(func() { d.handlers.Closed(closed) })
-			}
-		}
-		return err
-	})
-}
-
-// tellDropped tells how much was dropped since the last time, and why memberlist got no new state.
-func (d *Delegate) tellDropped() {
-	if count := d.dropped.Swap(0); count > 0 {
-		d.fault(fmt.Errorf("serfdelegate: %d packets or states were dropped, since too many wait", count))
-	}
-	d.made.Lock()
-	fault := d.stateFault
-	d.stateFault = nil
-	d.made.Unlock()
-	d.fault(fault)
 }
 
 // Fire fires an event in the whole cluster: its time. It comes behind the states that memberlist brought before.
@@ -318,7 +235,7 @@ func (d *Delegate) Fire(name string, payload []byte, coalesce bool) (uint64, err
 	if err != nil {
 		return 0, err
 	}
-	d.gossip(packet)
+	d.gossip(broadcast(packet))
 	return event.Time, nil
 }
 
@@ -340,7 +257,7 @@ func (d *Delegate) Query(name string, payload []byte, timeout time.Duration, wan
 		return err
 	}
 	d.sendAck(asked.Query, asked.Ack)
-	d.gossip(asked.Packet)
+	d.gossip(broadcast(asked.Packet))
 	return nil
 }
 

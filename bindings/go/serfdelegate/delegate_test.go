@@ -11,7 +11,7 @@ import (
 
 	"github.com/hashicorp/memberlist"
 
-	"serf_agent/bindings/go/serfagent"
+	"kitchenrue.example/serfagent"
 )
 
 func TestASecondShutdownDoesNothing(t *testing.T) {
@@ -79,15 +79,13 @@ func TestABusyHandlerLetsNothingGrow(t *testing.T) {
 			t.Fatalf("asked: %v", err)
 		}
 	}
-	d.work.mu.Lock()
-	handlers := len(d.work.waiting)
-	d.work.mu.Unlock()
-	// (a call may bring two events, where there was room for one)
-	if handlers > Waiting+2 || size(d.packets) > Waiting || size(d.states) > Waiting {
-		t.Errorf("%d handlers, %d packets and %d states wait", handlers, size(d.packets), size(d.states))
+	handlers := d.Stats().Handlers
+	// (where there is room for one, a state brings two events, and a burst one for each packet)
+	if handlers > Waiting+2+Burst || d.packets.size() > Waiting || d.states.size() > Waiting {
+		t.Errorf("%d handlers, %d packets and %d states wait", handlers, d.packets.size(), d.states.size())
 	}
 	close(busy)
-	eventually(t, "all is taken", func() bool { return size(d.packets) == 0 && size(d.states) == 0 })
+	eventually(t, "all is taken", func() bool { return d.packets.size() == 0 && d.states.size() == 0 })
 	eventually(t, "all handlers ran", func() bool { return reflect.DeepEqual(ran.all(), agent.all()) })
 	eventually(t, "what was dropped is told", func() bool { return len(ran.faults()) > 0 })
 }
@@ -164,7 +162,7 @@ func TestABroadcastIsUnique(t *testing.T) {
 func TestAnAgentThatIsClosedIsToldOnce(t *testing.T) {
 	t.Parallel()
 	agent, told := open(t), &heard{}
-	d := start(t, agent, Handlers{Fault: told.fault})
+	d := start(t, proved{agent}, Handlers{Fault: told.fault})
 	agent.Close()
 	if len(d.LocalState(false)) == 0 {
 		t.Error("no state, where one was made before")
@@ -178,7 +176,7 @@ func TestAnAgentThatIsClosedIsToldOnce(t *testing.T) {
 	if faults := told.faults(); len(faults) != 1 || faults[0] != serfagent.Empty {
 		t.Error(faults)
 	}
-	if size(d.packets) > 0 || size(d.states) > 0 {
+	if d.packets.size() > 0 || d.states.size() > 0 {
 		t.Error("packets wait for an agent that is closed")
 	}
 }
@@ -258,11 +256,15 @@ func (s *slow) Query(now uint64, id uint32, name, payload []byte, params serfage
 	return asked, err
 }
 
-func (s *slow) Receive(now uint64, packet []byte) (*serfagent.Received, error) {
+func (s *slow) ReceiveAll(now uint64, packets [][]byte) ([]serfagent.Outcome, error) {
 	s.mu.Lock()
-	received, err := s.Agent.Receive(now, packet)
-	s.did("query %d", received.Query.Time)
-	return received, err
+	outcomes, err := proved{s.Agent}.ReceiveAll(now, packets)
+	last := len(outcomes) - 1
+	for _, outcome := range outcomes[:last] {
+		s.said.add(fmt.Sprintf("query %d", outcome.Received.Query.Time))
+	}
+	s.did("query %d", outcomes[last].Received.Query.Time)
+	return outcomes, err
 }
 
 func (s *slow) CloseDue(now uint64) ([]*serfagent.Closed, error) {
@@ -376,7 +378,7 @@ func TestMemberlistNeverWaitsForTheDisk(t *testing.T) {
 func TestAStateIsTheAgentsOwn(t *testing.T) {
 	t.Parallel()
 	agent := open(t)
-	d := start(t, agent, Handlers{})
+	d := start(t, proved{agent}, Handlers{})
 	if _, _, err := agent.Fire([]byte("x"), nil, false); err != nil {
 		t.Fatal(err)
 	}

@@ -8,7 +8,7 @@ import (
 
 	"github.com/hashicorp/memberlist"
 
-	"serf_agent/bindings/go/serfagent"
+	"kitchenrue.example/serfagent"
 )
 
 // fake is an agent without a file: each packet and each firing is a new event, and each query is handed out.
@@ -16,10 +16,12 @@ type fake struct {
 	mu    sync.Mutex
 	time  uint64
 	calls []string
-	// What Receive and Merge answer, where it isn't nil.
+	// How many packets each burst had.
+	bursts []int
+	// What ReceiveAll and Merge answer, where it isn't nil.
 	receive error
 	merge   error
-	// Where it isn't nil, Receive holds the agent until it is closed, as one does that waits for a disk.
+	// Where it isn't nil, ReceiveAll holds the agent until it is closed, as one does that waits for a disk.
 	flush chan struct{}
 }
 
@@ -44,17 +46,26 @@ func (f *fake) isBusy() bool {
 	return true
 }
 
-func (f *fake) Receive(_ uint64, packet []byte) (*serfagent.Received, error) {
+func (f *fake) ReceiveAll(_ uint64, packets [][]byte) (outcomes []serfagent.Outcome, err error) {
 	f.mu.Lock()
 	defer f.mu.Unlock()
-	event := f.called("receive")
 	if f.flush != nil {
 		<-f.flush
 	}
-	if f.receive != nil {
-		return nil, f.receive
+	f.bursts = append(f.bursts, len(packets))
+	for _, packet := range packets {
+		if string(packet) == "no message" {
+			outcomes = append(outcomes, serfagent.Outcome{Err: serfagent.NoMessage})
+			continue
+		}
+		event := f.called("receive")
+		if f.receive != nil {
+			return outcomes, f.receive
+		}
+		event.Payload = packet
+		outcomes = append(outcomes, serfagent.Outcome{Received: &serfagent.Received{Kind: serfagent.NewEvent, Event: event}})
 	}
-	return &serfagent.Received{Kind: serfagent.NewEvent, Event: event}, nil
+	return outcomes, nil
 }
 
 // Merge gives two events.
@@ -85,14 +96,35 @@ func (f *fake) Query(_ uint64, id uint32, _, _ []byte, _ serfagent.QueryParams) 
 
 func (f *fake) Respond(uint64, uint64, []byte) ([]byte, error) { return nil, serfagent.NotHanded }
 
+func (f *fake) Clocks() (serfagent.Clocks, error) { return serfagent.Clocks{Member: 7}, nil }
+
+func (f *fake) SaveMemberClock() error {
+	f.mu.Lock()
+	defer f.mu.Unlock()
+	f.called("save")
+	return nil
+}
+
+func (f *fake) Flushes() uint64 { return 0 }
+
 func (f *fake) CloseDue(uint64) ([]*serfagent.Closed, error) { return nil, nil }
 
 // start makes a member that nobody joins.
 func start(t *testing.T, agent agent, handlers Handlers) *Delegate {
 	t.Helper()
+	return startWith(t, configOf(t.Name(), io.Discard), agent, handlers)
+}
+
+// configOf is the configuration of a member on a free port of the loopback address.
+func configOf(name string, log io.Writer) *memberlist.Config {
 	config := memberlist.DefaultLocalConfig()
-	config.Name, config.BindAddr, config.BindPort, config.AdvertisePort = t.Name(), "127.0.0.1", 0, 0
-	config.LogOutput = io.Discard
+	config.Name, config.BindAddr, config.BindPort, config.AdvertisePort = name, "127.0.0.1", 0, 0
+	config.LogOutput = log
+	return config
+}
+
+func startWith(t *testing.T, config *memberlist.Config, agent agent, handlers Handlers) *Delegate {
+	t.Helper()
 	d, err := create(config, agent, handlers)
 	if err != nil {
 		t.Fatal(err)
@@ -112,17 +144,10 @@ func open(t *testing.T) *serfagent.Agent {
 	return agent
 }
 
-// size is how many pieces wait.
-func size(q *queue) int {
-	q.mu.Lock()
-	defer q.mu.Unlock()
-	return len(q.pieces)
-}
-
 // eventually waits until this holds.
 func eventually(t *testing.T, what string, holds func() bool) {
 	t.Helper()
-	for i := 0; i < 1000; i++ {
+	for i := 0; i < 6000; i++ {
 		if holds() {
 			return
 		}

@@ -56,6 +56,25 @@ func (q *queue) next() (piece, bool) {
 	return first, true
 }
 
+// first takes the first packets, so many at most.
+func (q *queue) first(count int) (packets [][]byte) {
+	for len(packets) < count {
+		packet, is := q.next()
+		if !is {
+			break
+		}
+		packets = append(packets, packet.data)
+	}
+	return packets
+}
+
+// size is how many wait.
+func (q *queue) size() int {
+	q.mu.Lock()
+	defer q.mu.Unlock()
+	return len(q.pieces)
+}
+
 func (q *queue) tell() {
 	if len(q.pieces) > 0 {
 		select {
@@ -71,10 +90,12 @@ type works struct {
 	changed *sync.Cond
 	waiting []func()
 	isOver  bool
+	// ran is closed when the last has run, behind the end.
+	ran chan struct{}
 }
 
 func newWorks() *works {
-	w := &works{}
+	w := &works{ran: make(chan struct{})}
 	w.changed = sync.NewCond(&w.mu)
 	return w
 }
@@ -86,11 +107,14 @@ func (w *works) add(work func()) {
 	w.changed.Broadcast()
 }
 
-func (w *works) isFull() bool {
+// size is how many wait.
+func (w *works) size() int {
 	w.mu.Lock()
 	defer w.mu.Unlock()
-	return len(w.waiting) >= Waiting
+	return len(w.waiting)
 }
+
+func (w *works) isFull() bool { return w.size() >= Waiting }
 
 // waitForRoom waits while there is none; false where the end came.
 func (w *works) waitForRoom() bool {
@@ -129,6 +153,7 @@ func (w *works) next() (func(), bool) {
 
 // run runs them until the end, and then those that wait still.
 func (w *works) run() {
+	defer close(w.ran)
 	for {
 		work, more := w.next()
 		if !more {

@@ -1,4 +1,4 @@
-// Calls that may run out of memory, as tests/embed/starved_driver.c says.
+// Calls that may run out of memory, as tests/library/embed/starved_driver.c says.
 package main
 
 import (
@@ -7,7 +7,7 @@ import (
 	"os"
 	"path/filepath"
 
-	"serf_agent/bindings/go/serfagent"
+	"kitchenrue.example/serfagent"
 )
 
 func check(err error) {

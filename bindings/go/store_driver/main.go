@@ -1,4 +1,4 @@
-// The store, driven by lines, as tests/embed/store_driver.c says.
+// The store, driven by lines, as tests/library/embed/store_driver.c says.
 package main
 
 import (
@@ -11,7 +11,7 @@ import (
 	"strings"
 	"syscall"
 
-	"serf_agent/bindings/go/serfagent"
+	"kitchenrue.example/serfagent"
 )
 
 var names = map[error]string{

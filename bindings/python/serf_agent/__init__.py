@@ -1,9 +1,12 @@
 """The proved Serf agent, by ctypes: ``Agent`` over a snapshot's file. docs/EMBEDDING.md says what to call when."""
 
-from .agent import Agent, AgentError, Answer, Asked, Clocks, Closed, Event, Fired, Forked, Handed, Received, Settings
+from .agent import Agent, Answer, Asked, Clocks, Closed, Event, Fired, Forked, Handed, Received, Settings
+from .burst import Burst
 from .fault import PacketFault, packet_fault
-from .library import Code, DEFAULT_SNAPSHOT_LIMIT, Fault, Kind, Library, Reason
+from .library import AgentError, Code, DEFAULT_SNAPSHOT_LIMIT, Fault, Kind, Library, NotLoaded, Reason
 from .store import Broken, Full, Locked, MissingFolder, NotAFile, ReadOnly, Store, StoreError
+
+__version__ = "0.1.0"
 
 __all__ = [
     "Agent",
@@ -11,6 +14,7 @@ __all__ = [
     "Answer",
     "Asked",
     "Broken",
+    "Burst",
     "Clocks",
     "Closed",
     "Code",
@@ -26,6 +30,7 @@ __all__ = [
     "Locked",
     "MissingFolder",
     "NotAFile",
+    "NotLoaded",
     "PacketFault",
     "ReadOnly",
     "Reason",

@@ -1,29 +1,18 @@
 """An agent over the library and a snapshot's file."""
 
+import collections
 import contextlib
 import ctypes
 import os
 import threading
 import weakref
 from dataclasses import dataclass
-from typing import Optional, Tuple
+from typing import Iterable, Iterator, List, Optional, Tuple, Union
 
-from .checks import flag, integer, texts
-from .library import CAnswer, CBytes, CClocks, CClosed, CEvent, CGave, CHanded, Code, CParams, CResponse, CSettings, DEFAULT_SNAPSHOT_LIMIT, Handle, Kind, Library, Reason
-from .store import Store
-
-
-class AgentError(Exception):
-    """A call was refused, with this code. It has changed nothing, but that a merge without memory keeps what it took.
-
-    ``events`` has what such a merge took: run their handlers, since no later merge hands them out again. Of a packet with
-    ``Code.NO_MESSAGE``, ``packet_fault`` says why.
-    """
-
-    def __init__(self, code, events=()):
-        super().__init__(Code(code).name)
-        self.code = Code(code)
-        self.events = tuple(events)
+from .burst import Burst, c_params
+from .checks import Buffer, flag, integer, texts
+from .library import AgentError, CAnswer, CBytes, CClocks, CClosed, CEvent, CGave, CHanded, Code, CParams, CResponse, CSettings, DEFAULT_SNAPSHOT_LIMIT, Handle, Kind, Library, Reason
+from .store import Path, Store
 
 
 class Forked(RuntimeError):
@@ -122,6 +111,8 @@ class Closed:
 
 @dataclass(frozen=True)
 class Clocks:
+    """The agent's clocks, and the least times of events and queries that it takes."""
+
     member: int
     event: int
     query: int
@@ -129,12 +120,12 @@ class Clocks:
     query_minimum: int
 
 
-def c_settings(settings):
+def c_settings(settings: Settings) -> CSettings:
     """An agent's settings in C."""
     return CSettings(*((flag if kind is ctypes.c_bool else integer)(field, getattr(settings, field)) for field, kind in CSettings._fields_))
 
 
-def let_go(library, handle, store):
+def let_go(library: Library, handle: Handle, store: Store) -> None:
     """Frees an agent and its file."""
     library.close(handle)
     store.close()
@@ -152,7 +143,7 @@ class Agent:
     by ``TypeError``. ``AgentError`` with the code says why the library refused a call. None of these has changed anything.
     """
 
-    def __init__(self, name, path, settings=Settings(), library=None):
+    def __init__(self, name: Buffer, path: Path, settings: Settings = Settings(), library: Optional[Library] = None) -> None:
         words, values = texts(name), c_settings(settings)
         self._library = library or Library()
         self._lock = threading.RLock()
@@ -161,6 +152,8 @@ class Agent:
         self._handle = Handle()
         # whether a call that failed may have left filters, or members, which the next one would take
         self._stale_filters = self._stale_members = False
+        # the calls of bursts whose outcomes nobody has read yet
+        self._unread = collections.deque()
         self._store = Store(path)
         self._let_go = weakref.finalize(self, let_go, self._library, self._handle, self._store)
         try:
@@ -169,32 +162,33 @@ class Agent:
             self.close()
             raise
 
-    def __enter__(self):
+    def __enter__(self) -> "Agent":
         return self
 
-    def __exit__(self, *_):
+    def __exit__(self, *_: object) -> None:
         self.close()
 
-    def close(self):
+    def close(self) -> None:
         """Closes the agent and its file. One that is closed stays so; its calls raise ``AgentError`` with ``EMPTY``."""
         if os.getpid() != self._process:
             # a thread that isn't here may have had the lock
             self._let_go()
             return
         with self._lock:
+            self._unread.clear()
             self._let_go()
 
     # What every call goes through.
 
     @contextlib.contextmanager
-    def _alone(self):
+    def _alone(self) -> Iterator[None]:
         """One call at a time, in the agent's own process."""
         if os.getpid() != self._process:
             raise Forked("the agent is of another process, which forked this one")
         with self._lock:
             yield
 
-    def _moment(self, now):
+    def _moment(self, now: int) -> int:
         """A moment that is not before the last one of this thread."""
         found, last = integer("now", now), getattr(self._last, "now", 0)
         if found < last:
@@ -202,19 +196,19 @@ class Agent:
         self._last.now = found
         return found
 
-    def _call(self, name, *words):
+    def _call(self, name: str, *words: object) -> None:
         code = getattr(self._library, name)(self._handle, *words)
         if code != Code.OK:
             raise AgentError(code)
 
-    def _do(self, name, *words):
+    def _do(self, name: str, *words: object) -> None:
         """Does a call and brings what it wrote to the file, also where the call was refused."""
         try:
             self._call(name, *words)
         finally:
             self._settle()
 
-    def _forget(self, name, *words):
+    def _forget(self, name: str, *words: object) -> None:
         """Forgets what was added for a call that failed, by one that changes nothing and whose answer nobody wants."""
         try:
             self._call(name, *words)
@@ -222,7 +216,13 @@ class Agent:
             if error.code is Code.OUT_OF_MEMORY:
                 raise
 
-    def _settle(self):
+    def _forget_filters(self) -> None:
+        """Forgets the filters of a query that failed, by one of no time, which is never fired."""
+        if self._stale_filters:
+            self._forget("query", 0, 0, *texts(b"", b"", b""), CParams())
+            self._stale_filters = False
+
+    def _settle(self) -> None:
         about = CBytes()
         if self._library.unwritten(self._handle, about, None, 0) != Code.OK or not (about.len or about.replaces):
             return
@@ -237,24 +237,24 @@ class Agent:
 
     # Reading what a call gave.
 
-    def _gave(self):
+    def _gave(self) -> CGave:
         gave = CGave()
         self._call("gave", gave)
         return gave
 
-    def _event(self, index):
+    def _event(self, index: int) -> Event:
         about = CEvent()
         self._call("event", index, about, None, 0, None, 0)
         name, payload = (ctypes.create_string_buffer(length) for length in (about.name_len, about.payload_len))
         self._call("event", index, about, name, len(name), payload, len(payload))
         return Event(about.time, name.raw, payload.raw, about.coalesce)
 
-    def _merged(self):
+    def _merged(self) -> List[Event]:
         """The events that a merge took, in order. One that didn't begin gave nothing, and what came before it stands."""
         gave = self._gave()
         return [self._event(index) for index in range(gave.events)] if gave.kind == Kind.MERGED else []
 
-    def _answer(self, packet):
+    def _answer(self, packet: Buffer) -> Answer:
         """What an ack's or a response's packet says."""
         about = CAnswer()
         self._library.answer(*texts(packet), about, None, 0, None, 0)
@@ -262,7 +262,7 @@ class Agent:
         self._library.answer(*texts(packet), about, sender, len(sender), payload, len(payload))
         return Answer(about.time, about.id, sender.raw, payload.raw)
 
-    def _packet(self, name="packet"):
+    def _packet(self, name: str = "packet") -> Optional[bytes]:
         """A packet that the call gave, or None: the message itself, or this node's own ack."""
         length = ctypes.c_size_t()
         code = getattr(self._library, name)(self._handle, length, None, 0)
@@ -274,7 +274,7 @@ class Agent:
         self._call(name, length, packet, len(packet))
         return packet.raw
 
-    def _handed(self, number):
+    def _handed(self, number: int) -> Handed:
         """A query that was handed out and isn't answered yet."""
         about = CHanded()
         self._call("handed", number, about, *[None, 0] * 4)
@@ -283,21 +283,21 @@ class Agent:
         name, payload, source, addr = (text.raw for text in found)
         return Handed(number, about.time, about.id, name, payload, source, addr, about.port, about.relay_factor, about.deadline)
 
-    def _closed_ack(self, index, number):
+    def _closed_ack(self, index: int, number: int) -> bytes:
         length = ctypes.c_size_t()
         self._call("closed_ack", index, number, length, None, 0)
         name = ctypes.create_string_buffer(length.value)
         self._call("closed_ack", index, number, length, name, len(name))
         return name.raw
 
-    def _closed_response(self, index, number):
+    def _closed_response(self, index: int, number: int) -> Tuple[bytes, bytes]:
         about = CResponse()
         self._call("closed_response", index, number, about, None, 0, None, 0)
         sender, payload = (ctypes.create_string_buffer(length) for length in (about.from_len, about.payload_len))
         self._call("closed_response", index, number, about, sender, len(sender), payload, len(payload))
         return sender.raw, payload.raw
 
-    def _closed(self, index):
+    def _closed(self, index: int) -> Closed:
         """A query that the call closed, with its answers."""
         about = CClosed()
         self._call("closed", index, about)
@@ -305,26 +305,39 @@ class Agent:
         responses = tuple(Answer(about.time, about.id, *self._closed_response(index, number)) for number in range(about.responses))
         return Closed(about.time, about.id, about.deadline, acks, responses)
 
+    def _received(self, packet: Buffer) -> "Received":
+        """What came of a packet."""
+        gave = self._gave()
+        event = self._event(0) if gave.events else None
+        query = self._handed(gave.handed) if gave.handed else None
+        ack = self._packet("ack")
+        answer = self._answer(packet) if gave.kind in (Kind.ACK, Kind.RESPONSE) else None
+        return Received(Kind(gave.kind), Reason(gave.reason), event, query, ack, gave.rebroadcast, gave.foreign, answer)
+
+    def _fired(self) -> "Fired":
+        """What a firing gave."""
+        return Fired(self._event(0), self._packet())
+
+    def _asked(self) -> "Asked":
+        """What a query gave."""
+        handed = self._gave().handed
+        return Asked(self._packet(), self._handed(handed) if handed else None, self._packet("ack"))
+
     # Calls.
 
-    def receive(self, now, packet):
+    def receive(self, now: int, packet: Buffer) -> Received:
         """Takes a packet of the network: ``Received``."""
         with self._alone():
             self._do("receive", self._moment(now), *texts(packet))
-            gave = self._gave()
-            event = self._event(0) if gave.events else None
-            query = self._handed(gave.handed) if gave.handed else None
-            ack = self._packet("ack")
-            answer = self._answer(packet) if gave.kind in (Kind.ACK, Kind.RESPONSE) else None
-            return Received(Kind(gave.kind), Reason(gave.reason), event, query, ack, gave.rebroadcast, gave.foreign, answer)
+            return self._received(packet)
 
-    def fire(self, name, payload=b"", coalesce=False):
+    def fire(self, name: Buffer, payload: Buffer = b"", coalesce: bool = False) -> Fired:
         """Fires an event: ``Fired``."""
         with self._alone():
             self._do("fire", *texts(name, payload), flag("coalesce", coalesce))
-            return Fired(self._event(0), self._packet())
+            return self._fired()
 
-    def merge(self, packet, join=False):
+    def merge(self, packet: Buffer, join: bool = False) -> List[Event]:
         """Merges another agent's whole state: the events that are handed out, in order. ``join`` where it is of a join.
 
         Where it ends for want of memory (``AgentError`` with ``OUT_OF_MEMORY``), the events that entered before are in the
@@ -339,7 +352,7 @@ class Agent:
                 raise
             return self._merged()
 
-    def local_state(self, statuses=(), left=()):
+    def local_state(self, statuses: Iterable[Tuple[Buffer, int]] = (), left: Iterable[Buffer] = ()) -> bytes:
         """This agent's whole state, to send: with (name, status time) of members, and the names of those that left."""
         with self._alone():
             named = [(*texts(name), integer("the status time", time)) for name, time in statuses]
@@ -355,60 +368,85 @@ class Agent:
             self._stale_members = False
             return self._packet()
 
-    def query(self, now, id, name, payload=b"", timeout=0, *, filters=(), addr=b"", port=0, relay_factor=0, want_ack=False, no_broadcast=False):
+    def query(
+        self,
+        now: int,
+        id: int,
+        name: Buffer,
+        payload: Buffer = b"",
+        timeout: int = 0,
+        *,
+        filters: Iterable[Buffer] = (),
+        addr: Buffer = b"",
+        port: int = 0,
+        relay_factor: int = 0,
+        want_ack: bool = False,
+        no_broadcast: bool = False,
+    ) -> Asked:
         """Fires a query whose answers are taken for ``timeout`` nanoseconds: ``Asked``. ``id`` is a random number of 32 bits."""
         with self._alone():
             words, given = texts(name, payload, addr), [texts(one) for one in filters]
-            how = CParams(
-                integer("timeout", timeout, signed=True),
-                integer("port", port, 16),
-                integer("relay_factor", relay_factor, 8),
-                flag("want_ack", want_ack),
-                flag("no_broadcast", no_broadcast),
-            )
+            how = c_params(timeout, port, relay_factor, want_ack, no_broadcast)
             moment, id = self._moment(now), integer("id", id, 32)
-            if self._stale_filters:
-                # a query of no time is never fired
-                self._forget("query", moment, id, *texts(b"", b"", b""), CParams())
+            self._forget_filters()
             self._stale_filters = bool(given)
             for one in given:
                 self._call("add_filter", *one)
             self._do("query", moment, id, *words, how)
             self._stale_filters = False
-            handed = self._gave().handed
-            return Asked(self._packet(), self._handed(handed) if handed else None, self._packet("ack"))
+            return self._asked()
 
-    def respond(self, now, number, payload=b""):
+    def burst(self) -> Burst:
+        """A burst, whose calls are made at the end of its block, and whose lines are brought to the disk at once: ``Burst``.
+
+        ::
+
+            with agent.burst() as burst:
+                for packet in packets:
+                    burst.receive(now, packet)
+            for outcome in burst.outcomes: ...
+        """
+        return Burst(self)
+
+    def unread_outcomes(self) -> int:
+        """How many outcomes of bursts nobody has read yet: those of a ``Burst.read`` that had no memory."""
+        with self._alone():
+            found = ctypes.c_size_t()
+            self._call("outcomes", found)
+            return found.value
+
+    def respond(self, now: int, number: int, payload: Buffer = b"") -> bytes:
         """Answers a query that was handed out: the packet to send to its address and port."""
         with self._alone():
             words, which = texts(payload), integer("number", number)
             self._do("respond", self._moment(now), which, *words)
             return self._packet()
 
-    def close_due(self, now):
+    def close_due(self, now: int) -> List[Closed]:
         """Closes this agent's queries whose deadline is before ``now``: each ``Closed``, in the order in which they were fired."""
         with self._alone():
             closed = ctypes.c_size_t()
             self._do("close_due", self._moment(now), closed)
             return [self._closed(index) for index in range(closed.value)]
 
-    def save_member_clock(self):
+    def save_member_clock(self) -> None:
         """Notes the member clock, so that the next life goes on from there."""
         with self._alone():
             self._do("save_member_clock")
 
-    def compact(self):
+    def compact(self) -> None:
         """Replaces the file by one line of each clock."""
         with self._alone():
             self._do("compact")
 
-    def clocks(self):
+    def clocks(self) -> Clocks:
+        """The agent's clocks, and the least times that it takes."""
         with self._alone():
             found = CClocks()
             self._call("clocks", found)
             return Clocks(*(getattr(found, field) for field, _ in CClocks._fields_))
 
-    def next_deadline(self):
+    def next_deadline(self) -> Optional[int]:
         """The least deadline of this agent's open queries, or None."""
         with self._alone():
             found = ctypes.c_uint64()
@@ -419,14 +457,14 @@ class Agent:
                 raise AgentError(code)
             return found.value
 
-    def open_queries(self):
+    def open_queries(self) -> int:
         """How many of this agent's own queries still take answers."""
         with self._alone():
             found = ctypes.c_size_t()
             self._call("open_queries", found)
             return found.value
 
-    def should_compact(self, limit=DEFAULT_SNAPSHOT_LIMIT):
+    def should_compact(self, limit: int = DEFAULT_SNAPSHOT_LIMIT) -> bool:
         """Whether the file has more bytes than ``limit``, and ``compact`` would take away at least half of them."""
         with self._alone():
             found = ctypes.c_bool()

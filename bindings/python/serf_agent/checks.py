@@ -1,9 +1,13 @@
 """What a caller gave, looked at before ctypes sees it, which cuts a number to its field."""
 
 import operator
+from typing import Any, List, Union
+
+# What is taken as bytes.
+Buffer = Union[bytes, bytearray, memoryview]
 
 
-def integer(name, value, bits=64, signed=False):
+def integer(name: str, value: object, bits: int = 64, signed: bool = False) -> int:
     """An integer that fits into so many bits: else ``OverflowError``, and ``TypeError`` where it is none."""
     found = operator.index(value)
     least, over = (-(1 << bits - 1), 1 << bits - 1) if signed else (0, 1 << bits)
@@ -12,14 +16,14 @@ def integer(name, value, bits=64, signed=False):
     return found
 
 
-def flag(name, value):
+def flag(name: str, value: object) -> bool:
     """A ``bool``: else ``TypeError``."""
     if not isinstance(value, bool):
         raise TypeError(f"{name} has to be a bool, and is of the type {type(value).__name__}")
     return value
 
 
-def texts(*all_bytes):
+def texts(*all_bytes: object) -> List[Any]:
     """Bytes, or what is like them, as the library takes them: each with its length. Else ``TypeError``."""
     # (bytes(5) would be five zeros, and bytes([5]) one five)
     return [word for data in map(bytes, map(memoryview, all_bytes)) for word in (data, len(data))]

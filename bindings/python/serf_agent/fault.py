@@ -1,6 +1,7 @@
 """Why a packet is no message."""
 
 from dataclasses import dataclass
+from typing import Optional, Union
 
 from .library import Code, CPacketFault, Fault, Library
 
@@ -31,11 +32,11 @@ class PacketFault:
     offset: int
     byte: int
 
-    def __str__(self):
+    def __str__(self) -> str:
         return WORDS[self.kind].format(offset=self.offset, byte=self.byte)
 
 
-def packet_fault(packet, library=None):
+def packet_fault(packet: Union[bytes, bytearray, memoryview], library: Optional[Library] = None) -> Optional[PacketFault]:
     """Why a packet is no message: ``PacketFault``, or None where it is one. It needs no agent."""
     found = CPacketFault()
     code = (library or Library()).packet_fault(bytes(packet), len(packet), found)

@@ -3,10 +3,13 @@
 import ctypes
 import enum
 import os
+import platform
 from ctypes import POINTER, Structure, c_bool, c_int64, c_size_t, c_uint8, c_uint16, c_uint32, c_uint64, c_void_p
+from typing import Any, Callable, Iterable, Optional
 
 HERE = os.path.dirname(os.path.abspath(__file__))
-DEFAULT = os.path.join(HERE, "..", "..", "c", "out", "libserf_agent.so")
+OF_WHEEL = os.path.join(HERE, "libserf_agent.so")
+OF_CLONE = os.path.join(HERE, "..", "..", "c", "out", "libserf_agent.so")
 
 
 class Code(enum.IntEnum):
@@ -87,6 +90,19 @@ class Fault(enum.IntEnum):
 
 # How many bytes a file may have before it is worth a compaction: Serf's own number.
 DEFAULT_SNAPSHOT_LIMIT = 131072
+
+
+class AgentError(Exception):
+    """A call was refused, with this code. It has changed nothing, but that a merge without memory keeps what it took.
+
+    ``events`` has what such a merge took: run their handlers, since no later merge hands them out again. Of a packet with
+    ``Code.NO_MESSAGE``, ``packet_fault`` says why.
+    """
+
+    def __init__(self, code: int, events: Iterable[Any] = ()) -> None:
+        super().__init__(Code(code).name)
+        self.code = Code(code)
+        self.events = tuple(events)
 
 
 class Place(Structure):
@@ -184,6 +200,12 @@ FUNCTIONS = {
     "close_due": [HANDLE, c_uint64, POINTER(c_size_t)],
     "save_member_clock": [HANDLE],
     "compact": [HANDLE],
+    "burst_receive": [HANDLE, c_uint64, *TEXT],
+    "burst_fire": [HANDLE, *TEXT, *TEXT, c_bool],
+    "burst_query": [HANDLE, c_uint64, c_uint32, *TEXT, *TEXT, *TEXT, POINTER(CParams)],
+    "burst_filter": [HANDLE, *TEXT],
+    "next": [HANDLE, POINTER(c_uint32)],
+    "outcomes": [HANDLE, POINTER(c_size_t)],
     "gave": [HANDLE, POINTER(CGave)],
     "event": [HANDLE, c_size_t, POINTER(CEvent), *TEXT, *TEXT],
     "answer": [*TEXT, POINTER(CAnswer), *TEXT, *TEXT],
@@ -201,12 +223,42 @@ FUNCTIONS = {
 }
 
 
-class Library:
-    """The shared library's functions, typed. They let other threads run meanwhile."""
+class NotLoaded(OSError):
+    """The shared library isn't there, or this system can't load it."""
 
-    def __init__(self, path=None):
-        found = ctypes.CDLL(path or os.environ.get("SERF_AGENT_LIBRARY") or DEFAULT)
+
+def found_at() -> str:
+    """The path of the shared library: as ``SERF_AGENT_LIBRARY`` says, or of the wheel, or of a clone's bindings/c/out."""
+    named = os.environ.get("SERF_AGENT_LIBRARY")
+    if named:
+        return named
+    for path in (OF_WHEEL, OF_CLONE):
+        if os.path.exists(path):
+            return path
+    raise NotLoaded("serf_agent: there is no libserf_agent.so beside the package: install the wheel, or name it by SERF_AGENT_LIBRARY")
+
+
+def loaded(path: str) -> ctypes.CDLL:
+    """The shared library at a path."""
+    system, machine = platform.system(), platform.machine()
+    if (system, machine) != ("Linux", "x86_64"):
+        raise NotLoaded(f"serf_agent: the library is for Linux on x86-64, and this is {system} on {machine}")
+    try:
+        return ctypes.CDLL(path)
+    except OSError as error:
+        old = "; the C library of this system is older than the one that it was linked with" if "GLIBC_" in str(error) else ""
+        raise NotLoaded(f"serf_agent: the library can't be loaded: {error}{old}") from error
+
+
+class Library:
+    """The shared library's functions, typed. They let other threads run meanwhile. ``NotLoaded`` says why there is none."""
+
+    def __init__(self, path: Optional[str] = None) -> None:
+        found = loaded(path or found_at())
         for name, types in FUNCTIONS.items():
             function = getattr(found, "serf_agent_" + name)
             function.argtypes, function.restype = types, c_uint32
             setattr(self, name, function)
+
+    def __getattr__(self, name: str) -> Callable[..., int]:
+        raise AttributeError(f"the library has no function {name}")

@@ -6,6 +6,10 @@ import fcntl
 import os
 import stat
 import weakref
+from typing import Iterator, Union
+
+# What names a file.
+Path = Union[str, bytes, "os.PathLike[str]", "os.PathLike[bytes]"]
 
 # How often an opening begins anew, because the file was replaced between its opening and its lock.
 TRIES = 100
@@ -56,7 +60,7 @@ FAULTS = {
 
 
 @contextlib.contextmanager
-def named(path):
+def named(path: Union[str, bytes]) -> Iterator[None]:
     """Raises a fault of the system by its name."""
     try:
         yield
@@ -64,14 +68,14 @@ def named(path):
         raise FAULTS.get(error.errno, StoreError)(f"{path}: {error.strerror}") from error
 
 
-def real_path(path):
+def real_path(path: Union[str, bytes]) -> Union[str, bytes]:
     """The path without links; where it names no file, without those of its folder."""
     if os.path.exists(path):
         return os.path.realpath(path)
     return os.path.join(os.path.realpath(os.path.dirname(path)), os.path.basename(path))
 
 
-def write_all(file, data):
+def write_all(file: int, data: bytes) -> None:
     view = memoryview(data)
     while view:
         view = view[os.write(file, view) :]
@@ -81,7 +85,7 @@ def write_all(file, data):
 STORES = weakref.WeakSet()
 
 
-def close_all():
+def close_all() -> None:
     """Closes a forked child's copies of the files: so the lock is the parent's alone, and ends with it."""
     for store in list(STORES):
         store.close()
@@ -99,10 +103,10 @@ class Store:
     ``FILE.new`` is removed by the next opening. After a fault in an append or a replacement the store is broken: it takes
     no more bytes until it is opened again, and its agent with it.
 
-    No contract speaks of it; tests/embed.py tests it.
+    No contract speaks of it; tests/library/embed.py tests it.
     """
 
-    def __init__(self, path):
+    def __init__(self, path: Path) -> None:
         self.path = real_path(os.fspath(path))
         self._file = self._folder = None
         self._is_broken = False
@@ -117,7 +121,7 @@ class Store:
                 self.close()
                 raise
 
-    def _open_file(self):
+    def _open_file(self) -> None:
         """Opens and locks the file that the name names now."""
         how = os.O_RDWR | os.O_APPEND | os.O_CREAT | os.O_NOFOLLOW | os.O_NONBLOCK
         for _ in range(TRIES):
@@ -133,14 +137,14 @@ class Store:
             self._file = None
         raise OSError(errno.EWOULDBLOCK, "it is replaced all the time")
 
-    def _settle(self):
+    def _settle(self) -> None:
         """Removes what a crash left of a replacement, and brings what is there to the disk."""
         with contextlib.suppress(FileNotFoundError):
             os.unlink(self._name + ".new", dir_fd=self._folder)
         os.fsync(self._file)
         os.fsync(self._folder)
 
-    def read(self):
+    def read(self) -> bytes:
         """All of the file: the text on which an agent is opened."""
         if self._file is None:
             raise Broken(f"{self.path}: the store is closed")
@@ -152,7 +156,7 @@ class Store:
             return b"".join(parts)
 
     @contextlib.contextmanager
-    def _breaking(self):
+    def _breaking(self) -> Iterator[None]:
         """What is done within leaves the store broken where it fails."""
         if self._file is None or self._is_broken:
             raise Broken(f"{self.path}: an earlier call failed, or the store is closed")
@@ -161,14 +165,14 @@ class Store:
             yield
         self._is_broken = False
 
-    def append(self, data):
+    def append(self, data: bytes) -> None:
         """Appends these bytes and brings them to the disk. Does nothing where there are none."""
         with self._breaking():
             if data:
                 write_all(self._file, data)
                 os.fdatasync(self._file)
 
-    def replace(self, data):
+    def replace(self, data: bytes) -> None:
         """Replaces all of the file by these bytes, on the disk."""
         with self._breaking():
             beside = self._name + ".new"
@@ -187,15 +191,15 @@ class Store:
             self._file = file
             os.fsync(self._folder)
 
-    def close(self):
+    def close(self) -> None:
         """Gives the lock free. A store that is closed stays so."""
         for file in (self._file, self._folder):
             if file is not None:
                 os.close(file)
         self._file = self._folder = None
 
-    def __enter__(self):
+    def __enter__(self) -> "Store":
         return self
 
-    def __exit__(self, *_):
+    def __exit__(self, *_: object) -> None:
         self.close()

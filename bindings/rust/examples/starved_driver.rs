@@ -1,4 +1,4 @@
-//! Calls that may run out of memory, as tests/embed/starved_driver.c says.
+//! Calls that may run out of memory, as tests/library/embed/starved_driver.c says.
 
 use serf_agent::{Agent, Code, Error, QueryParams, Settings};
 use std::path::Path;

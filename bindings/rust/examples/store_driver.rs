@@ -1,4 +1,4 @@
-//! The store, driven by lines, as tests/embed/store_driver.c says.
+//! The store, driven by lines, as tests/library/embed/store_driver.c says.
 
 use serf_agent::{Store, StoreError};
 use std::io::{BufRead, Write};

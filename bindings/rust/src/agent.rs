@@ -1,5 +1,6 @@
 //! An agent over the library and a snapshot's file.
 
+mod burst;
 mod closing;
 
 use crate::error::{answered, Code, Error};
@@ -7,9 +8,11 @@ use crate::outcome::{Answer, Asked, Clocks, Event, Fired, Handed, Outcome, Recei
 use crate::raw;
 use crate::settings::{QueryParams, Settings};
 use crate::store::Store;
+use std::collections::VecDeque;
 use std::fmt;
 use std::path::Path;
 
+pub use burst::{Call, CallOutcome, Outcomes};
 pub use closing::{Closed, DEFAULT_SNAPSHOT_LIMIT};
 
 /// What an ack's or a response's packet says.
@@ -58,6 +61,8 @@ pub struct Agent {
     // whether a call that failed may have left filters, or members, which the next one would take
     stale_filters: bool,
     stale_members: bool,
+    // the calls of bursts whose outcomes nobody has read yet
+    unread: VecDeque<burst::Made>,
 }
 
 // SAFETY: the library keeps nothing of a thread's own, and `&mut` lets one thread at a time through.
@@ -70,7 +75,7 @@ impl Agent {
         let text = store.read()?;
         let place = raw::Place { at: std::ptr::null_mut() };
         let handle = Box::new(raw::Handle { open: false, place });
-        let mut agent = Agent { handle, store, stale_filters: false, stale_members: false };
+        let mut agent = Agent { handle, store, stale_filters: false, stale_members: false, unread: VecDeque::new() };
         let settings = raw::Settings {
             event_buffer: settings.event_buffer,
             query_buffer: settings.query_buffer,
@@ -114,6 +119,7 @@ impl Agent {
             Err(error) => {
                 // SAFETY: the handle is the agent's own.
                 unsafe { raw::serf_agent_close(&mut *self.handle) };
+                self.unread.clear();
                 Err(error.into())
             }
         }
@@ -203,6 +209,11 @@ impl Agent {
     pub fn receive(&mut self, now: u64, packet: &[u8]) -> Result<Received, Error> {
         // SAFETY: the pointer comes with its length.
         self.settled(|handle| unsafe { raw::serf_agent_receive(handle, now, packet.as_ptr(), packet.len()) })?;
+        self.received(packet)
+    }
+
+    /// What came of a packet.
+    fn received(&mut self, packet: &[u8]) -> Result<Received, Error> {
         let gave = self.gave()?;
         let outcome = match gave.kind {
             1 => Outcome::Event(self.event(0)?),
@@ -223,6 +234,11 @@ impl Agent {
             // SAFETY: each pointer comes with its length.
             unsafe { raw::serf_agent_fire(handle, name.as_ptr(), name.len(), payload.as_ptr(), payload.len(), coalesce) }
         })?;
+        self.fired()
+    }
+
+    /// What a firing gave.
+    fn fired(&mut self) -> Result<Fired, Error> {
         Ok(Fired { event: self.event(0)?, packet: self.own_packet()? })
     }
 
@@ -291,24 +307,28 @@ impl Agent {
 
     /// Fires a query; `id` is a random number.
     pub fn query(&mut self, now: u64, id: u32, name: &[u8], payload: &[u8], params: &QueryParams) -> Result<Asked, Error> {
-        if self.stale_filters {
-            // a query of no time is never fired
-            forgotten(self.ask(now, id, b"", b"", b"", &raw::Params::default()))?;
-        }
+        self.forget_filters()?;
         self.stale_filters = !params.filters.is_empty();
         for filter in &params.filters {
             // SAFETY: the pointer comes with its length.
             answered(unsafe { raw::serf_agent_add_filter(&mut *self.handle, filter.as_ptr(), filter.len()) })?;
         }
-        let how = raw::Params {
-            timeout: params.timeout,
-            port: params.port,
-            relay_factor: params.relay_factor,
-            want_ack: params.want_ack,
-            no_broadcast: params.no_broadcast,
-        };
-        self.ask(now, id, name, payload, &params.addr, &how)?;
+        self.ask(now, id, name, payload, &params.addr, &params.in_c())?;
         self.stale_filters = false;
+        self.asked()
+    }
+
+    /// Forgets the filters of a query that failed, by one of no time, which is never fired.
+    fn forget_filters(&mut self) -> Result<(), Error> {
+        if self.stale_filters {
+            forgotten(self.ask(0, 0, b"", b"", b"", &raw::Params::default()))?;
+            self.stale_filters = false;
+        }
+        Ok(())
+    }
+
+    /// What a query gave.
+    fn asked(&mut self) -> Result<Asked, Error> {
         let number = self.gave()?.handed;
         Ok(Asked { packet: self.own_packet()?, handed: self.handed(number)?, ack: self.packet(OWN_ACK)? })
     }
@@ -332,6 +352,7 @@ impl Agent {
         self.settled(|handle| unsafe { raw::serf_agent_compact(handle) })
     }
 
+    /// The agent's clocks, and the least times that it takes.
     pub fn clocks(&mut self) -> Result<Clocks, Error> {
         let mut found = raw::Clocks::default();
         // SAFETY: `found` is of the type that the library writes.

@@ -9,22 +9,37 @@ use crate::store::StoreError;
 pub enum Code {
     /// The agent was closed, since its file failed.
     Empty,
+    /// An opening of a handle that has an agent: never by this crate.
     InUse,
+    /// Bytes for the file aren't written yet: never by this crate, which writes them in the call.
     Unwritten,
+    /// The last call gave no such thing.
     Nothing,
+    /// There is no memory. Nothing was done, but that a merge keeps what it took ([`Error::MergedInPart`]).
     OutOfMemory,
+    /// The settings are out of their bounds, or the name has no bytes or more than 128.
     BadConfig,
+    /// The agent's sink failed: never with this library, whose sink is memory.
     SinkFault,
+    /// The agent's sink failed before: never with this library.
     Stopped,
+    /// The event, the query or the response is larger than its limit.
     TooLarge,
+    /// The clock stands at 2^64 - 1.
     Exhausted,
     /// The packet is no message: [`crate::packet_fault`] says why.
     NoMessage,
+    /// An answer of a new name, where as many names as the settings allow are counted.
     RespondersFull,
+    /// A merge of a message of another kind.
     NotPushPull,
+    /// A text or a list of a state is longer than 4,294,967,295.
     TooLong,
+    /// A query's timeout is 0 or below.
     NoTime,
+    /// A response after the query's deadline.
     PastDeadline,
+    /// No query of this number is handed out and not yet answered.
     NotHanded,
     /// A code that this crate doesn't know.
     Other(u32),

@@ -5,6 +5,27 @@
 //! uses it. Moments (`now`) are nanoseconds of one clock that never goes back.
 //!
 //! The library is proved; this crate is tested.
+//!
+//! ```no_run
+//! use serf_agent::{Agent, Error, Outcome, Settings};
+//!
+//! # fn handle(_: &serf_agent::Event) {}
+//! # fn packets() -> Vec<(u64, Vec<u8>)> { Vec::new() }
+//! fn main() -> Result<(), Error> {
+//!     let mut agent = Agent::open(b"alpha", "alpha.snapshot", Settings::default())?;
+//!     let fired = agent.fire(b"deploy", b"v1", false)?;
+//!     handle(&fired.event);
+//!     // fired.packet goes to the other agents, and what they send comes in
+//!     for (now, packet) in packets() {
+//!         if let Outcome::Event(event) = agent.receive(now, &packet)?.outcome {
+//!             handle(&event);
+//!         }
+//!     }
+//!     Ok(())
+//! }
+//! ```
+
+#![warn(missing_docs, missing_debug_implementations)]
 
 mod agent;
 mod error;
@@ -14,7 +35,7 @@ mod raw;
 mod settings;
 mod store;
 
-pub use agent::{Agent, Closed, DEFAULT_SNAPSHOT_LIMIT};
+pub use agent::{Agent, Call, CallOutcome, Closed, Outcomes, DEFAULT_SNAPSHOT_LIMIT};
 pub use error::{Code, Error};
 pub use fault::{packet_fault, PacketFault};
 pub use outcome::{Answer, Asked, Clocks, Event, Fired, Handed, Outcome, Reason, Received};

@@ -161,6 +161,30 @@ extern "C" {
     pub fn serf_agent_close_due(handle: *mut Handle, now: u64, closed: *mut usize) -> u32;
     pub fn serf_agent_save_member_clock(handle: *mut Handle) -> u32;
     pub fn serf_agent_compact(handle: *mut Handle) -> u32;
+    pub fn serf_agent_burst_receive(handle: *mut Handle, now: u64, packet: *const u8, packet_len: usize) -> u32;
+    pub fn serf_agent_burst_fire(
+        handle: *mut Handle,
+        name: *const u8,
+        name_len: usize,
+        payload: *const u8,
+        payload_len: usize,
+        coalesce: bool,
+    ) -> u32;
+    pub fn serf_agent_burst_query(
+        handle: *mut Handle,
+        now: u64,
+        id: u32,
+        name: *const u8,
+        name_len: usize,
+        payload: *const u8,
+        payload_len: usize,
+        addr: *const u8,
+        addr_len: usize,
+        params: *const Params,
+    ) -> u32;
+    pub fn serf_agent_burst_filter(handle: *mut Handle, filter: *const u8, filter_len: usize) -> u32;
+    pub fn serf_agent_next(handle: *mut Handle, answered: *mut u32) -> u32;
+    pub fn serf_agent_outcomes(handle: *mut Handle, total: *mut usize) -> u32;
     pub fn serf_agent_gave(handle: *mut Handle, gave: *mut Gave) -> u32;
     pub fn serf_agent_event(
         handle: *mut Handle,

@@ -1,10 +1,13 @@
 //! What an agent is set to, and how a query is fired.
 
+use crate::raw;
+
 /// An agent's settings; `default()` has Serf's.
 #[derive(Clone, Copy, Debug, PartialEq, Eq)]
 pub struct Settings {
-    /// How many times of events, and of queries, are kept: 1 to 65,536.
+    /// How many times of events are kept: 1 to 65,536.
     pub event_buffer: u64,
+    /// How many times of queries are kept: 1 to 65,536.
     pub query_buffer: u64,
     /// The greatest size of a fired event in bytes, 9,216 at most.
     pub event_limit: u64,
@@ -27,11 +30,29 @@ impl Default for Settings {
 pub struct QueryParams {
     /// How long answers are taken, in nanoseconds.
     pub timeout: i64,
-    /// Where answers are to be sent.
+    /// The address to which answers are to be sent.
     pub addr: Vec<u8>,
+    /// The port to which answers are to be sent.
     pub port: u16,
+    /// By how many other nodes answers are to be sent as well.
     pub relay_factor: u8,
+    /// Whether each node that the query is handed out at sends an ack.
     pub want_ack: bool,
+    /// Whether nodes shall not send the query on.
     pub no_broadcast: bool,
+    /// The filters that a node has to pass, as Serf writes them.
     pub filters: Vec<Vec<u8>>,
+}
+
+impl QueryParams {
+    /// The same in C, without its texts.
+    pub(crate) fn in_c(&self) -> raw::Params {
+        raw::Params {
+            timeout: self.timeout,
+            port: self.port,
+            relay_factor: self.relay_factor,
+            want_ack: self.want_ack,
+            no_broadcast: self.no_broadcast,
+        }
+    }
 }

@@ -17,7 +17,7 @@ use Rattle.serf_agent_c.specs.Calls.{answer_code}
 use Rattle.serf_agent_c.specs.Codes.{respond_code}
 use Rattle.serf_agent_c.specs.Gaves.{closed_in, unsettled_in}
 use Rattle.serf_agent_c.specs.Reads.{kind_of}
-use Rattle.serf_agent_c.specs.Sessions.{Appends, KeepsFilters, KeepsMembers, Numbers, Rests, is_ready, settled}
+use Rattle.serf_agent_c.specs.Sessions.{Appends, KeepsBurst, KeepsFilters, KeepsMembers, Numbers, Rests, is_ready, settled}
 
 -- how a query is fired
 abbrev pub params_of : List (List ℕ) → List ℕ → Params → QueryParams
@@ -50,11 +50,11 @@ AddsFilter filter s t code =
     (code ≡ Done → t.filters ≡ s.filters ++ filter ∷ [])
     × (code ≢ Done → t.filters ≡ s.filters)
     × (is_ready s ≡ true → code ≢ Done → code ≡ OutOfMemory)
-    × (t.agent ≡ s.agent) × (t.gave ≡ s.gave) × (t.written ≡ s.written) × (t.replaces ≡ s.replaces) × (t.waiting ≡ s.waiting) × KeepsMembers s t
+    × (t.agent ≡ s.agent) × (t.gave ≡ s.gave) × (t.written ≡ s.written) × (t.replaces ≡ s.replaces) × (t.waiting ≡ s.waiting) × KeepsMembers s t × KeepsBurst s t
 
 -- What was added for the next query is forgotten once it was tried; for want of memory it wasn't.
 abbrev pub ForgetsFilters : Session → Session → Code → Type 0
-ForgetsFilters s t code = is_ready s ≡ true → (code ≡ OutOfMemory → KeepsFilters s t) × (code ≢ OutOfMemory → t.filters ≡ []) × Appends s t × Numbers s t × KeepsMembers s t
+ForgetsFilters s t code = is_ready s ≡ true → (code ≡ OutOfMemory → KeepsFilters s t) × (code ≢ OutOfMemory → t.filters ≡ []) × Appends s t × Numbers s t × KeepsMembers s t × KeepsBurst s t
 
 -- A query that waits is answered, and a success spends it.
 abbrev pub Responds : ℕ → ℕ → List ℕ → Session → Session → Code → Type 0
@@ -71,7 +71,7 @@ Declines number s t code =
     → (waiting_at number (settled s) ≡ None → code ≢ OutOfMemory → code ≡ NotHanded)
     × (code ≡ NotHanded → Rests s t)
     × (code ≡ OutOfMemory → Rests s t)
-    × Appends s t × KeepsFilters s t × KeepsMembers s t
+    × Appends s t × KeepsFilters s t × KeepsMembers s t × KeepsBurst s t
 
 -- The open queries whose deadline is past are closed, as the ideal agent does, and the sink isn't called: just these are what
 -- was given, as they stood and in order, with the answers that were counted.

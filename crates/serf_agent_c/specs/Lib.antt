@@ -13,3 +13,4 @@ pub mod Exports
 pub mod Held
 pub mod Answers
 pub mod Faults
+pub mod Bursts

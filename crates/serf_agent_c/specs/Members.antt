@@ -4,7 +4,7 @@ use Rattle.serf_agent_c.specs.declared.code.Code.{Code}
 use Rattle.serf_agent_c.specs.declared.code.Code.TheVariants.{Done, OutOfMemory}
 use Rattle.serf_agent_c.specs.declared.members.Member.{Member}
 use Rattle.serf_agent_c.specs.declared.session.Session.{Session}
-use Rattle.serf_agent_c.specs.Sessions.{is_ready}
+use Rattle.serf_agent_c.specs.Sessions.{KeepsBurst, is_ready}
 
 -- a member's name with its status time, as a state has it
 abbrev pub named : Member → List ℕ × ℕ
@@ -16,7 +16,7 @@ AddsStatus name time s t code =
     (code ≡ Done → t.status.items ≡ s.status.items ++ record { name = name; time = time } ∷ [])
     × (code ≢ Done → t.status.items ≡ s.status.items)
     × (is_ready s ≡ true → code ≢ Done → code ≡ OutOfMemory)
-    × (t.agent ≡ s.agent) × (t.gave ≡ s.gave) × (t.written ≡ s.written) × (t.replaces ≡ s.replaces) × (t.waiting ≡ s.waiting) × (t.filters ≡ s.filters) × (t.left ≡ s.left)
+    × (t.agent ≡ s.agent) × (t.gave ≡ s.gave) × (t.written ≡ s.written) × (t.replaces ≡ s.replaces) × (t.waiting ≡ s.waiting) × (t.filters ≡ s.filters) × (t.left ≡ s.left) × KeepsBurst s t
 
 -- So is a member that left.
 abbrev pub AddsLeft : List ℕ → Session → Session → Code → Type 0
@@ -24,4 +24,4 @@ AddsLeft name s t code =
     (code ≡ Done → t.left ≡ s.left ++ name ∷ [])
     × (code ≢ Done → t.left ≡ s.left)
     × (is_ready s ≡ true → code ≢ Done → code ≡ OutOfMemory)
-    × (t.agent ≡ s.agent) × (t.gave ≡ s.gave) × (t.written ≡ s.written) × (t.replaces ≡ s.replaces) × (t.waiting ≡ s.waiting) × (t.filters ≡ s.filters) × (t.status ≡ s.status)
+    × (t.agent ≡ s.agent) × (t.gave ≡ s.gave) × (t.written ≡ s.written) × (t.replaces ≡ s.replaces) × (t.waiting ≡ s.waiting) × (t.filters ≡ s.filters) × (t.status ≡ s.status) × KeepsBurst s t

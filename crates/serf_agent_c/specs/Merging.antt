@@ -16,7 +16,7 @@ use Rattle.serf_agent_c.specs.declared.session.Session.{Session}
 use Rattle.serf_agent_c.specs.Codes.{merge_code}
 use Rattle.serf_agent_c.specs.Gaves.{events_in}
 use Rattle.serf_agent_c.specs.Members.{named}
-use Rattle.serf_agent_c.specs.Sessions.{Appends, KeepsFilters, KeepsMembers, Numbers, Rests, is_ready}
+use Rattle.serf_agent_c.specs.Sessions.{Appends, KeepsBurst, KeepsFilters, KeepsMembers, Numbers, Rests, is_ready}
 
 abbrev pub merged_code : Option MergeFault → Code
 merged_code None = Done
@@ -53,7 +53,7 @@ SendsState s t code = is_ready s ≡ true → code ≢ OutOfMemory → (t.gave �
 -- The members are forgotten once a state was tried; for want of memory it wasn't.
 abbrev pub ForgetsMembers : Session → Session → Code → Type 0
 ForgetsMembers s t code =
-    is_ready s ≡ true → (code ≡ OutOfMemory → KeepsMembers s t) × (code ≢ OutOfMemory → (t.status.items ≡ []) × (t.left ≡ [])) × Appends s t × Numbers s t × KeepsFilters s t
+    is_ready s ≡ true → (code ≡ OutOfMemory → KeepsMembers s t) × (code ≢ OutOfMemory → (t.status.items ≡ []) × (t.left ≡ [])) × Appends s t × Numbers s t × KeepsFilters s t × KeepsBurst s t
 
 -- After a compaction the whole text replaces the file's; else the file lacks what a call appended.
 abbrev pub Compacts : Session → Session → Code → Type 0
@@ -61,7 +61,7 @@ Compacts s t code =
     is_ready s ≡ true
     → (code ≡ Done → (t.written ≡ 0) × (t.replaces ≡ true))
     × (code ≢ Done → Appends s t)
-    × Numbers s t × KeepsFilters s t × KeepsMembers s t
+    × Numbers s t × KeepsFilters s t × KeepsMembers s t × KeepsBurst s t
 
 -- For want of memory a compaction changes nothing of the agent or its text, and nothing is given.
 abbrev pub IsUncompacted : Session → Session → Code → Type 0

@@ -39,7 +39,7 @@ IsFirst name settings text s =
 
 -- It gave nothing yet; its text is the file's, behind which stands the end of a torn last line, which the file lacks.
 abbrev pub IsFresh : List ℕ → Session → Type 0
-IsFresh text s = (s.agent.device ≡ opened_device text (fresh_device text)) × (s.written ≡ length text) × (s.replaces ≡ false) × (s.gave ≡ Nothing) × (s.waiting.items ≡ []) × (s.filters ≡ []) × (s.status.items ≡ []) × (s.left ≡ [])
+IsFresh text s = (s.agent.device ≡ opened_device text (fresh_device text)) × (s.written ≡ length text) × (s.replaces ≡ false) × (s.gave ≡ Nothing) × (s.waiting.items ≡ []) × (s.filters ≡ []) × (s.status.items ≡ []) × (s.left ≡ []) × (s.burst.items ≡ [])
 
 -- How an opening ends into an empty handle: with a session; or with none, where the settings are out of bounds, or for want of
 -- memory.

@@ -23,12 +23,16 @@ Appends s t = (t.written ≡ length (text_of s.agent.device)) × (t.replaces ≡
 abbrev pub Numbers : Session → Session → Type 0
 Numbers s t = settled t ≡ settled s ++ map (λ (q : Handed). Some q) (option_to_list (handed_in t.gave))
 
--- the filters of the next query stay, and so do the members that the next state names.
+-- the filters of the next query stay, and so do the members that the next state names;
 abbrev pub KeepsFilters : Session → Session → Type 0
 KeepsFilters s t = t.filters ≡ s.filters
 
 abbrev pub KeepsMembers : Session → Session → Type 0
 KeepsMembers s t = (t.status ≡ s.status) × (t.left ≡ s.left)
+
+-- the outcomes of a burst that nobody has read yet wait on.
+abbrev pub KeepsBurst : Session → Session → Type 0
+KeepsBurst s t = t.burst.items ≡ s.burst.items
 
 -- All of this is so.
 pub record Settles (s t : Session) : Type 0 where
@@ -36,6 +40,7 @@ pub record Settles (s t : Session) : Type 0 where
   pub waiting : Numbers s t
   pub filters : KeepsFilters s t
   pub members : KeepsMembers s t
+  pub burst : KeepsBurst s t
 
 -- Nothing was given, and each query that was handed out keeps its number.
 abbrev pub Rests : Session → Session → Type 0

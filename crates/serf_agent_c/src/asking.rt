@@ -6,7 +6,7 @@ ghost use Rattle.serf_agent.specs.Handed.{Handed};
 ghost use Rattle.serf_agent_c.specs.Asking.{AddsFilter, Closes, Declines, ForgetsFilters, Responds, Spares, left_of, params_of, reply_of, waiting_at};
 ghost use Rattle.serf_agent_c.specs.Calls.{Forgoes, Gives, Takes, Tells, Waits, answer_code};
 ghost use Rattle.serf_agent_c.specs.Codes.{query_code, respond_code};
-ghost use Rattle.serf_agent_c.specs.Sessions.{KeepsFilters, KeepsMembers};
+ghost use Rattle.serf_agent_c.specs.Sessions.{KeepsBurst, KeepsFilters, KeepsMembers};
 
 use crate::code::Code;
 use crate::gave::Gave;
@@ -19,7 +19,7 @@ use serf_wire::Bytes;
 use std::alloc::Global;
 
 /// The code of a query that was fired or refused.
-fn asked_code(answer: &Result<FiredQuery, QueryFault>) -> Code
+pub(crate) fn asked_code(answer: &Result<FiredQuery, QueryFault>) -> Code
     ensures code { result ≡ answer_code query_code answer.now }
     ensures memory { answer.now ≡ Err QueryFault.OutOfMemory → result ≡ Code.OutOfMemory }
 {
@@ -41,7 +41,7 @@ fn replied_code(answer: &Result<Reply, RespondFault>) -> Code
 }
 
 /// How a query is fired.
-fn params_with(filters: BytesList, addr: Bytes, params: &Params) -> QueryParams
+pub(crate) fn params_with(filters: BytesList, addr: Bytes, params: &Params) -> QueryParams
     ensures { result ≡ params_of filters addr params.now }
 {
     QueryParams {
@@ -112,6 +112,14 @@ impl Session {
         if !self.is_ready() {
             return Code::Unwritten;
         }
+        self.put_filter(alloc, filter)
+    }
+
+    /// Adds a filter of the next query, whatever the host's file lacks.
+    pub(crate) fn put_filter(&mut self, alloc: Global, filter: &[u8]) -> Code
+        ensures adds { AddsFilter filter.now self.old self.new result }
+        ensures refused { result ≢ Code.Done → result ≡ Code.OutOfMemory }
+    {
         let Ok(filter) = Bytes::copy_of(alloc, filter) else {
             return Code::OutOfMemory;
         };
@@ -122,12 +130,13 @@ impl Session {
     }
 
     /// Takes the filters of a query back that was not tried: memory was wanting.
-    fn take_back(&mut self, filters: BytesList, code: Code)
+    pub(crate) fn take_back(&mut self, filters: BytesList, code: Code)
         ensures kept { code ≡ Code.OutOfMemory → self.new.filters ≡ filters }
         ensures forgotten { code ≢ Code.OutOfMemory → KeepsFilters self.old self.new }
         ensures rest { (self.new.agent ≡ self.old.agent) × (self.new.gave ≡ self.old.gave)
             × (self.new.written ≡ self.old.written) × (self.new.replaces ≡ self.old.replaces)
-            × (self.new.waiting ≡ self.old.waiting) × KeepsMembers self.old self.new }
+            × (self.new.waiting ≡ self.old.waiting) × KeepsMembers self.old self.new
+            × KeepsBurst self.old self.new }
     {
         match code {
             Code::OutOfMemory => self.filters = filters,

@@ -6,7 +6,7 @@ ghost use Rattle.serf_agent.specs.Events.{fire};
 ghost use Rattle.serf_agent.specs.Receive.{receive};
 ghost use Rattle.serf_agent_c.specs.Calls.{Forgoes, Gives, Takes, Tells, Waits, answer_code};
 ghost use Rattle.serf_agent_c.specs.Codes.{fire_code, receive_code};
-ghost use Rattle.serf_agent_c.specs.Sessions.{KeepsFilters, KeepsMembers};
+ghost use Rattle.serf_agent_c.specs.Sessions.{KeepsBurst, KeepsFilters, KeepsMembers};
 
 use crate::code::Code;
 use crate::gave::Gave;
@@ -15,7 +15,7 @@ use serf_agent::{FireFault, Fired, Outcome, ReceiveFault};
 use std::alloc::Global;
 
 /// The code of an event that was fired or refused.
-fn fired_code(answer: &Result<Fired, FireFault>) -> Code
+pub(crate) fn fired_code(answer: &Result<Fired, FireFault>) -> Code
     ensures code { result ≡ answer_code fire_code answer.now }
     ensures memory { answer.now ≡ Err FireFault.OutOfMemory → result ≡ Code.OutOfMemory }
 {
@@ -26,7 +26,7 @@ fn fired_code(answer: &Result<Fired, FireFault>) -> Code
 }
 
 /// The code of a packet that was taken or refused.
-fn received_code(answer: &Result<Outcome, ReceiveFault>) -> Code
+pub(crate) fn received_code(answer: &Result<Outcome, ReceiveFault>) -> Code
     ensures code { result ≡ answer_code receive_code answer.now }
     ensures memory { answer.now ≡ Err ReceiveFault.OutOfMemory → result ≡ Code.OutOfMemory }
 {
@@ -43,7 +43,8 @@ impl Session {
         ensures gave { self.new.gave ≡ gave }
         ensures rest { (self.new.agent ≡ self.old.agent) × (self.new.written ≡ self.old.written)
             × (self.new.replaces ≡ self.old.replaces) × (self.new.waiting ≡ self.old.waiting)
-            × KeepsFilters self.old self.new × KeepsMembers self.old self.new }
+            × KeepsFilters self.old self.new × KeepsMembers self.old self.new
+            × KeepsBurst self.old self.new }
     {
         self.gave = gave;
     }

@@ -24,11 +24,14 @@ ghost use Rattle.serf_agent_c.specs.Exports.{Answers, Shows};
 ghost use Rattle.serf_agent_c.specs.Members.{AddsLeft, AddsStatus};
 ghost use Rattle.serf_agent_c.specs.Merging.{Compacts, ForgetsMembers, IsUnbegun, IsUncompacted, IsUnmerged, MergesFrom, SendsState};
 ghost use Rattle.serf_agent_c.specs.Opening.{EndsAs, GoesOn, IsFirst, IsFresh, config_of};
-ghost use Rattle.serf_agent_c.specs.Sessions.{KeepsFilters, KeepsMembers};
+ghost use Rattle.serf_agent_c.specs.Sessions.{KeepsBurst, KeepsFilters, KeepsMembers};
 ghost use Rattle.serf_agent_c.specs.Texts.{copied, lacking, text_of};
 
+mod answered;
 mod answers;
 mod asking;
+mod burst_calls;
+mod bursts;
 mod calls;
 mod closings;
 mod code;
@@ -45,6 +48,10 @@ mod opening;
 mod reading;
 mod session;
 
+pub use burst_calls::{
+    serf_agent_burst_filter, serf_agent_burst_fire, serf_agent_burst_query,
+    serf_agent_burst_receive, serf_agent_next, serf_agent_outcomes,
+};
 pub use code::Code;
 use gave::Gave;
 pub use getters::{
@@ -139,7 +146,8 @@ pub extern "C" fn serf_agent_unwritten(
 pub extern "C" fn serf_agent_written(alloc: Global, handle: &mut Handle) -> u32
     ensures { Answers (λ s t code. (code ≡ Code.Done)
         × (t.written ≡ length (text_of s.agent.device)) × (t.replaces ≡ false) × (t.agent ≡ s.agent)
-        × (t.gave ≡ s.gave) × (t.waiting ≡ s.waiting) × KeepsFilters s t × KeepsMembers s t)
+        × (t.gave ≡ s.gave) × (t.waiting ≡ s.waiting) × KeepsFilters s t × KeepsMembers s t
+        × KeepsBurst s t)
         handle.old handle.new result }
 {
     let Some(mut session) = handle.take(alloc) else {

@@ -5,7 +5,7 @@ ghost use Rattle.serf_wire.specs.Lists.{status_of};
 ghost use Rattle.serf_agent.specs.States.{send_state};
 ghost use Rattle.serf_agent_c.specs.Calls.{Waits};
 ghost use Rattle.serf_agent_c.specs.Members.{AddsLeft, AddsStatus, named};
-ghost use Rattle.serf_agent_c.specs.Sessions.{KeepsFilters, KeepsMembers};
+ghost use Rattle.serf_agent_c.specs.Sessions.{KeepsBurst, KeepsFilters, KeepsMembers};
 
 use crate::code::Code;
 use crate::session::Session;
@@ -112,7 +112,8 @@ impl Session {
             → (self.new.status.items ≡ []) × (self.new.left ≡ []) }
         ensures rest { (self.new.agent ≡ self.old.agent) × (self.new.gave ≡ self.old.gave)
             × (self.new.written ≡ self.old.written) × (self.new.replaces ≡ self.old.replaces)
-            × (self.new.waiting ≡ self.old.waiting) × KeepsFilters self.old self.new }
+            × (self.new.waiting ≡ self.old.waiting) × KeepsFilters self.old self.new
+            × KeepsBurst self.old self.new }
     {
         match code {
             Code::OutOfMemory => {}

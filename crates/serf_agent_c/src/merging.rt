@@ -10,7 +10,7 @@ ghost use Rattle.serf_agent.specs.View.{view_of};
 ghost use Rattle.serf_agent_c.specs.Calls.{Forgoes, Gives, Takes, Tells, Waits, answer_code};
 ghost use Rattle.serf_agent_c.specs.Codes.{note_code, state_code};
 ghost use Rattle.serf_agent_c.specs.Merging.{Compacts, ForgetsMembers, IsUnbegun, IsUncompacted, IsUnmerged, MergesFrom, SendsState, merged_code};
-ghost use Rattle.serf_agent_c.specs.Sessions.{KeepsFilters, KeepsMembers};
+ghost use Rattle.serf_agent_c.specs.Sessions.{KeepsBurst, KeepsFilters, KeepsMembers};
 
 use crate::code::Code;
 use crate::gave::Gave;
@@ -135,7 +135,7 @@ impl Session {
         ensures replaces { self.new.replaces ≡ (if is_replaced then true else self.old.replaces) }
         ensures rest { (self.new.agent ≡ self.old.agent) × (self.new.gave ≡ self.old.gave)
             × (self.new.waiting ≡ self.old.waiting) × KeepsFilters self.old self.new
-            × KeepsMembers self.old self.new }
+            × KeepsMembers self.old self.new × KeepsBurst self.old self.new }
     {
         if is_replaced {
             self.written = 0;

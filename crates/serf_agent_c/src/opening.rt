@@ -17,6 +17,7 @@ use serf_agent::{Agent, BytesList, Config, OpenFault};
 use serf_snap::MemSink;
 use serf_wire::Bytes;
 use std::alloc::{AllocError, Global};
+use std::collections::VecDeque;
 
 /// An agent's settings.
 fn config_of(alloc: Global, name: &[u8], settings: &Settings) -> Result<Config, AllocError>
@@ -65,6 +66,7 @@ impl Session {
                 filters: BytesList::new(alloc),
                 status: Vec::new(alloc),
                 left: BytesList::new(alloc),
+                burst: VecDeque::new(alloc),
             }),
             Err(refused) => Err(refused.fault),
         }

@@ -2,15 +2,17 @@
 
 ghost use Rattle.std.specs.Prelude.{◌≡◌, false, true, length, Err, IsOk, None, OnOk, OnErr};
 ghost use Rattle.serf_agent_c.specs.Gaves.{unsettled_in};
-ghost use Rattle.serf_agent_c.specs.Sessions.{Appends, KeepsFilters, KeepsMembers, Numbers, Rests, is_ready, settled};
+ghost use Rattle.serf_agent_c.specs.Sessions.{Appends, KeepsBurst, KeepsFilters, KeepsMembers, Numbers, Rests, is_ready, settled};
 ghost use Rattle.serf_agent_c.specs.Texts.{is_written, lacking, text_of};
 
+use crate::answered::Answered;
 use crate::code::Code;
 use crate::gave::Gave;
 use crate::members::Member;
 use serf_agent::{Agent, BytesList, HandedQuery};
 use serf_snap::MemSink;
 use std::alloc::AllocError;
+use std::collections::VecDeque;
 
 /// An agent, whose sink keeps the text of the host's file.
 #[derive(Drop)]
@@ -30,6 +32,8 @@ pub struct Session {
     pub(crate) status: Vec<Member>,
     /// The members that left, which the next state names.
     pub(crate) left: BytesList,
+    /// The outcomes of a burst that nobody has read yet, in the order of its calls.
+    pub(crate) burst: VecDeque<Answered>,
 }
 
 impl Session {
@@ -57,7 +61,7 @@ impl Session {
         ensures replaces { self.new.replaces ≡ false }
         ensures rest { (self.new.agent ≡ self.old.agent) × (self.new.gave ≡ self.old.gave)
             × (self.new.waiting ≡ self.old.waiting) × KeepsFilters self.old self.new
-            × KeepsMembers self.old self.new }
+            × KeepsMembers self.old self.new × KeepsBurst self.old self.new }
     {
         self.written = self.agent.sink().durable().len();
         self.replaces = false;
@@ -70,7 +74,7 @@ impl Session {
         ensures rests { Rests self.old self.new }
         ensures rest { (self.new.agent ≡ self.old.agent) × (self.new.written ≡ self.old.written)
             × (self.new.replaces ≡ self.old.replaces) × KeepsFilters self.old self.new
-            × KeepsMembers self.old self.new }
+            × KeepsMembers self.old self.new × KeepsBurst self.old self.new }
         ensures none { unsettled_in self.old.gave ≡ None → IsOk result }
     {
         let gave = std::mem::replace(&mut self.gave, Gave::Nothing);
@@ -91,7 +95,8 @@ impl Session {
         ensures ok { OnOk result ((is_ready self.old ≡ true)
             × (self.new.waiting.items ≡ settled self.old) × (self.new.gave ≡ Gave.Nothing)) }
         ensures agent { self.new.agent ≡ self.old.agent }
-        ensures keeps { KeepsFilters self.old self.new × KeepsMembers self.old self.new }
+        ensures keeps { KeepsFilters self.old self.new × KeepsMembers self.old self.new
+            × KeepsBurst self.old self.new }
         ensures unwritten { is_ready self.old ≡ false
             → (result ≡ Err Code.Unwritten) × (self.new ≡ self.old) }
         ensures text { is_ready self.old ≡ true → Appends self.old self.new }

@@ -8,11 +8,15 @@ use crate::raw;
 /// A query of this agent's own that was closed: the names of the nodes that acked it and the responses, in order of arrival.
 #[derive(Clone, Debug, PartialEq, Eq)]
 pub struct Closed {
+    /// Its time.
     pub time: u64,
+    /// Its ID.
     pub id: u32,
     /// The last moment at which an answer was counted.
     pub deadline: u64,
+    /// The names of the nodes that acked it.
     pub acks: Vec<Vec<u8>>,
+    /// The responses.
     pub responses: Vec<Answer>,
 }
 

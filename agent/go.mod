@@ -1,0 +1,3 @@
+module kitchenrue.example/agent
+
+go 1.19

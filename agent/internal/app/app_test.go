@@ -1,0 +1,337 @@
+package app
+
+import (
+	"bytes"
+	"context"
+	"encoding/json"
+	"errors"
+	"fmt"
+	"net"
+	"os"
+	"path/filepath"
+	"reflect"
+	"strings"
+	"sync"
+	"syscall"
+	"testing"
+	"time"
+
+	"kitchenrue.example/agent/internal/config"
+	"kitchenrue.example/agent/internal/rpc"
+	"kitchenrue.example/serfagent"
+)
+
+// said is what a program said. Many may write.
+type said struct {
+	mu   sync.Mutex
+	text bytes.Buffer
+}
+
+func (s *said) Write(data []byte) (int, error) {
+	s.mu.Lock()
+	defer s.mu.Unlock()
+	return s.text.Write(data)
+}
+
+func (s *said) String() string {
+	s.mu.Lock()
+	defer s.mu.Unlock()
+	return s.text.String()
+}
+
+// conf is an agent's configuration on loopback, with what these words say.
+func conf(t *testing.T, words ...string) config.Config {
+	t.Helper()
+	found, err := config.Parse(append([]string{"-node", "a", "-bind", "127.0.0.1:0", "-rpc-addr", "127.0.0.1:0", "-log-level", "debug", "-profile", "local"}, words...), &said{})
+	if err != nil {
+		t.Fatal(err)
+	}
+	return found
+}
+
+func start(t *testing.T, words ...string) (*App, *said) {
+	t.Helper()
+	out := &said{}
+	a, err := Start(conf(t, words...), out)
+	if err != nil {
+		t.Fatal(err)
+	}
+	return a, out
+}
+
+func read(t *testing.T, path string) string {
+	t.Helper()
+	data, err := os.ReadFile(path)
+	if err != nil {
+		t.Fatal(err)
+	}
+	return string(data)
+}
+
+func eventually(t *testing.T, what string, holds func() bool) {
+	t.Helper()
+	for i := 0; i < 12000; i++ {
+		if holds() {
+			return
+		}
+		time.Sleep(10 * time.Millisecond)
+	}
+	t.Fatalf("never: %s", what)
+}
+
+func TestALife(t *testing.T) {
+	folder := t.TempDir()
+	handled, tags := filepath.Join(folder, "handled"), filepath.Join(folder, "tags")
+	words := []string{"-snapshot", filepath.Join(folder, "snapshot"), "-tags-file", tags, "-event-handler", "user=(echo $SERF_TAG_SIZE $SERF_USER_LTIME; cat) >> " + handled}
+	a, _ := start(t, words...)
+	if err := a.UpdateTags(map[string]string{"size": "big", "x": "y"}, []string{"x", "none"}); err != nil {
+		t.Fatal(err)
+	}
+	if err := a.UpdateTags(map[string]string{"size": strings.Repeat("x", 600)}, nil); err == nil {
+		t.Error("too long")
+	}
+	if err := a.Fire("deploy", []byte("v1"), false); err != nil {
+		t.Fatal(err)
+	}
+	if err := a.Fire("deploy", []byte("v2"), true); err != nil {
+		t.Fatal(err)
+	}
+	if stats := a.Stats(); stats["serf"]["event_time"] != "3" || stats["tags"]["size"] != "big" || stats["event_handlers"]["user"] == "" {
+		t.Error(stats)
+	}
+	// (what waits to be coalesced goes on at the end)
+	if err := a.Close(); err != nil {
+		t.Error(err)
+	}
+	if text := read(t, handled); text != "big 1\nv1\nbig 2\nv2\n" {
+		t.Errorf("%q", text)
+	}
+	var kept map[string]string
+	if err := json.Unmarshal([]byte(read(t, tags)), &kept); err != nil || !reflect.DeepEqual(kept, map[string]string{"size": "big"}) {
+		t.Error(kept, err)
+	}
+	again, _ := start(t, words...)
+	if err := again.Fire("deploy", []byte("v3"), false); err != nil {
+		t.Fatal(err)
+	}
+	if err := again.Close(); err != nil {
+		t.Error(err)
+	}
+	if text := read(t, handled); !strings.HasSuffix(text, "big 3\nv3\n") {
+		t.Errorf("the clock went on: %q", text)
+	}
+}
+
+func TestWithoutASnapshot(t *testing.T) {
+	a, _ := start(t)
+	folder := a.folder
+	if _, err := os.Stat(folder); err != nil {
+		t.Error(err)
+	}
+	if err := a.Close(); err != nil {
+		t.Error(err)
+	}
+	if _, err := os.Stat(folder); !errors.Is(err, os.ErrNotExist) {
+		t.Error(folder, err)
+	}
+}
+
+func TestWhatKilledAgentsLeft(t *testing.T) {
+	where := t.TempDir()
+	long := time.Now().Add(-time.Hour)
+	for _, name := range []string{"left", "empty", "locked", "young", "other"} {
+		folder := filepath.Join(where, clocksFolder+name)
+		if name == "other" {
+			folder = filepath.Join(where, name)
+		}
+		if err := os.Mkdir(folder, 0o700); err != nil {
+			t.Fatal(err)
+		}
+		if name != "empty" {
+			store, err := serfagent.OpenStore(filepath.Join(folder, clocksFile))
+			if err != nil {
+				t.Fatal(err)
+			}
+			if name == "locked" {
+				defer store.Close()
+			} else {
+				store.Close()
+			}
+		}
+		if name != "young" {
+			if err := os.Chtimes(folder, long, long); err != nil {
+				t.Fatal(err)
+			}
+		}
+	}
+	removeStale(where)
+	var names []string
+	entries, err := os.ReadDir(where)
+	for _, entry := range entries {
+		names = append(names, strings.TrimPrefix(entry.Name(), clocksFolder))
+	}
+	if err != nil || !reflect.DeepEqual(names, []string{"locked", "young", "other"}) {
+		t.Error(names, err)
+	}
+}
+
+func TestStartsThatFail(t *testing.T) {
+	folder := t.TempDir()
+	file := filepath.Join(folder, "file")
+	if err := os.WriteFile(file, []byte("no JSON"), 0o600); err != nil {
+		t.Fatal(err)
+	}
+	taken, err := net.Listen("tcp", "127.0.0.1:0")
+	if err != nil {
+		t.Fatal(err)
+	}
+	defer taken.Close()
+	first, _ := start(t, "-snapshot", filepath.Join(folder, "locked"))
+	defer first.Close()
+	for says, words := range map[string][]string{
+		"no event":                 {"-event-handler", "foo=bar"},
+		"-tags-file":               {"-tags-file", file},
+		"-keyring-file":            {"-keyring-file", file},
+		"exceeds limit of 512":     {"-tag", "a=" + strings.Repeat("x", 600)},
+		"another agent has":        {"-snapshot", filepath.Join(folder, "locked")},
+		"names no plain file":      {"-snapshot", folder},
+		"folder of the file":       {"-snapshot", filepath.Join(folder, "none", "none")},
+		"address already in use":   {"-rpc-addr", taken.Addr().String()},
+		"assign requested address": {"-bind", "192.0.2.1:7946"},
+	} {
+		out := &said{}
+		a, err := Start(conf(t, words...), out)
+		if err == nil {
+			a.Close()
+		}
+		if err == nil || !strings.Contains(err.Error(), says) {
+			t.Errorf("%s: %v", says, err)
+		}
+	}
+	if _, err := Start(conf(t, "-snapshot", filepath.Join(folder, "locked")), &said{}); !errors.Is(err, serfagent.ErrLocked) {
+		t.Error(err)
+	}
+}
+
+func TestReloading(t *testing.T) {
+	handled := filepath.Join(t.TempDir(), "handled")
+	a, out := start(t, "-event-handler", "user=echo one >> "+handled)
+	if err := a.Reload(conf(t, "-event-handler", "user=echo two >> "+handled, "-tag", "k=v", "-log-level", "err")); err != nil {
+		t.Fatal(err)
+	}
+	if !reflect.DeepEqual(a.tags.all(), map[string]string{"k": "v"}) {
+		t.Error(a.tags.all())
+	}
+	before := out.String()
+	if err := a.Reload(conf(t, "-event-handler", "foo=bar")); err == nil {
+		t.Error("it has no such event")
+	}
+	if err := a.Fire("x", nil, false); err != nil {
+		t.Fatal(err)
+	}
+	if err := a.Close(); err != nil {
+		t.Error(err)
+	}
+	if read(t, handled) != "two\n" || strings.Contains(out.String()[len(before):], "INFO") {
+		t.Error(read(t, handled), out)
+	}
+}
+
+func TestJoining(t *testing.T) {
+	a, _ := start(t)
+	defer a.Close()
+	where := a.node.List().LocalNode().Address()
+	b, out := start(t, "-node", "b", "-retry-join", where, "-retry-interval", "10ms")
+	if err := b.JoinAtStart(context.Background()); err != nil {
+		t.Fatal(err)
+	}
+	eventually(t, "both are there", func() bool { return len(a.Members()) == 2 && len(b.Members()) == 2 })
+	eventually(t, "it says so", func() bool { return strings.Contains(out.String(), "Join completed") })
+	if count, err := b.Join(context.Background(), []string{where}, true); count != 1 || err != nil {
+		t.Error(count, err)
+	}
+	if err := b.Leave(context.Background()); err != nil {
+		t.Error(err)
+	}
+	if _, err := b.Join(context.Background(), []string{where}, true); err == nil {
+		t.Error("it left")
+	}
+	if err := b.Close(); err != nil {
+		t.Error(err)
+	}
+	c, _ := start(t, "-node", "c", "-retry-join", "127.0.0.1:1", "-retry-interval", "10ms", "-retry-max", "2")
+	defer c.Close()
+	if err := c.JoinAtStart(context.Background()); err != nil {
+		t.Fatal(err)
+	}
+	if err := <-c.ends; err == nil || !strings.Contains(err.Error(), "in 2 tries") {
+		t.Error(err)
+	}
+	d, _ := start(t, "-node", "d", "-join", "127.0.0.1:1")
+	defer d.Close()
+	if err := d.JoinAtStart(context.Background()); err == nil || !strings.Contains(err.Error(), "-join") {
+		t.Error(err)
+	}
+	if _, err := d.Query(rpc.QueryParams{Name: "x", Timeout: time.Millisecond}); err != nil {
+		t.Error(err)
+	}
+	if _, err := d.Key(context.Background(), rpc.ListKeys, ""); err == nil || !strings.Contains(err.Error(), "1/1 nodes reported failure") {
+		t.Error(err)
+	}
+}
+
+func TestMainsStatuses(t *testing.T) {
+	for _, one := range []struct {
+		words  string
+		status int
+		out    string
+		errs   string
+	}{
+		{"-help", 0, "usage: kitchenrue-agent", ""},
+		{"-version", 0, "kitchenrue-agent " + config.Version, ""},
+		{"-foo", 1, "", "kitchenrue-agent: flag provided but not defined: -foo\n"},
+		{"-node a -bind 127.0.0.1:0 -rpc-addr 127.0.0.1:0 -join 127.0.0.1:1", 1, "", "connection refused"},
+	} {
+		var out, errs said
+		if status := Main(strings.Fields(one.words), &out, &errs); status != one.status {
+			t.Errorf("%s: %d", one.words, status)
+		}
+		if !strings.Contains(out.String(), one.out) || !strings.Contains(errs.String(), one.errs) || strings.Count(errs.String(), "\n") > 1 {
+			t.Errorf("%s: %q %q", one.words, out.String(), errs.String())
+		}
+	}
+}
+
+func TestMainsSignals(t *testing.T) {
+	for _, one := range []struct {
+		signal syscall.Signal
+		words  []string
+		status int
+		says   string
+	}{
+		{syscall.SIGINT, nil, 0, "graceful leave"},
+		{syscall.SIGTERM, nil, 1, "Shutdown without a Leave"},
+	} {
+		var out, errs said
+		ended := make(chan int, 1)
+		go func() {
+			ended <- Main(append([]string{"-node", "a", "-bind", "127.0.0.1:0", "-rpc-addr", "127.0.0.1:0"}, one.words...), &out, &errs)
+		}()
+		eventually(t, "it runs", func() bool { return strings.Contains(out.String(), "Log data will now stream") })
+		for _, signal := range []syscall.Signal{syscall.SIGHUP, one.signal} {
+			if err := syscall.Kill(os.Getpid(), signal); err != nil {
+				t.Fatal(err)
+			}
+			name := fmt.Sprint("==> Caught signal: ", signal)
+			eventually(t, name, func() bool { return strings.Contains(out.String(), name) })
+		}
+		select {
+		case status := <-ended:
+			if status != one.status || !strings.Contains(out.String(), one.says) || errs.String() != "" {
+				t.Errorf("%v: %d %s %s", one.signal, status, &out, &errs)
+			}
+		case <-time.After(30 * time.Second):
+			t.Fatal("it doesn't end")
+		}
+	}
+}

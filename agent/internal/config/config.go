@@ -1,0 +1,193 @@
+// Package config reads what the agent is started with: flags, and files of Serf's own JSON keys.
+package config
+
+import (
+	"encoding/base64"
+	"fmt"
+	"os"
+	"time"
+)
+
+// Version is what the agent calls itself.
+const Version = "0.1.0"
+
+// Default ports, as Serf has them.
+const (
+	BindPort = 7946
+	RPCPort  = 7373
+)
+
+// Config is what the agent is started with.
+type Config struct {
+	// NodeName is the node's own name; the host's name where nothing is said.
+	NodeName string
+	// Bind is where gossip listens, and Advertise what the others are told, where it isn't Bind.
+	Bind, Advertise string
+	// Tags are the node's tags. TagsFile keeps them between starts, and excludes Tags.
+	Tags     map[string]string
+	TagsFile string
+	// EncryptKey is a key in base64. KeyringFile keeps all keys between starts.
+	EncryptKey, KeyringFile string
+	// LogLevel is TRACE, DEBUG, INFO, WARN or ERR.
+	LogLevel string
+	// RPCAddr is where the command line's requests are taken, and RPCAuth what they have to know, where it isn't empty.
+	RPCAddr, RPCAuth string
+	// EventHandlers are texts of the form FILTERS=SCRIPT, or SCRIPT.
+	EventHandlers []string
+	// StartJoin are joined once at the start, RetryJoin until one is joined.
+	StartJoin, RetryJoin []string
+	RetryInterval        time.Duration
+	// RetryMax is how often RetryJoin is tried; 0 is without end.
+	RetryMax int
+	// Replay takes the events from before a join, too.
+	Replay bool
+	// Rejoin joins again by the snapshot, also after a leave.
+	Rejoin bool
+	// Snapshot is the file of clocks and members.
+	Snapshot string
+	// Profile is lan, wan or local: how fast gossip goes.
+	Profile string
+	// LeaveOnTerminate leaves at SIGTERM; SkipLeaveOnInterrupt doesn't at SIGINT.
+	LeaveOnTerminate, SkipLeaveOnInterrupt bool
+	// How often a failed member is tried, for how long, and for how long one that left is remembered.
+	ReconnectInterval, ReconnectTimeout, TombstoneTimeout time.Duration
+	// BroadcastTimeout is how long a leave waits until it is sent.
+	BroadcastTimeout time.Duration
+	// Compression packs gossip.
+	Compression bool
+	// UserEventSizeLimit is the greatest size of an event that is fired here, in bytes.
+	UserEventSizeLimit int
+	// HandlerTimeout ends a handler that lasts longer; 0 never does.
+	HandlerTimeout time.Duration
+	// ShowVersion prints the version and does nothing else.
+	ShowVersion bool
+}
+
+// Default is what stands where nothing is said.
+func Default() Config {
+	return Config{
+		Bind: "0.0.0.0", RPCAddr: "127.0.0.1:7373", LogLevel: "INFO", Profile: "lan", Tags: map[string]string{},
+		RetryInterval: 30 * time.Second, ReconnectInterval: 30 * time.Second, ReconnectTimeout: 24 * time.Hour,
+		TombstoneTimeout: 24 * time.Hour, BroadcastTimeout: 5 * time.Second, Compression: true, UserEventSizeLimit: 512,
+		HandlerTimeout: 10 * time.Minute,
+	}
+}
+
+// Levels are the levels of the log, the most talkative first.
+var Levels = []string{"TRACE", "DEBUG", "INFO", "WARN", "ERR"}
+
+// IsLevel says whether the log has this level.
+func IsLevel(level string) bool {
+	for _, one := range Levels {
+		if one == level {
+			return true
+		}
+	}
+	return false
+}
+
+// MaxName is how many bytes a node's name may have.
+const MaxName = 128
+
+// validate says what can't be, and fills in the host's name.
+func (c *Config) validate() error {
+	if c.NodeName == "" {
+		name, err := os.Hostname()
+		if err != nil {
+			return fmt.Errorf("-node is needed, since the host has no name: %w", err)
+		}
+		c.NodeName = name
+	}
+	if len(c.NodeName) > MaxName {
+		return fmt.Errorf("-node: a name has at most %d bytes, and this one has %d", MaxName, len(c.NodeName))
+	}
+	checks := []func() error{c.validateAddresses, c.validateKey, c.validateTags, c.validateNumbers}
+	for _, check := range checks {
+		if err := check(); err != nil {
+			return err
+		}
+	}
+	if !IsLevel(c.LogLevel) {
+		return fmt.Errorf("-log-level: %q is none of %v", c.LogLevel, Levels)
+	}
+	switch c.Profile {
+	case "lan", "wan", "local":
+		return nil
+	}
+	return fmt.Errorf("-profile: %q is none of lan, wan, local", c.Profile)
+}
+
+func (c *Config) validateAddresses() error {
+	if _, err := ParseAddress(c.Bind, BindPort); err != nil {
+		return fmt.Errorf("-bind: %w", err)
+	}
+	if c.Advertise != "" {
+		if _, err := ParseAddress(c.Advertise, BindPort); err != nil {
+			return fmt.Errorf("-advertise: %w", err)
+		}
+	}
+	if _, err := ParseAddress(c.RPCAddr, RPCPort); err != nil {
+		return fmt.Errorf("-rpc-addr: %w", err)
+	}
+	return nil
+}
+
+// Key is the key of EncryptKey, or nil.
+func (c *Config) Key() ([]byte, error) {
+	if c.EncryptKey == "" {
+		return nil, nil
+	}
+	key, err := base64.StdEncoding.DecodeString(c.EncryptKey)
+	if err != nil {
+		return nil, fmt.Errorf("-encrypt: no base64: %w", err)
+	}
+	switch len(key) {
+	case 16, 24, 32:
+		return key, nil
+	}
+	return nil, fmt.Errorf("-encrypt: a key has 16, 24 or 32 bytes, and this one has %d", len(key))
+}
+
+func (c *Config) validateKey() error {
+	if _, err := c.Key(); err != nil {
+		return err
+	}
+	if c.EncryptKey == "" || c.KeyringFile == "" {
+		return nil
+	}
+	if _, err := os.Stat(c.KeyringFile); err == nil {
+		return fmt.Errorf("-encrypt and -keyring-file: %s has the keys already, so leave -encrypt out", c.KeyringFile)
+	}
+	return nil
+}
+
+func (c *Config) validateTags() error {
+	if c.TagsFile != "" && len(c.Tags) > 0 {
+		return fmt.Errorf("-tag and -tags-file: the file has the tags, so one of them has to go")
+	}
+	return nil
+}
+
+func (c *Config) validateNumbers() error {
+	if c.UserEventSizeLimit < 1 || c.UserEventSizeLimit > 9216 {
+		return fmt.Errorf("user_event_size_limit: %d is not between 1 and 9216", c.UserEventSizeLimit)
+	}
+	if c.RetryMax < 0 {
+		return fmt.Errorf("-retry-max: %d is below 0", c.RetryMax)
+	}
+	for name, length := range map[string]time.Duration{
+		"-retry-interval": c.RetryInterval, "reconnect_interval": c.ReconnectInterval, "reconnect_timeout": c.ReconnectTimeout,
+		"tombstone_timeout": c.TombstoneTimeout, "-broadcast-timeout": c.BroadcastTimeout,
+	} {
+		if length <= 0 {
+			return fmt.Errorf("%s: %v is not above 0", name, length)
+		}
+	}
+	if c.HandlerTimeout < 0 {
+		return fmt.Errorf("-handler-timeout: %v is below 0", c.HandlerTimeout)
+	}
+	if c.Rejoin && c.Snapshot == "" {
+		return fmt.Errorf("-rejoin: it needs -snapshot")
+	}
+	return nil
+}

@@ -1,0 +1,135 @@
+package config
+
+import (
+	"errors"
+	"fmt"
+	"io"
+	"os"
+	"path/filepath"
+	"reflect"
+	"strings"
+	"testing"
+	"time"
+)
+
+func write(t *testing.T, path, text string) string {
+	t.Helper()
+	if err := os.WriteFile(path, []byte(text), 0o600); err != nil {
+		t.Fatal(err)
+	}
+	return path
+}
+
+func TestFlags(t *testing.T) {
+	words := strings.Fields("-node a -bind 127.0.0.1:1 -join x -join y -rejoin -snapshot s -tag k=v=w -role web -retry-max 3 " +
+		"-retry-interval 5s -log-level debug -profile wan -event-handler user:deploy=run -disable-compression -replay")
+	found, err := Parse(words, io.Discard)
+	if err != nil {
+		t.Fatal(err)
+	}
+	want := Default()
+	want.NodeName, want.Bind, want.StartJoin, want.Rejoin, want.Snapshot = "a", "127.0.0.1:1", []string{"x", "y"}, true, "s"
+	want.Tags, want.RetryMax, want.RetryInterval = map[string]string{"k": "v=w", "role": "web"}, 3, 5*time.Second
+	want.LogLevel, want.Profile, want.EventHandlers = "DEBUG", "wan", []string{"user:deploy=run"}
+	want.Compression, want.Replay = false, true
+	if !reflect.DeepEqual(found, want) {
+		t.Errorf("%+v\n%+v", found, want)
+	}
+}
+
+func TestFilesComeBeforeFlags(t *testing.T) {
+	folder := t.TempDir()
+	one := write(t, filepath.Join(folder, "one"), `{"node_name": "one", "start_join": ["x"], "tags": {"a": "1"}, "rejoin_after_leave": true,
+		"snapshot_path": "s", "retry_max_attempts": 7, "reconnect_timeout": "1h", "leave_on_terminate": true}`)
+	write(t, filepath.Join(folder, "b.json"), `{"node_name": "b", "start_join": ["z"], "tags": null}`)
+	write(t, filepath.Join(folder, "a.json"), `{"node_name": "a", "start_join": ["y"], "rpc_auth": "token", "enable_compression": false}`)
+	write(t, filepath.Join(folder, "c.text"), `{`)
+	found, err := Parse([]string{"-join", "w", "-config-file", one, "-config-dir", folder, "-tag", "b=2"}, io.Discard)
+	if err != nil {
+		t.Fatal(err)
+	}
+	if found.NodeName != "b" || !reflect.DeepEqual(found.StartJoin, []string{"x", "y", "z", "w"}) || found.RPCAuth != "token" {
+		t.Errorf("%+v", found)
+	}
+	if !reflect.DeepEqual(found.Tags, map[string]string{"a": "1", "b": "2"}) || found.RetryMax != 7 || found.ReconnectTimeout != time.Hour {
+		t.Errorf("%+v", found)
+	}
+	if !found.LeaveOnTerminate || found.Compression || !found.Rejoin {
+		t.Errorf("%+v", found)
+	}
+}
+
+func TestRefusals(t *testing.T) {
+	folder := t.TempDir()
+	files := 0
+	file := func(text string) string {
+		files++
+		return "-config-file " + write(t, filepath.Join(folder, fmt.Sprint(files)), text)
+	}
+	for _, one := range []struct{ words, says string }{
+		{"-foo", "-foo"},
+		{"word", `"word" is no flag`},
+		{"-node " + strings.Repeat("x", 129), "at most 128 bytes"},
+		{"-bind a:b", "-bind"},
+		{"-bind 1.2.3.4:70000", "no port"},
+		{"-rpc-addr ::::", "-rpc-addr"},
+		{"-advertise a:b", "-advertise"},
+		{"-log-level loud", `"LOUD"`},
+		{"-profile fast", "-profile"},
+		{"-protocol 4", "-protocol"},
+		{"-tag k", "key=value"},
+		{"-tag =v", "key=value"},
+		{"-tag k=v -tags-file f", "-tags-file"},
+		{"-encrypt %", "-encrypt"},
+		{"-encrypt QUJD", "3"},
+		{"-encrypt cg8StVXbQJ0gPvMd9o7yrg== -keyring-file /dev/null", "leave -encrypt out"},
+		{"-rejoin", "needs -snapshot"},
+		{"-retry-max x", "no number"},
+		{"-retry-max -1", "below 0"},
+		{"-retry-interval 3", "no time"},
+		{"-retry-interval 0s", "not above 0"},
+		{"-handler-timeout -1s", "below 0"},
+		{"-replay=maybe", "neither true nor false"},
+		{"-discover x", "-join"},
+		{"-iface eth0", "-bind"},
+		{"-syslog", "standard output"},
+		{"-config-file /nowhere", "no such file"},
+		{"-config-file /", "is a directory"},
+		{"-config-dir /nowhere", "no such file"},
+		{file(`[]`), "no JSON object"},
+		{file(`{"foo": 1}`), `"foo"`},
+		{file(`{"statsd_addr": "x"}`), "serf info"},
+		{file(`{"retry_max_attempts": "x"}`), "no number"},
+		{file(`{"tags": {"k": {}}}`), "neither a text"},
+		{file(`{"start_join": [[]]}`), "neither a text"},
+		{file(`{"user_event_size_limit": 9217}`), "9216"},
+	} {
+		_, err := Parse(strings.Fields(one.words), io.Discard)
+		if err == nil || !strings.Contains(err.Error(), one.says) {
+			t.Errorf("%s: %v", one.words, err)
+		}
+	}
+}
+
+func TestHelp(t *testing.T) {
+	var said strings.Builder
+	if _, err := Parse([]string{"-help"}, &said); !errors.Is(err, ErrHelp) {
+		t.Fatal(err)
+	}
+	for _, one := range settings {
+		if one.flag != "" && !strings.Contains(said.String(), "-"+one.flag+" ") {
+			t.Errorf("-%s is not in the help", one.flag)
+		}
+	}
+}
+
+func TestAddresses(t *testing.T) {
+	for text, want := range map[string]Address{
+		"1.2.3.4": {"1.2.3.4", 5}, "1.2.3.4:6": {"1.2.3.4", 6}, "[::1]": {"::1", 5}, "[::1]:6": {"::1", 6}, "::1": {"::1", 5},
+		":6": {"", 6}, "name": {"name", 5}, "name:0": {"name", 0},
+	} {
+		if found, err := ParseAddress(text, 5); err != nil || found != want {
+			t.Errorf("%s: %v %v", text, found, err)
+		}
+	}
+}

@@ -1,0 +1,68 @@
+package handlers
+
+import (
+	"strings"
+	"testing"
+
+	"kitchenrue.example/agent/internal/event"
+)
+
+func TestFilters(t *testing.T) {
+	join := &event.Event{Kind: event.MemberJoin}
+	deploy := &event.Event{Kind: event.User, Name: "deploy"}
+	load := &event.Event{Kind: event.Asked, Name: "load"}
+	for _, one := range []struct {
+		text               string
+		join, deploy, load bool
+	}{
+		{"", true, true, true},
+		{"*", true, true, true},
+		{"member-join", true, false, false},
+		{"member-leave,member-failed,member-update,member-reap", false, false, false},
+		{"user", false, true, false},
+		{"user:deploy", false, true, false},
+		{"user:other", false, false, false},
+		{"query", false, false, true},
+		{"query:load,member-join", true, false, true},
+		{"query:deploy", false, false, false},
+		{"user:a:b", false, false, false},
+	} {
+		all, err := ParseFilters(one.text)
+		if err != nil {
+			t.Errorf("%q: %v", one.text, err)
+			continue
+		}
+		if all.Takes(join) != one.join || all.Takes(deploy) != one.deploy || all.Takes(load) != one.load {
+			t.Errorf("%q", one.text)
+		}
+	}
+	for _, text := range []string{"foo", "user:", "query:", "member-join:x", "*:x", "user,", " user", "member"} {
+		if _, err := ParseFilters(text); err == nil {
+			t.Errorf("%q is taken", text)
+		}
+	}
+}
+
+func TestScripts(t *testing.T) {
+	for text, want := range map[string]Script{
+		"run":                         {Filters{{"*", ""}}, "run"},
+		"user=run a=b":                {Filters{{"user", ""}}, "run a=b"},
+		"user:deploy,member-join=run": {Filters{{"user", "deploy"}, {"member-join", ""}}, "run"},
+	} {
+		found, err := ParseScript(text)
+		if err != nil || found.Command != want.Command || len(found.Filters) != len(want.Filters) {
+			t.Errorf("%q: %v %v", text, found, err)
+			continue
+		}
+		for i, filter := range want.Filters {
+			if found.Filters[i] != filter {
+				t.Errorf("%q: %v", text, found)
+			}
+		}
+	}
+	for text, says := range map[string]string{"": "no script", "user=": "no script", "A=b run": `"A" is no event`} {
+		if _, err := ParseScript(text); err == nil || !strings.Contains(err.Error(), says) {
+			t.Errorf("%q: %v", text, err)
+		}
+	}
+}

@@ -1,0 +1,219 @@
+package handlers
+
+import (
+	"bytes"
+	"fmt"
+	"log"
+	"os"
+	"path/filepath"
+	"strings"
+	"sync"
+	"testing"
+	"time"
+
+	"kitchenrue.example/agent/internal/event"
+)
+
+type buffer struct {
+	mu   sync.Mutex
+	text bytes.Buffer
+}
+
+func (b *buffer) Write(data []byte) (int, error) {
+	b.mu.Lock()
+	defer b.mu.Unlock()
+	return b.text.Write(data)
+}
+
+func (b *buffer) String() string {
+	b.mu.Lock()
+	defer b.mu.Unlock()
+	return b.text.String()
+}
+
+func newRunner(t *testing.T, timeout time.Duration, scripts ...string) (*Runner, *buffer) {
+	t.Helper()
+	all, err := ParseScripts(scripts)
+	if err != nil {
+		t.Fatal(err)
+	}
+	said := &buffer{}
+	return New(log.New(said, "", 0), timeout, all, func() Self { return self }), said
+}
+
+func user(name, payload string) *event.Event {
+	return &event.Event{Kind: event.User, Name: name, Payload: []byte(payload)}
+}
+
+func TestInOrder(t *testing.T) {
+	t.Parallel()
+	file := filepath.Join(t.TempDir(), "file")
+	r, _ := newRunner(t, 0, "user:deploy=(cat; sleep 0.0$((RANDOM % 5)) 2>/dev/null) >> "+file, "query=echo never >> "+file)
+	var want string
+	for i := 0; i < 20; i++ {
+		r.Add(user("deploy", fmt.Sprint(i)))
+		r.Add(user("other", "x"))
+		want += fmt.Sprintln(i)
+	}
+	r.Close(time.Minute)
+	if found, err := os.ReadFile(file); err != nil || string(found) != want {
+		t.Errorf("%q %v", found, err)
+	}
+}
+
+func TestAnswers(t *testing.T) {
+	t.Parallel()
+	for _, one := range []struct{ script, want, says string }{
+		{"cat; echo err >&2", "pay\nerr\n", ""},
+		{"true", "", ""},
+		{"echo no; exit 3", "", "exit status 3"},
+		{"head -c 10000 /dev/zero", "", "too long"},
+		{"kill -9 $$", "", "killed"},
+		{"env | grep SERF_QUERY", "SERF_QUERY_NAME=load\nSERF_QUERY_LTIME=5\n", ""},
+	} {
+		var answered string
+		r, said := newRunner(t, 0, "query:load="+one.script)
+		r.Add(&event.Event{Kind: event.Asked, Name: "load", LTime: 5, Payload: []byte("pay"), Query: &event.Query{Respond: func(payload []byte) error {
+			answered += string(payload)
+			return nil
+		}}})
+		r.Close(time.Minute)
+		lines := func(text string) int { return strings.Count(text, "\n") }
+		if lines(answered) != lines(one.want) || len(answered) != len(one.want) || !strings.Contains(said.String(), one.says) {
+			t.Errorf("%s: %q %s", one.script, answered, said)
+		}
+	}
+}
+
+func TestScriptsThatDoNotEnd(t *testing.T) {
+	t.Parallel()
+	for _, script := range []string{"sleep 100", "sleep 100 & sleep 100", "yes", "trap '' TERM; sleep 0.2; yes > /dev/null"} {
+		script := script
+		t.Run(script, func(t *testing.T) {
+			t.Parallel()
+			began := time.Now()
+			r, said := newRunner(t, 300*time.Millisecond, script, "echo second")
+			r.Add(user("deploy", strings.Repeat("x", 1<<20)))
+			r.Close(time.Minute)
+			if length := time.Since(began); length > 20*time.Second {
+				t.Errorf("it lasted %v", length)
+			}
+			if !strings.Contains(said.String(), "lasted too long") || !strings.Contains(said.String(), "output: second") {
+				t.Error(said)
+			}
+		})
+	}
+}
+
+// What a script that is ended has begun ends with it.
+func TestTheWholeGroupEnds(t *testing.T) {
+	t.Parallel()
+	file := filepath.Join(t.TempDir(), "file")
+	r, _ := newRunner(t, 500*time.Millisecond, "sleep 100 & echo $! $$ > "+file+"; trap '' TERM; sleep 100; sleep 100")
+	r.Add(user("deploy", ""))
+	r.Close(time.Minute)
+	text, err := os.ReadFile(file)
+	if err != nil {
+		t.Fatal(err)
+	}
+	var background, script int
+	if _, err := fmt.Sscan(string(text), &background, &script); err != nil {
+		t.Fatal(err)
+	}
+	for _, process := range []int{background, script} {
+		gone := false
+		for i := 0; i < 300 && !gone; i++ {
+			state, err := os.ReadFile(fmt.Sprintf("/proc/%d/stat", process))
+			// (one that nobody waits for is gone, too)
+			gone = err != nil || strings.Contains(string(state), ") Z ")
+			time.Sleep(10 * time.Millisecond)
+		}
+		if !gone {
+			t.Errorf("%d lives: %q", process, text)
+		}
+	}
+}
+
+func TestLeftInTheBackground(t *testing.T) {
+	t.Parallel()
+	began := time.Now()
+	r, said := newRunner(t, 0, "sleep 60 & echo done")
+	r.Add(user("deploy", ""))
+	r.Close(time.Minute)
+	if length := time.Since(began); length > 20*time.Second || !strings.Contains(said.String(), "output: done") {
+		t.Errorf("%v %s", length, said)
+	}
+}
+
+func TestTheEndDoesNotWait(t *testing.T) {
+	t.Parallel()
+	r, said := newRunner(t, 0, "sleep 100")
+	for i := 0; i < 3; i++ {
+		r.Add(user("deploy", ""))
+	}
+	time.Sleep(100 * time.Millisecond)
+	began := time.Now()
+	r.Close(200 * time.Millisecond)
+	if length := time.Since(began); length > 20*time.Second {
+		t.Errorf("it lasted %v", length)
+	}
+	if !strings.Contains(said.String(), "2 events never reach their handlers") || !strings.Contains(said.String(), "it was ended") {
+		t.Error(said)
+	}
+	r.Add(user("late", ""))
+}
+
+func TestBounds(t *testing.T) {
+	t.Parallel()
+	r, said := newRunner(t, 0, "sleep 100")
+	for i := 0; i < Waiting+1; i++ {
+		r.Add(user("deploy", ""))
+	}
+	for i := 0; i < 2*WaitingQueries; i++ {
+		r.Add(&event.Event{Kind: event.Asked, Name: "load"})
+	}
+	if len(r.queries.waiting) > WaitingQueries || !strings.Contains(said.String(), "query: load was dropped") {
+		t.Errorf("%d wait", len(r.queries.waiting))
+	}
+	if r.HasRoom() && len(r.events.waiting) != Waiting {
+		t.Error("there is room")
+	}
+	r.Close(0)
+}
+
+func TestOtherScripts(t *testing.T) {
+	t.Parallel()
+	r, said := newRunner(t, 0, "echo one")
+	all, err := ParseScripts([]string{"echo two"})
+	if err != nil {
+		t.Fatal(err)
+	}
+	r.SetScripts(all)
+	r.Add(user("deploy", ""))
+	r.Close(time.Minute)
+	if text := said.String(); strings.Contains(text, "one") || !strings.Contains(text, "two") {
+		t.Error(text)
+	}
+}
+
+func TestTail(t *testing.T) {
+	var kept tail
+	var all []byte
+	for i := 0; i < 300; i++ {
+		piece := bytes.Repeat([]byte{byte(i)}, i*7)
+		all = append(all, piece...)
+		if _, err := kept.Write(piece); err != nil {
+			t.Fatal(err)
+		}
+		want := all
+		if len(want) > MaxOutput {
+			want = want[len(want)-MaxOutput:]
+		}
+		if !bytes.Equal(kept.bytes, want) || kept.total != int64(len(all)) {
+			t.Fatal(i)
+		}
+	}
+	if _, err := kept.Write(make([]byte, 3*MaxOutput)); err != nil || len(kept.bytes) != MaxOutput {
+		t.Error(len(kept.bytes))
+	}
+}

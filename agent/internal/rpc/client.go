@@ -1,0 +1,307 @@
+package rpc
+
+import (
+	"bufio"
+	"context"
+	"errors"
+	"fmt"
+	"io"
+	"net"
+	"sync"
+	"time"
+
+	"kitchenrue.example/agent/internal/event"
+	"kitchenrue.example/agent/internal/handlers"
+)
+
+// times are how long a client may take: to say who it is, to send the rest of a request, to take what is sent to it, and to
+// take what is sent at the end.
+type times struct{ greet, rest, send, last time.Duration }
+
+var defaultTimes = times{10 * time.Second, 10 * time.Second, 10 * time.Second, time.Second}
+
+// How much may wait for a client, and how many streams, monitors, queries and unanswered queries it may have.
+const (
+	maxFrames     = 4096
+	maxBytes      = 8 << 20
+	maxStreams    = 64
+	maxUnanswered = 1024
+)
+
+var errTooSlow = errors.New("too much waits for it")
+
+// client is a connection. One goroutine reads it, and one writes what waits.
+type client struct {
+	server *Server
+	conn   net.Conn
+	in     *reader
+	ctx    context.Context
+	cancel context.CancelFunc
+	times  times
+	began  time.Time
+
+	// Whether it has said which protocol it speaks, and who it is: the reader's own.
+	isGreeted, isKnown bool
+
+	mu      sync.Mutex
+	changed *sync.Cond
+	frames  [][]byte
+	bytes   int
+	// isLast: what waits is the last. isOver: nothing is written any more.
+	isLast, isOver bool
+	streams        map[uint64]handlers.Filters
+	stops          map[uint64]*follower
+	asked          map[uint64]*event.Event
+}
+
+func newClient(s *Server, conn net.Conn) *client {
+	c := &client{
+		server: s, conn: conn, in: &reader{in: bufio.NewReaderSize(conn, 4<<10)}, isKnown: s.auth == "", times: s.times, began: time.Now(),
+		streams: map[uint64]handlers.Filters{}, stops: map[uint64]*follower{}, asked: map[uint64]*event.Event{},
+	}
+	c.ctx, c.cancel = context.WithCancel(s.ctx)
+	c.changed = sync.NewCond(&c.mu)
+	return c
+}
+
+// read takes requests until the client ends, or is ended.
+func (c *client) read() {
+	defer c.finish()
+	for {
+		err := c.request()
+		if err == nil {
+			continue
+		}
+		if !errors.Is(err, io.EOF) && !errors.Is(err, net.ErrClosed) && c.ctx.Err() == nil {
+			c.server.log.Printf("[WARN] agent.ipc: %v was ended: %v", c.conn.RemoteAddr(), err)
+		}
+		return
+	}
+}
+
+// errLast: the answer that waits is the last one.
+var errLast = fmt.Errorf("it asked for what it may not: %w", io.EOF)
+
+// request takes one request, and does it.
+func (c *client) request() error {
+	var until time.Time
+	if !c.isGreeted || !c.isKnown {
+		until = c.began.Add(c.times.greet)
+	}
+	if err := c.conn.SetReadDeadline(until); err != nil {
+		return err
+	}
+	if _, err := c.in.in.Peek(1); err != nil {
+		return err
+	}
+	if err := c.conn.SetReadDeadline(time.Now().Add(c.times.rest)); err != nil {
+		return err
+	}
+	value, err := c.in.next(maxHeader)
+	if err != nil {
+		return err
+	}
+	var header requestHeader
+	if err := decode(value, &header); err != nil {
+		return err
+	}
+	command, is := commands[header.Command]
+	if refusal := c.refusal(header.Command, is); refusal != "" {
+		c.server.log.Printf("[WARN] agent.ipc: %v asked for %.40q: %s", c.conn.RemoteAddr(), header.Command, refusal)
+		if is && command.body != nil && c.isGreeted {
+			if _, err := c.in.next(maxBody); err != nil {
+				return err
+			}
+		}
+		if err := c.answer(header.Seq, errors.New(refusal)); err != nil || is && c.isGreeted {
+			return err
+		}
+		return errLast
+	}
+	var body interface{}
+	if command.body != nil {
+		if value, err = c.in.next(maxBody); err != nil {
+			return err
+		}
+		body = command.body()
+		if err := decode(value, body); err != nil {
+			return err
+		}
+	}
+	return command.run(c, header.Seq, body)
+}
+
+// refusal is why a command isn't taken now.
+func (c *client) refusal(command string, is bool) string {
+	switch {
+	case command == "handshake":
+		return ""
+	case !c.isGreeted:
+		return "Handshake required"
+	case command == "auth":
+		return ""
+	case !c.isKnown:
+		return "Authentication required"
+	case !is:
+		return "Unsupported command"
+	}
+	return ""
+}
+
+// answer says how a request went, and what it gave.
+func (c *client) answer(seq uint64, err error, bodies ...interface{}) error {
+	header := answerHeader{Seq: seq}
+	if err != nil {
+		header.Error = err.Error()
+	}
+	return c.send(append([]interface{}{header}, bodies...)...)
+}
+
+// send queues values for the client, which are written together. It doesn't wait: where too much waits, the client is ended.
+func (c *client) send(values ...interface{}) error {
+	frame, err := encode(values...)
+	if err != nil {
+		return err
+	}
+	c.mu.Lock()
+	defer c.mu.Unlock()
+	if c.isOver || c.isLast {
+		return net.ErrClosed
+	}
+	if len(c.frames) >= maxFrames || c.bytes+len(frame) > maxBytes {
+		c.isOver = true
+		c.conn.Close()
+		c.changed.Broadcast()
+		return errTooSlow
+	}
+	c.frames = append(c.frames, frame)
+	c.bytes += len(frame)
+	c.changed.Signal()
+	return nil
+}
+
+// next waits for a frame; nil at the end.
+func (c *client) next() ([]byte, time.Duration) {
+	c.mu.Lock()
+	defer c.mu.Unlock()
+	for len(c.frames) == 0 && !c.isOver && !c.isLast {
+		c.changed.Wait()
+	}
+	if len(c.frames) == 0 || c.isOver {
+		return nil, 0
+	}
+	first := c.frames[0]
+	c.frames[0] = nil
+	c.frames = c.frames[1:]
+	c.bytes -= len(first)
+	if c.isLast {
+		return first, c.times.last
+	}
+	return first, c.times.send
+}
+
+// write writes what waits, until the end.
+func (c *client) write() {
+	defer c.end()
+	for {
+		frame, length := c.next()
+		if frame == nil {
+			return
+		}
+		_ = c.conn.SetWriteDeadline(time.Now().Add(length))
+		if _, err := c.conn.Write(frame); err != nil {
+			return
+		}
+	}
+}
+
+// finish lets what waits be written, and then ends the client.
+func (c *client) finish() {
+	c.cancel()
+	c.mu.Lock()
+	defer c.mu.Unlock()
+	c.isLast = true
+	c.streams = nil
+	_ = c.conn.SetWriteDeadline(time.Now().Add(c.times.last))
+	c.changed.Broadcast()
+}
+
+// end ends the client at once.
+func (c *client) end() {
+	c.cancel()
+	c.mu.Lock()
+	defer c.mu.Unlock()
+	c.isOver = true
+	c.frames = nil
+	c.conn.Close()
+	c.changed.Broadcast()
+}
+
+// isFull says whether the client has as many streams, monitors and queries as it may.
+func (c *client) isFull() bool {
+	c.mu.Lock()
+	defer c.mu.Unlock()
+	return len(c.streams)+len(c.stops) >= maxStreams
+}
+
+// follower is what sends records under a number.
+type follower struct{ stop context.CancelFunc }
+
+// follow runs what sends records under this number, until it ends or is stopped. It ends with the client.
+func (c *client) follow(seq uint64, run func(ctx context.Context)) {
+	ctx, cancel := context.WithCancel(c.ctx)
+	own := &follower{cancel}
+	c.mu.Lock()
+	if old := c.stops[seq]; old != nil {
+		old.stop()
+	}
+	c.stops[seq] = own
+	c.mu.Unlock()
+	c.server.over.Add(1)
+	go func() {
+		defer c.server.over.Done()
+		run(ctx)
+		cancel()
+		c.mu.Lock()
+		defer c.mu.Unlock()
+		if c.stops[seq] == own {
+			delete(c.stops, seq)
+		}
+	}()
+}
+
+// publish tells this client's streams of an event.
+func (c *client) publish(e *event.Event) {
+	c.mu.Lock()
+	var seqs []uint64
+	for seq, filters := range c.streams {
+		if filters.Takes(e) {
+			seqs = append(seqs, seq)
+		}
+	}
+	if len(seqs) > 0 && e.Query != nil {
+		c.remember(e)
+	}
+	c.mu.Unlock()
+	for _, seq := range seqs {
+		if err := c.send(answerHeader{Seq: seq}, recordOf(e)); err != nil {
+			if errors.Is(err, errTooSlow) {
+				c.server.log.Printf("[WARN] agent.ipc: %v was ended: %v", c.conn.RemoteAddr(), err)
+			}
+			return
+		}
+	}
+}
+
+// remember keeps a query that the client may answer, and forgets those whose time is over.
+func (c *client) remember(e *event.Event) {
+	now := time.Now()
+	for number, one := range c.asked {
+		if now.After(one.Query.Deadline) {
+			delete(c.asked, number)
+		}
+	}
+	if len(c.asked) < maxUnanswered {
+		c.asked[e.Query.Number] = e
+	}
+}

@@ -1,0 +1,205 @@
+package rpc
+
+import (
+	"errors"
+	"fmt"
+	"reflect"
+	"testing"
+	"time"
+
+	"kitchenrue.example/agent/internal/event"
+)
+
+func TestCommands(t *testing.T) {
+	s, f, _ := start(t, "")
+	p := dial(t, s).greet()
+	p.says(p.ask("handshake", handshakeBody{1}), "Handshake already performed")
+	p.says(p.ask("handshake", handshakeBody{2}), "Unsupported IPC version")
+	p.says(p.ask("auth", authBody{"any"}), "")
+	p.says(p.ask("event", eventBody{Name: "deploy", Payload: []byte("v1")}), "")
+	p.says(p.ask("event", eventBody{Name: "large"}), "user event exceeds its limit")
+	p.says(p.ask("force-leave", forceLeaveBody{Node: "beta"}), "")
+	p.says(p.ask("tags", tagsBody{}), "")
+	var count joinAnswer
+	p.says(p.ask("join", joinBody{Existing: []string{"a", "b"}}), "")
+	if p.read(&count); count.Num != 2 {
+		t.Error(count)
+	}
+	p.says(p.ask("join", joinBody{}), "nobody was joined")
+	if p.read(&count); count.Num != 0 {
+		t.Error(count)
+	}
+	var keys keyAnswer
+	p.says(p.ask("list-keys"), "")
+	if p.read(&keys); keys.NumNodes != 2 || keys.Keys["list-keys"] != 1 {
+		t.Error(keys)
+	}
+	p.says(p.ask("install-key", keyBody{"xx"}), "illegal base64")
+	p.read(&keys)
+	var stats map[string]map[string]string
+	p.says(p.ask("stats"), "")
+	if p.read(&stats); stats["agent"]["name"] != "alpha" {
+		t.Error(stats)
+	}
+	var place coordinateAnswer
+	p.says(p.ask("get-coordinate", coordinateBody{"alpha"}), "")
+	if p.read(&place); place.Ok {
+		t.Error(place)
+	}
+	p.says(p.ask("respond", respondBody{ID: 9}), "No pending queries matching ID")
+	p.says(p.ask("stop", stopBody{77}), "")
+	p.says(p.ask("leave"), "")
+	if want := []string{"fire deploy v1", "fire large ", "force-leave beta", "tags", "leave"}; !reflect.DeepEqual(f.calls, want) || !f.isOver {
+		t.Error(f.calls)
+	}
+}
+
+func TestMembers(t *testing.T) {
+	s, _, _ := start(t, "")
+	p := dial(t, s).greet()
+	var all membersAnswer
+	p.says(p.ask("members"), "")
+	p.read(&all)
+	want := []member{
+		{Name: "alpha", Addr: []byte{127, 0, 0, 1}, Port: 7946, Tags: map[string]string{"role": "web"}, Status: "alive", ProtocolMin: 1, DelegateCur: 5},
+		{Name: "beta", Addr: append(make([]byte, 15), 1), Tags: map[string]string{}, Status: "failed"},
+	}
+	if !reflect.DeepEqual(all.Members, want) {
+		t.Errorf("%+v", all.Members)
+	}
+	for _, one := range []struct {
+		by    filteredBody
+		names string
+		says  string
+	}{
+		{filteredBody{}, "[alpha beta]", ""},
+		{filteredBody{Name: "al"}, "[]", ""},
+		{filteredBody{Name: "al.*"}, "[alpha]", ""},
+		{filteredBody{Status: "alive|failed"}, "[alpha beta]", ""},
+		{filteredBody{Status: "ali"}, "[]", ""},
+		{filteredBody{Tags: map[string]string{"role": "w.."}}, "[alpha]", ""},
+		{filteredBody{Tags: map[string]string{"role": "we"}}, "[]", ""},
+		{filteredBody{Tags: map[string]string{"none": ".*"}, Status: "failed"}, "[beta]", ""},
+		{filteredBody{Name: "("}, "[]", "Failed to compile regex: error parsing regexp: missing closing ): `^(?:()$`"},
+	} {
+		p.says(p.ask("members-filtered", one.by), one.says)
+		all = membersAnswer{}
+		p.read(&all)
+		names := []string{}
+		for _, one := range all.Members {
+			names = append(names, one.Name)
+		}
+		if fmt.Sprint(names) != one.names {
+			t.Errorf("%+v: %v", one.by, names)
+		}
+	}
+}
+
+func TestStreams(t *testing.T) {
+	s, _, _ := start(t, "")
+	p := dial(t, s).greet()
+	p.says(p.ask("stream", streamBody{"foo"}), "Invalid event filter")
+	users, queries := p.ask("stream", streamBody{"user:deploy"}), uint64(0)
+	p.says(users, "")
+	queries = p.ask("stream", streamBody{"query,member-join"})
+	p.says(queries, "")
+	eventually(t, func() bool { return streams(s) == 2 })
+	var answered string
+	query := &event.Query{Number: 7, Deadline: time.Now().Add(time.Minute), Respond: func(payload []byte) error {
+		answered = string(payload)
+		return errors.New("said")
+	}}
+	s.Publish(&event.Event{Kind: event.User, Name: "other"})
+	s.Publish(&event.Event{Kind: event.User, Name: "deploy", LTime: 3, Payload: []byte("v1"), Coalesce: true})
+	s.Publish(&event.Event{Kind: event.MemberJoin, Members: []event.Member{{Name: "gamma"}}})
+	s.Publish(&event.Event{Kind: event.Asked, Name: "load", LTime: 4, Query: query})
+	var user userRecord
+	p.says(users, "")
+	if p.read(&user); !reflect.DeepEqual(user, userRecord{"user", 3, "deploy", []byte("v1"), true}) {
+		t.Error(user)
+	}
+	var joined membersRecord
+	p.says(queries, "")
+	if p.read(&joined); joined.Event != "member-join" || joined.Members[0].Name != "gamma" {
+		t.Error(joined)
+	}
+	var asked askedRecord
+	p.says(queries, "")
+	if p.read(&asked); asked.ID != 7 || asked.Name != "load" || asked.Event != "query" {
+		t.Error(asked)
+	}
+	p.says(p.ask("respond", respondBody{7, []byte("0.12")}), "said")
+	if answered != "0.12" {
+		t.Error(answered)
+	}
+	p.says(p.ask("respond", respondBody{7, nil}), "No pending queries matching ID")
+	p.says(p.ask("stop", stopBody{users}), "")
+	s.Publish(&event.Event{Kind: event.User, Name: "deploy"})
+	p.says(p.ask("stop", stopBody{queries}), "")
+}
+
+func TestQueries(t *testing.T) {
+	s, f, _ := start(t, "")
+	p := dial(t, s).greet()
+	p.says(p.ask("query", queryBody{Name: "large"}), "query exceeds limit of 1024 bytes")
+	f.answers <- Answer{true, "alpha", nil}
+	f.answers <- Answer{false, "alpha", []byte("x")}
+	close(f.answers)
+	seq := p.ask("query", queryBody{Name: "load"})
+	p.says(seq, "")
+	for _, want := range []queryRecord{{"ack", "alpha", nil}, {"response", "alpha", []byte("x")}, {"done", "", nil}} {
+		var record queryRecord
+		p.says(seq, "")
+		if p.read(&record); !reflect.DeepEqual(record, want) {
+			t.Errorf("%+v", record)
+		}
+	}
+}
+
+func TestMonitor(t *testing.T) {
+	s, _, log := start(t, "")
+	p := dial(t, s).greet()
+	p.says(p.ask("monitor", monitorBody{"loud"}), "Unknown log level: LOUD")
+	log.SetFlags(0)
+	seq := p.ask("monitor", monitorBody{"warn"})
+	p.says(seq, "")
+	log.Print("[INFO] no")
+	log.Print("[ERR] yes")
+	for {
+		var record logRecord
+		p.says(seq, "")
+		if p.read(&record); record.Log == "[ERR] yes" {
+			break
+		}
+	}
+	p.says(p.ask("stop", stopBody{seq}), "")
+	eventually(t, func() bool { return followers(s) == 0 })
+}
+
+// eventually waits until this holds.
+func eventually(t *testing.T, holds func() bool) {
+	t.Helper()
+	for i := 0; i < 3000; i++ {
+		if holds() {
+			return
+		}
+		time.Sleep(10 * time.Millisecond)
+	}
+	t.Fatal("it never came")
+}
+
+func counted(s *Server, count func(*client) int) int {
+	s.mu.Lock()
+	defer s.mu.Unlock()
+	total := 0
+	for c := range s.clients {
+		c.mu.Lock()
+		total += count(c)
+		c.mu.Unlock()
+	}
+	return total
+}
+
+func streams(s *Server) int   { return counted(s, func(c *client) int { return len(c.streams) }) }
+func followers(s *Server) int { return counted(s, func(c *client) int { return len(c.stops) }) }
+func clients(s *Server) int   { return counted(s, func(*client) int { return 1 }) }

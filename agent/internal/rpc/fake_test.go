@@ -1,0 +1,182 @@
+package rpc
+
+import (
+	"bufio"
+	"bytes"
+	"context"
+	"errors"
+	"net"
+	"sync"
+	"testing"
+	"time"
+
+	"kitchenrue.example/agent/internal/event"
+	"kitchenrue.example/agent/internal/logs"
+)
+
+// fake is a backend that notes what it is asked for.
+type fake struct {
+	mu      sync.Mutex
+	calls   []string
+	answers chan Answer
+	isOver  bool
+	// more members, for long answers
+	more []event.Member
+}
+
+func (f *fake) call(what string) {
+	f.mu.Lock()
+	defer f.mu.Unlock()
+	f.calls = append(f.calls, what)
+}
+
+func (f *fake) Fire(name string, payload []byte, _ bool) error {
+	f.call("fire " + name + " " + string(payload))
+	if name == "large" {
+		return errors.New("user event exceeds its limit")
+	}
+	return nil
+}
+
+func (f *fake) Members() []event.Member {
+	return append([]event.Member{
+		{Name: "alpha", Addr: net.IPv4(127, 0, 0, 1), Port: 7946, Tags: map[string]string{"role": "web"}, Status: event.Alive, ProtocolMin: 1, DelegateCur: 5},
+		{Name: "beta", Addr: net.ParseIP("::1"), Status: event.Failed},
+	}, f.more...)
+}
+
+func (f *fake) Join(_ context.Context, existing []string, replay bool) (int, error) {
+	if len(existing) == 0 {
+		return 0, errors.New("nobody was joined")
+	}
+	return len(existing), nil
+}
+
+func (f *fake) Leave(context.Context) error { f.call("leave"); return nil }
+
+func (f *fake) Shutdown() { f.mu.Lock(); f.isOver = true; f.mu.Unlock() }
+
+func (f *fake) ForceLeave(name string, prune bool) error { f.call("force-leave " + name); return nil }
+
+func (f *fake) UpdateTags(set map[string]string, remove []string) error {
+	f.call("tags")
+	return nil
+}
+
+func (f *fake) Query(params QueryParams) (*Asked, error) {
+	if params.Name == "large" {
+		return nil, errors.New("query exceeds limit of 1024 bytes")
+	}
+	return &Asked{f.answers}, nil
+}
+
+func (f *fake) Key(_ context.Context, what KeyCommand, key string) (KeyResult, error) {
+	if key == "xx" {
+		return KeyResult{}, errors.New("illegal base64")
+	}
+	return KeyResult{Messages: map[string]string{"a": "b"}, Nodes: 2, Answers: 1, Keys: map[string]int{string(what): 1}}, nil
+}
+
+func (f *fake) Stats() map[string]map[string]string {
+	return map[string]map[string]string{"agent": {"name": "alpha"}}
+}
+
+var quick = times{300 * time.Millisecond, 300 * time.Millisecond, 300 * time.Millisecond, 100 * time.Millisecond}
+
+// start begins to listen.
+func start(t *testing.T, token string) (*Server, *fake, *logs.Log) {
+	t.Helper()
+	return startBy(t, token, quick)
+}
+
+func startBy(t *testing.T, token string, times times) (*Server, *fake, *logs.Log) {
+	t.Helper()
+	f := &fake{answers: make(chan Answer, 8)}
+	log := logs.New(&bytes.Buffer{}, logs.Trace)
+	s, err := listen("127.0.0.1:0", token, f, log, times)
+	if err != nil {
+		t.Fatal(err)
+	}
+	t.Cleanup(s.Close)
+	return s, f, log
+}
+
+// peer is a client.
+type peer struct {
+	t    *testing.T
+	conn net.Conn
+	in   *reader
+	seq  uint64
+}
+
+func dial(t *testing.T, s *Server) *peer {
+	t.Helper()
+	conn, err := net.Dial("tcp", s.Addr().String())
+	if err != nil {
+		t.Fatal(err)
+	}
+	t.Cleanup(func() { conn.Close() })
+	return &peer{t: t, conn: conn, in: &reader{in: bufio.NewReader(conn)}}
+}
+
+func (p *peer) write(values ...interface{}) {
+	p.t.Helper()
+	data, err := encode(values...)
+	if err != nil {
+		p.t.Fatal(err)
+	}
+	if _, err := p.conn.Write(data); err != nil {
+		p.t.Fatal(err)
+	}
+}
+
+// ask asks, and gives the number of the request.
+func (p *peer) ask(command string, body ...interface{}) uint64 {
+	p.t.Helper()
+	p.seq++
+	p.write(append([]interface{}{requestHeader{command, p.seq}}, body...)...)
+	return p.seq
+}
+
+func (p *peer) read(to interface{}) {
+	p.t.Helper()
+	_ = p.conn.SetReadDeadline(time.Now().Add(5 * time.Second))
+	value, err := p.in.next(1 << 20)
+	if err != nil {
+		p.t.Fatal(err)
+	}
+	if err := decode(value, to); err != nil {
+		p.t.Fatal(err)
+	}
+}
+
+// says expects a header of this number and error.
+func (p *peer) says(seq uint64, says string) {
+	p.t.Helper()
+	var header answerHeader
+	p.read(&header)
+	if header.Seq != seq || header.Error != says {
+		p.t.Fatalf("%+v, not %d %q", header, seq, says)
+	}
+}
+
+func (p *peer) greet() *peer {
+	p.t.Helper()
+	p.says(p.ask("handshake", handshakeBody{1}), "")
+	return p
+}
+
+// isEnded expects that the connection ends soon.
+func (p *peer) isEnded() {
+	p.t.Helper()
+	_ = p.conn.SetReadDeadline(time.Now().Add(5 * time.Second))
+	for {
+		if _, err := p.in.in.ReadByte(); err != nil {
+			var late net.Error
+			if errors.As(err, &late) && late.Timeout() {
+				p.t.Fatal("it isn't ended")
+			}
+			return
+		}
+	}
+}

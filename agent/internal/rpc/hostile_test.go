@@ -1,0 +1,194 @@
+package rpc
+
+import (
+	"bufio"
+	"bytes"
+	"errors"
+	"io"
+	"strings"
+	"testing"
+	"time"
+
+	"kitchenrue.example/agent/internal/event"
+)
+
+func TestBeforeTheGreeting(t *testing.T) {
+	s, f, _ := start(t, "sesame")
+	p := dial(t, s)
+	p.says(p.ask("members"), "Handshake required")
+	p.isEnded()
+	p = dial(t, s).greet()
+	p.says(p.ask("event", eventBody{Name: "x"}), "Authentication required")
+	p.says(p.ask("members"), "Authentication required")
+	p.says(p.ask("auth", authBody{"sesame"}), "")
+	p.says(p.ask("event", eventBody{Name: "y"}), "")
+	if len(f.calls) != 1 {
+		t.Error(f.calls)
+	}
+	p = dial(t, s).greet()
+	p.says(p.ask("auth", authBody{"foo"}), "Invalid authentication token")
+	p.isEnded()
+	p = dial(t, s).greet()
+	p.says(p.ask("nonsense"), "Authentication required")
+	p.isEnded()
+	p = dial(t, s).greet()
+	time.Sleep(quick.greet)
+	p.isEnded()
+}
+
+func TestWhatEndsAClient(t *testing.T) {
+	header := func(command string) string {
+		data, err := encode(requestHeader{command, 1})
+		if err != nil {
+			t.Fatal(err)
+		}
+		return string(data)
+	}
+	for name, bytes := range map[string]string{
+		"half a header":          "\x82\xa7Comm",
+		"half a body":            header("event") + "\x83\xa4Name\xa1",
+		"a length of 4 GB":       header("event") + "\x81\xa4Name\xdb\xff\xff\xff\xff",
+		"a list of 4 G":          header("join") + "\x81\xa8Existing\xdd\xff\xff\xff\xff",
+		"a map of 4 G":           "\xdf\xff\xff\xff\xff",
+		"a long header":          "\x81\xa7Command\xda\x08\x00" + strings.Repeat("x", 2048),
+		"a long body":            header("event") + "\x81\xa7Payload\xdb\x00\x01\x00\x00" + strings.Repeat("x", 65536),
+		"deep":                   header("event") + strings.Repeat("\x91", 9) + "\xc0",
+		"no value":               "\xc1",
+		"an extension":           "\xd4\x00\x00",
+		"no map":                 "\x01",
+		"another kind":           header("event") + "\x81\xa4Name\x01\x01\x01",
+		"a list for a header":    "\x91\x91\xc0",
+		"text for a number":      "\x82\xa7Command\xa5stats\xa3Seq\xa1x",
+		"a list for a text":      header("event") + "\x81\xa4Name\x91\xc0",
+		"the web's own protocol": "GET / HTTP/1.1\r\n\r\n",
+	} {
+		s, f, _ := start(t, "")
+		p := dial(t, s).greet()
+		if _, err := io.WriteString(p.conn, bytes); err != nil {
+			t.Fatal(err)
+		}
+		p.isEnded()
+		eventually(t, func() bool { return clients(s) == 0 })
+		if len(f.calls) > 0 {
+			t.Errorf("%s: %v", name, f.calls)
+		}
+	}
+}
+
+func TestUnknownCommand(t *testing.T) {
+	s, _, _ := start(t, "")
+	p := dial(t, s).greet()
+	p.says(p.ask("nonsense"), "Unsupported command")
+	p.isEnded()
+}
+
+func TestTooManyClients(t *testing.T) {
+	patient := quick
+	patient.greet = time.Hour
+	s, _, _ := startBy(t, "", patient)
+	for i := 0; i < MaxClients; i++ {
+		dial(t, s).greet()
+	}
+	dial(t, s).isEnded()
+	if clients(s) != MaxClients {
+		t.Error(clients(s))
+	}
+}
+
+func TestTooManyStreams(t *testing.T) {
+	s, f, _ := start(t, "")
+	p := dial(t, s).greet()
+	for i := 0; i < maxStreams; i++ {
+		p.says(p.ask("stream", streamBody{"query"}), "")
+	}
+	for command, body := range map[string]interface{}{"stream": streamBody{"*"}, "monitor": monitorBody{"err"}, "query": queryBody{Name: "x"}} {
+		p.says(p.ask(command, body), errFull.Error())
+	}
+	if len(f.calls) != 0 {
+		t.Error(f.calls)
+	}
+	for i := uint64(0); i < 2*maxUnanswered; i++ {
+		s.Publish(&event.Event{Kind: event.Asked, Query: &event.Query{Number: i, Deadline: time.Now().Add(time.Minute)}})
+		if unanswered := counted(s, func(c *client) int { return len(c.asked) }); unanswered > maxUnanswered {
+			t.Fatal(unanswered)
+		}
+	}
+}
+
+// A client that never reads is ended when too much waits for it, however long it may take; nobody waits for it.
+func TestSlowClient(t *testing.T) {
+	patient := quick
+	patient.send = time.Hour
+	s, _, _ := startBy(t, "", patient)
+	slow, other := dial(t, s).greet(), dial(t, s).greet()
+	for _, p := range []*peer{slow, other} {
+		p.says(p.ask("stream", streamBody{"user:deploy"}), "")
+	}
+	other.says(other.ask("stop", stopBody{2}), "")
+	eventually(t, func() bool { return streams(s) == 1 })
+	payload := bytes.Repeat([]byte("x"), 4000)
+	began := time.Now()
+	for i := 0; i < 10000; i++ {
+		s.Publish(&event.Event{Kind: event.User, Name: "deploy", Payload: payload})
+	}
+	if length := time.Since(began); length > 10*time.Second {
+		t.Errorf("it waited %v", length)
+	}
+	eventually(t, func() bool { return clients(s) == 1 })
+	other.says(other.ask("tags", tagsBody{}), "")
+}
+
+// One that takes nothing for too long is ended, too, however little waits for it.
+func TestClientThatTakesNothing(t *testing.T) {
+	s, _, _ := start(t, "")
+	p := dial(t, s).greet()
+	p.says(p.ask("stream", streamBody{"user:deploy"}), "")
+	eventually(t, func() bool { return streams(s) == 1 })
+	for i := 0; i < 1800; i++ {
+		s.Publish(&event.Event{Kind: event.User, Name: "deploy", Payload: make([]byte, 4000)})
+	}
+	eventually(t, func() bool { return clients(s) == 0 })
+}
+
+func TestAClientThatOnlyAsks(t *testing.T) {
+	s, f, _ := start(t, "")
+	f.more = make([]event.Member, 2000)
+	p := dial(t, s).greet()
+	data, err := encode(requestHeader{"members", 1})
+	if err != nil {
+		t.Fatal(err)
+	}
+	many := bytes.Repeat(data, 1000)
+	_ = p.conn.SetWriteDeadline(time.Now().Add(20 * time.Second))
+	for i := 0; i < 1000; i++ {
+		if _, err = p.conn.Write(many); err != nil {
+			break
+		}
+	}
+	if err == nil {
+		t.Error("it isn't ended")
+	}
+	eventually(t, func() bool { return clients(s) == 0 })
+}
+
+func TestReader(t *testing.T) {
+	for _, one := range []struct {
+		bytes string
+		err   error
+	}{
+		{"\xc0", nil}, {"\x7f", nil}, {"\xff", nil}, {"\xc2", nil}, {"\x80", nil}, {"\x90", nil}, {"\xa0", nil}, {"\xa1x", nil},
+		{"\x81\xa1x\x01", nil}, {"\x92\x01\x02", nil}, {"\xcc\x01", nil}, {"\xcf12345678", nil}, {"\xd0\x01", nil},
+		{"\xd3\x0112345678"[:9], nil}, {"\xca1234", nil}, {"\xcb12345678", nil}, {"\xd9\x01x", nil}, {"\xda\x00\x01x", nil},
+		{"\xdb\x00\x00\x00\x01x", nil}, {"\xc4\x01x", nil}, {"\xc5\x00\x01x", nil}, {"\xc6\x00\x00\x00\x01x", nil},
+		{"\xdc\x00\x01\x01", nil}, {"\xdd\x00\x00\x00\x01\x01", nil}, {"\xde\x00\x01\x01\x01", nil}, {"\xdf\x00\x00\x00\x01\x01\x01", nil},
+		{"", io.EOF}, {"\xa2x", io.ErrUnexpectedEOF}, {"\x92\x01", io.EOF}, {"\xcf1234", io.ErrUnexpectedEOF},
+		{"\xda\xff\xff", errTooLong}, {"\xdd\xff\xff\xff\xff", errTooLong}, {"\xdf\xff\xff\xff\xff", errTooLong},
+		{strings.Repeat("\x91", 8) + "\x01", nil}, {strings.Repeat("\x91", 9) + "\x01", errTooDeep},
+	} {
+		r := &reader{in: bufio.NewReader(strings.NewReader(one.bytes))}
+		value, err := r.next(64)
+		if !errors.Is(err, one.err) || err == nil && string(value) != one.bytes {
+			t.Errorf("%q: %q %v", one.bytes, value, err)
+		}
+	}
+}

@@ -1,0 +1,178 @@
+// Package rpc takes the requests of the command line, by Serf's own protocol over TCP.
+//
+// Nothing waits for a client: one that is slow, lies, sends half a message or never says who it is is ended.
+package rpc
+
+import (
+	"context"
+	"errors"
+	"fmt"
+	"net"
+	"sync"
+	"time"
+
+	"kitchenrue.example/agent/internal/event"
+	"kitchenrue.example/agent/internal/logs"
+)
+
+// MaxClients is how many clients there may be at once.
+const MaxClients = 128
+
+// Backend is what requests ask for.
+type Backend interface {
+	// Fire fires an event in the whole cluster.
+	Fire(name string, payload []byte, coalesce bool) error
+	Members() []event.Member
+	// Join joins by these addresses: how many were joined.
+	Join(ctx context.Context, existing []string, replay bool) (int, error)
+	// Leave leaves the cluster. Shutdown, which comes behind it, ends the agent and doesn't wait.
+	Leave(ctx context.Context) error
+	Shutdown()
+	ForceLeave(name string, prune bool) error
+	UpdateTags(set map[string]string, remove []string) error
+	Query(params QueryParams) (*Asked, error)
+	// Key does this to the keys of all nodes.
+	Key(ctx context.Context, what KeyCommand, key string) (KeyResult, error)
+	Stats() map[string]map[string]string
+}
+
+// QueryParams are a query. A timeout of 0 is the cluster's own.
+type QueryParams struct {
+	Name        string
+	Payload     []byte
+	Nodes       []string
+	Tags        map[string]string
+	WantAck     bool
+	RelayFactor uint8
+	Timeout     time.Duration
+}
+
+// Asked is a query that was fired: Answers is closed when its time is over. Nobody waits until they are taken.
+type Asked struct{ Answers <-chan Answer }
+
+// Answer is an ack or a response of a node.
+type Answer struct {
+	IsAck   bool
+	From    string
+	Payload []byte
+}
+
+// KeyCommand is what is done to keys.
+type KeyCommand string
+
+// The commands.
+const (
+	InstallKey KeyCommand = "install-key"
+	UseKey     KeyCommand = "use-key"
+	RemoveKey  KeyCommand = "remove-key"
+	ListKeys   KeyCommand = "list-keys"
+)
+
+// KeyResult is what the nodes said: what was wrong at which, and how many have which key.
+type KeyResult struct {
+	Messages               map[string]string
+	Errors, Nodes, Answers int
+	Keys                   map[string]int
+}
+
+// Server takes requests.
+type Server struct {
+	backend  Backend
+	log      *logs.Log
+	auth     string
+	times    times
+	listener net.Listener
+	ctx      context.Context
+	stop     context.CancelFunc
+	over     sync.WaitGroup
+
+	mu      sync.Mutex
+	clients map[*client]struct{}
+}
+
+// Listen begins to take requests. A token that isn't empty has to be said by each client.
+func Listen(address, token string, backend Backend, log *logs.Log) (*Server, error) {
+	return listen(address, token, backend, log, defaultTimes)
+}
+
+func listen(address, token string, backend Backend, log *logs.Log, times times) (*Server, error) {
+	listener, err := net.Listen("tcp", address)
+	if err != nil {
+		return nil, fmt.Errorf("the RPC address: %w", err)
+	}
+	ctx, stop := context.WithCancel(context.Background())
+	s := &Server{backend: backend, log: log, auth: token, times: times, listener: listener, ctx: ctx, stop: stop, clients: map[*client]struct{}{}}
+	s.over.Add(1)
+	go s.accept()
+	return s, nil
+}
+
+// Addr is where it listens.
+func (s *Server) Addr() net.Addr { return s.listener.Addr() }
+
+func (s *Server) accept() {
+	defer s.over.Done()
+	for {
+		conn, err := s.listener.Accept()
+		if s.ctx.Err() != nil || errors.Is(err, net.ErrClosed) {
+			if err == nil {
+				conn.Close()
+			}
+			return
+		}
+		if err != nil {
+			// (too many open files, say: they may be fewer later)
+			s.log.Printf("[ERR] agent.ipc: no client was accepted: %v", err)
+			time.Sleep(100 * time.Millisecond)
+			continue
+		}
+		s.serve(conn)
+	}
+}
+
+// serve begins to serve a client, where there aren't too many.
+func (s *Server) serve(conn net.Conn) {
+	s.mu.Lock()
+	defer s.mu.Unlock()
+	if len(s.clients) >= MaxClients {
+		s.log.Printf("[WARN] agent.ipc: %v was turned away: there are %d clients", conn.RemoteAddr(), MaxClients)
+		conn.Close()
+		return
+	}
+	c := newClient(s, conn)
+	s.clients[c] = struct{}{}
+	s.log.Printf("[INFO] agent.ipc: Accepted client: %v", conn.RemoteAddr())
+	s.over.Add(2)
+	go func() {
+		defer s.over.Done()
+		c.read()
+		s.mu.Lock()
+		delete(s.clients, c)
+		s.mu.Unlock()
+	}()
+	go func() {
+		defer s.over.Done()
+		c.write()
+	}()
+}
+
+// Publish tells all streams of an event. It doesn't wait.
+func (s *Server) Publish(e *event.Event) {
+	s.mu.Lock()
+	defer s.mu.Unlock()
+	for c := range s.clients {
+		c.publish(e)
+	}
+}
+
+// Close ends all clients, when what waits for them is sent or a second is over.
+func (s *Server) Close() {
+	s.stop()
+	s.listener.Close()
+	s.mu.Lock()
+	for c := range s.clients {
+		c.finish()
+	}
+	s.mu.Unlock()
+	s.over.Wait()
+}

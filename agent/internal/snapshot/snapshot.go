@@ -1,0 +1,195 @@
+// Package snapshot keeps the lines of members in the file in which the proved library keeps its clocks, so that a stock agent
+// and this one can take over each other's file.
+//
+// The library holds the file's lock, and writes its own lines. The lines of members are written beside them, whole, never
+// while the library writes: who calls sees to that. They are brought to the disk with the library's next line.
+package snapshot
+
+import (
+	"errors"
+	"fmt"
+	"os"
+	"path/filepath"
+	"strings"
+
+	"kitchenrue.example/agent/internal/files"
+)
+
+// Limit is how many bytes the file may have before it is worth a compaction: Serf's own number.
+const Limit = 128 << 10
+
+// maxFile is how long a file may be whose members are read, and maxMembers how many of them are taken.
+const (
+	maxFile    = 256 << 20
+	maxMembers = 1 << 16
+)
+
+// Address is where a member was when the file was written.
+type Address struct{ Name, Addr string }
+
+// File is the snapshot's file, with the library's lock on it.
+type File struct {
+	path string
+	file *os.File
+	// clocks is how many bytes the library's own lines need at most, in a file without others.
+	clocks int64
+}
+
+// Open takes a file that the library has opened and locked, and gives the members that its text leaves alive. Where the last
+// life was in the middle of a compaction, it brings the members of that one back. A leave forgets all, unless isRejoining.
+func Open(path string, isRejoining bool) (*File, []Address, error) {
+	real, err := filepath.EvalSymlinks(path)
+	if err != nil {
+		return nil, nil, err
+	}
+	text, err := files.Read(real, maxFile)
+	if err != nil {
+		return nil, nil, err
+	}
+	f := &File{path: real, clocks: 3 * 34}
+	if err := f.reopen(); err != nil {
+		return nil, nil, err
+	}
+	beside, err := files.Read(f.beside(), maxFile)
+	if err == nil {
+		text = append(text, beside...)
+		err = f.restore(beside)
+	}
+	if err != nil && !errors.Is(err, os.ErrNotExist) {
+		f.Close()
+		return nil, nil, err
+	}
+	return f, alive(string(text), isRejoining), nil
+}
+
+// alive are the members that a text leaves alive, in the order of their last lines.
+func alive(text string, isRejoining bool) []Address {
+	var order []string
+	addrs := map[string]string{}
+	for _, line := range strings.Split(text, "\n") {
+		if name, is := cut(line, "not-alive: "); is {
+			delete(addrs, name)
+		} else if words, is := cut(line, "alive: "); is {
+			// (a name may have spaces)
+			at := strings.LastIndexByte(words, ' ')
+			if at > 0 && (len(addrs) < maxMembers || addrs[words[:at]] != "") {
+				addrs[words[:at]] = words[at+1:]
+				order = append(order, words[:at])
+			}
+		} else if line == "leave" && !isRejoining {
+			addrs, order = map[string]string{}, nil
+		}
+	}
+	var found []Address
+	for i := len(order) - 1; i >= 0; i-- {
+		if addr := addrs[order[i]]; addr != "" {
+			found = append(found, Address{order[i], addr})
+			delete(addrs, order[i])
+		}
+	}
+	return found
+}
+
+func cut(line, prefix string) (string, bool) {
+	if !strings.HasPrefix(line, prefix) {
+		return "", false
+	}
+	return line[len(prefix):], true
+}
+
+func (f *File) beside() string { return f.path + ".members" }
+
+// restore writes the members that a compaction was about to keep.
+func (f *File) restore(lines []byte) error {
+	if err := f.write(lines); err != nil {
+		return err
+	}
+	if err := f.file.Sync(); err != nil {
+		return err
+	}
+	return os.Remove(f.beside())
+}
+
+func (f *File) reopen() error {
+	file, err := os.OpenFile(f.path, os.O_WRONLY|os.O_APPEND, 0)
+	if err != nil {
+		return err
+	}
+	if f.file != nil {
+		f.file.Close()
+	}
+	f.file = file
+	return nil
+}
+
+// write appends whole lines. Where the disk takes a part of them only, a newline ends it, so that the library's next line
+// stands alone; where that can't be written either, the error says that nothing may be written any more.
+func (f *File) write(lines []byte) error {
+	count, err := f.file.Write(lines)
+	if err == nil || count == 0 {
+		return err
+	}
+	if _, ended := f.file.Write([]byte("\n")); ended != nil {
+		return fmt.Errorf("%w: %v", ErrTorn, err)
+	}
+	return err
+}
+
+// ErrTorn: a line was written in part, and couldn't be ended. The library must not write behind it.
+var ErrTorn = errors.New("a line of the snapshot is torn")
+
+// whole joins lines that are each one line. A member's name is what the network says: one with a newline in it would forge
+// other lines, clocks among them, so it is left out.
+func whole(lines []string) []byte {
+	var text []byte
+	for _, line := range lines {
+		if strings.IndexAny(line, "\n\r\x00") == len(line)-1 && strings.HasSuffix(line, "\n") {
+			text = append(text, line...)
+		}
+	}
+	return text
+}
+
+// Append appends lines, each with its newline. What is no line is left out.
+func (f *File) Append(lines ...string) error {
+	text := whole(lines)
+	if len(text) == 0 {
+		return nil
+	}
+	return f.write(text)
+}
+
+// ShouldCompact says whether the file has more bytes than the limit, and at least half of them would go.
+func (f *File) ShouldCompact(lines []string) bool {
+	about, err := f.file.Stat()
+	if err != nil || about.Size() <= Limit {
+		return false
+	}
+	left := f.clocks
+	for _, line := range lines {
+		left += int64(len(line))
+	}
+	return about.Size() >= 2*left
+}
+
+// Compact lets the library replace the file by its own lines, and writes these lines of members behind them. They wait in a
+// file beside it meanwhile, so that a crash loses neither.
+func (f *File) Compact(lines []string, library func() error) error {
+	text := whole(lines)
+	if err := files.Write(f.beside(), text, 0o600); err != nil {
+		return err
+	}
+	if err := library(); err != nil {
+		return err
+	}
+	if err := f.reopen(); err != nil {
+		return err
+	}
+	return f.restore(text)
+}
+
+// Sync brings all lines to the disk.
+func (f *File) Sync() error { return f.file.Sync() }
+
+// Close closes it. The library closes its own.
+func (f *File) Close() error { return f.file.Close() }

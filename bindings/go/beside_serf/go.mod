@@ -1,0 +1,15 @@
+module kitchenrue.example/beside_serf
+
+go 1.19
+
+require (
+	github.com/hashicorp/memberlist v0.2.2
+	github.com/hashicorp/serf v0.9.4
+	kitchenrue.example/serfagent v0.0.0
+	kitchenrue.example/serfdelegate v0.0.0
+)
+
+replace (
+	kitchenrue.example/serfagent => ../serfagent
+	kitchenrue.example/serfdelegate => ../serfdelegate
+)

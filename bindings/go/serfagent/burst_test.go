@@ -1,0 +1,82 @@
+package serfagent
+
+import (
+	"os"
+	"path/filepath"
+	"testing"
+)
+
+func opened(t *testing.T, name string) (*Agent, string) {
+	path := filepath.Join(t.TempDir(), name+".snapshot")
+	agent, err := Open(name, path, DefaultSettings())
+	if err != nil {
+		t.Fatal(err)
+	}
+	t.Cleanup(func() { agent.Close() })
+	return agent, path
+}
+
+func textOf(t *testing.T, path string) string {
+	text, err := os.ReadFile(path)
+	if err != nil {
+		t.Fatal(err)
+	}
+	return string(text)
+}
+
+func TestABurstIsItsCallsInOrder(t *testing.T) {
+	one, _ := opened(t, "one")
+	other, path := opened(t, "other")
+	_, packet, err := one.Fire([]byte("deploy"), nil, false)
+	if err != nil {
+		t.Fatal(err)
+	}
+	var burst Burst
+	burst.Receive(1, packet)
+	burst.Receive(1, packet[:len(packet)-1])
+	burst.Fire([]byte("own"), nil, false)
+	burst.Receive(1, packet)
+	if burst.Len() != 4 {
+		t.Error(burst.Len())
+	}
+	if text := textOf(t, path); text != "" {
+		t.Errorf("a burst that isn't made writes %q", text)
+	}
+	outcomes, err := other.Burst(&burst)
+	if err != nil || len(outcomes) != 4 {
+		t.Fatal(outcomes, err)
+	}
+	if received := outcomes[0].Received; received.Event.Time != 1 || !received.Rebroadcast {
+		t.Error(received)
+	}
+	if outcomes[1].Err != NoMessage || outcomes[1].Received != nil {
+		t.Error(outcomes[1])
+	}
+	if fired := outcomes[2].Fired; fired.Event.Time != 2 || len(fired.Packet) == 0 {
+		t.Error(fired)
+	}
+	if received := outcomes[3].Received; received.Kind != Ignored || received.Reason != Seen {
+		t.Error(received)
+	}
+	if text := textOf(t, path); text != "event-clock: 1\nevent-clock: 2\n" {
+		t.Errorf("%q", text)
+	}
+}
+
+func TestBurstsOfNothingAndOfAClosedAgent(t *testing.T) {
+	agent, _ := opened(t, "one")
+	var burst Burst
+	if outcomes, err := agent.Burst(&burst); err != nil || len(outcomes) != 0 {
+		t.Error(outcomes, err)
+	}
+	burst.Fire([]byte("x"), nil, false)
+	burst.Reset()
+	if burst.Len() != 0 {
+		t.Error(burst.Len())
+	}
+	burst.Fire([]byte("x"), nil, false)
+	agent.Close()
+	if outcomes, err := agent.Burst(&burst); err != Empty || len(outcomes) != 0 {
+		t.Error(outcomes, err)
+	}
+}

@@ -1,0 +1,3 @@
+module kitchenrue.example/serfagent
+
+go 1.19

@@ -1,0 +1,96 @@
+"""Two agents in one process, joined by hand: an event is fired, comes twice, its agent crashes and comes back, and nothing
+is handed out twice. A query is answered, and closed.
+
+    python -m serf_agent [FOLDER]
+
+FOLDER gets the two snapshots. Where they are there already, the agents go on from them. Without FOLDER they stand in a
+folder that is taken away.
+"""
+
+import os
+import sys
+import tempfile
+from typing import Iterable, List
+
+from . import Agent, Event, Kind, NotLoaded, StoreError
+
+
+def handle(agent: str, events: Iterable[Event]) -> None:
+    """The handler of events: it prints them."""
+    for event in events:
+        print(f"{agent} handed out {event.name.decode()} {event.payload.decode()} at {event.time}")
+
+
+def join(names: List[str], agents: List[Agent], one: int, other: int) -> None:
+    handle(names[one], agents[one].merge(agents[other].local_state(), join=True))
+    print(f"{names[one]} joined {names[other]}")
+
+
+def deliver(name: str, agent: Agent, now: int, packet: bytes) -> None:
+    received = agent.receive(now, packet)
+    handle(name, [received.event] if received.event else [])
+    if received.kind is Kind.IGNORED:
+        print(f"{name} ignored it: {received.reason.name.lower().replace('below_', 'below the ')}")
+
+
+def fire(name: str, agent: Agent, event: bytes, payload: bytes) -> bytes:
+    fired = agent.fire(event, payload)
+    handle(name, [fired.event])
+    return fired.packet
+
+
+def ask(one: Agent, other: Agent, now: int, name: bytes, answer: bytes) -> None:
+    """One asks, the other acks and answers."""
+    received = other.receive(now, one.query(now, 7, name, timeout=1000, want_ack=True).packet)
+    one.receive(now, received.ack)
+    one.receive(now, other.respond(now, received.query.number, answer))
+
+
+def close_due(name: str, agent: Agent, now: int) -> None:
+    """Closes what is due, and prints the answers."""
+    for closed in agent.close_due(now):
+        for node in closed.acks:
+            print(f"{node.decode()} acked the query of {name}")
+        for answer in closed.responses:
+            print(f"{answer.sender.decode()} answered {answer.payload.decode()}")
+
+
+def run(folder: str) -> None:
+    """The two agents, with their snapshots in a folder."""
+    names = ["alpha", "beta"]
+    paths = [os.path.join(folder, name + ".snapshot") for name in names]
+    with Agent(b"alpha", paths[0]) as alpha:
+        with Agent(b"beta", paths[1]) as beta:
+            join(names, [alpha, beta], 0, 1)
+            join(names, [alpha, beta], 1, 0)
+            packet = fire("alpha", alpha, b"deploy", b"v1.2")
+            deliver("beta", beta, 1, packet)
+            deliver("beta", beta, 2, packet)
+        # beta has crashed: nothing is left of it but its file
+        with Agent(b"beta", paths[1]) as beta:
+            print(f"beta crashed, and is back at {beta.clocks().event}")
+            deliver("beta", beta, 3, packet)
+            packet = fire("beta", beta, b"rollback", b"v1.1")
+            deliver("alpha", alpha, 4, packet)
+            ask(alpha, beta, 5, b"load", b"0.12")
+            close_due("alpha", alpha, 1006)
+
+
+def main() -> int:
+    if len(sys.argv) > 2 or sys.argv[1:2] in (["-h"], ["--help"]):
+        print("python -m serf_agent [FOLDER]", file=sys.stderr)
+        return 2
+    try:
+        if len(sys.argv) == 2:
+            run(sys.argv[1])
+        else:
+            with tempfile.TemporaryDirectory(prefix="serf_agent-") as folder:
+                run(folder)
+    except (NotLoaded, StoreError) as why:
+        print(why, file=sys.stderr)
+        return 3
+    return 0
+
+
+if __name__ == "__main__":
+    sys.exit(main())

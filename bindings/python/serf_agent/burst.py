@@ -1,0 +1,124 @@
+"""Bursts: many calls, and one flush of the agent's file."""
+
+import ctypes
+from dataclasses import dataclass
+from types import TracebackType
+from typing import Any, Callable, Iterable, List, Optional, Tuple, Type, Union
+
+# (agent.py imports this module: its names are looked up when a type is asked for)
+from . import agent as agents
+from .checks import Buffer, flag, integer, texts
+from .library import AgentError, Code, CParams
+
+
+def c_params(timeout: int, port: int, relay_factor: int, want_ack: bool, no_broadcast: bool) -> CParams:
+    """How a query is fired, in C."""
+    return CParams(
+        integer("timeout", timeout, signed=True),
+        integer("port", port, 16),
+        integer("relay_factor", relay_factor, 8),
+        flag("want_ack", want_ack),
+        flag("no_broadcast", no_broadcast),
+    )
+
+
+@dataclass(frozen=True)
+class Call:
+    """A call of a burst: the library's name of it, its words, the filters before it, and how an agent reads what it gave."""
+
+    name: str
+    words: Tuple[Any, ...]
+    read: "Callable[[agents.Agent], Union[agents.Received, agents.Fired, agents.Asked]]"
+    filters: Tuple[Tuple[Any, ...], ...] = ()
+
+
+class Burst:
+    """Calls that an agent makes one after another at the end of a ``with`` block, and whose lines are flushed once.
+
+    ``outcomes`` has what came of each call, in the order of the calls: ``Received``, ``Fired`` or ``Asked``, or the
+    ``AgentError`` of a call that was refused, such as of a packet that is no message. There is none before all lines are
+    on the disk. Where the block raises, no call is made.
+
+    Where memory is wanting, the block's end raises ``AgentError`` with ``OUT_OF_MEMORY``, and makes no further call:
+    ``outcomes`` has those of the calls before, which count. Where it has fewer than were made, ``read`` goes on. Where the
+    file fails (a ``StoreError``) the agent is closed, and there is no outcome.
+    """
+
+    def __init__(self, agent: "agents.Agent") -> None:
+        self.outcomes: "List[Union[agents.Received, agents.Fired, agents.Asked, AgentError]]" = []
+        self._agent = agent
+        self._calls: List[Call] = []
+
+    def __enter__(self) -> "Burst":
+        return self
+
+    def __exit__(self, kind: Optional[Type[BaseException]], _fault: Optional[BaseException], _where: Optional[TracebackType]) -> None:
+        calls, self._calls = self._calls, []
+        if kind is None:
+            self._make(calls)
+
+    def __len__(self) -> int:
+        """How many calls wait for the block's end."""
+        return len(self._calls)
+
+    def receive(self, now: int, packet: Buffer) -> None:
+        """Takes a packet of the network."""
+        moment, (own, length) = self._agent._moment(now), texts(packet)
+        self._calls.append(Call("burst_receive", (moment, own, length), lambda agent: agent._received(own)))
+
+    def fire(self, name: Buffer, payload: Buffer = b"", coalesce: bool = False) -> None:
+        """Fires an event."""
+        self._calls.append(Call("burst_fire", (*texts(name, payload), flag("coalesce", coalesce)), lambda agent: agent._fired()))
+
+    def query(
+        self,
+        now: int,
+        id: int,
+        name: Buffer,
+        payload: Buffer = b"",
+        timeout: int = 0,
+        *,
+        filters: Iterable[Buffer] = (),
+        addr: Buffer = b"",
+        port: int = 0,
+        relay_factor: int = 0,
+        want_ack: bool = False,
+        no_broadcast: bool = False,
+    ) -> None:
+        """Fires a query, as ``Agent.query`` does."""
+        words, given = texts(name, payload, addr), tuple(tuple(texts(one)) for one in filters)
+        how = c_params(timeout, port, relay_factor, want_ack, no_broadcast)
+        moment, id = self._agent._moment(now), integer("id", id, 32)
+        self._calls.append(Call("burst_query", (moment, id, *words, how), lambda agent: agent._asked(), given))
+
+    def read(self) -> None:
+        """Reads the outcomes that wait, as the block's end does: where that had no memory for them."""
+        agent, answered = self._agent, ctypes.c_uint32()
+        with agent._alone():
+            while agent._unread:
+                agent._call("next", answered)
+                burst, call = agent._unread.popleft()
+                burst.outcomes.append(AgentError(answered.value) if answered.value else call.read(agent))
+
+    def _make(self, calls: List[Call]) -> None:
+        """Makes the calls, brings their lines to the file at once, and reads what came of them."""
+        agent = self._agent
+        with agent._alone():
+            agent._forget_filters()
+            try:
+                for call in calls:
+                    self._make_one(call)
+            finally:
+                agent._settle()
+                self.read()
+
+    def _make_one(self, call: Call) -> None:
+        agent = self._agent
+        agent._stale_filters = bool(call.filters)
+        for one in call.filters:
+            agent._call("burst_filter", *one)
+        code = getattr(agent._library, call.name)(agent._handle, *call.words)
+        if code in (Code.OUT_OF_MEMORY, Code.EMPTY):
+            raise AgentError(code)
+        agent._stale_filters = False
+        agent._unread.append((self, call))

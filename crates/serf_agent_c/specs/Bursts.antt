@@ -1,0 +1,145 @@
+-- What a burst does: calls one after another, each a step of the agent, whose outcomes wait in a list until the host's file
+-- has the lines of all of them.
+use Rattle.std.specs.Prelude.{◌≡◌, ◌≢◌, ◌++◌, ◌∷◌, [], ℕ, Bool, false, true, if◌then◌else◌, IsSomeAnd, length, List, min, nat_le, Some}
+use Rattle.serf_snap.specs.Clocks.{clock_line}
+use Rattle.serf_snap.specs.Device.{Device, FailurePlan, Observable}
+use Rattle.serf_snap.specs.Notes.{Kept, last_line}
+use Rattle.serf_window.specs.Texts.{event_of}
+use Rattle.serf_agent.specs.declared.outcome.QueryParams.{QueryParams}
+use Rattle.serf_agent.specs.Calls.{Call, Ends, Notes, Replaces, ended}
+use Rattle.serf_agent.specs.Events.{fire}
+use Rattle.serf_agent.specs.Ideal.{IdealAgent}
+use Rattle.serf_agent.specs.Queries.{fire_query}
+use Rattle.serf_agent.specs.Receive.{receive}
+use Rattle.serf_agent.specs.Sound.{IsSound}
+use Rattle.serf_agent.specs.View.{view_of}
+use Rattle.serf_agent_c.specs.declared.answered.Answered.{Answered}
+use Rattle.serf_agent_c.specs.declared.answered.Answered.TheVariants.{Received, Fired, Asked}
+use Rattle.serf_agent_c.specs.declared.code.Code.{Code}
+use Rattle.serf_agent_c.specs.declared.code.Code.TheVariants.{Done, Nothing, OutOfMemory}
+use Rattle.serf_agent_c.specs.declared.gave.Gave.{Gave}
+use Rattle.serf_agent_c.specs.declared.gave.Gave.TheVariants as gaves
+use Rattle.serf_agent_c.specs.declared.session.Session.{Session}
+use Rattle.serf_agent_c.specs.Calls.{answer_code}
+use Rattle.serf_agent_c.specs.Codes.{fire_code, number_of, query_code, receive_code}
+use Rattle.serf_agent_c.specs.Reads.{GivesNothing}
+use Rattle.serf_agent_c.specs.Sessions.{KeepsBurst, KeepsFilters, KeepsMembers, Rests, is_ready}
+use Rattle.serf_agent_c.specs.Texts.{lacking, text_of}
+
+-- An outcome
+
+-- the code of the call, and what it gave, as of a call that stands alone
+abbrev pub code_of : Answered → Code
+code_of (Received answer) = answer_code receive_code answer
+code_of (Fired answer) = answer_code fire_code answer
+code_of (Asked answer) = answer_code query_code answer
+
+abbrev pub gave_of : Answered → Gave
+gave_of (Received answer) = gaves.Received answer
+gave_of (Fired answer) = gaves.Fired answer
+gave_of (Asked answer) = gaves.Asked answer
+
+-- The calls of a burst
+
+-- a packet that comes at a moment; an event, with its name, its payload and whether it coalesces; and a query, with the
+-- moment, its ID, its name, its payload and how it is fired
+pub data BurstCall : Type 0 where
+  Receives : ℕ → List ℕ → BurstCall
+  Fires : List ℕ → List ℕ → Bool → BurstCall
+  Asks : ℕ → ℕ → List ℕ → List ℕ → QueryParams → BurstCall
+
+-- what an ideal agent becomes by a call whose line is durable, what it answers, and the line: none where the last line of
+-- its kind says this time or a later one
+pub record Outcome : Type 0 where
+  pub agent : IdealAgent
+  pub answer : Answered
+  pub line : List ℕ
+
+abbrev pub line_of : {R : Type 0} → IdealAgent → Call R → List ℕ
+line_of i (Ends step) = []
+line_of i (Notes kind t step fault) = if nat_le t (last_line kind i.snapshot) then [] else clock_line kind t
+line_of i (Replaces step fault) = []
+
+abbrev pub outcome : {R : Type 0} → (R → Answered) → IdealAgent → Call R → Outcome
+outcome answered i call = record { agent = (ended i call Kept).agent; answer = answered (ended i call Kept).answer; line = line_of i call }
+
+abbrev pub outcome_of : IdealAgent → BurstCall → Outcome
+outcome_of i (Receives now packet) = outcome (λ r. Received r) i (receive i now packet)
+outcome_of i (Fires name payload coalesce) = outcome (λ r. Fired r) i (fire i (event_of name payload) coalesce)
+outcome_of i (Asks now id name payload params) = outcome (λ r. Asked r) i (fire_query i now id name payload params)
+
+-- the agent after calls in order, their answers, and their lines
+abbrev pub after : IdealAgent → List BurstCall → IdealAgent
+after i [] = i
+after i (call ∷ calls) = after (outcome_of i call).agent calls
+
+abbrev pub answers_of : IdealAgent → List BurstCall → List Answered
+answers_of i [] = []
+answers_of i (call ∷ calls) = (outcome_of i call).answer ∷ answers_of (outcome_of i call).agent calls
+
+abbrev pub lines_of : IdealAgent → List BurstCall → List ℕ
+lines_of i [] = []
+lines_of i (call ∷ calls) = (outcome_of i call).line ++ lines_of (outcome_of i call).agent calls
+
+-- a sink that is planned to fail nowhere, as a session's is from its opening on
+abbrev pub no_failure : FailurePlan
+no_failure = record { appends = 0; flushes = 0; replaces = 0; keeps_new = false }
+
+-- the sink tells its bytes, of which none is only buffered
+abbrev pub IsFlushed : Device → Type 0
+IsFlushed d = IsSomeAnd d.observed_bytes (λ (bytes : Observable). bytes.buffered ≡ [])
+
+-- A burst of these calls brought one session to another, of a sound agent that is stored there: the outcomes of the calls, in
+-- order, wait behind those that waited before; and behind the bytes that the host's file lacked it lacks the lines of the
+-- calls, in order.
+pub record Bursts (i : IdealAgent) (calls : List BurstCall) (s t : Session) : Type 0 where
+  pub state : t.agent.concrete ≡ view_of (after i calls)
+  pub sound : IsSound (after i calls)
+  pub calm : (after i calls).snapshot.plan ≡ Some no_failure
+  pub flushed : IsFlushed t.agent.device
+  pub outcomes : t.burst.items ≡ s.burst.items ++ answers_of i calls
+  pub lines : lacking t.agent.device t.written ≡ lacking s.agent.device s.written ++ lines_of i calls
+
+-- One more call
+
+-- What a call of a burst leaves as it was, whatever its code: what the last call gave, the queries that were handed out, and
+-- what was named for the next state. Of the file it is noted at most that it has the text that was there.
+abbrev pub Stands : Session → Session → Type 0
+Stands s t =
+    (t.gave ≡ s.gave) × (t.waiting ≡ s.waiting) × KeepsMembers s t
+    × (t.replaces ≡ s.replaces) × (t.written ≡ min s.written (length (text_of s.agent.device)))
+
+-- For want of memory nothing was done: the agent is as before, and the outcomes before this call wait.
+abbrev pub Leaves : Session → Session → Code → Type 0
+Leaves s t code = code ≡ OutOfMemory → (t.agent ≡ s.agent) × KeepsBurst s t × KeepsFilters s t
+
+-- Else its outcome, which is of its kind, waits behind the others, and has its code;
+abbrev pub Queues : {R : Type 0} → (R → Answered) → Session → Session → Code → Type 0
+Queues {R} answered s t code = code ≢ OutOfMemory → (r : R) × (t.burst.items ≡ s.burst.items ++ answered r ∷ []) × (code ≡ code_of (answered r))
+
+-- and a burst that came to the session before comes to the one after with this call as its last. The burst of no calls is
+-- any session's own.
+abbrev pub Extends : BurstCall → Session → Session → Code → Type 0
+Extends call s t code = code ≢ OutOfMemory → (i : IdealAgent) (calls : List BurstCall) (a : Session) → Bursts i calls a s → Bursts i (calls ++ call ∷ []) a t
+
+-- The filters of a query are forgotten once it was tried; other calls keep them.
+abbrev pub SpendsFilters : Session → Session → Code → Type 0
+SpendsFilters s t code = code ≢ OutOfMemory → t.filters ≡ []
+
+-- Reading
+
+-- The first of the outcomes that wait, which does so no longer, is what was given, with its code; where none waits, nothing
+-- is given.
+abbrev pub Follows : List Answered → Session → Code → ℕ → ℕ → Type 0
+Follows [] t code old new = (code ≡ Nothing) × GivesNothing t.gave × (t.burst.items ≡ []) × (new ≡ old)
+Follows (x ∷ xs) t code old new = (code ≡ Done) × (t.gave ≡ gave_of x) × (t.burst.items ≡ xs) × (new ≡ number_of (code_of x))
+
+abbrev pub GoesToNext : ℕ → ℕ → Session → Session → Code → Type 0
+GoesToNext old new s t code =
+    is_ready s ≡ true
+    → (code ≡ OutOfMemory → Rests s t × KeepsBurst s t × (new ≡ old))
+    × (code ≢ OutOfMemory → Follows s.burst.items t code old new)
+
+-- Reading leaves the agent, the filters and the members alone.
+abbrev pub LeavesAgent : Session → Session → Type 0
+LeavesAgent s t = (t.agent ≡ s.agent) × KeepsFilters s t × KeepsMembers s t

@@ -1,0 +1,147 @@
+//! The calls of a burst: what C calls through a handle before the host flushes once, and what it reads then.
+
+ghost use Rattle.std.specs.Prelude.{◌≡◌, ◌≢◌, false, length, None, true};
+ghost use Rattle.serf_agent_c.specs.Asking.{AddsFilter, params_of};
+ghost use Rattle.serf_agent_c.specs.Bursts.{Extends, Fires, GoesToNext, Leaves, LeavesAgent, Queues, Receives, Asks, SpendsFilters, Stands};
+ghost use Rattle.serf_agent_c.specs.Calls.{Waits};
+ghost use Rattle.serf_agent_c.specs.Exports.{Answers, Shows};
+ghost use Rattle.serf_agent_c.specs.Gaves.{unsettled_in};
+ghost use Rattle.serf_agent_c.specs.Sessions.{Appends, KeepsFilters, Numbers, is_ready};
+
+use crate::answered::Answered;
+use crate::code::Code;
+use crate::handle::Handle;
+use crate::heads::Params;
+use std::alloc::Global;
+
+/// Takes a packet that comes at a moment, within a burst: its outcome waits for [`serf_agent_next`].
+#[unsafe(no_mangle)]
+pub extern "C" fn serf_agent_burst_receive(
+    alloc: Global,
+    handle: &mut Handle,
+    now: u64,
+    packet: &[u8],
+) -> u32
+    ensures stands { Answers (λ s t code. Stands s t × KeepsFilters s t)
+        handle.old handle.new result }
+    ensures memory { Answers (λ s t code. Leaves s t code) handle.old handle.new result }
+    ensures queues { Answers (λ s t code. Queues (λ r. Answered.Received r) s t code)
+        handle.old handle.new result }
+    ensures extends { Answers (λ s t code. Extends (Receives now packet.now) s t code)
+        handle.old handle.new result }
+{
+    let Some(mut session) = handle.take(alloc) else {
+        return Code::Empty.number();
+    };
+    let code = session.burst_receive(alloc, now, packet);
+    *handle = Handle::of(session);
+    code.number()
+}
+
+/// Fires an event, within a burst: its outcome waits for [`serf_agent_next`].
+#[unsafe(no_mangle)]
+pub extern "C" fn serf_agent_burst_fire(
+    alloc: Global,
+    handle: &mut Handle,
+    name: &[u8],
+    payload: &[u8],
+    coalesce: bool,
+) -> u32
+    ensures stands { Answers (λ s t code. Stands s t × KeepsFilters s t)
+        handle.old handle.new result }
+    ensures memory { Answers (λ s t code. Leaves s t code) handle.old handle.new result }
+    ensures queues { Answers (λ s t code. Queues (λ r. Answered.Fired r) s t code)
+        handle.old handle.new result }
+    ensures extends { Answers (λ s t code. Extends (Fires name.now payload.now coalesce) s t code)
+        handle.old handle.new result }
+{
+    let Some(mut session) = handle.take(alloc) else {
+        return Code::Empty.number();
+    };
+    let code = session.burst_fire(alloc, name, payload, coalesce);
+    *handle = Handle::of(session);
+    code.number()
+}
+
+/// Adds a filter of the next query, within a burst.
+#[unsafe(no_mangle)]
+pub extern "C" fn serf_agent_burst_filter(alloc: Global, handle: &mut Handle, filter: &[u8]) -> u32
+    ensures adds { Answers (λ s t code. AddsFilter filter.now s t code)
+        handle.old handle.new result }
+    ensures refused { Answers (λ s t code. code ≢ Code.Done → code ≡ Code.OutOfMemory)
+        handle.old handle.new result }
+{
+    let Some(mut session) = handle.take(alloc) else {
+        return Code::Empty.number();
+    };
+    let code = session.put_filter(alloc, filter);
+    *handle = Handle::of(session);
+    code.number()
+}
+
+/// Fires a query with the filters that were added since the last that was tried, within a burst: its outcome waits for
+/// [`serf_agent_next`]. It forgets the filters.
+#[unsafe(no_mangle)]
+pub extern "C" fn serf_agent_burst_query(
+    alloc: Global,
+    handle: &mut Handle,
+    now: u64,
+    id: u32,
+    name: &[u8],
+    payload: &[u8],
+    addr: &[u8],
+    params: &Params,
+) -> u32
+    ensures stands { Answers (λ s t code. Stands s t × SpendsFilters s t code)
+        handle.old handle.new result }
+    ensures memory { Answers (λ s t code. Leaves s t code) handle.old handle.new result }
+    ensures queues { Answers (λ s t code. Queues (λ r. Answered.Asked r) s t code)
+        handle.old handle.new result }
+    ensures extends { Answers (λ s t code. Extends (Asks now id name.now payload.now
+        (params_of s.filters addr.now params.now)) s t code) handle.old handle.new result }
+{
+    let Some(mut session) = handle.take(alloc) else {
+        return Code::Empty.number();
+    };
+    let code = session.burst_query(alloc, now, id, name, payload, addr, params);
+    *handle = Handle::of(session);
+    code.number()
+}
+
+/// Goes on to the next outcome of a burst, in the order of its calls: the getters read what it gave, and `answered` is the
+/// code of its call. `Nothing` where none is left, `Unwritten` while bytes for the host's file aren't written. Want of memory
+/// changes nothing but that nothing is given: the outcome waits on.
+#[unsafe(no_mangle)]
+pub extern "C" fn serf_agent_next(alloc: Global, handle: &mut Handle, answered: &mut u32) -> u32
+    ensures waits { Answers (λ s t code. Waits s t code) handle.old handle.new result }
+    ensures unread { Answers (λ s t code. is_ready s ≡ false → answered.new ≡ answered.old)
+        handle.old handle.new result }
+    ensures text { Answers (λ s t code. is_ready s ≡ true → Appends s t × Numbers s t)
+        handle.old handle.new result }
+    ensures agent { Answers (λ s t code. LeavesAgent s t) handle.old handle.new result }
+    ensures next { Answers (λ s t code. GoesToNext answered.old answered.new s t code)
+        handle.old handle.new result }
+    ensures spares { Answers (λ s t code. is_ready s ≡ true → unsettled_in s.gave ≡ None
+        → code ≢ Code.OutOfMemory) handle.old handle.new result }
+{
+    let Some(mut session) = handle.take(alloc) else {
+        return Code::Empty.number();
+    };
+    let code = session.next(answered);
+    *handle = Handle::of(session);
+    code.number()
+}
+
+/// How many outcomes of a burst wait for [`serf_agent_next`].
+#[unsafe(no_mangle)]
+pub extern "C" fn serf_agent_outcomes(alloc: Global, handle: &mut Handle, total: &mut usize) -> u32
+    ensures { Shows (λ s code. (code ≡ Code.Done) × (total.new ≡ length s.burst.items))
+        handle.old handle.new result }
+{
+    let Some(session) = handle.take(alloc) else {
+        return Code::Empty.number();
+    };
+    session.read_outcomes(total);
+    *handle = Handle::of(session);
+    Code::Done.number()
+}

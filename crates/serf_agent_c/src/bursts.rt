@@ -1,0 +1,154 @@
+//! Bursts: calls one after another whose lines the host flushes once. Their outcomes wait in a list until then.
+
+ghost use Rattle.std.specs.Prelude.{◌≡◌, ◌≢◌, ◌+◌, ◌++◌, ◌<◌, ◌∷◌, ◌^◌, [], false, length, min, None, OnOk, true};
+ghost use Rattle.std.specs.VecDeque.{deque_capacity, deque_len};
+ghost use Rattle.serf_agent_c.specs.Asking.{AddsFilter, params_of};
+ghost use Rattle.serf_agent_c.specs.Bursts.{Extends, Fires, GoesToNext, Leaves, LeavesAgent, Queues, Receives, Asks, SpendsFilters, Stands};
+ghost use Rattle.serf_agent_c.specs.Calls.{Waits};
+ghost use Rattle.serf_agent_c.specs.Gaves.{unsettled_in};
+ghost use Rattle.serf_agent_c.specs.Sessions.{Appends, KeepsBurst, KeepsFilters, KeepsMembers, Numbers, is_ready};
+ghost use Rattle.serf_agent_c.specs.Texts.{lacking, text_of};
+
+use crate::answered::Answered;
+use crate::asking::{asked_code, params_with};
+use crate::calls::{fired_code, received_code};
+use crate::code::Code;
+use crate::heads::Params;
+use crate::session::Session;
+use serf_agent::BytesList;
+use serf_wire::Bytes;
+use std::alloc::{AllocError, Global};
+
+impl Session {
+    /// Makes ready for a call of a burst: there is room for its outcome, and the host's file is said to have no more than
+    /// the text that is there.
+    fn prepare(&mut self) -> Result<(), AllocError>
+        ensures stands { Stands self.old self.new }
+        ensures agent { self.new.agent ≡ self.old.agent }
+        ensures keeps { KeepsBurst self.old self.new × KeepsFilters self.old self.new }
+        ensures room { OnOk result (deque_len self.new.burst < deque_capacity self.new.burst) }
+    {
+        self.written = self.written.min(self.agent.sink().durable().len());
+        self.burst.reserve(1)
+    }
+
+    /// Puts the outcome of a call behind those that wait, unless there was no memory for the call.
+    fn wait(&mut self, answered: Answered, code: Code)
+        requires { deque_len self.old.burst < deque_capacity self.old.burst }
+        ensures waits { code ≢ Code.OutOfMemory
+            → self.new.burst.items ≡ self.old.burst.items ++ answered ∷ [] }
+        ensures none { code ≡ Code.OutOfMemory → KeepsBurst self.old self.new }
+        ensures rest { (self.new.agent ≡ self.old.agent) × (self.new.gave ≡ self.old.gave)
+            × (self.new.written ≡ self.old.written) × (self.new.replaces ≡ self.old.replaces)
+            × (self.new.waiting ≡ self.old.waiting) × KeepsFilters self.old self.new
+            × KeepsMembers self.old self.new }
+    {
+        match code {
+            Code::OutOfMemory => {}
+            _ => self.burst.push_back_reserved(answered),
+        }
+    }
+
+    /// Takes a packet that comes, within a burst.
+    pub(crate) fn burst_receive(&mut self, alloc: Global, now: u64, packet: &[u8]) -> Code
+        ensures stands { Stands self.old self.new }
+        ensures filters { KeepsFilters self.old self.new }
+        ensures memory { Leaves self.old self.new result }
+        ensures queues { Queues (λ r. Answered.Received r) self.old self.new result }
+        ensures extends { Extends (Receives now packet.now) self.old self.new result }
+    {
+        if self.prepare().is_err() {
+            return Code::OutOfMemory;
+        }
+        let answer = self.agent.receive(alloc, now, packet);
+        let code = received_code(&answer);
+        self.wait(Answered::Received(answer), code);
+        code
+    }
+
+    /// Fires an event, within a burst.
+    pub(crate) fn burst_fire(
+        &mut self,
+        alloc: Global,
+        name: &[u8],
+        payload: &[u8],
+        coalesce: bool,
+    ) -> Code
+        ensures stands { Stands self.old self.new }
+        ensures filters { KeepsFilters self.old self.new }
+        ensures memory { Leaves self.old self.new result }
+        ensures queues { Queues (λ r. Answered.Fired r) self.old self.new result }
+        ensures extends { Extends (Fires name.now payload.now coalesce) self.old self.new result }
+    {
+        if self.prepare().is_err() {
+            return Code::OutOfMemory;
+        }
+        let answer = self.agent.fire(alloc, name, payload, coalesce);
+        let code = fired_code(&answer);
+        self.wait(Answered::Fired(answer), code);
+        code
+    }
+
+    /// Fires a query, within a burst.
+    pub(crate) fn burst_query(
+        &mut self,
+        alloc: Global,
+        now: u64,
+        id: u32,
+        name: &[u8],
+        payload: &[u8],
+        addr: &[u8],
+        params: &Params,
+    ) -> Code
+        ensures stands { Stands self.old self.new }
+        ensures filters { SpendsFilters self.old self.new result }
+        ensures memory { Leaves self.old self.new result }
+        ensures queues { Queues (λ r. Answered.Asked r) self.old self.new result }
+        ensures extends { Extends (Asks now id name.now payload.now
+            (params_of self.old.filters addr.now params.now)) self.old self.new result }
+    {
+        if self.prepare().is_err() {
+            return Code::OutOfMemory;
+        }
+        let Ok(addr) = Bytes::copy_of(alloc, addr) else {
+            return Code::OutOfMemory;
+        };
+        let filters = std::mem::replace(&mut self.filters, BytesList::new(alloc));
+        let params = params_with(filters, addr, params);
+        let answer = self.agent.query(alloc, now, id, name, payload, &params);
+        let code = asked_code(&answer);
+        self.wait(Answered::Asked(answer), code);
+        self.take_back(params.filters, code);
+        code
+    }
+
+    /// Goes on to the next outcome of a burst: it is what was given then, with the code of its call.
+    pub(crate) fn next(&mut self, answered: &mut u32) -> Code
+        ensures waits { Waits self.old self.new result }
+        ensures unread { is_ready self.old ≡ false → answered.new ≡ answered.old }
+        ensures text { is_ready self.old ≡ true → Appends self.old self.new }
+        ensures numbers { is_ready self.old ≡ true → Numbers self.old self.new }
+        ensures agent { LeavesAgent self.old self.new }
+        ensures next { GoesToNext answered.old answered.new self.old self.new result }
+        ensures none { is_ready self.old ≡ true → unsettled_in self.old.gave ≡ None
+            → result ≢ Code.OutOfMemory }
+    {
+        match self.begin() {
+            Ok(()) => {}
+            Err(code) => return code,
+        }
+        let Some(first) = self.burst.pop_front() else {
+            return Code::Nothing;
+        };
+        *answered = first.code().number();
+        self.give(first.gave());
+        Code::Done
+    }
+
+    /// How many outcomes of a burst wait.
+    pub(crate) fn read_outcomes(&self, total: &mut usize)
+        ensures { total.new ≡ length self.now.burst.items }
+    {
+        *total = self.burst.len();
+    }
+}

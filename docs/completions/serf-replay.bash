@@ -1,0 +1,50 @@
+# What bash completes behind serf-replay: made by tools/completions.py of the program's help.
+_serf_replay() {
+    local word=${COMP_WORDS[COMP_CWORD]} before=${COMP_WORDS[COMP_CWORD - 1]} command=${COMP_WORDS[1]-} words= files=
+    # (bash takes NODE=SNAPSHOT for three words)
+    [[ $word == = ]] && before== word=
+    case "$command $before" in
+        *' =') files=yes ;;
+        'random --kind') words='mixed tiny merges restarts devices injections queries limits exhaustion per-time compactions gossip' ;;
+        'random --agents') : ;;
+        'random --actions') : ;;
+        'random --rules') words='serf own' ;;
+        'judge --kept') : ;;
+        'explain --agent') : ;;
+        'explain --from') : ;;
+        'explain --to') : ;;
+        'draw --as') words='svg mermaid' ;;
+        'draw --agent') : ;;
+        'draw --from') : ;;
+        'draw --to') : ;;
+        'conform --agent') : ;;
+        'conform --rules') words='serf own' ;;
+        'conform --random') : ;;
+        'conform --kind') words='mixed tiny merges restarts devices injections queries limits exhaustion per-time compactions gossip' ;;
+        'conform --agents') : ;;
+        'conform --actions') : ;;
+        'conform --save') files=yes ;;
+        *) case "$command" in
+            replay) words='--stream --summary --help' files=yes ;;
+            decode) words='--help' ;;
+            encode) words='--help' ;;
+            clocks) words='--help' files=yes ;;
+            random) words='--kind --agents --actions --rules --help' ;;
+            judge) words='--kept --help' files=yes ;;
+            explain) words='--agent --from --to --help' files=yes ;;
+            draw) words='--as --agent --from --to --help' files=yes ;;
+            write) words='--help' files=yes ;;
+            conform) words='--agent --rules --random --kind --agents --actions --shrink --save --help' files=yes ;;
+            help) words='' ;;
+        esac
+    esac
+    ((COMP_CWORD == 1)) && words='replay decode encode clocks random judge explain draw write conform help --help --version' files=
+    COMPREPLY=()
+    if [[ -n $words && ($word == -* || -z $files) ]]; then
+        mapfile -t COMPREPLY < <(compgen -W "$words" -- "$word")
+    elif [[ -n $files ]]; then
+        compopt -o filenames 2>/dev/null
+        mapfile -t COMPREPLY < <(compgen -f -- "$word")
+    fi
+}
+complete -F _serf_replay serf-replay

@@ -1,0 +1,114 @@
+"""What the scripts of tests/ share: checks and their count, the program that they run, and the files that they read.
+
+A script begins with these lines, and ends with `run`, or with `over_program` where it runs the program:
+
+    sys.dont_write_bytecode = True
+    sys.path.insert(0, os.path.dirname(os.path.dirname(os.path.abspath(__file__))))
+    import checks
+"""
+
+import os
+import subprocess
+import sys
+
+TOP = os.path.dirname(os.path.dirname(os.path.abspath(__file__)))
+sys.path.insert(0, os.path.join(TOP, "tools"))
+import programs
+
+# The program itself. ./serf-replay sums all its sources at each call; `over_program` does so once, before any call.
+PROGRAM = programs.path_of("serf_replay_program")
+
+# What a user calls.
+COMMAND = os.path.join(TOP, "serf-replay")
+
+EXAMPLES = os.path.join(TOP, "examples")
+ROWS = os.path.join(TOP, "tests", "rows")
+
+# The kinds of random schedules.
+KINDS = (
+    *("mixed", "tiny", "merges", "restarts", "devices", "injections"),
+    *("queries", "limits", "exhaustion", "per-time", "compactions", "gossip"),
+)
+
+# How many bytes a schedule, a packet or a line of a stream may have.
+LONGEST = 16_777_216
+
+# How long one call of the program may take, in seconds.
+LIMIT = 600
+
+# How much is printed of what a failed check saw, in characters.
+SHOWN = 1500
+
+
+def read(*parts):
+    """The bytes of a file, named from the repository's top."""
+    with open(os.path.join(TOP, *parts), "rb") as file:
+        return file.read()
+
+
+def text_of(*parts):
+    """The text of a file, named from the repository's top."""
+    return read(*parts).decode("utf-8")
+
+
+def names_in(folder, ending=".schedule"):
+    """The names of a folder's files with this ending, without it, sorted."""
+    return sorted(name[: -len(ending)] for name in os.listdir(folder) if name.endswith(ending))
+
+
+def ran(words, given=b""):
+    """The program on these words and this input: its status, its standard output, and its standard error."""
+    done = subprocess.run([PROGRAM, *words], input=given, capture_output=True, timeout=LIMIT)
+    return done.returncode, done.stdout, done.stderr
+
+
+class Checks:
+    """How many checks passed, and how many failed. Each that fails is printed."""
+
+    def __init__(self):
+        self.passed = self.failed = 0
+
+    def check(self, name, holds, said=""):
+        """Counts a check. Where it doesn't hold, what was seen in its place is printed."""
+        if holds:
+            self.passed += 1
+            return
+        self.failed += 1
+        said = str(said)
+        if len(said) > SHOWN:
+            said = f"{said[: SHOWN // 2]} .. {said[-SHOWN // 2 :]}"
+        print(f"FAILED {name}: {said}", flush=True)
+
+    def exactly(self, name, words, status, out, err, given=b""):
+        """Checks all that the program answers to these words and this input. Gives what it wrote on standard output."""
+        got = ran(words, given)
+        wanted = (status, out[:300], err[:300])
+        self.check(name, got == (status, out, err), f"wanted {wanted}, got {(got[0], got[1][:300], got[2][:300])}")
+        return got[1]
+
+    def add(self, passed, failed):
+        self.passed += passed
+        self.failed += failed
+
+    def finish(self):
+        """Prints the count, and gives the status."""
+        print(f"{self.passed} passed, {self.failed} failed")
+        return 1 if self.failed else 0
+
+
+def run(*parts):
+    """Runs the parts of a script, each of which adds to the checks that it is passed. Gives the status."""
+    count = Checks()
+    for part in parts:
+        part(count)
+    return count.finish()
+
+
+def over_program(*parts):
+    """Runs the parts of a script over the program, which is built first where it isn't of the sources as they are."""
+    fault = programs.fault_of_build("serf_replay_program")
+    if fault:
+        count = Checks()
+        count.check("the program is built", False, fault)
+        return count.finish()
+    return run(*parts)

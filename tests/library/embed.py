@@ -1,0 +1,369 @@
+"""Hosts of the agent in C: header and library are one, bad input has a code, and the bindings' stores and examples.
+
+    tests/library/embed.py [--library FILE] [--program FILE] [--over-ci]
+
+C and Python have to be there. Rust and Go are built and run where `cargo` and `go` are on PATH, and without the
+network; the delegate in Go where memberlist is there as well (Debian's package). Each part has a line such as
+`python: N passed, M failed` or `go: not run, since go is not on PATH`, and the last line is their sum. --library takes
+another static library than that of crates/serf_agent_c, which else is built by `rt lib`; no declaration of Rattle is
+compared then. --program takes another program than the proved one, which conformance/c is held against. --over-ci
+builds the library over those that `rt ci` left, as the gate does.
+"""
+
+import argparse
+import glob
+import os
+import re
+import shutil
+import sys
+import tempfile
+
+sys.dont_write_bytecode = True
+sys.path.insert(0, os.path.dirname(os.path.dirname(os.path.abspath(__file__))))
+import checks
+import c_library
+import piped_agents
+import programs
+from checks import TOP
+
+sys.path.insert(0, os.path.join(TOP, "tests", "library", "embed"))
+import bursts
+import declarations
+import starved
+import stores
+
+HEADER = os.path.join(c_library.INCLUDE, "serf_agent.h")
+SOURCES = os.path.join(TOP, "tests", "library", "embed")
+BINDINGS = os.path.join(TOP, "bindings")
+
+# How many bytes the library may have.
+LARGEST = 400_000
+
+# The random schedules that conformance/c is held against: so many seeds of each kind.
+SEEDS = 40
+
+# Where Debian has Go's packages, and memberlist among them.
+GO_CODE = "/usr/share/gocode"
+MEMBERLIST = os.path.join(GO_CODE, "src", "github.com", "hashicorp", "memberlist")
+
+
+class NotRun(Exception):
+    """A part can't be run here, for this reason."""
+
+
+class Places:
+    """Where what is built and run here stands. `starved` is a library whose calls run out of memory."""
+
+    def __init__(self, folder, library):
+        self.folder, self.library = folder, library
+        self.shared = os.path.join(folder, "libserf_agent.so")
+        self.starved = os.path.join(self.fresh("starved"), "libserf_agent_c.a")
+
+    def of(self, name):
+        return os.path.join(self.folder, name)
+
+    def fresh(self, name):
+        """A new and empty folder that everybody may read."""
+        path = tempfile.mkdtemp(prefix=name, dir=self.folder)
+        os.chmod(path, 0o755)
+        return path
+
+
+def compile_c(count, places, name, source, more=(), library=None):
+    """Compiles a host; its path, or None."""
+    path = places.of(name)
+    fault = c_library.fault_of_host(path, source, library or places.library, more)
+    count.check(f"{name} compiles", fault is None, fault)
+    return path if fault is None else None
+
+
+def counted(count, name, words, **more):
+    """Runs a program that ends with 'N passed, M failed', and counts what it says."""
+    status, said = c_library.ran(words, **more)
+    found = re.search(r"^(\d+) passed, (\d+) failed$", said, re.M)
+    count.check(f"{name} ends", found is not None and status == (int(found[2]) > 0), f"{status}: {said[-1500:]}")
+    if found:
+        count.add(int(found[1]), int(found[2]))
+        print("".join(line + "\n" for line in said.split("\n") if line.startswith("FAILED")), end="")
+
+
+def counted_tests(count, name, line, words, **more):
+    """Runs the tests of a language; `line` finds each test's name and end."""
+    status, said = c_library.ran(words, **more)
+    found = list(re.finditer(line, said, re.M))
+    for one in found:
+        count.check(f"{name}: {one['name']}", one["end"].lower() in ("pass", "ok"), said[-2000:])
+    count.check(f"{name} end well", status == 0 and found and "warning" not in said, f"{status}: {said[-2000:]}")
+
+
+def bad_input(count, places):
+    """Bad input in C, in bursts too: as it is, under the address and undefined-behaviour sanitizers, and under valgrind."""
+    sanitized = ["-g", "-fsanitize=address,undefined", "-fno-sanitize-recover=all"]
+    can_sanitize = (
+        c_library.ran(
+            ["cc", "-x", "c", "-fsanitize=address,undefined", "-o", places.of("none"), os.path.join(SOURCES, "nothing.c")]
+        )[0]
+        == 0
+    )
+    for name, what in (("bad_input", "bad input"), ("burst", "bursts")):
+        source = os.path.join(SOURCES, f"{name}.c")
+        plain = compile_c(count, places, name, source)
+        if plain:
+            counted(count, what, [plain])
+        watched = compile_c(count, places, f"{name}_sanitized", source, sanitized) if can_sanitize else None
+        if watched:
+            counted(count, f"{what}, sanitized", [watched])
+        if plain and shutil.which("valgrind"):
+            counted(count, f"{what}, under valgrind", ["valgrind", "-q", "--error-exitcode=9", "--leak-check=full", plain, "500"])
+    if not can_sanitize:
+        print("not run: the sanitizers, which this C compiler lacks")
+    if not shutil.which("valgrind"):
+        print("not run: valgrind, which isn't on PATH")
+
+
+def memory(count, places):
+    """Each call where memory is wanting, under valgrind too: its requests go through a count. And the library for hosts
+    whose calls run out of memory."""
+    wrapped = ["-g", "-Wl,--wrap=malloc,--wrap=realloc"]
+    path = compile_c(count, places, "memory", os.path.join(SOURCES, "memory.c"), wrapped)
+    if path:
+        counted(count, "want of memory", [path])
+        if shutil.which("valgrind"):
+            counted(
+                count,
+                "want of memory, under valgrind",
+                ["valgrind", "-q", "--error-exitcode=9", "--leak-check=full", path],
+            )
+    fault = starved.make(places)
+    count.check("a library whose calls run out of memory", fault is None, fault)
+
+
+def example(count, name, places, words, **more):
+    """Runs an example twice in a folder: the text that every language prints, and nothing twice over both runs."""
+    folder = places.fresh(name)
+    with open(os.path.join(BINDINGS, "example.out"), encoding="utf-8") as file:
+        wanted = file.read()
+    status, said = c_library.ran([*words, folder], **more)
+    count.check(f"{name}: the example", (status, said) == (0, wanted), f"{status}: {said}")
+    status, again = c_library.ran([*words, folder], **more)
+    handed = [line for line in (said + again).split("\n") if "handed out" in line]
+    count.check(
+        f"{name}: the example once more", status == 0 and len(set(handed)) == len(handed) == 8, f"{status}: {again}"
+    )
+
+
+def in_c(count, places):
+    driver = compile_c(count, places, "store_driver", os.path.join(SOURCES, "store_driver.c"))
+    if driver:
+        stores.try_store(count, "C", places, [driver])
+    run = compile_c(count, places, "example", os.path.join(BINDINGS, "c", "example.c"))
+    if run:
+        example(count, "C", places, [run])
+        if shutil.which("valgrind"):
+            example(
+                count, "C under valgrind", places, ["valgrind", "-q", "--error-exitcode=9", "--leak-check=full", run]
+            )
+    made = c_library.ran(
+        ["make", "-s", "-C", os.path.join(BINDINGS, "c"), f"OUT={places.of('made')}", f"LIBRARY={places.library}"]
+    )
+    count.check("the Makefile", made[0] == 0, made[1])
+    driver = compile_c(
+        count, places, "starved_driver", os.path.join(SOURCES, "starved_driver.c"), library=places.starved
+    )
+    if driver:
+        starved.try_calls(count, "C", places, [driver])
+    source = os.path.join(SOURCES, "burst_driver.c")
+    plain, hungry = compile_c(count, places, "burst_driver", source), compile_c(count, places, "starved_bursts", source, library=places.starved)
+    if plain and hungry:
+        bursts.try_bursts(count, "C", places, [plain])
+        bursts.try_starved(count, "C", places, [hungry])
+
+
+def in_python(count, places):
+    more = {"env": dict(os.environ, SERF_AGENT_LIBRARY=places.shared, PYTHONDONTWRITEBYTECODE="1")}
+    stores.try_store(count, "Python", places, [sys.executable, os.path.join(SOURCES, "store_driver.py")])
+    more["env"]["PYTHONPATH"] = os.path.join(BINDINGS, "python")
+    example(count, "Python", places, [sys.executable, "-m", "serf_agent"], **more)
+    for name in ("bad_input", "misuse"):
+        counted(
+            count,
+            f"{name} in Python",
+            [sys.executable, os.path.join(SOURCES, f"{name}.py"), places.fresh(name)],
+            **more,
+        )
+    driver = [sys.executable, os.path.join(SOURCES, "burst_driver.py")]
+    bursts.try_bursts(count, "Python", places, driver, **more)
+    more["env"]["SERF_AGENT_LIBRARY"] = starved.shared(places.starved)
+    starved.try_calls(count, "Python", places, [sys.executable, os.path.join(SOURCES, "starved_driver.py")], **more)
+    bursts.try_starved(count, "Python", places, driver, **more)
+
+
+def in_rust(count, places):
+    if shutil.which("cargo") is None:
+        raise NotRun("cargo is not on PATH")
+    target = places.of("target")
+    more = {
+        "env": dict(os.environ, SERF_AGENT_LIBRARY=places.library, CARGO_TARGET_DIR=target),
+        "cwd": os.path.join(BINDINGS, "rust"),
+    }
+    status, said = c_library.ran(["cargo", "build", "--offline", "--examples"], **more)
+    count.check("Rust builds, with no warning", status == 0 and "warning" not in said, said[-2000:])
+    if status:
+        return
+    stores.try_store(count, "Rust", places, [os.path.join(target, "debug", "examples", "store_driver")])
+    example(count, "Rust", places, [os.path.join(target, "debug", "examples", "two_agents")])
+    counted_tests(
+        count,
+        "Rust's tests",
+        r"^test (?P<name>\S+) \.\.\. (?P<end>\w+)$",
+        ["cargo", "test", "--offline", "--tests"],
+        **more,
+    )
+    bursts.try_bursts(count, "Rust", places, [os.path.join(target, "debug", "examples", "burst_driver")])
+    more["env"]["SERF_AGENT_LIBRARY"] = places.starved
+    status, said = c_library.ran(["cargo", "build", "--offline", "--example", "starved_driver", "--example", "burst_driver"], **more)
+    count.check("Rust: the starved drivers build", status == 0, said[-2000:])
+    if status == 0:
+        starved.try_calls(count, "Rust", places, [os.path.join(target, "debug", "examples", "starved_driver")])
+        bursts.try_starved(count, "Rust", places, [os.path.join(target, "debug", "examples", "burst_driver")])
+
+
+def in_go(count, places):
+    if shutil.which("go") is None:
+        raise NotRun("go is not on PATH")
+    env = dict(
+        os.environ,
+        CGO_LDFLAGS=f"-L{os.path.dirname(places.library)}",
+        GOFLAGS="-mod=mod",
+        GOPROXY="off",
+        GO111MODULE="on",
+        GOCACHE=places.of("go_cache"),
+    )
+    more = {"env": env, "cwd": os.path.join(BINDINGS, "go")}
+    programs_in_go = {"store_driver": places.library, "example": places.library, "burst_driver": places.library}
+    programs_in_go |= {"starved_driver": places.starved, "starved_bursts": places.starved}
+    for name, library in programs_in_go.items():
+        env["CGO_LDFLAGS"] = f"-L{os.path.dirname(library)}"
+        source = "burst_driver" if name == "starved_bursts" else name
+        status, said = c_library.ran(["go", "build", "-o", places.of(f"go_{name}"), f"./{source}"], **more)
+        count.check(f"Go: {name} builds", status == 0, said[-2000:])
+        if status:
+            return
+    stores.try_store(count, "Go", places, [places.of("go_store_driver")])
+    example(count, "Go", places, [places.of("go_example")])
+    starved.try_calls(count, "Go", places, [places.of("go_starved_driver")])
+    bursts.try_bursts(count, "Go", places, [places.of("go_burst_driver")])
+    bursts.try_starved(count, "Go", places, [places.of("go_starved_bursts")])
+    env["CGO_LDFLAGS"] = f"-L{os.path.dirname(places.library)}"
+    said = c_library.ran(["gofmt", "-l", "."], cwd=more["cwd"])
+    count.check("Go is formatted", said == (0, ""), said)
+    more["cwd"] = os.path.join(BINDINGS, "go", "serfagent")
+    tests_in_go(count, "serfagent", ".", more)
+    delegate_in_go(count, places, env)
+
+
+def tests_in_go(count, name, package, more):
+    """A package's tests, watched for races where the detector is there, and what `go vet` says of it."""
+    status, said = c_library.ran(["go", "vet", package], **more)
+    count.check(f"Go: vet of {name}", status == 0, said[-2000:])
+    race = ["-race"] if c_library.ran(["go", "test", "-race", "-run", "NONE", package], **more)[0] == 0 else []
+    if not race:
+        print(f"not run: {name} under Go's race detector, which isn't here")
+    counted_tests(
+        count,
+        f"Go's tests of {name}",
+        r"^--- (?P<end>PASS|FAIL): (?P<name>\S+)",
+        ["go", "test", "-v", "-count=1", *race, package],
+        **more,
+    )
+
+
+def delegate_in_go(count, places, env):
+    """The delegate for memberlist, whose sources are found as Debian has them."""
+    if not os.path.isdir(MEMBERLIST):
+        print(f"not run: serfdelegate, since {MEMBERLIST} isn't there")
+        return
+    own = places.fresh("go")
+    os.mkdir(os.path.join(own, "src"))
+    os.symlink(os.path.join(BINDINGS, "go"), os.path.join(own, "src", "kitchenrue.example"))
+    env = dict(env, GO111MODULE="off", GOFLAGS="", GOPATH=f"{own}:{GO_CODE}")
+    tests_in_go(count, "serfdelegate", "kitchenrue.example/serfdelegate", {"env": env})
+
+
+def in_pipe(count, places, program):
+    """The library behind the pipe, held against the reference on each example, each row and random schedules."""
+    fault = None if program else programs.fault_of_build("serf_replay_program")
+    agent = compile_c(count, places, "pipe_agent", os.path.join(TOP, "conformance", "c", "agent.c"))
+    count.check("the program is built", fault is None, fault)
+    if fault or agent is None:
+        return
+    for schedule in sorted(
+        glob.glob(os.path.join(checks.EXAMPLES, "*.schedule")) + glob.glob(os.path.join(checks.ROWS, "*.schedule"))
+    ):
+        status, report = piped_agents.compare([schedule], [agent], program)
+        name = os.path.basename(schedule)
+        # (a row can be a schedule that is refused)
+        count.check(
+            f"conform on {name}",
+            status == 0 or "bad line" in report or "too long" in report,
+            f"{status}: {report[-600:]}",
+        )
+    for kind in checks.KINDS:
+        status, report = piped_agents.compare(["--random", f"1-{SEEDS}", "--kind", kind], [agent], program)
+        count.check(
+            f"conform on random schedules, {kind}",
+            status == 0 and f"{SEEDS} seeds and" in report,
+            f"{status}: {report[-600:]}",
+        )
+
+
+def declared(count, places, crate):
+    """Header and library are one, and the library is small."""
+    size = os.path.getsize(places.library)
+    count.check("the library's size", size <= LARGEST, f"{size} bytes")
+    declarations.compare(count, places, HEADER, crate)
+
+
+def run(total, name, part, *words):
+    """Runs a part, prints its line, and adds it up."""
+    count = checks.Checks()
+    try:
+        part(count, *words)
+        print(f"{name}: {count.passed} passed, {count.failed} failed", flush=True)
+    except NotRun as why:
+        print(f"{name}: not run, since {why}", flush=True)
+    total.add(count.passed, count.failed)
+
+
+def main():
+    words = argparse.ArgumentParser(description=__doc__, formatter_class=argparse.RawDescriptionHelpFormatter)
+    words.add_argument("--library")
+    words.add_argument("--over-ci", action="store_true")
+    words.add_argument("--program")
+    asked = words.parse_args()
+    total = checks.Checks()
+    folder = tempfile.mkdtemp(prefix="embed-")
+    os.chmod(folder, 0o755)
+    try:
+        places = Places(folder, os.path.abspath(asked.library or c_library.LIBRARY))
+        fault = None if asked.library else c_library.fault_of_library(asked.over_ci)
+        fault = fault or c_library.fault_of_shared(places.shared, places.library)
+        if fault:
+            total.check("the library is built", False, fault)
+            return total.finish()
+        crate = None if asked.library else c_library.CRATE
+        run(total, "declarations", declared, places, crate)
+        run(total, "bad input", bad_input, places)
+        run(total, "memory", memory, places)
+        run(total, "c", in_c, places)
+        run(total, "python", in_python, places)
+        run(total, "rust", in_rust, places)
+        run(total, "go", in_go, places)
+        run(total, "pipe", in_pipe, places, asked.program)
+    finally:
+        shutil.rmtree(folder)
+    return total.finish()
+
+
+if __name__ == "__main__":
+    sys.exit(main())

@@ -1,0 +1,198 @@
+"""Bad input through the binding in Python: prints a line `FAILED ..` for what isn't as said, and 'N passed, M failed'.
+
+    bad_input.py FOLDER
+"""
+
+import os
+import sys
+
+sys.path.insert(0, os.path.join(os.path.dirname(os.path.abspath(__file__)), "..", "..", "..", "bindings", "python"))
+from serf_agent import Agent, AgentError, Answer, Closed, Code, Fault, Kind, Locked, MissingFolder, NotAFile
+from serf_agent import packet_fault, PacketFault, Reason, Settings
+
+FOLDER = sys.argv[1]
+passed = failed = 0
+
+
+def check(name, holds, said=""):
+    global passed, failed
+    if holds:
+        passed += 1
+    else:
+        failed += 1
+        print(f"FAILED {name}: {said}")
+
+
+def refused(name, wanted, call, *words, **more):
+    """A call that has to be refused: with this code, or with this error."""
+    try:
+        said = call(*words, **more)
+    except AgentError as error:
+        said = error.code
+    except Exception as error:
+        said = type(error)
+    check(name, said == wanted, f"{said}, and {wanted} was wanted")
+
+
+def path(name):
+    return os.path.join(FOLDER, name)
+
+
+def openings():
+    refused("no name", Code.BAD_CONFIG, Agent, b"", path("a"))
+    refused("no slots", Code.BAD_CONFIG, Agent, b"a", path("a"), Settings(event_buffer=0))
+    refused("a folder", NotAFile, Agent, b"a", FOLDER)
+    refused("no folder", MissingFolder, Agent, b"a", path("none/a"))
+    with Agent(b"a", path("a")) as agent:
+        refused("twice", Locked, Agent, b"a", path("a"))
+        check("the first goes on", agent.fire(b"x").event.time == 1)
+    refused("closed", Code.EMPTY, agent.fire, b"x")
+    agent.close()
+
+
+def events():
+    with Agent(b"a", path("b")) as one, Agent(b"b", path("c")) as other:
+        refused("too large", Code.TOO_LARGE, one.fire, b"x" * 513)
+        fired = one.fire(b"x", b"\0y", coalesce=True)
+        refused("nothing", Code.NO_MESSAGE, other.receive, 1, b"")
+        refused("any bytes", Code.NO_MESSAGE, other.receive, 1, b"\xff\xff")
+        refused("an event as a state", Code.NOT_PUSH_PULL, other.merge, fired.packet)
+        received = other.receive(1, fired.packet)
+        check("the event", received.event == fired.event and received.rebroadcast, received)
+        received = other.receive(2, fired.packet)
+        check("again", (received.kind, received.reason, received.event) == (Kind.IGNORED, Reason.SEEN, None), received)
+        check("foreign", other.receive(2, b"\x00\x80").kind == Kind.FOREIGN)
+        check("a state as a packet", other.receive(2, one.local_state([(b"a", 3)], [b"c"])).kind == Kind.PUSH_PULL)
+        check("merged already", other.merge(one.local_state(), join=True) == [])
+
+
+def queries():
+    with Agent(b"a", path("d")) as one, Agent(b"b", path("e")) as other:
+        refused("no time", Code.NO_TIME, one.query, 1, 7, b"q")
+        check("no deadline", one.next_deadline() is None)
+        asked = one.query(1, 7, b"q", b"p", timeout=1000, want_ack=True, addr=b"\x7f\0\0\1", port=7946)
+        check(
+            "asked",
+            asked.query.name == b"q"
+            and asked.ack is not None
+            and one.open_queries() == 1
+            and one.next_deadline() == 1001,
+            asked,
+        )
+        received = other.receive(5, asked.packet)
+        query = received.query
+        said = (query.id, query.name, query.payload, query.source, query.addr, query.port)
+        check("the query", received.kind == Kind.QUERY and said == (7, b"q", b"p", b"a", b"\x7f\0\0\1", 7946), received)
+        check("its ack", one.receive(6, received.ack).kind == Kind.ACK)
+        refused("a wrong number", Code.NOT_HANDED, other.respond, 6, query.number + 1)
+        refused("too large", Code.TOO_LARGE, other.respond, 6, query.number, b"x" * 1100)
+        response = other.respond(6, query.number, b"r")
+        refused("twice", Code.NOT_HANDED, other.respond, 6, query.number)
+        late = other.receive(6, one.query(6, 8, b"late", timeout=2).packet).query
+        refused("too late", Code.PAST_DEADLINE, other.respond, late.deadline + 1, late.number)
+        check("the response", one.receive(7, response).kind == Kind.RESPONSE)
+        check("again", one.receive(7, response).reason == Reason.RESPONSE_TWICE)
+        time = asked.query.time
+        check("the late one is closed", [closed.id for closed in one.close_due(9)] == [8])
+        check("none is due", one.close_due(1001) == [] and one.open_queries() == 1)
+        closed = one.close_due(1002)
+        check(
+            "closed",
+            closed == [Closed(time, 7, 1001, (b"b",), (Answer(time, 7, b"b", b"r"),))] and one.open_queries() == 0,
+            closed,
+        )
+
+
+def compactions():
+    with Agent(b"a", path("f")) as agent:
+        for _ in range(3):
+            agent.fire(b"x")
+        # a state that says nothing but a member clock of 7
+        agent.merge(b"\x02\x81\xa5LTime\x07")
+        agent.save_member_clock()
+        check("should compact", agent.should_compact(20) and not agent.should_compact())
+        agent.compact()
+        check("should not", not agent.should_compact(0))
+        with open(path("f"), "rb") as file:
+            text = file.read()
+        check("compacted", sorted(text.split(b"\n")) == [b"", b"clock: 6", b"event-clock: 3"], text)
+    with Agent(b"a", path("f")) as agent:
+        clocks = agent.clocks()
+        check(
+            "the next life", (clocks.member, clocks.event, clocks.query, clocks.event_minimum) == (7, 4, 1, 4), clocks
+        )
+
+
+# Packets that are no messages: the fault, its place, its byte, and what is said of it.
+FAULTY = [
+    (b"", Fault.EMPTY, 0, 0, "the packet is empty"),
+    (b"\x63\x80", Fault.UNKNOWN_TYPE, 0, 99, "no message has the type 99"),
+    (b"\x03", Fault.TRUNCATED, 1, 0, "the packet ends inside the value at 1"),
+    (b"\x03\xc1", Fault.UNSUPPORTED, 1, 0xC1, "the byte 0xc1 at 1 begins no value that is read"),
+    (b"\x03" + b"\x91" * 9 + b"\xc0", Fault.TOO_DEEP, 9, 0, "the array or map at 9 stands inside eight others"),
+    (b"\x03\x80\x00", Fault.TRAILING, 2, 0, "the value ends before 2, and more bytes follow"),
+    (b"\x03\x07", Fault.NOT_A_MAP, 0, 0, "the value is no map"),
+    (b"\x03\x81\x01\x01", Fault.BAD_KEY, 2, 0, "the key at 2 is not raw"),
+    (b"\x03\x82\xa5LTime\x01\xa5LTime\x01", Fault.TWICE, 9, 0, "the key at 9 stands for the second time"),
+    (b"\x03\x81\xa5LTime\xa1x", Fault.WRONG_KIND, 8, 0, "the value at 8 is of another kind"),
+    (b"\x05\x81\xa2ID\xcf\0\0\0\1\0\0\0\0", Fault.OUT_OF_RANGE, 5, 0, "the integer at 5 is out of range"),
+    (b"\x03\x81\xa5LTime\xcf" + b"\xff" * 8, Fault.GREATEST_TIME, 8, 0, "the number at 8 is no time"),
+]
+
+
+def faults():
+    for packet, kind, offset, byte, words in FAULTY:
+        found = packet_fault(packet)
+        check(f"the fault of {packet}", found == PacketFault(kind, offset, byte) and str(found) == words, repr(found))
+    check("each kind", [kind for _, kind, *_ in FAULTY] == list(Fault))
+    with Agent(b"a", path("g")) as agent:
+        for packet, *_ in FAULTY:
+            refused(f"the packet {packet}", Code.NO_MESSAGE, agent.receive, 1, packet)
+        asked = agent.query(1, 7, b"q", timeout=1000, want_ack=True)
+        for packet in (
+            agent.fire(b"x").packet, agent.local_state(), asked.packet, asked.ack, b"\x00", b"\x09\xc1", b"\x03\x80"
+        ):
+            check(f"no fault of {packet}", packet_fault(packet) is None)
+        cut = len(asked.ack) - 1
+        check("a cut ack", packet_fault(asked.ack[:cut]) == PacketFault(Fault.TRUNCATED, cut, 0))
+
+
+def bursts():
+    with Agent(b"a", path("h")) as agent:
+        burst = agent.burst()
+        try:
+            with burst:
+                burst.fire(b"x")
+                check("one call waits", len(burst) == 1)
+                raise KeyError
+        except KeyError:
+            pass
+        check("a block that raises makes no call", burst.outcomes == [] and len(burst) == 0 and agent.clocks().event == 1)
+        with agent.burst() as burst:
+            refused("a number as a packet", TypeError, burst.receive, 1, 5)
+            refused("an ID of 33 bits", OverflowError, burst.query, 1, 1 << 32, b"q")
+            refused("no bool", TypeError, burst.fire, b"x", b"", 1)
+            burst.fire(b"x")
+            refused("a clock that goes back", ValueError, burst.receive, 0, b"")
+            check("other calls go on", agent.fire(b"y").event.time == 1)
+        check("just the calls that were taken", [outcome.event.time for outcome in burst.outcomes] == [2], burst.outcomes)
+        check("nothing is unread", agent.unread_outcomes() == 0)
+        with burst:
+            burst.receive(2, b"\xff")
+        check("a burst may be filled again", [getattr(outcome, "code", None) for outcome in burst.outcomes] == [None, Code.NO_MESSAGE], burst.outcomes)
+        with agent.burst() as empty:
+            pass
+        check("an empty burst", empty.outcomes == [])
+
+        def closed_meanwhile():
+            with agent.burst() as burst:
+                burst.fire(b"z")
+                agent.close()
+
+        refused("an agent that was closed", Code.EMPTY, closed_meanwhile)
+
+
+for part in (openings, events, queries, compactions, faults, bursts):
+    part()
+print(f"{passed} passed, {failed} failed")
+sys.exit(1 if failed else 0)

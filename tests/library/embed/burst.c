@@ -1,0 +1,253 @@
+/* Bursts on handles that are empty or full of unwritten bytes, mixed with other calls, and of any length and any bytes.
+ *
+ * Prints a line `FAILED ..` for each answer that isn't as include/serf_agent.h says, and at the end `N passed, M failed`. */
+#include "serf_agent.h"
+
+#include <stdio.h>
+#include <stdlib.h>
+#include <string.h>
+
+static int passed, failed;
+
+static void is(const char *what, uint64_t found, uint64_t wanted) {
+    if (found == wanted) {
+        passed++;
+    } else {
+        failed++;
+        printf("FAILED %s: %llu, and %llu was wanted\n", what, (unsigned long long)found, (unsigned long long)wanted);
+    }
+}
+
+static const struct serf_agent_settings settings = {8, 8, 512, 8, 8, false};
+static const struct serf_agent_params asked = {.timeout = 1000, .want_ack = true};
+static uint8_t room[1 << 16];
+
+struct packet {
+    uint8_t bytes[256];
+    size_t len;
+};
+
+static void open_one(struct serf_agent *agent, const char *name, const char *text) {
+    is("open", serf_agent_open(agent, (const uint8_t *)name, strlen(name), &settings, (const uint8_t *)text, strlen(text)), SERF_AGENT_OK);
+}
+
+static uint32_t fire(struct serf_agent *agent, const char *name) {
+    return serf_agent_burst_fire(agent, (const uint8_t *)name, strlen(name), NULL, 0, false);
+}
+
+static uint32_t query(struct serf_agent *agent) {
+    return serf_agent_burst_query(agent, 5, 7, (const uint8_t *)"q", 1, NULL, 0, NULL, 0, &asked);
+}
+
+static size_t unwritten(struct serf_agent *agent) {
+    struct serf_agent_bytes about = {0};
+    memset(room, 0, sizeof room);
+    is("unwritten", serf_agent_unwritten(agent, &about, room, sizeof room), SERF_AGENT_OK);
+    return about.len;
+}
+
+static size_t outcomes(struct serf_agent *agent) {
+    size_t total = 77;
+    is("outcomes", serf_agent_outcomes(agent, &total), SERF_AGENT_OK);
+    return total;
+}
+
+static uint32_t kind(struct serf_agent *agent) {
+    struct serf_agent_gave gave = {0};
+    is("gave", serf_agent_gave(agent, &gave), SERF_AGENT_OK);
+    return gave.kind;
+}
+
+/* The next outcome: what its call answered, and what it gave. */
+static void next(struct serf_agent *agent, uint32_t wanted, uint32_t gave) {
+    uint32_t answered = 77;
+    is("next", serf_agent_next(agent, &answered), SERF_AGENT_OK);
+    is("its code", answered, wanted);
+    is("its kind", kind(agent), gave);
+}
+
+static void none_next(struct serf_agent *agent, uint32_t wanted) {
+    uint32_t answered = 77;
+    is("no next", serf_agent_next(agent, &answered), wanted);
+    is("its code stays", answered, 77);
+}
+
+/* Each call of a burst answers this, and so do next and outcomes. */
+static void each(struct serf_agent *agent, uint32_t wanted) {
+    uint8_t byte = 0;
+    size_t total = 77;
+    is("burst_receive", serf_agent_burst_receive(agent, 1, &byte, 1), wanted);
+    is("burst_fire", fire(agent, "x"), wanted);
+    is("burst_filter", serf_agent_burst_filter(agent, &byte, 1), wanted);
+    is("burst_query", query(agent), wanted);
+    is("outcomes", serf_agent_outcomes(agent, &total), wanted);
+    none_next(agent, wanted);
+    is("outcomes stay", total, 77);
+}
+
+static void make_packets(struct packet *events, size_t count) {
+    struct serf_agent other = {0};
+    char name[8];
+    open_one(&other, "b", "");
+    for (size_t i = 0; i < count; i++) {
+        snprintf(name, sizeof name, "e%zu", i);
+        is("fire", serf_agent_fire(&other, (const uint8_t *)name, strlen(name), NULL, 0, false), SERF_AGENT_OK);
+        is("written", serf_agent_written(&other), SERF_AGENT_OK);
+        is("packet", serf_agent_packet(&other, &events[i].len, events[i].bytes, sizeof events[i].bytes), SERF_AGENT_OK);
+    }
+    serf_agent_close(&other);
+}
+
+static void empty_handles(void) {
+    struct serf_agent agent = {0};
+    each(&agent, SERF_AGENT_EMPTY);
+    open_one(&agent, "a", "");
+    fire(&agent, "x");
+    is("close with outcomes", serf_agent_close(&agent), SERF_AGENT_OK);
+    each(&agent, SERF_AGENT_EMPTY);
+    open_one(&agent, "a", "");
+    is("none is left", outcomes(&agent), 0);
+    none_next(&agent, SERF_AGENT_NOTHING);
+    serf_agent_close(&agent);
+}
+
+/* A host that never says that the lines are written: it reads nothing, however much it asks for. */
+static void never_written(const struct packet *events) {
+    struct serf_agent agent = {0};
+    struct serf_agent_event event = {.time = 77};
+    struct serf_agent_clocks clocks;
+    size_t len = 77;
+    open_one(&agent, "a", "");
+    for (int i = 0; i < 100; i++) {
+        is("burst_receive", serf_agent_burst_receive(&agent, 1, events[i % 4].bytes, events[i % 4].len), SERF_AGENT_OK);
+        is("they wait", outcomes(&agent), (uint64_t)i + 1);
+        none_next(&agent, SERF_AGENT_UNWRITTEN);
+        is("no event", serf_agent_event(&agent, 0, &event, room, sizeof room, NULL, 0), SERF_AGENT_UNWRITTEN);
+        is("no clock", serf_agent_clocks(&agent, &clocks), SERF_AGENT_UNWRITTEN);
+        is("no packet", serf_agent_packet(&agent, &len, room, sizeof room), SERF_AGENT_UNWRITTEN);
+        is("nothing was given", kind(&agent), SERF_AGENT_GAVE_NOTHING);
+        is("no other call", serf_agent_receive(&agent, 1, events[0].bytes, events[0].len), SERF_AGENT_UNWRITTEN);
+    }
+    is("nothing was read", event.time == 77 && len == 77, 1);
+    is("all lines", unwritten(&agent), 60);
+    is("in order", (uint64_t)strcmp((char *)room, "event-clock: 1\nevent-clock: 2\nevent-clock: 3\nevent-clock: 4\n"), 0);
+    serf_agent_close(&agent);
+}
+
+/* Outcomes in the order of their calls, faults among them, behind what a call before the burst gave. */
+static void mixed(const struct packet *events) {
+    struct serf_agent agent = {0};
+    struct serf_agent_event event;
+    struct serf_agent_gave gave;
+    struct serf_agent_clocks clocks;
+    open_one(&agent, "a", "");
+    is("a call before", serf_agent_receive(&agent, 1, events[0].bytes, events[0].len), SERF_AGENT_OK);
+    is("a fault", serf_agent_burst_receive(&agent, 1, room, 0), SERF_AGENT_NO_MESSAGE);
+    is("an event", serf_agent_burst_receive(&agent, 1, events[1].bytes, events[1].len), SERF_AGENT_OK);
+    is("a query", query(&agent), SERF_AGENT_OK);
+    is("too large", serf_agent_burst_fire(&agent, room, 600, NULL, 0, false), SERF_AGENT_TOO_LARGE);
+    is("another query", query(&agent), SERF_AGENT_OK);
+    is("fired", fire(&agent, "x"), SERF_AGENT_OK);
+    is("a repeat", serf_agent_burst_receive(&agent, 1, events[1].bytes, events[1].len), SERF_AGENT_OK);
+    is("what the call before gave", kind(&agent), SERF_AGENT_GAVE_EVENT);
+    is("they wait", outcomes(&agent), 7);
+    unwritten(&agent);
+    is("lines", (uint64_t)strcmp((char *)room, "event-clock: 1\nevent-clock: 2\nquery-clock: 1\nquery-clock: 2\nevent-clock: 3\n"), 0);
+    is("written", serf_agent_written(&agent), SERF_AGENT_OK);
+    is("its event", serf_agent_event(&agent, 0, &event, room, sizeof room, NULL, 0), SERF_AGENT_OK);
+    is("its time", event.time, 1);
+    next(&agent, SERF_AGENT_NO_MESSAGE, SERF_AGENT_GAVE_NOTHING);
+    is("no event", serf_agent_event(&agent, 0, &event, room, sizeof room, NULL, 0), SERF_AGENT_NOTHING);
+    next(&agent, SERF_AGENT_OK, SERF_AGENT_GAVE_EVENT);
+    is("its event", serf_agent_event(&agent, 0, &event, room, sizeof room, NULL, 0), SERF_AGENT_OK);
+    is("its time", event.time, 2);
+    next(&agent, SERF_AGENT_OK, SERF_AGENT_GAVE_ASKED);
+    serf_agent_gave(&agent, &gave);
+    is("the first number", gave.handed, 1);
+    next(&agent, SERF_AGENT_TOO_LARGE, SERF_AGENT_GAVE_NOTHING);
+    is("a call between", serf_agent_respond(&agent, 5, 1, NULL, 0), SERF_AGENT_OK);
+    is("what it gave", kind(&agent), SERF_AGENT_GAVE_REPLY);
+    is("the others wait", outcomes(&agent), 3);
+    next(&agent, SERF_AGENT_OK, SERF_AGENT_GAVE_ASKED);
+    serf_agent_gave(&agent, &gave);
+    is("the second number", gave.handed, 2);
+    is("compact between", serf_agent_compact(&agent), SERF_AGENT_OK);
+    none_next(&agent, SERF_AGENT_UNWRITTEN);
+    is("and one more", fire(&agent, "y"), SERF_AGENT_OK);
+    unwritten(&agent);
+    is("the whole text", strstr((char *)room, "event-clock: 3\n") != NULL && strstr((char *)room, "event-clock: 4\n") > strstr((char *)room, "event-clock: 3\n"), 1);
+    is("written", serf_agent_written(&agent), SERF_AGENT_OK);
+    is("a query waits on", serf_agent_respond(&agent, 5, 2, NULL, 0), SERF_AGENT_OK);
+    next(&agent, SERF_AGENT_OK, SERF_AGENT_GAVE_FIRED);
+    next(&agent, SERF_AGENT_OK, SERF_AGENT_GAVE_IGNORED);
+    next(&agent, SERF_AGENT_OK, SERF_AGENT_GAVE_FIRED);
+    is("none waits", outcomes(&agent), 0);
+    none_next(&agent, SERF_AGENT_NOTHING);
+    is("nothing is given then", kind(&agent), SERF_AGENT_GAVE_NOTHING);
+    is("clocks", serf_agent_clocks(&agent, &clocks), SERF_AGENT_OK);
+    is("the clock", clocks.event, 5);
+    serf_agent_close(&agent);
+}
+
+/* Packets that fail move no clock, and repeats leave no line: nothing has to be written before they are read. */
+static void nothing_to_write(const struct packet *events) {
+    struct serf_agent agent = {0};
+    struct serf_agent_clocks before, after;
+    open_one(&agent, "a", "event-clock: 50\n");
+    is("clocks", serf_agent_clocks(&agent, &before), SERF_AGENT_OK);
+    is("an old event", serf_agent_burst_receive(&agent, 1, events[0].bytes, events[0].len), SERF_AGENT_OK);
+    is("a cut one", serf_agent_burst_receive(&agent, 1, events[0].bytes, events[0].len - 1), SERF_AGENT_NO_MESSAGE);
+    is("no time is one", serf_agent_burst_receive(&agent, 1, (const uint8_t *)"\003\201\245LTime\317\377\377\377\377\377\377\377\377", 16), SERF_AGENT_NO_MESSAGE);
+    is("nothing is unwritten", unwritten(&agent), 0);
+    next(&agent, SERF_AGENT_OK, SERF_AGENT_GAVE_IGNORED);
+    next(&agent, SERF_AGENT_NO_MESSAGE, SERF_AGENT_GAVE_NOTHING);
+    next(&agent, SERF_AGENT_NO_MESSAGE, SERF_AGENT_GAVE_NOTHING);
+    is("clocks", serf_agent_clocks(&agent, &after), SERF_AGENT_OK);
+    is("no clock moved", (uint64_t)memcmp(&before, &after, sizeof after), 0);
+    serf_agent_close(&agent);
+}
+
+/* A burst beside the same calls one by one: the same outcomes, and the same lines. */
+static void beside_single_calls(size_t count) {
+    struct serf_agent agent = {0}, twin = {0};
+    static uint8_t lines[1 << 16], wanted[1 << 16];
+    static uint32_t codes[100], kinds[100];
+    size_t len = 0;
+    open_one(&agent, "a", "");
+    open_one(&twin, "a", "");
+    for (size_t i = 0; i < count; i++) {
+        struct serf_agent_gave gave = {0};
+        char name[1024];
+        size_t size = 1 + i * 37 % 600;
+        memset(name, 'x', sizeof name);
+        codes[i] = serf_agent_fire(&twin, (const uint8_t *)name, size, NULL, 0, false);
+        len += unwritten(&twin);
+        strcat((char *)wanted, (char *)room);
+        serf_agent_written(&twin);
+        serf_agent_gave(&twin, &gave);
+        kinds[i] = gave.kind;
+        is("the same code", serf_agent_burst_fire(&agent, (const uint8_t *)name, size, NULL, 0, false), codes[i]);
+    }
+    is("as many bytes", unwritten(&agent), len);
+    memcpy(lines, room, sizeof lines);
+    is("the same lines", (uint64_t)memcmp(lines, wanted, len), 0);
+    is("written", serf_agent_written(&agent), SERF_AGENT_OK);
+    for (size_t i = 0; i < count; i++) {
+        next(&agent, codes[i], kinds[i]);
+    }
+    none_next(&agent, SERF_AGENT_NOTHING);
+    serf_agent_close(&agent);
+    serf_agent_close(&twin);
+}
+
+int main(void) {
+    static struct packet events[4];
+    make_packets(events, 4);
+    empty_handles();
+    never_written(events);
+    mixed(events);
+    nothing_to_write(events);
+    beside_single_calls(100);
+    printf("%d passed, %d failed\n", passed, failed);
+    return failed != 0;
+}

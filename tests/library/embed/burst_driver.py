@@ -1,0 +1,110 @@
+"""Bursts, of which some run out of memory, in Python, as burst_driver.c says."""
+
+import os
+import sys
+
+sys.dont_write_bytecode = True
+sys.path.insert(0, os.path.join(os.path.dirname(os.path.abspath(__file__)), "..", "..", "..", "bindings", "python"))
+from serf_agent import Agent, AgentError, Asked, Code, Fired, Kind
+
+WORDS = {Kind.FOREIGN: "foreign", Kind.PUSH_PULL: "state"}
+
+
+def query_words(name, handed, ack):
+    words = [name]
+    if handed is not None:
+        words += [str(handed.time), handed.name.decode(), "handed"]
+    return words + (["acked"] if ack is not None else [])
+
+
+def words_of(outcome):
+    if isinstance(outcome, AgentError):
+        return ["refused", str(outcome.code.value)]
+    if isinstance(outcome, Fired):
+        return ["fired", str(outcome.event.time), outcome.event.name.decode()]
+    if isinstance(outcome, Asked):
+        return query_words("asked", outcome.query, outcome.ack)
+    if outcome.kind is Kind.EVENT:
+        words = ["event", str(outcome.event.time), outcome.event.name.decode()]
+    elif outcome.kind is Kind.QUERY:
+        words = query_words("query", outcome.query, outcome.ack)
+    elif outcome.kind is Kind.ACK:
+        words = ["ack", outcome.answer.sender.decode()]
+    elif outcome.kind is Kind.RESPONSE:
+        words = ["response", outcome.answer.sender.decode(), outcome.answer.payload.decode()]
+    elif outcome.kind is Kind.IGNORED:
+        words = ["ignored", str(outcome.reason.value)]
+    else:
+        words = [WORDS[outcome.kind]] + ([str(outcome.foreign)] if outcome.kind is Kind.FOREIGN else [])
+    return words + (["sent on"] if outcome.rebroadcast else [])
+
+
+def done(agent, fill):
+    """A burst, its outcomes printed."""
+    burst, end = agent.burst(), "ok"
+    try:
+        with burst:
+            fill(burst)
+    except AgentError as error:
+        if error.code is not Code.OUT_OF_MEMORY:
+            raise
+        end = f"out of memory {len(burst.outcomes)}"
+        burst.read()
+    if agent.unread_outcomes():
+        raise RuntimeError("outcomes are left")
+    for outcome in burst.outcomes:
+        print(*words_of(outcome))
+    print(end)
+    return burst.outcomes
+
+
+def starve(third, events, load):
+    def fill(burst):
+        for packet in events:
+            burst.receive(5, packet)
+        burst.receive(5, load)
+        burst.fire(b"own")
+        burst.query(5, 9, b"load", timeout=9, want_ack=True, filters=[b"\0\x91\xa5third"])
+        burst.receive(5, events[0])
+
+    done(third, fill)
+    done(third, fill)
+
+
+def take_all(one, other, events, load, whole):
+    def fill(burst):
+        for packet in (events[0], b"", events[1], events[0], b"\x03\x81\xa5LTim", load, b"\0", whole):
+            burst.receive(5, packet)
+        burst.fire(b"own")
+        burst.fire(b"\0" * 600)
+        burst.query(5, 9, b"load", want_ack=True)
+        burst.query(5, 9, b"load", timeout=9, want_ack=True, filters=[b"\0\x91\xa5other"])
+        burst.receive(5, events[2])
+
+    outcomes = done(other, fill)
+    reply = other.respond(5, outcomes[5].query.number, b"yes")
+    done(one, lambda burst: None)
+
+    def answers(burst):
+        for packet in (reply, reply):
+            burst.receive(5, packet)
+        for _ in range(5):
+            burst.fire(b"again")
+
+    done(one, answers)
+
+
+def main():
+    paths = (os.path.join(sys.argv[1], name + ".snapshot") for name in ("one", "third", "other"))
+    with Agent(b"one", next(paths)) as one:
+        events = [one.fire(b"e%d" % number).packet for number in range(5)]
+        load = one.query(1, 8, b"load", timeout=1000, want_ack=True).packet
+        whole = one.local_state()
+        with Agent(b"third", next(paths)) as third:
+            starve(third, events, load)
+        with Agent(b"other", next(paths)) as other:
+            take_all(one, other, events, load, whole)
+
+
+if __name__ == "__main__":
+    main()

@@ -1,0 +1,278 @@
+"""The binding in Python, used as it mustn't be: numbers that don't fit, moments that go back, an agent that is let go,
+and forks. Prints a line `FAILED ..` for what isn't as said, and 'N passed, M failed'.
+
+    misuse.py FOLDER
+"""
+
+import gc
+import os
+import signal
+import subprocess
+import sys
+import threading
+
+sys.path.insert(0, os.path.join(os.path.dirname(os.path.abspath(__file__)), "..", "..", "..", "bindings", "python"))
+from serf_agent import Agent, AgentError, Broken, Code, Forked, Kind, Library, Locked, Settings, Store
+
+FOLDER = sys.argv[1]
+passed = failed = 0
+
+
+def check(name, holds, said=""):
+    global passed, failed
+    if holds:
+        passed += 1
+    else:
+        failed += 1
+        print(f"FAILED {name}: {said}")
+
+
+def refused(name, wanted, call, *words, **more):
+    """A call that has to raise just this."""
+    try:
+        said = call(*words, **more)
+    except Exception as error:
+        said = type(error)
+    check(name, said is wanted, f"{said}, and {wanted} was wanted")
+
+
+def path(name):
+    return os.path.join(FOLDER, name)
+
+
+# What fits no unsigned number of so many bits.
+def out_of(bits):
+    return (-1, 1 << bits, (1 << bits) + 7, -(1 << bits))
+
+
+def settings():
+    for field in ("event_buffer", "query_buffer", "event_limit", "responders", "per_time"):
+        for value in out_of(64):
+            refused(f"{field} of {value}", OverflowError, Agent, b"a", path("a"), Settings(**{field: value}))
+        refused(f"{field} of 1.0", TypeError, Agent, b"a", path("a"), Settings(**{field: 1.0}))
+    for value in ("no", 1, None):
+        refused(f"ignore_old of {value!r}", TypeError, Agent, b"a", path("a"), Settings(ignore_old=value))
+    refused("a name that is a text", TypeError, Agent, "a", path("a"))
+    check("nothing was made", not os.path.exists(path("a")))
+
+
+def numbers():
+    with Agent(b"b", path("b")) as agent:
+        for name, bits in {"port": 16, "relay_factor": 8}.items():
+            for value in out_of(bits):
+                refused(f"{name} of {value}", OverflowError, agent.query, 1, 7, b"q", timeout=9, **{name: value})
+        for value in out_of(32):
+            refused(f"an ID of {value}", OverflowError, agent.query, 1, value, b"q", timeout=9)
+        for value in (1 << 63, -(1 << 63) - 1):
+            refused(f"a timeout of {value}", OverflowError, agent.query, 1, 7, b"q", timeout=value)
+        refused("a timeout below 0", AgentError, agent.query, 1, 7, b"q", timeout=-1)
+        for value in out_of(64):
+            refused(f"a limit of {value}", OverflowError, agent.should_compact, value)
+            refused(f"a status time of {value}", OverflowError, agent.local_state, [(b"c", value)])
+            refused(f"the number {value}", OverflowError, agent.respond, 1, value)
+            for call, words in {"receive": [b"\x03\x80"], "query": [7, b"q"], "respond": [1], "close_due": []}.items():
+                refused(f"{call} at {value}", OverflowError, getattr(agent, call), value, *words)
+        refused("a moment of 1.5", TypeError, agent.close_due, 1.5)
+        refused("a number that is a text", TypeError, agent.respond, 1, "1")
+        check("nothing was fired", (agent.clocks().event, agent.clocks().query, agent.open_queries()) == (1, 1, 0))
+        greatest = agent.query(1, (1 << 32) - 1, b"q", timeout=9, port=(1 << 16) - 1, relay_factor=255).query
+        check(
+            "the greatest are taken",
+            (greatest.id, greatest.port, greatest.relay_factor) == ((1 << 32) - 1, (1 << 16) - 1, 255),
+            greatest,
+        )
+
+
+def flags_and_bytes():
+    with Agent(b"c", path("c")) as agent:
+        state = agent.local_state()
+        for value in ("no", 1, 0, None, b""):
+            refused(f"coalesce of {value!r}", TypeError, agent.fire, b"x", coalesce=value)
+            refused(f"join of {value!r}", TypeError, agent.merge, state, join=value)
+            for name in ("want_ack", "no_broadcast"):
+                refused(f"{name} of {value!r}", TypeError, agent.query, 1, 7, b"q", timeout=9, **{name: value})
+        # (bytes would make five zeros of the first)
+        for value in (5, "x", [120], None):
+            refused(f"an event of {value!r}", TypeError, agent.fire, value)
+            refused(f"a payload of {value!r}", TypeError, agent.fire, b"x", value)
+            refused(f"a packet of {value!r}", TypeError, agent.receive, 1, value)
+            refused(f"a filter of {value!r}", TypeError, agent.query, 1, 7, b"q", timeout=9, filters=[b"", value])
+            refused(f"a member of {value!r}", TypeError, agent.local_state, [(b"a", 1)], [value])
+        check("nothing was fired", agent.clocks().event == 1 and agent.clocks().query == 1)
+        check("nobody was named", agent.local_state() == state)
+        check("what is like bytes is taken", agent.fire(bytearray(b"x"), memoryview(b"y")).event.payload == b"y")
+
+
+def moments():
+    with Agent(b"d", path("d")) as agent:
+        packet = agent.fire(b"x").packet
+        check("at 5", agent.receive(5, packet).kind is Kind.IGNORED)
+        check("at 5 again", agent.receive(5, packet).kind is Kind.IGNORED)
+        for call, words in {"receive": [packet], "query": [7, b"q"], "respond": [1], "close_due": []}.items():
+            refused(f"{call} at 4", ValueError, getattr(agent, call), 4, *words)
+        said = []
+        # its moment was read before the others, and its call came behind them
+        thread = threading.Thread(target=lambda: said.append(agent.receive(3, packet).kind))
+        thread.start()
+        thread.join()
+        check("another thread's moment", said == [Kind.IGNORED], said)
+        check("at the greatest moment", agent.close_due((1 << 64) - 1) == [])
+
+
+def opens(name):
+    """What becomes of another opening of the file."""
+    try:
+        Agent(name, path(name.decode())).close()
+    except Exception as error:
+        return type(error)
+    return True
+
+
+def let_go():
+    agent = Agent(b"e", path("e"))
+    check("it is locked", opens(b"e") is Locked)
+    kept = agent.clocks
+    del agent
+    gc.collect()
+    check("its method keeps it", opens(b"e") is Locked and kept().event == 1)
+    del kept
+    gc.collect()
+    check("it was let go", opens(b"e") is True, opens(b"e"))
+    try:
+        Agent(b"", path("e"))
+    except AgentError as error:
+        check("a refused opening", error.code is Code.BAD_CONFIG and opens(b"e") is True, error)
+
+
+CALLS = {
+    "fire": [b"x"],
+    "receive": [1, b"\x03\x80"],
+    "merge": [b"\x02\x80"],
+    "local_state": [],
+    "query": [1, 7, b"q"],
+    "respond": [1, 1],
+    "close_due": [1],
+    "save_member_clock": [],
+    "compact": [],
+    "clocks": [],
+    "next_deadline": [],
+    "open_queries": [],
+    "should_compact": [],
+}
+
+
+def in_child(done):
+    """What a forked child answers, as a text."""
+    reading, writing = os.pipe()
+    child = os.fork()
+    if child == 0:
+        os.write(writing, done().encode())
+        os._exit(0)
+    os.close(writing)
+    with os.fdopen(reading) as file:
+        said = file.read()
+    os.waitpid(child, 0)
+    return said
+
+
+def said_of(call, words):
+    try:
+        return str(call(*words))
+    except Exception as error:
+        return type(error).__name__
+
+
+def forks():
+    with Agent(b"f", path("f")) as agent, Store(path("store")) as store:
+        first = agent.fire(b"one").event
+        for name, words in CALLS.items():
+            said = in_child(lambda: said_of(getattr(agent, name), words))
+            check(f"{name} in a forked child", said == Forked.__name__, said)
+        said = in_child(lambda: said_of(store.append, [b"x"]))
+        check("a store in a forked child", said == Broken.__name__, said)
+
+        def closed():
+            agent.close()
+            return said_of(agent.fire, [b"x"])
+
+        check("close in a forked child", in_child(closed) == Forked.__name__)
+        check("it is locked still", opens(b"f") is Locked)
+        second = agent.fire(b"two").event
+        check("the parent goes on", (first.time, second.time) == (1, 2) and store.append(b"y") is None)
+    with open(path("f"), encoding="utf-8") as file:
+        check(
+            "each time is once in the file",
+            sorted(file.read().split()) == sorted("event-clock: 1 event-clock: 2".split()),
+        )
+
+
+class Held(Library):
+    """A library whose next firing takes long."""
+
+    def __init__(self):
+        super().__init__()
+        self.whole, self.begun, self.over = self.fire, threading.Event(), threading.Event()
+        self.fire = self.held
+
+    def held(self, *words):
+        self.begun.set()
+        self.over.wait()
+        return self.whole(*words)
+
+
+def fork_in_a_call():
+    library = Held()
+    with Agent(b"h", path("h"), library=library) as agent:
+        thread = threading.Thread(target=agent.fire, args=[b"x"])
+        thread.start()
+        library.begun.wait()
+
+        def closed():
+            # nobody frees in the child what the thread holds in the parent
+            signal.alarm(10)
+            said = said_of(agent.clocks, [])
+            agent.close()
+            return said
+
+        said = in_child(closed)
+        check("a fork while a thread is in a call", said == Forked.__name__, said)
+        library.over.set()
+        thread.join()
+        check("that call ends well", agent.clocks().event == 2)
+
+
+# A parent whose child is forked, and lives on; it says which one.
+PARENT = """
+import os, sys, time
+sys.path.insert(0, sys.argv[1])
+from serf_agent import Agent
+agent = Agent(b"g", sys.argv[2])
+child = os.fork()
+if child == 0:
+    time.sleep(60)
+    os._exit(0)
+print(child, flush=True)
+time.sleep(60)
+"""
+
+
+def lock_of_a_parent():
+    binding = os.path.join(os.path.dirname(os.path.abspath(__file__)), "..", "..", "..", "bindings", "python")
+    with subprocess.Popen(
+        [sys.executable, "-c", PARENT, binding, path("g")], stdout=subprocess.PIPE, text=True
+    ) as parent:
+        child = int(parent.stdout.readline())
+        # (the child has closed its copy by its first step, which may be behind its parent's line)
+        os.kill(child, 0)
+        check("it is locked", opens(b"g") is Locked)
+        parent.kill()
+        parent.wait()
+        said = next((True for _ in range(100) if opens(b"g") is True or threading.Event().wait(0.05)), opens(b"g"))
+        check("the lock ends with the parent", said is True, said)
+        os.kill(child, signal.SIGKILL)
+
+
+for part in (settings, numbers, flags_and_bytes, moments, let_go, forks, fork_in_a_call, lock_of_a_parent):
+    part()
+print(f"{passed} passed, {failed} failed")
+sys.exit(1 if failed else 0)

@@ -1,0 +1,370 @@
+"""The packages of a release's archive, each by its language's own tool: from an empty folder, without the network, by a user
+who isn't root and can't write to the archive.
+
+    tests/library/packages.py [--library FILE] [--program FILE] [--only PART] [--over-ci]
+
+Each part has a line such as `python: N passed, M failed` or `go: not run, since go is not on PATH`. --library and --program
+take others than those that the gate built. --over-ci builds the library over those that `rt ci` left, as the gate does.
+"""
+
+import argparse
+import filecmp
+import glob
+import importlib.machinery
+import importlib.util
+import os
+import re
+import shutil
+import subprocess
+import sys
+import tempfile
+import time
+
+sys.dont_write_bytecode = True
+sys.path.insert(0, os.path.dirname(os.path.dirname(os.path.abspath(__file__))))
+import checks
+from checks import TOP
+import c_library
+import manual_of_header
+
+HERE = os.path.join(TOP, "tests", "library", "packages")
+BINDINGS = os.path.join(TOP, "bindings")
+
+# What a copy of a file in a binding's own folder is the copy of.
+COPIES = {"go/serfagent/serf_agent.h": "../include/serf_agent.h", "go/serfagent/serf_agent_heap.c": "c/serf_agent_heap.c", "rust/LICENSE": "../LICENSE"}
+
+# A user who isn't root, and may read what stands in root's folders (where compilers stand), without a network.
+OFF_LINE = ["unshare", "--net"] if os.geteuid() == 0 and c_library.ran(["unshare", "--net", "true"])[0] == 0 else []
+NOBODY = [*OFF_LINE, "setpriv", "--reuid=65534", "--regid=65534", "--clear-groups", "--inh-caps=+dac_read_search", "--ambient-caps=+dac_read_search"]
+AS_USER = NOBODY if os.geteuid() == 0 else []
+
+# Where the machine says that it is another one.
+ELSEWHERE = ["setarch", "i686"]
+
+
+class NotRun(Exception):
+    """A part can't be run here, for this reason."""
+
+
+class Archive:
+    """A release's archive, unpacked where users can't write, and the user's own folders."""
+
+    def __init__(self, root, library, program):
+        self.root, self.top = root, os.path.join(root, "archive")
+        os.mkdir(os.path.join(root, "cache"), 0o777)
+        os.chmod(os.path.join(root, "cache"), 0o777)
+        spec = importlib.util.spec_from_loader("release", importlib.machinery.SourceFileLoader("release", os.path.join(TOP, "release")))
+        release = importlib.util.module_from_spec(spec)
+        spec.loader.exec_module(release)
+        release.BUILT = {"bin/serf-replay": program, "lib/libserf_agent_c.a": library}
+        for path, text, is_run in release.contents():
+            whole = os.path.join(self.top, path)
+            os.makedirs(os.path.dirname(whole), exist_ok=True)
+            with open(whole, "wb") as file:
+                file.write(text)
+            os.chmod(whole, 0o555 if is_run else 0o444)
+        self.wheel = glob.glob(os.path.join(self.top, "*.whl"))[0]
+        with open(os.path.join(BINDINGS, "example.out"), encoding="utf-8") as file:
+            self.example = file.read()
+
+    def path(self, *parts):
+        return os.path.join(self.top, *parts)
+
+    def home(self):
+        """A new and empty folder of the user's."""
+        path = tempfile.mkdtemp(prefix="home-", dir=self.root)
+        if AS_USER:
+            os.chown(path, 65534, 65534)
+        return path
+
+    def home_of(self, home, name):
+        """A new folder in a folder of the user's."""
+        path = os.path.join(home, name)
+        by_user(home, "mkdir", path)
+        return path
+
+    def copy(self, home, *parts):
+        """A copy of a folder of the archive that is the user's own."""
+        to = os.path.join(home, os.path.basename(parts[-1]))
+        by_user(home, "cp", "-r", "--no-preserve=mode", self.path(*parts), to)
+        return to
+
+
+def env_of(home, **more):
+    own = {name: os.environ[name] for name in ("PATH", "RUSTUP_HOME", "CC") if name in os.environ}
+    if shutil.which("cargo") and "RUSTUP_HOME" not in own:
+        own["RUSTUP_HOME"] = os.path.expanduser("~/.rustup")
+    return {**own, "HOME": home, "LANG": "C.UTF-8", "CARGO_HOME": os.path.join(home, "cargo"), "CARGO_NET_OFFLINE": "true", "PYTHONDONTWRITEBYTECODE": "1", "PIP_DISABLE_PIP_VERSION_CHECK": "1", **more}
+
+
+def by_user(folder, *words, home=None, **env):
+    """What the user's command answers and says."""
+    return c_library.ran([*AS_USER, *words], cwd=folder, env=env_of(home or folder, **env))
+
+
+def well(count, name, answer, said=None):
+    """A command that has to end well, and to say just this."""
+    holds = answer[0] == 0 and (said is None or answer[1] == said)
+    count.check(name, holds, f"{answer[0]}: {answer[1][-1500:]}")
+    return holds
+
+
+def refused(count, name, answer, sentence):
+    """A command that has to be refused, with a sentence that has these words."""
+    count.check(f"refused: {name}", answer[0] != 0 and re.search(sentence, answer[1]), f"{answer[0]}: {answer[1][-1500:]}")
+
+
+def write(path, text):
+    with open(path, "wb" if isinstance(text, bytes) else "w") as file:
+        file.write(text)
+    os.chmod(path, 0o755)
+    return path
+
+
+def aged(path, to):
+    """A copy of a library or a program that wants a C library of the future, as one of today does on an old system."""
+    with open(path, "rb") as file:
+        text = file.read()
+    newest = max(re.findall(rb"GLIBC_2\.(\d\d)\0", text), key=int)
+    return write(to, text.replace(b"GLIBC_2." + newest + b"\0", b"GLIBC_2.99\0"))
+
+
+def files(count, archive):
+    """What stands twice is the same, the manual page is the header's, and the versions are one."""
+    for copy, of in COPIES.items():
+        count.check(f"bindings/{copy} is a copy of bindings/{of}", filecmp.cmp(os.path.join(BINDINGS, copy), os.path.join(BINDINGS, of), shallow=False))
+    count.check("docs/serf_agent.3 is the header's: tools/manual_of_header.py writes it", manual_of_header.main(["--check"]) == 0)
+    if shutil.which("groff"):
+        well(count, "groff reads the page", c_library.ran(["bash", "-c", f"groff -man -Tutf8 -ww {TOP}/docs/serf_agent.3 2>&1 >/dev/null"]), "")
+    else:
+        print("not run: groff on docs/serf_agent.3, since it is not on PATH")
+
+
+def in_c(count, archive):
+    """make install, and hosts by pkg-config, by CMake and by the static library."""
+    home = archive.home()
+    make = ["make", "-s", "-C", archive.path("bindings", "c")]
+    prefix, source = os.path.join(home, "prefix"), archive.path("bindings", "c", "example.c")
+    if not well(count, "make install, without a compiler", by_user(home, *make, "install", f"PREFIX={prefix}", "CC=none"), ""):
+        return
+    shared = os.path.join(prefix, "lib", "libserf_agent.so")
+    exported = re.findall(r" T (\w+)$", c_library.ran(["nm", "-D", "--defined-only", shared])[1], re.M)
+    count.check("it exports the agent's calls alone", len(exported) > 30 and all(name.startswith("serf_agent_") for name in exported), exported)
+    held = re.findall(r" [A-Z] (\w+)$", c_library.ran(["nm", "-g", "--defined-only", os.path.join(prefix, "lib", "libserf_agent.a")])[1], re.M)
+    count.check("so does the static library", sorted(held) == sorted(exported), held)
+    count.check("its SONAME", "libserf_agent.so.0\n" in c_library.ran(["objdump", "-p", shared])[1])
+    count.check("its page", os.path.isfile(os.path.join(prefix, "share", "man", "man3", "serf_agent.3")))
+    run = os.path.join(home, "example")
+    static = ["cc", "-I", os.path.join(prefix, "include"), "-o", run, source, os.path.join(prefix, "lib", "libserf_agent.a")]
+    if well(count, "a host over the static library", by_user(home, *static), ""):
+        well(count, "the example over the static library", by_user(home, run, archive.home_of(home, "static")), archive.example)
+    by_tools(count, archive, home, prefix, source)
+    clone = archive.copy(home, "bindings", "c")
+    make = ["make", "-s", "-C", clone, f"TOP={archive.top}", f"OUT={home}/out"]
+    refused(count, "no compiler", by_user(home, *make, "CC=none"), "there is no C compiler none on PATH")
+    refused(count, "no library", by_user(home, *make, "LIBRARY=/none"), "the agent's library isn't there")
+    refused(count, "a folder that can't be written", by_user(home, *make, "install", "PREFIX=/proc/none"), "/proc/none can't be written")
+    refused(count, "another machine", by_user(home, *ELSEWHERE, *make, "install", f"PREFIX={prefix}"), "for Linux on x86-64, and this is Linux i686")
+
+
+def by_tools(count, archive, home, prefix, source):
+    """Hosts by pkg-config and by CMake."""
+    found = {"PKG_CONFIG_PATH": os.path.join(prefix, "lib", "pkgconfig"), "LD_LIBRARY_PATH": os.path.join(prefix, "lib")}
+    if shutil.which("pkg-config"):
+        line = f"cc -o by_pkg_config {source} $(pkg-config --cflags --libs serf_agent)"
+        if well(count, "a host by pkg-config", by_user(home, "sh", "-ec", line, **found), ""):
+            well(count, "the example by pkg-config", by_user(home, "./by_pkg_config", archive.home_of(home, "pkg"), **found), archive.example)
+    else:
+        print("not run: pkg-config, which is not on PATH")
+    if not shutil.which("cmake"):
+        print("not run: CMake, which is not on PATH")
+        return
+    shutil.copy(os.path.join(HERE, "CMakeLists.txt"), home)
+    words = ["cmake", "-S", ".", "-B", "build", f"-DCMAKE_PREFIX_PATH={prefix}", f"-DSOURCE={source}"]
+    if well(count, "CMake finds it", by_user(home, *words)) and well(count, "CMake builds", by_user(home, "cmake", "--build", "build")):
+        for name in ("shared", "static"):
+            well(count, f"the example by CMake, {name}", by_user(home, f"build/{name}", archive.home_of(home, f"cmake_{name}")), archive.example)
+
+
+def in_python(count, archive):
+    """The wheel, installed into an environment of the user's; and built from the sources."""
+    home, python = archive.home(), os.path.realpath(sys.executable)
+    if not well(count, "an environment", by_user(home, python, "-m", "venv", "own")):
+        return
+    python = os.path.join(home, "own", "bin", "python")
+    if not well(count, "pip installs the wheel", by_user(home, python, "-m", "pip", "install", "--no-index", archive.wheel)):
+        return
+    well(count, "python -m serf_agent", by_user(home, python, "-m", "serf_agent"), archive.example)
+    well(count, "python -m serf_agent FOLDER", by_user(home, python, "-m", "serf_agent", archive.home_of(home, "kept")), archive.example)
+    said = by_user(home, python, os.path.join(HERE, "typed.py"))
+    well(count, "every method is typed, and the version is the package's", said, "")
+    built = archive.home_of(home, "wheels")
+    well(count, "pip builds the wheel", by_user(home, python, "-m", "pip", "wheel", "--no-index", "-w", built, archive.path("bindings", "python")))
+    wheels = glob.glob(os.path.join(built, "*.whl"))
+    count.check("it is the archive's, byte by byte", len(wheels) == 1 and filecmp.cmp(wheels[0], archive.wheel, shallow=False), wheels)
+    refused(count, "no library in Python", by_user(home, python, "-m", "serf_agent", SERF_AGENT_LIBRARY="/none"), "^serf_agent: the library can't be loaded: /none: ")
+    refused(count, "a folder that isn't there", by_user(home, python, "-m", "serf_agent", "/none"), "^/none/alpha.snapshot: No such file or directory$")
+    refused(count, "another machine in Python", by_user(home, *ELSEWHERE, python, "-m", "serf_agent"), "^serf_agent: the library is for Linux on x86-64, and this is Linux on i686$")
+    old = aged(archive.path("lib", "libserf_agent.so"), os.path.join(home, "libserf_agent.so"))
+    refused(count, "an old C library in Python", by_user(home, python, "-m", "serf_agent", SERF_AGENT_LIBRARY=old), "is older than the one that it was linked with")
+    builder = [python, archive.path("bindings", "python", "build_wheel.py"), home]
+    well(count, "a wheel for a newer C library", by_user(home, *builder, SERF_AGENT_LIBRARY=old))
+    (new,) = glob.glob(os.path.join(home, "*manylinux_2_99*.whl"))
+    refused(count, "pip on an old C library", by_user(home, python, "-m", "pip", "install", "--no-index", new), "is not a supported wheel on this platform")
+    refused(count, "a wheel without a library", by_user(home, *builder, SERF_AGENT_LIBRARY="/none"), "^serf_agent: there is no shared library at /none")
+    refused(count, "a wheel of another machine", by_user(home, *builder, SERF_AGENT_LIBRARY=archive.path("README.md")), "is no shared library for Linux on x86-64")
+
+
+def in_rust(count, archive):
+    """`cargo package` verifies, and a crate of the user's depends on the archive's."""
+    if shutil.which("cargo") is None:
+        raise NotRun("cargo is not on PATH")
+    home = archive.home()
+    target = {"CARGO_TARGET_DIR": os.path.join(home, "target")}
+    own = os.path.join(home, "app")
+    os.makedirs(os.path.join(own, "src"))
+    write(os.path.join(own, "Cargo.toml"), f'[package]\nname = "app"\nversion = "0.1.0"\nedition = "2021"\n\n[dependencies]\nserf_agent = {{ path = "{archive.path("bindings", "rust")}" }}\n')
+    shutil.copy(archive.path("bindings", "rust", "examples", "two_agents.rs"), os.path.join(own, "src", "main.rs"))
+    if AS_USER:
+        subprocess.run(["chown", "-R", "65534:65534", own], check=True)
+    if well(count, "a crate that depends on the archive's builds", by_user(own, "cargo", "build", "-q", home=home, **target), ""):
+        well(count, "the example in Rust", by_user(own, os.path.join(home, "target", "debug", "app"), archive.home_of(home, "kept")), archive.example)
+    crate = archive.copy(home, "bindings", "rust")
+    answer = by_user(crate, "cargo", "package", home=home, **target)
+    well(count, "cargo package verifies", answer)
+    count.check("cargo package says nothing of what is missing", "Verifying" in answer[1] and not re.search(r"warning: (?!ignoring example)", answer[1]), answer[1])
+    shutil.rmtree(os.path.join(crate, "native"))
+    refused(count, "no library in Rust", by_user(crate, "cargo", "build", home=home, **target), r"serf_agent: the static library isn't in this package: SERF_AGENT_LIBRARY has to name")
+    refused(count, "a library that isn't there", by_user(crate, "cargo", "build", home=home, SERF_AGENT_LIBRARY="/none/a.a", **target), r"serf_agent: there is no library at /none/a\.a")
+    scripts = glob.glob(os.path.join(home, "target", "debug", "build", "serf_agent-*", "build-script-build"))
+    elsewhere = {"CARGO_CFG_TARGET_OS": "macos", "CARGO_CFG_TARGET_ARCH": "aarch64"}
+    refused(count, "another machine in Rust", by_user(crate, scripts[0], **elsewhere), "^serf_agent: the library is for Linux on x86-64, and the target is macos on aarch64$")
+
+
+def in_go(count, archive):
+    """The module is whole in itself: from the archive, from a vendor folder, and under another path."""
+    if shutil.which("go") is None:
+        raise NotRun("go is not on PATH")
+    home = archive.home()
+    more = {"GOFLAGS": "-mod=mod", "GOPROXY": "off", "GOCACHE": os.path.join(archive.root, "cache"), "GOPATH": os.path.join(home, "gopath"), "home": home}
+    module, programs = archive.path("bindings", "go", "serfagent"), archive.path("bindings", "go")
+    own = archive.home_of(home, "app")
+    shutil.copy(os.path.join(programs, "example", "main.go"), own)
+    edit = ["-require=kitchenrue.example/serfagent@v0.0.0", f"-replace=kitchenrue.example/serfagent={module}"]
+    by_user(own, "go", "mod", "init", "app.example/app", **more)
+    by_user(own, "go", "mod", "edit", *edit, **more)
+    well(count, "the example in Go", by_user(own, "go", "run", ".", archive.home_of(home, "kept"), **more), archive.example)
+    well(count, "go mod vendor", by_user(own, "go", "mod", "vendor", **more))
+    well(count, "it links from the vendor folder", by_user(own, "go", "build", "-mod=vendor", "-o", "vendored", ".", **more), "")
+    vet = {**more, "GOFLAGS": "-mod=readonly"}
+    for folder in (module, programs):
+        well(count, f"go vet of {os.path.basename(folder)}, without memberlist", by_user(folder, "go", "vet", "./...", **vet), "")
+    # a fork changes one line, and all that stands beside the module still builds
+    fork = archive.copy(home, "bindings", "go")
+    line = os.path.join(fork, "serfagent", "go.mod")
+    by_user(fork, "sed", "-i", "1s,.*,module forge.example/fork/serfagent,", line, **more)
+    well(count, "a fork's module under its own path", by_user(os.path.dirname(line), "go", "build", ".", **more), "")
+    well(count, "a fork's programs", by_user(fork, "go", "build", "-o", f"{home}/", "./example", **more), "")
+    by_user(own, "go", "mod", "edit", "-dropreplace=kitchenrue.example/serfagent", "-droprequire=kitchenrue.example/serfagent", **more)
+    by_user(own, "go", "mod", "edit", "-require=forge.example/fork/serfagent@v0.0.0", f"-replace=forge.example/fork/serfagent={os.path.dirname(line)}", **more)
+    by_user(own, "sed", "-i", "s,kitchenrue.example,forge.example/fork,", "main.go", **more)
+    well(count, "a user of the fork", by_user(own, "go", "build", "-o", "forked", ".", **more), "")
+    refused(count, "without cgo", by_user(module, "go", "build", ".", **{**more, "CGO_ENABLED": "0"}), "serfagent_is_for_Linux_on_x86_64_and_needs_cgo_with_a_C_compiler")
+
+
+def installed(count, archive):
+    """The installer: the program, its page, its completions and the library."""
+    home = archive.home()
+    prefix = os.path.join(home, "local")
+    answer = by_user(home, archive.path("install"), prefix)
+    well(count, "install", answer)
+    places = ["bin/serf-replay", "share/man/man1/serf-replay.1", "share/man/man3/serf_agent.3", "share/bash-completion/completions/serf-replay"]
+    places += ["share/zsh/site-functions/_serf-replay", "share/fish/vendor_completions.d/serf-replay.fish", "include/serf_agent.h", "lib/libserf_agent.so"]
+    for path in places:
+        count.check(f"install: {path}", os.path.isfile(os.path.join(prefix, path)))
+    schedule, trace = (archive.path("examples", f"deploy_gossiped_twice.{ending}") for ending in ("schedule", "trace"))
+    with open(trace, encoding="utf-8") as file:
+        well(count, "the program that was installed", by_user(home, os.path.join(prefix, "bin", "serf-replay"), "replay", schedule), file.read())
+    refused(count, "an installation on another machine", by_user(home, *ELSEWHERE, archive.path("install"), prefix), "^install: the program is for Linux on x86-64, and this is Linux i686$")
+    refused(count, "an installation where nobody may write", by_user(home, archive.path("install"), "/proc/none"), "^install: /proc/none can't be written; name another folder$")
+    refused(count, "an installation without a folder", by_user(home, archive.path("install")), r"^usage: \./install PREFIX")
+    refused(count, "an installation of a clone", by_user(home, os.path.join(TOP, "install"), prefix) if os.access(TOP, os.X_OK) else (1, ""), "^install: this is no release's archive")
+    copy = archive.copy(home, "install")
+    os.makedirs(os.path.join(home, "bin"))
+    aged_program(archive, os.path.join(home, "bin", "serf-replay"))
+    refused(count, "a program on an old C library", by_user(home, "sh", copy, prefix), "^install: the C library of this system is older than the one that the program was linked with: ")
+
+
+def page(count, archive):
+    """docs/START.md, part by part, as it stands there: the commands of its blocks, and after `#` what they print."""
+    with open(os.path.join(TOP, "docs", "START.md"), encoding="utf-8") as file:
+        parts = dict(re.findall(r"^## (.+?)\n(.*?)(?=^## |\Z)", file.read(), re.M | re.S))
+    home = archive.home()
+    name = re.search(r"(serf-replay-\S+)\.tar\.gz", parts["The archive"])[1]
+    by_user(home, "sh", "-ec", f"cp -r {archive.top} {name}; chmod -R u+w {name}; tar czf {name}.tar.gz {name}; sha256sum {name}.tar.gz >{name}.tar.gz.sha256; rm -r {name}")
+    needs = {"Rust": "cargo", "Go": "go"}
+    for title in ("The archive", "C", "Python", "Rust", "Go"):
+        if title in needs and shutil.which(needs[title]) is None:
+            print(f"not run: {title} in docs/START.md, since {needs[title]} is not on PATH")
+            continue
+        script = "".join(line[4:] + "\n" if line.startswith("    ") else "\n" for line in parts[title].split("\n"))
+        wanted = re.findall(r"^[^#\n]*\S  # (.*)$", re.sub(r"<<'END'\n.*?^END$", "", script, flags=re.M | re.S), re.M)
+        more = {"PATH": f"{os.path.dirname(os.path.realpath(sys.executable))}:{os.environ['PATH']}", "GOFLAGS": "-mod=mod", "GOPROXY": "off", "GOCACHE": os.path.join(archive.root, "cache")}
+        began = time.monotonic()
+        status, said = by_user(home, "sh", "-ec", script, **more)
+        at = -1
+        for line in wanted:
+            at = said.find(line + "\n", at + 1)
+            count.check(f"{title}: it prints {line!r}", at >= 0, said[-1500:])
+        count.check(f"{title}: what stands on the page", status == 0, f"{status}: {said[-1500:]}")
+        print(f"docs/START.md, {title}: {time.monotonic() - began:.1f} seconds")
+
+
+def aged_program(archive, to):
+    """The program as it is on an old system: it wants a newer C library, or says so where it isn't linked with one."""
+    try:
+        aged(archive.path("bin", "serf-replay"), to)
+    except ValueError:
+        write(to, "#!/bin/sh\necho \"serf-replay: version \\`GLIBC_2.99' not found\" >&2\nexit 1\n")
+
+
+PARTS = {"files": files, "c": in_c, "python": in_python, "rust": in_rust, "go": in_go, "install": installed, "page": page}
+
+
+def run(total, name, part, archive):
+    count = checks.Checks()
+    try:
+        part(count, archive)
+        print(f"{name}: {count.passed} passed, {count.failed} failed", flush=True)
+    except NotRun as why:
+        print(f"{name}: not run, since {why}", flush=True)
+    total.add(count.passed, count.failed)
+
+
+def main():
+    words = argparse.ArgumentParser(description=__doc__, formatter_class=argparse.RawDescriptionHelpFormatter)
+    words.add_argument("--library")
+    words.add_argument("--program", default=os.path.join(TOP, "crates", "serf_replay_program", "out", "serf_replay_program"))
+    words.add_argument("--only", choices=PARTS)
+    words.add_argument("--over-ci", action="store_true")
+    asked = words.parse_args()
+    fault = None if asked.library else c_library.fault_of_library(asked.over_ci)
+    if fault:
+        print(f"{fault}\n0 passed, 1 failed")
+        return 1
+    if not OFF_LINE:
+        print("not run: without a network, since this user can't make a space without one; the tools are told to use none")
+    total, root = checks.Checks(), tempfile.mkdtemp(prefix="packages-")
+    os.chmod(root, 0o755)
+    try:
+        archive = Archive(root, os.path.abspath(asked.library or c_library.LIBRARY), os.path.abspath(asked.program))
+        for name, part in PARTS.items():
+            if asked.only in (None, name):
+                run(total, name, part, archive)
+    finally:
+        shutil.rmtree(root, ignore_errors=True)
+    return total.finish()
+
+
+if __name__ == "__main__":
+    sys.exit(main())

@@ -1,0 +1,259 @@
+"""Power cuts: each one that the calls of a host allow, over the stores of C, Python, Go, Rust and `FileStore`.
+
+    tests/library/power_cuts.py [--seed N] [--only STORE] [--library FILE] [--over-ci]
+
+A process that is killed loses no page of the system's cache, so no kill shows what a power cut does. Here a host runs
+under strace, and the calls of the system that it made are read back, in order. Behind each of them the power is cut, in
+each way that tests/library/power_cuts/disks.py plays: a file has its bytes up to its last sync, and any prefix of the
+rest or zeros in its place; a folder has its entries up to its last sync, and any prefix of the changes since.
+
+- Level a, a store by its lines: nothing that was answered is lost.
+- Level b, an agent over it: each text that a cut leaves is opened again and offered every packet again. Nothing is
+  handed out twice, and what is fired then is later than all that was handed out.
+- Level c, the order: where an event or a query is handed out, or a packet handed over, its line is on the disk.
+
+Disks that are full and syncs that fail are played at calls that the seed draws. Then faults are planted into copies of
+the stores, each a sync that is missing or late; each has to be found.
+
+--seed takes other lines, packets and failing calls. --only takes one store. --library and --over-ci are those of
+tests/library/embed.py. A language that isn't there is left out, which is printed.
+"""
+
+import argparse
+import os
+import shutil
+import sys
+import tempfile
+import time
+
+sys.dont_write_bytecode = True
+sys.path.insert(0, os.path.dirname(os.path.dirname(os.path.abspath(__file__))))
+import checks
+import c_library
+
+sys.path.insert(0, os.path.join(checks.TOP, "tests", "library", "power_cuts"))
+import faults
+import file_store
+import hosts
+import lives
+import scripts
+import simulated
+import traces
+
+# Where nothing of a file has to reach a real disk, the system's syncs take no time.
+MEMORY = "/dev/shm"
+
+# How many failing calls are played in the lines of a store, and in a life of an agent.
+FAILING = 3
+
+# How many of the texts that cuts leave are opened again where a fault is planted.
+OPENED = 40
+
+# How many cuts have to be looked at in each store and level.
+LEAST = {"a": 150, "b": 150, "c": 100}
+
+
+class Count(checks.Checks):
+    """Checks; how many cuts were looked at, by store and level; and how many texts were opened again, by store."""
+
+    def __init__(self):
+        super().__init__()
+        self.cuts, self.opened = {}, {}
+
+    def seen(self, store, level, name, seen):
+        """What was looked at in a run: it has no fault."""
+        self.cuts[store, level] = self.cuts.get((store, level), 0) + seen.cuts
+        self.check(
+            f"{store}, level {level}, {name}",
+            not seen.faults,
+            f"{len(seen.faults)} faults in {seen.cuts} cuts: {seen.faults[:2]}",
+        )
+
+
+class Trial:
+    """A store under test."""
+
+    def __init__(self, count, store, seed, room):
+        self.count, self.store, self.seed, self.room = count, store, seed, room
+
+    def drawn(self, *names):
+        return lives.drawn_for(self.seed, *names)
+
+    def run(self, lines, beginning, **more):
+        return lives.Run(self.store, lines, beginning, self.room, **more)
+
+    def failing(self, run, drawn):
+        """Some of the calls that can fail, of as many kinds as there are."""
+        places = run.failing_places()
+        kinds = sorted(places)
+        drawn.shuffle(kinds)
+        return [drawn.choice(places[kind]) for kind in kinds[:FAILING]]
+
+    def of_store(self):
+        """Level a: from each beginning, and with calls that fail."""
+        name = self.store.name
+        for beginning in scripts.BEGINNINGS:
+            drawn = self.drawn("store", beginning)
+            lines = lives.store_lines(drawn)
+            run = self.run(lines, beginning)
+            self.count.check(f"{name}: no fault, {beginning}", run.faults() == 0, run.answered)
+            self.count.seen(name, "a", beginning, lives.of_store(run))
+        for words in self.failing(run, drawn):
+            ran = self.run(lines, beginning, failing=words)
+            self.count.check(f"{name}: {words} is a fault once", ran.faults() == 1, ran.answers())
+            self.count.seen(name, "a", words, lives.of_store(ran))
+        self.of_full_disk()
+
+    def of_full_disk(self):
+        """Level a with a disk on which a line has room in part alone, until the text is replaced by a shorter one."""
+        lines = [line for line in lives.store_lines(self.drawn("full")) if not line.startswith("replace ")]
+        lines[-1:-1] = ["replace 610a", "append 620a"]
+        size = len(scripts.OLD) + len(bytes.fromhex(lines[1].split()[1])) + 5
+        ran = self.run(lines, "a file", before=lives.with_room(size))
+        in_part = [call for call in ran.calls if call.name == "write" and 0 <= call.result < len(b"".join(call.texts))]
+        self.count.check(
+            f"{self.store.name}: a line is written in part", len(in_part) == 1 and ran.faults() > 0, ran.answers()
+        )
+        self.count.check(
+            f"{self.store.name}: a shorter text has room",
+            [answer for _, answer in ran.answers()[-3:]] == ["ok"] * 3,
+            ran.answers(),
+        )
+        self.count.seen(self.store.name, "a", "a full disk", lives.of_store(ran))
+
+    def of_life(self, name, run, drawn):
+        """Levels b and c of a life."""
+        whole, order, left = lives.of_agent(run, drawn)
+        left = lives.some_of(left, drawn, self.store.most_opened)
+        opened = lives.open_again(whole, self.store, left, run.packets(), self.room)
+        self.count.opened[self.store.name] = self.count.opened.get(self.store.name, 0) + opened
+        self.count.seen(self.store.name, "b", name, whole)
+        self.count.seen(self.store.name, "c", name, order)
+
+    def of_agent(self):
+        """Levels b and c: lives from each beginning, one that compacts behind each call, some with failing calls."""
+        for beginning in scripts.BEGINNINGS:
+            drawn = self.drawn("life", beginning)
+            lines = lives.agent_lines(scripts.of_an_agent(drawn))
+            run = self.run(lines, beginning)
+            self.count.check(f"{self.store.name}: a life with no fault, {beginning}", run.faults() == 0, run.answered)
+            self.of_life(f"a life from {beginning}", run, drawn)
+        for words in self.failing(run, drawn):
+            ran = self.run(lines, beginning, failing=words)
+            self.count.check(f"{self.store.name}: {words} is a fault once in a life", ran.faults() == 1, ran.answers())
+            self.of_life(f"a life with {words}", ran, drawn)
+        drawn = self.drawn("compacting")
+        self.of_life(
+            "a compaction behind each call", self.run(lives.agent_lines(scripts.compacting(drawn)), "a file"), drawn
+        )
+        if self.store.has_bursts:
+            self.of_bursts()
+
+    def of_bursts(self):
+        """Levels b and c: a life in bursts, and the same with a call of the system that fails."""
+        drawn = self.drawn("bursting")
+        lines = lives.agent_lines(scripts.bursting(drawn))
+        run = self.run(lines, "a file")
+        self.count.check(f"{self.store.name}: bursts with no fault", run.faults() == 0, run.answered)
+        flushes = run.syncs_of_lines()
+        self.count.check(f"{self.store.name}: one flush of each burst", max(flushes) == 1 and sum(flushes) > 5, flushes)
+        self.of_life("bursts", run, drawn)
+        syncs = [words for name, places in run.failing_places().items() if name == "fdatasync" for words in places]
+        ran = self.run(lines, "a file", failing=drawn.choice(syncs))
+        self.count.check(f"{self.store.name}: a failed sync of a burst is a fault once", ran.faults() == 1, ran.answers())
+        self.of_life("bursts with a failed sync", ran, drawn)
+
+    def found(self, fault):
+        """How much is wrong in each level where this fault is on: in a store's lines, and in an agent's life."""
+        began = "a file that was never synced" if fault == "opened_text" else "no file"
+        drawn = self.drawn("planted", fault)
+        store = lives.of_store(self.run(lives.store_lines(drawn), began, fault=fault))
+        life = self.run(lives.agent_lines(scripts.of_an_agent(drawn)), began, fault=fault)
+        whole, order, left = lives.of_agent(life, drawn)
+        lives.open_again(whole, self.store, lives.some_of(left, drawn, OPENED), life.packets(), self.room)
+        return {level: len(seen.faults) for level, seen in zip("abc", (store, whole, order))}
+
+    def plants(self):
+        """Each fault that can be planted is found; and none is, where none is on."""
+        for fault in self.store.plants:
+            found = self.found(fault)
+            if fault == faults.NONE:
+                self.count.check(
+                    f"{self.store.name}: nothing is found where no fault is on", not any(found.values()), found
+                )
+                continue
+            print(f"planted in {self.store.name}, {faults.FAULTS[fault]}: found by {found}", flush=True)
+            self.count.check(f"{self.store.name}: {faults.FAULTS[fault]} is found", any(found.values()))
+
+    def all(self):
+        self.of_store()
+        self.of_agent()
+        for level, least in LEAST.items():
+            looked = self.count.cuts[self.store.name, level]
+            self.count.check(
+                f"{self.store.name}, level {level}: enough cuts", looked >= least, f"{looked}, and {least} are wanted"
+            )
+        self.plants()
+
+
+def try_store(count, name, places, seed, room):
+    """All of one store; what it took is printed."""
+    kind, command = hosts.STORES[name]
+    if command and shutil.which(command) is None:
+        print(f"not run: {name}, since {command} isn't on PATH")
+        return
+    began, used = time.monotonic(), spent()
+    try:
+        store = kind(places)
+        built, took = time.monotonic(), spent()
+        Trial(count, store, seed, room).all()
+    except (hosts.NotBuilt, file_store.NotCompiled, faults.NotThere, traces.Unread) as fault:
+        count.check(f"{name} is tried", False, fault)
+        return
+    print(
+        f"{name}: {took - used:.0f} processor seconds to build, {spent() - took:.0f} to try; "
+        f"{time.monotonic() - built:.0f} of {time.monotonic() - began:.0f} seconds to try",
+        flush=True,
+    )
+
+
+def spent():
+    """The processor seconds of this process and of those that it waited for."""
+    return sum(os.times()[:4])
+
+
+def table(count):
+    print("cuts            a       b       c   texts opened again")
+    for name in hosts.STORES:
+        looked = [count.cuts.get((name, level), 0) for level in LEAST]
+        if any(looked):
+            print(f"{name:<10}" + "".join(f"{it:>8,}" for it in looked) + f"{count.opened[name]:>8,}")
+    print(f"{sum(count.cuts.values()):,} cuts")
+
+
+def main():
+    words = argparse.ArgumentParser(description=__doc__, formatter_class=argparse.RawDescriptionHelpFormatter)
+    words.add_argument("--seed", type=int, default=1)
+    words.add_argument("--only", choices=hosts.STORES, action="append")
+    words.add_argument("--library")
+    words.add_argument("--over-ci", action="store_true")
+    asked = words.parse_args()
+    count = Count()
+    simulated.try_all(count)
+    fault = None if shutil.which("strace") else "strace isn't on PATH, and nothing can be looked at without it"
+    if not fault and not asked.library:
+        fault = c_library.fault_of_library(asked.over_ci)
+    if fault:
+        count.check("there is what it needs", False, fault)
+        return count.finish()
+    room = MEMORY if os.access(MEMORY, os.W_OK) else None
+    with tempfile.TemporaryDirectory(prefix="power-cuts-") as folder:
+        places = hosts.Places(folder, os.path.abspath(asked.library or c_library.LIBRARY))
+        for name in asked.only or hosts.STORES:
+            try_store(count, name, places, asked.seed, room)
+    table(count)
+    return count.finish()
+
+
+if __name__ == "__main__":
+    sys.exit(main())

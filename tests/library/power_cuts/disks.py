@@ -1,0 +1,216 @@
+"""A disk under the calls of a trace: what is there, and what a power cut may leave of it.
+
+Sure to be there after a cut are a file's bytes up to its last sync, and a folder's entries up to its last sync. Of the
+rest a cut may leave, by the names of any prefix of the folder's changes, any prefix of what was appended to the file of
+that name, or zeros in its place.
+"""
+
+import os
+import re
+
+from traces import Unread
+
+
+class File:
+    """A file: its bytes, and how many of them are sure."""
+
+    def __init__(self, data=b"", sure=0):
+        self.data, self.sure = data, sure
+        # where it was given the name of another: the number of that rename, and what it had by then
+        self.renamed, self.renamed_with = 0, b""
+
+
+def changed(names, change):
+    """The entries of a folder after a change of it."""
+    kind, name, what = change
+    names = dict(names)
+    if kind == "make":
+        names[name] = what
+    elif kind == "rename" and name in names:
+        names[what] = names.pop(name)
+    elif kind == "remove":
+        names.pop(name, None)
+    return names
+
+
+class Disk:
+    """The folder of a store, in which `name` is the store's file."""
+
+    def __init__(self, folder, name):
+        self.folder, self.name = os.path.realpath(folder), name
+        self.names, self.sure_names, self.pending = {}, {}, []
+        # how many renames there were
+        self.renames = 0
+
+    def put(self, name, data, is_sure):
+        """A file that was there when the trace began. Not sure: an earlier process left it, and synced nothing."""
+        file = File(data, len(data) if is_sure else 0)
+        self.change("make", name, file)
+        if is_sure:
+            self.sync()
+
+    def change(self, *change):
+        self.pending.append(change)
+        self.names = changed(self.names, change)
+
+    def rename(self, one, other):
+        file = self.names[one]
+        self.renames += 1
+        file.renamed, file.renamed_with = self.renames, file.data
+        self.change("rename", one, other)
+
+    def sync(self):
+        self.sure_names, self.pending = dict(self.names), []
+
+    def file(self):
+        return self.names.get(self.name)
+
+    def cuts(self, lengths):
+        """Each file that the name can have after a cut now, and its text; (None, b"") where it has none. lengths says
+        of a file up to which bytes it may be there."""
+        names, found = self.sure_names, set()
+        for change in [None, *self.pending]:
+            names = names if change is None else changed(names, change)
+            file = names.get(self.name)
+            for text in [b""] if file is None else texts_left(file, lengths):
+                if (file, text) not in found:
+                    found.add((file, text))
+                    yield file, text
+
+
+def texts_left(file, lengths):
+    whole = len(file.data)
+    for end in lengths(file.sure, whole):
+        yield file.data[:end]
+        # its length came to the disk, and its bytes did not
+        yield file.data[:end] + bytes(whole - end)
+
+
+def each_length(sure, whole):
+    return range(sure, whole + 1)
+
+
+def few_lengths(drawn):
+    """Some of the lengths: the least, the greatest, and one that is drawn."""
+
+    def lengths(sure, whole):
+        return sorted({sure, drawn.randint(sure, whole), whole})
+
+    return lengths
+
+
+def is_saying(call):
+    """Whether a call writes to the standard output."""
+    return call.name == "write" and call.args.startswith("1,")
+
+
+class Walk:
+    """Goes through a trace. Iterating gives, behind each call that changed the disk or said something, what was said in
+    it, or None."""
+
+    def __init__(self, disk, calls):
+        self.disk, self.calls = disk, calls
+        # which file a number is, and which numbers are the folder
+        self.files, self.folders = {}, set()
+
+    def __iter__(self):
+        for call in self.calls:
+            if is_saying(call):
+                yield call.texts[0]
+            elif call.result >= 0 and self.does(call):
+                yield None
+
+    def does(self, call):
+        """Does a call that came through; whether it changed the disk."""
+        number = int(call.args.split(",")[0]) if re.match(r"\d", call.args) else None
+        if call.name in ("openat", "open", "creat"):
+            return self.opens(call)
+        if call.name in ("rename", "renameat", "renameat2"):
+            return self.renames(call)
+        if call.name in ("unlink", "unlinkat"):
+            return self.removes(call)
+        if call.name in ("write", "writev"):
+            return self.writes(number, b"".join(call.texts)[: call.result])
+        if call.name in ("fsync", "fdatasync"):
+            return self.syncs(call.name, number)
+        if call.name in ("close", "dup", "dup2", "dup3", "fcntl"):
+            self.numbers(call, number)
+            return False
+        if number in self.files or number in self.folders or any(self.place(call, at) for at in range(len(call.texts))):
+            raise Unread(f"the store calls {call.name}, which isn't played here")
+        return False
+
+    def place(self, call, at):
+        """The name in the folder that the text of this number means, or None."""
+        path = os.fsdecode(call.texts[at])
+        numbers = re.findall(r"(AT_FDCWD|\b\d+), \"", call.args)
+        if not os.path.isabs(path):
+            if at >= len(numbers) or not numbers[at].isdigit() or int(numbers[at]) not in self.folders:
+                return None
+            path = os.path.join(self.disk.folder, path)
+        folder, name = os.path.split(path)
+        return name if os.path.realpath(folder) == self.disk.folder else None
+
+    def opens(self, call):
+        self.files.pop(call.result, None)
+        self.folders.discard(call.result)
+        if os.path.realpath(os.fsdecode(call.texts[0])) == self.disk.folder:
+            self.folders.add(call.result)
+            return False
+        name, is_new = self.place(call, 0), False
+        if name is None:
+            return False
+        if "O_TRUNC" in call.args or call.name == "creat":
+            raise Unread("the store cuts a file to nothing, which isn't played here")
+        if name not in self.disk.names:
+            if "O_CREAT" not in call.args:
+                return False
+            self.disk.change("make", name, File())
+            is_new = True
+        if "O_APPEND" not in call.args and re.search("O_WRONLY|O_RDWR", call.args):
+            raise Unread(f"the store opens {name} to write, and not to append")
+        self.files[call.result] = self.disk.names[name]
+        return is_new
+
+    def renames(self, call):
+        one, other = self.place(call, 0), self.place(call, 1)
+        if one is None and other is None:
+            return False
+        if one not in self.disk.names or other is None:
+            raise Unread("the store renames a file out of its folder, or into it")
+        self.disk.rename(one, other)
+        return True
+
+    def removes(self, call):
+        name = self.place(call, 0)
+        if name not in self.disk.names:
+            return False
+        self.disk.change("remove", name, None)
+        return True
+
+    def writes(self, number, data):
+        if number not in self.files:
+            return False
+        self.files[number].data += data
+        return True
+
+    def syncs(self, name, number):
+        if number in self.files:
+            self.files[number].sure = len(self.files[number].data)
+        elif number in self.folders:
+            if name != "fsync":
+                raise Unread("the store calls fdatasync of its folder")
+            self.disk.sync()
+        return number in self.files or number in self.folders
+
+    def numbers(self, call, number):
+        if call.name == "close":
+            self.files.pop(number, None)
+            self.folders.discard(number)
+        elif call.name != "fcntl" or "F_DUPFD" in call.args:
+            self.files.pop(call.result, None)
+            self.folders.discard(call.result)
+            if number in self.files:
+                self.files[call.result] = self.files[number]
+            if number in self.folders:
+                self.folders.add(call.result)

@@ -1,0 +1,241 @@
+"""Faults that are planted into copies of the stores' sources, by edits of their text.
+
+A fault is one sync that is missing or comes late. In C, Python, Go and Rust one copy has them all, and the
+environment's FAULT_NAME says which is on; of `FileStore` each has a copy of its own.
+"""
+
+import os
+
+FAULT_NAME = "POWER_CUTS_FAULT"
+
+# The copy that has them all, and none is on: it is as good as the store itself.
+NONE = "none"
+
+# What each fault takes away.
+FAULTS = {
+    "line": "no sync of the line",
+    "text": "no sync of the new text before the rename",
+    "name": "no sync of the folder behind the rename",
+    "opened_text": "no sync of the text at opening",
+    "opened_name": "no sync of the folder at opening",
+    "late": "the line synced by the next append: handed out before",
+    "order": "the line written by the next call: handed out before",
+}
+
+
+class NotThere(Exception):
+    """The text that an edit takes out isn't in its file just once."""
+
+
+def edit(folder, edits):
+    """Applies edits to files below a folder: of each file, pairs of what stands there once and what comes there."""
+    for name, pairs in edits.items():
+        path = os.path.join(folder, name)
+        with open(path, encoding="utf-8") as file:
+            text = file.read()
+        for old, new in pairs:
+            if text.count(old) != 1:
+                raise NotThere(f"{name}: the text to take out isn't there, or not once: {old!r}")
+            text = text.replace(old, new)
+        with open(path, "w", encoding="utf-8") as file:
+            file.write(text)
+
+
+C = {
+    "serf_agent_store.c": [
+        ("#define _GNU_SOURCE\n", """#define _GNU_SOURCE
+#include <stdbool.h>
+#include <stdlib.h>
+#include <string.h>
+static bool is(const char *fault) {
+    const char *planted = getenv("POWER_CUTS_FAULT");
+    return planted != NULL && strcmp(planted, fault) == 0;
+}
+"""),
+        (
+            "!write_all(store->file, bytes, len) || fdatasync(store->file) != 0",
+            '(is("late") && fdatasync(store->file) != 0) || !write_all(store->file, bytes, len)'
+            ' || (!is("line") && !is("late") && fdatasync(store->file) != 0)',
+        ),
+        ("fsync(file) == 0", '(is("text") || fsync(file) == 0)'),
+        ("fsync(store->folder) != 0", '!is("name") && fsync(store->folder) != 0'),
+        ("fsync(store->file) == 0 &&", '(is("opened_text") || fsync(store->file) == 0) &&'),
+        ("fsync(store->folder) == 0", '(is("opened_name") || fsync(store->folder) == 0)'),
+        ("\nenum serf_agent_store_fault serf_agent_store_settle(", """
+static enum serf_agent_store_fault take_late(struct serf_agent_store *store, struct serf_agent *agent, size_t len) {
+    static struct serf_agent_bytes before;
+    static uint8_t late[1 << 16];
+    enum serf_agent_store_fault fault = before.replaces ? serf_agent_store_replace(store, late, before.len)
+                                                        : serf_agent_store_append(store, late, before.len);
+    serf_agent_unwritten(agent, &before, late, len);
+    return fault;
+}
+
+enum serf_agent_store_fault serf_agent_store_settle("""),
+        (
+            "fault = take(store, agent, about.len)",
+            'fault = is("order") ? take_late(store, agent, about.len) : take(store, agent, about.len)',
+        ),
+    ]
+}
+
+PYTHON = {
+    "serf_agent/store.py": [
+        ("\nclass Store:\n", '\nFAULT = os.environ.get("POWER_CUTS_FAULT")\n\n\nclass Store:\n'),
+        ("os.fdatasync(self._file)", 'FAULT in ("line", "late") or os.fdatasync(self._file)'),
+        (
+            "write_all(self._file, data)",
+            'FAULT == "late" and os.fdatasync(self._file)\n                write_all(self._file, data)',
+        ),
+        ("os.fsync(file)\n", 'FAULT == "text" or os.fsync(file)\n'),
+        (
+            "os.fsync(self._file)\n        os.fsync(self._folder)",
+            'FAULT == "opened_text" or os.fsync(self._file)\n        FAULT == "opened_name" or os.fsync(self._folder)',
+        ),
+        (
+            "self._file = file\n            os.fsync(self._folder)",
+            'self._file = file\n            FAULT == "name" or os.fsync(self._folder)',
+        ),
+    ],
+    "serf_agent/agent.py": [
+        ("from .store import Path, Store\n", """from .store import FAULT, Path, Store
+
+LATE = []
+
+
+def later(write, data):
+    if FAULT != "order":
+        write(data)
+        return
+    while LATE:
+        before, late = LATE.pop()
+        before(late)
+    LATE.append((write, data))
+
+"""),
+        (
+            "(self._store.replace if about.replaces else self._store.append)(data.raw)",
+            "later(self._store.replace if about.replaces else self._store.append, data.raw)",
+        ),
+    ],
+}
+
+GO = {
+    "serfagent/store.go": [
+        ("\nfunc syncFolder(", """
+func is(fault string) bool { return os.Getenv("POWER_CUTS_FAULT") == fault }
+
+func unless(fault string, done func() error) error {
+	if is(fault) {
+		return nil
+	}
+	return done()
+}
+
+var late func() error
+
+func later(write func([]byte) error, data []byte) error {
+	if !is("order") {
+		return write(data)
+	}
+	before := late
+	late = func() error { return write(data) }
+	if before == nil {
+		return nil
+	}
+	return before()
+}
+
+func syncFolder("""),
+        (
+            "return syscall.Fdatasync(int(s.file.Fd()))",
+            'return unless("line", func() error { return unless("late", func() error {'
+            " return syscall.Fdatasync(int(s.file.Fd())) }) })",
+        ),
+        (
+            "if _, err := s.file.Write(data); err != nil {",
+            'if is("late") {\n\t\t\tsyscall.Fdatasync(int(s.file.Fd()))\n\t\t}\n'
+            "\t\tif _, err := s.file.Write(data); err != nil {",
+        ),
+        ("\t\tfile.Sync,\n", '\t\tfunc() error { return unless("text", file.Sync) },\n'),
+        ("return syncFolder(s.path)", 'return unless("name", func() error { return syncFolder(s.path) })'),
+        ("err = file.Sync()", 'err = unless("opened_text", file.Sync)'),
+        ("err = syncFolder(real)", 'err = unless("opened_name", func() error { return syncFolder(real) })'),
+    ],
+    "serfagent/agent.go": [
+        ("err = a.store.Replace(data)", "err = later(a.store.Replace, data)"),
+        ("err = a.store.Append(data)", "err = later(a.store.Append, data)"),
+    ],
+}
+
+RUST = {
+    "src/store.rs": [
+        ("\nfn sync_folder(", """
+pub(crate) fn is(fault: &str) -> bool {
+    std::env::var("POWER_CUTS_FAULT").as_deref() == Ok(fault)
+}
+
+fn sync_folder("""),
+        (
+            "store.file.sync_data()?;",
+            'if !is("line") && !is("late") {\n                    store.file.sync_data()?;\n                }',
+        ),
+        (
+            "store.file.write_all(bytes)?;",
+            'if is("late") {\n                    store.file.sync_data()?;\n                }\n'
+            "                store.file.write_all(bytes)?;",
+        ),
+        (
+            "file.sync_all()?;\n        fs::rename(",
+            'if !is("text") {\n            file.sync_all()?;\n        }\n        fs::rename(',
+        ),
+        (
+            "Ok(sync_folder(&store.path)?)",
+            'if !is("name") {\n                sync_folder(&store.path)?;\n            }\n            Ok(())',
+        ),
+        (
+            "file.sync_all()?;\n        sync_folder(&path)?;",
+            'if !is("opened_text") {\n            file.sync_all()?;\n        }\n'
+            '        if !is("opened_name") {\n            sync_folder(&path)?;\n        }',
+        ),
+    ],
+    "src/agent.rs": [
+        ("\nimpl Agent {\n    /// Opens", """
+thread_local! {
+    static LATE: std::cell::RefCell<Option<(bool, Vec<u8>)>> = const { std::cell::RefCell::new(None) };
+}
+
+fn later(store: &mut Store, replaces: bool, bytes: Vec<u8>) -> Result<(), crate::store::StoreError> {
+    let now = if crate::store::is("order") { LATE.replace(Some((replaces, bytes))) } else { Some((replaces, bytes)) };
+    match now {
+        Some((true, bytes)) => store.replace(&bytes),
+        Some((false, bytes)) => store.append(&bytes),
+        None => Ok(()),
+    }
+}
+
+impl Agent {
+    /// Opens"""),
+        (
+            "let done = if about.replaces { self.store.replace(&bytes) } else { self.store.append(&bytes) };",
+            "let done = later(&mut self.store, about.replaces, bytes);",
+        ),
+    ],
+}
+
+# Each fault of `FileStore` by itself: what is taken out of src/store.rt.
+NO_SYNC_OF_THE_LINE = ("self.failures > 0 || self.file.sync().is_err()", "self.failures > 0")
+FILE_STORE = {
+    "line": [NO_SYNC_OF_THE_LINE],
+    "text": [("    file.sync_beside()?;\n", "")],
+    "name": [("    file.rename_beside()?;\n    file.sync_folder()\n", "    file.rename_beside()\n")],
+    "opened_text": [("        opened.sync().map_err(StoreFault::Sync)?;\n", "")],
+    "opened_name": [("        opened.sync_folder().map_err(StoreFault::Folder)?;\n", "")],
+    "late": [
+        NO_SYNC_OF_THE_LINE,
+        (
+            "self.failures > 0 || self.file.write(bytes).is_err()",
+            "self.failures > 0 || self.file.sync().is_err() || self.file.write(bytes).is_err()",
+        ),
+    ],
+}

@@ -1,0 +1,210 @@
+// A host over the package of bindings/go, driven by lines: tests/library/power_cuts/hosts.py says which.
+package main
+
+import (
+	"bufio"
+	"encoding/hex"
+	"fmt"
+	"os"
+	"os/signal"
+	"runtime"
+	"strings"
+	"syscall"
+
+	"kitchenrue.example/serfagent"
+)
+
+// host is a store, or an agent over one, and the number of the query that was handed out last.
+type host struct {
+	store *serfagent.Store
+	agent *serfagent.Agent
+	asked uint64
+}
+
+func (h *host) end() {
+	if h.store != nil {
+		h.store.Close()
+	}
+	if h.agent != nil {
+		h.agent.Close()
+	}
+	*h = host{}
+}
+
+func tellEvent(event *serfagent.Event) {
+	if event != nil {
+		fmt.Printf("e %d %x\n", event.Time, event.Name)
+	}
+}
+
+func tellPacket(packet []byte) {
+	if packet != nil {
+		fmt.Printf("p %x\n", packet)
+	}
+}
+
+func (h *host) tellQuery(handed *serfagent.Handed, ack []byte) {
+	if handed != nil {
+		h.asked = handed.Number
+		fmt.Printf("h %d %d\n", handed.Time, handed.ID)
+	}
+	tellPacket(ack)
+}
+
+func (h *host) receive(packet []byte) error {
+	received, err := h.agent.Receive(0, packet)
+	if err != nil {
+		return err
+	}
+	h.tellReceived(received)
+	return nil
+}
+
+func (h *host) tellReceived(received *serfagent.Received) {
+	tellEvent(received.Event)
+	h.tellQuery(received.Query, received.Ack)
+}
+
+func (h *host) tellAsked(asked *serfagent.Asked) {
+	tellPacket(asked.Packet)
+	h.tellQuery(asked.Query, asked.Ack)
+}
+
+func tellFired(event *serfagent.Event, packet []byte) {
+	tellEvent(event)
+	tellPacket(packet)
+}
+
+// burst receives and fires in one burst.
+func (h *host) burst(words string) error {
+	if h.agent == nil {
+		return serfagent.Empty
+	}
+	var burst serfagent.Burst
+	for _, word := range strings.Fields(words) {
+		data, _ := hex.DecodeString(word[1:])
+		switch word[0] {
+		case 'r':
+			burst.Receive(0, data)
+		case 'f':
+			burst.Fire(data, nil, false)
+		default:
+			burst.Query(0, 7, data, nil, serfagent.QueryParams{Timeout: 1000, WantAck: true})
+		}
+	}
+	outcomes, err := h.agent.Burst(&burst)
+	for _, outcome := range outcomes {
+		switch {
+		case outcome.Received != nil:
+			h.tellReceived(outcome.Received)
+		case outcome.Fired != nil:
+			tellFired(outcome.Fired.Event, outcome.Fired.Packet)
+		case outcome.Asked != nil:
+			h.tellAsked(outcome.Asked)
+		}
+	}
+	return err
+}
+
+func (h *host) merge(packet []byte) error {
+	events, err := h.agent.Merge(packet, false)
+	for _, event := range events {
+		tellEvent(event)
+	}
+	return err
+}
+
+func (h *host) fire(name []byte) error {
+	event, packet, err := h.agent.Fire(name, nil, false)
+	if err != nil {
+		return err
+	}
+	tellFired(event, packet)
+	return nil
+}
+
+func (h *host) query(name []byte) error {
+	asked, err := h.agent.Query(0, 7, name, nil, serfagent.QueryParams{Timeout: 1000, WantAck: true})
+	if err != nil {
+		return err
+	}
+	h.tellAsked(asked)
+	return nil
+}
+
+func (h *host) respond() error {
+	if h.asked == 0 {
+		return nil
+	}
+	number := h.asked
+	h.asked = 0
+	packet, err := h.agent.Respond(0, number, nil)
+	if err != nil {
+		return err
+	}
+	tellPacket(packet)
+	return nil
+}
+
+func (h *host) act(call string, data []byte) error {
+	if h.agent == nil {
+		return serfagent.Empty
+	}
+	switch call {
+	case "r":
+		return h.receive(data)
+	case "m":
+		return h.merge(data)
+	case "f":
+		return h.fire(data)
+	case "q":
+		return h.query(data)
+	case "p":
+		return h.respond()
+	case "c":
+		return h.agent.Compact()
+	}
+	return h.agent.SaveMemberClock()
+}
+
+func (h *host) answer(call, word string) (err error) {
+	data, _ := hex.DecodeString(word)
+	switch call {
+	case "open":
+		h.end()
+		h.store, err = serfagent.OpenStore(word)
+	case "o":
+		h.end()
+		h.agent, err = serfagent.Open("host", word, serfagent.DefaultSettings())
+	case "close", "x":
+		h.end()
+	case "b":
+		err = h.burst(word)
+	case "append":
+		err = h.store.Append(data)
+	case "replace":
+		err = h.store.Replace(data)
+	default:
+		err = h.act(call, data)
+	}
+	return err
+}
+
+// A fault is played at a thread's call of some number, so all calls are of the first thread.
+func init() { runtime.LockOSThread() }
+
+func main() {
+	// A file that may not grow is then an error of the write.
+	signal.Ignore(syscall.SIGXFSZ)
+	h := &host{}
+	lines := bufio.NewScanner(os.Stdin)
+	lines.Buffer(nil, 1<<20)
+	for lines.Scan() {
+		words := strings.SplitN(lines.Text()+" ", " ", 2)
+		if h.answer(words[0], strings.TrimSuffix(words[1], " ")) == nil {
+			fmt.Println("ok")
+		} else {
+			fmt.Println("Failed")
+		}
+	}
+}

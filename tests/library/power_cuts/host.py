@@ -1,0 +1,108 @@
+"""A host over the package of bindings/python, driven by lines: hosts.py says which."""
+
+import sys
+
+sys.dont_write_bytecode = True
+from serf_agent import Agent, AgentError, Asked, Fired, Received
+from serf_agent.store import Store, StoreError
+
+
+def say(*words):
+    """Each line is one write."""
+    sys.stdout.write(" ".join(words) + "\n")
+    sys.stdout.flush()
+
+
+class Host:
+    """A store, or an agent over one, and the number of the query that was handed out last."""
+
+    def __init__(self):
+        self.store = self.agent = self.asked = None
+
+    def end(self):
+        for part in (self.store, self.agent):
+            if part is not None:
+                part.close()
+        self.store = self.agent = self.asked = None
+
+    def tell_events(self, events):
+        for event in events:
+            if event is not None:
+                say("e", str(event.time), event.name.hex())
+
+    def tell_query(self, handed, ack):
+        if handed is not None:
+            self.asked = handed.number
+            say("h", str(handed.time), str(handed.id))
+        if ack is not None:
+            say("p", ack.hex())
+
+    def tell(self, outcome):
+        """What a packet, an event or a query gave."""
+        if isinstance(outcome, Fired):
+            self.tell_events([outcome.event])
+        if isinstance(outcome, (Fired, Asked)):
+            say("p", outcome.packet.hex())
+        if isinstance(outcome, Received):
+            self.tell_events([outcome.event])
+        if isinstance(outcome, (Asked, Received)):
+            self.tell_query(outcome.query, outcome.ack)
+
+    def burst(self, words):
+        with self.agent.burst() as burst:
+            for word in words.split():
+                self.call(burst, word[0], bytes.fromhex(word[1:]))
+        for outcome in burst.outcomes:
+            self.tell(outcome)
+
+    @staticmethod
+    def call(to, kind, data):
+        """Receives or fires: of an agent, or of a burst."""
+        if kind == "r":
+            return to.receive(0, data)
+        if kind == "f":
+            return to.fire(data)
+        return to.query(0, 7, data, timeout=1000, want_ack=True)
+
+    def respond(self):
+        if self.asked is not None:
+            number, self.asked = self.asked, None
+            say("p", self.agent.respond(0, number).hex())
+
+    def do(self, call, word):
+        data = b"" if call in ("open", "o", "b") else bytes.fromhex(word)
+        if call in ("open", "o", "close", "x"):
+            self.end()
+        if call == "open":
+            self.store = Store(word)
+        elif call in ("append", "replace"):
+            getattr(self.store, call)(data)
+        elif call == "o":
+            self.agent = Agent(b"host", word)
+        elif call == "m":
+            self.tell_events(self.agent.merge(data))
+        elif call == "c":
+            self.agent.compact()
+        elif call == "k":
+            self.agent.save_member_clock()
+        elif call == "p":
+            self.respond()
+        elif call == "b":
+            self.burst(word)
+        elif call in ("r", "f", "q"):
+            self.tell(self.call(self.agent, call, data))
+
+
+def main():
+    host = Host()
+    for line in sys.stdin:
+        call, _, word = line.rstrip("\n").partition(" ")
+        try:
+            host.do(call, word)
+            say("ok")
+        except (StoreError, AgentError):
+            say("Failed")
+
+
+if __name__ == "__main__":
+    main()

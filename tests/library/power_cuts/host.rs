@@ -1,0 +1,128 @@
+//! A host over the crate of bindings/rust, driven by lines: tests/library/power_cuts/hosts.py says which.
+
+use serf_agent::{Agent, Asked, Call, CallOutcome, Error, Event, Fired, Handed, Outcome, QueryParams, Received, Settings, Store};
+use std::io::{BufRead, Write};
+
+fn bytes_of(hex: &str) -> Vec<u8> {
+    let digits: Vec<u8> = hex.bytes().map(|digit| (digit as char).to_digit(16).unwrap_or(0) as u8).collect();
+    digits.chunks_exact(2).map(|pair| pair[0] * 16 + pair[1]).collect()
+}
+
+fn hex_of(bytes: &[u8]) -> String {
+    bytes.iter().map(|byte| format!("{byte:02x}")).collect()
+}
+
+/// Each line is one write.
+fn say(line: &str) {
+    let _ = std::io::stdout().write_all(format!("{line}\n").as_bytes());
+    let _ = std::io::stdout().flush();
+}
+
+/// A store, or an agent over one, and the number of the query that was handed out last.
+#[derive(Default)]
+struct Host {
+    store: Option<Store>,
+    agent: Option<Agent>,
+    asked: Option<u64>,
+}
+
+impl Host {
+    fn end(&mut self) {
+        *self = Host::default();
+    }
+
+    fn tell_event(&self, event: &Event) {
+        say(&format!("e {} {}", event.time, hex_of(&event.name)));
+    }
+
+    fn tell_query(&mut self, handed: Option<Handed>, ack: Option<Vec<u8>>) {
+        if let Some(query) = handed {
+            self.asked = Some(query.number);
+            say(&format!("h {} {}", query.time, query.id));
+        }
+        if let Some(ack) = ack {
+            say(&format!("p {}", hex_of(&ack)));
+        }
+    }
+
+    fn tell(&mut self, outcome: CallOutcome) {
+        match outcome {
+            CallOutcome::Received(Received { outcome: Outcome::Event(event), .. }) => self.tell_event(&event),
+            CallOutcome::Received(Received { outcome: Outcome::Query { handed, ack }, .. }) => self.tell_query(handed, ack),
+            CallOutcome::Received(_) => {}
+            CallOutcome::Fired(Fired { event, packet }) => {
+                self.tell_event(&event);
+                say(&format!("p {}", hex_of(&packet)));
+            }
+            CallOutcome::Asked(Asked { packet, handed, ack }) => {
+                say(&format!("p {}", hex_of(&packet)));
+                self.tell_query(handed, ack);
+            }
+        }
+    }
+
+    fn burst(&mut self, words: &str) -> Result<(), Error> {
+        let params = QueryParams { timeout: 1000, want_ack: true, ..QueryParams::default() };
+        let texts: Vec<(&str, Vec<u8>)> = words.split(' ').map(|word| (&word[..1], bytes_of(&word[1..]))).collect();
+        let calls = texts.iter().map(|(kind, text)| match *kind {
+            "r" => Call::Receive { now: 0, packet: text },
+            "f" => Call::Fire { name: text, payload: b"", coalesce: false },
+            _ => Call::Query { now: 0, id: 7, name: text, payload: b"", params: &params },
+        });
+        let Some(mut agent) = self.agent.take() else { return Err(Error::Refused(serf_agent::Code::Empty)) };
+        let outcomes: Vec<_> = agent.burst(calls)?.collect();
+        self.agent = Some(agent);
+        outcomes.into_iter().flatten().for_each(|outcome| self.tell(outcome));
+        Ok(())
+    }
+
+    fn keep(&mut self, call: &str, bytes: &[u8]) -> Result<(), Error> {
+        let Some(store) = self.store.as_mut() else { return Ok(()) };
+        Ok(if call == "append" { store.append(bytes)? } else { store.replace(bytes)? })
+    }
+
+    fn act(&mut self, call: &str, bytes: &[u8]) -> Result<(), Error> {
+        let Some(mut agent) = self.agent.take() else { return Err(Error::Refused(serf_agent::Code::Empty)) };
+        match call {
+            "r" => self.tell(CallOutcome::Received(agent.receive(0, bytes)?)),
+            "m" => agent.merge(bytes, false)?.iter().for_each(|event| self.tell_event(event)),
+            "f" => self.tell(CallOutcome::Fired(agent.fire(bytes, b"", false)?)),
+            "q" => {
+                let params = QueryParams { timeout: 1000, want_ack: true, ..QueryParams::default() };
+                self.tell(CallOutcome::Asked(agent.query(0, 7, bytes, b"", &params)?));
+            }
+            "p" => {
+                if let Some(number) = self.asked.take() {
+                    say(&format!("p {}", hex_of(&agent.respond(0, number, b"")?)));
+                }
+            }
+            "c" => agent.compact()?,
+            _ => agent.save_member_clock()?,
+        }
+        self.agent = Some(agent);
+        Ok(())
+    }
+
+    fn answer(&mut self, call: &str, word: &str) -> Result<(), Error> {
+        if ["open", "o", "close", "x"].contains(&call) {
+            self.end();
+        }
+        match call {
+            "open" => self.store = Some(Store::open(word)?),
+            "o" => self.agent = Some(Agent::open(b"host", word, Settings::default())?),
+            "append" | "replace" => self.keep(call, &bytes_of(word))?,
+            "close" | "x" => {}
+            "b" => self.burst(word)?,
+            _ => self.act(call, &bytes_of(word))?,
+        }
+        Ok(())
+    }
+}
+
+fn main() {
+    let mut host = Host::default();
+    for line in std::io::stdin().lock().lines().map_while(Result::ok) {
+        let (call, word) = line.split_once(' ').unwrap_or((&line, ""));
+        say(if host.answer(call, word).is_ok() { "ok" } else { "Failed" });
+    }
+}

@@ -1,0 +1,176 @@
+"""The hosts of the five stores, as they are and with faults planted.
+
+A host is driven by lines of its standard input. It answers each by what that hands out, and then by `ok` or `Failed`;
+each line that it says is one write, so a trace has it.
+
+    open PATH, append HEX, replace HEX, close     a store alone
+    o PATH, x                                     an agent over the store at this path, and its end
+    r HEX, m HEX, f NAME, q NAME                  it receives a packet, merges a state, fires an event, fires a query
+    b rHEX fNAME qNAME ..                         it receives and fires in one burst
+    p, c, k                                       it answers the query handed out last, compacts, saves the member clock
+
+    e TIME NAME      an event is handed out
+    h TIME ID        a query is handed out
+    p HEX            a packet is handed over to be sent
+"""
+
+import os
+import shutil
+import sys
+
+import c_library
+import faults
+import file_store
+
+OWN = os.path.dirname(os.path.abspath(__file__))
+BINDINGS = os.path.join(c_library.TOP, "bindings")
+
+
+class NotBuilt(Exception):
+    """A host could not be built; the text says why."""
+
+
+class Store:
+    """A store: its hosts' words and environment, with none of the faults or with one of those that can be planted."""
+
+    def __init__(self, name, plants):
+        self.name, self.plants = name, plants
+        # how many of the texts that cuts leave in a life are opened again, where not all are
+        self.most_opened = None
+        # whether its host knows bursts
+        self.has_bursts = True
+
+    def words(self, fault):
+        raise NotImplementedError
+
+    def env(self, fault):
+        return dict(os.environ, PYTHONDONTWRITEBYTECODE="1", **({faults.FAULT_NAME: fault} if fault else {}))
+
+
+def built(words, **more):
+    status, said = c_library.ran(words, **more)
+    if status:
+        raise NotBuilt(f"{' '.join(words)[:200]}: {said[-1500:]}")
+
+
+class InC(Store):
+    def __init__(self, places):
+        super().__init__("C", [faults.NONE, *faults.FAULTS])
+        copy = places.copy("c", os.path.join(BINDINGS, "c"))
+        self.paths = {False: places.of("c_host"), True: places.of("c_planted")}
+        for is_planted, path in self.paths.items():
+            if is_planted:
+                faults.edit(copy, faults.C)
+            sources = [
+                os.path.join(OWN, "host.c"),
+                *(os.path.join(copy, name) for name in ("serf_agent_store.c", "serf_agent_heap.c")),
+            ]
+            built([os.environ.get("CC", "cc"), *c_library.STRICT, "-O1", "-o", path, *sources, places.library])
+
+    def words(self, fault):
+        return [self.paths[fault is not None]]
+
+
+class InPython(Store):
+    def __init__(self, places):
+        super().__init__("Python", [faults.NONE, *faults.FAULTS])
+        self.shared = places.shared()
+        self.packages = {
+            False: os.path.join(BINDINGS, "python"), True: places.copy("python", os.path.join(BINDINGS, "python"))
+        }
+        faults.edit(self.packages[True], faults.PYTHON)
+
+    def words(self, fault):
+        return [sys.executable, os.path.join(OWN, "host.py")]
+
+    def env(self, fault):
+        return dict(super().env(fault), SERF_AGENT_LIBRARY=self.shared, PYTHONPATH=self.packages[fault is not None])
+
+
+class InGo(Store):
+    def __init__(self, places):
+        super().__init__("Go", [faults.NONE, *faults.FAULTS])
+        module = places.of("go")
+        shutil.copytree(os.path.join(BINDINGS, "go"), module)
+        os.mkdir(os.path.join(module, "power_cuts"))
+        shutil.copyfile(os.path.join(OWN, "host.go"), os.path.join(module, "power_cuts", "main.go"))
+        env = dict(
+            os.environ,
+            CGO_LDFLAGS=f"-L{os.path.dirname(places.library)}",
+            GOFLAGS="-mod=mod",
+            GOPROXY="off",
+            GO111MODULE="on",
+            GOCACHE=places.of("go_cache"),
+        )
+        self.paths = {False: places.of("go_host"), True: places.of("go_planted")}
+        for is_planted, path in self.paths.items():
+            if is_planted:
+                faults.edit(module, faults.GO)
+            built(["go", "build", "-o", path, "./power_cuts"], cwd=module, env=env)
+
+    def words(self, fault):
+        return [self.paths[fault is not None]]
+
+
+class InRust(Store):
+    def __init__(self, places):
+        super().__init__("Rust", [faults.NONE, *faults.FAULTS])
+        crate, target = places.of("rust"), places.of("target")
+        shutil.copytree(
+            os.path.join(BINDINGS, "rust"), crate, ignore=shutil.ignore_patterns("target", "examples", "tests")
+        )
+        os.mkdir(os.path.join(crate, "examples"))
+        shutil.copyfile(os.path.join(OWN, "host.rs"), os.path.join(crate, "examples", "host.rs"))
+        env = dict(os.environ, SERF_AGENT_LIBRARY=places.library, CARGO_TARGET_DIR=target)
+        self.paths = {False: places.of("rust_host"), True: places.of("rust_planted")}
+        for is_planted, path in self.paths.items():
+            if is_planted:
+                faults.edit(crate, faults.RUST)
+            built(["cargo", "build", "--quiet", "--offline", "--example", "host"], cwd=crate, env=env)
+            shutil.copyfile(os.path.join(target, "debug", "examples", "host"), path)
+            os.chmod(path, 0o755)
+
+    def words(self, fault):
+        return [self.paths[fault is not None]]
+
+
+class InRattle(Store):
+    def __init__(self, places):
+        super().__init__("FileStore", list(faults.FILE_STORE))
+        # (the host is slow, since it checks each access)
+        self.most_opened = 40
+        self.has_bursts = False
+        self.program = file_store.program(places.of("file_store"), OWN)
+
+    def words(self, fault):
+        return [*self.program, file_store.crate_with(fault)]
+
+
+class Places:
+    """Where what is built and run here stands."""
+
+    def __init__(self, folder, library):
+        self.folder, self.library = folder, library
+
+    def of(self, name):
+        return os.path.join(self.folder, name)
+
+    def copy(self, name, source):
+        return shutil.copytree(source, self.of(name), ignore=shutil.ignore_patterns("__pycache__"))
+
+    def shared(self):
+        path = self.of("libserf_agent.so")
+        fault = c_library.fault_of_shared(path, self.library)
+        if fault:
+            raise NotBuilt(fault)
+        return path
+
+
+# Each store, with the command that has to be there to build its host.
+STORES = {
+    "C": (InC, None),
+    "Python": (InPython, None),
+    "Go": (InGo, "go"),
+    "Rust": (InRust, "cargo"),
+    "FileStore": (InRattle, "rt"),
+}

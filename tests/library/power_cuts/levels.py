@@ -1,0 +1,167 @@
+"""What has to hold at each cut: of a store, of an agent over it, and of the order of sync and hand-out."""
+
+import re
+from collections import namedtuple
+
+from scripts import messages
+
+CLOCK = re.compile(rb"^(event-clock|query-clock|clock): (\d+)$")
+
+# What a file was when a call was answered: its text, and how many renames there were by then.
+Promise = namedtuple("Promise", "text renames")
+
+
+def promise_of(disk):
+    """What the disk has as a call is answered by Ok."""
+    return Promise(disk.file().data if disk.file() else b"", disk.renames)
+
+
+class Seen:
+    """What was looked at in a walk: how many cuts, and what was wrong."""
+
+    def __init__(self):
+        self.cuts, self.faults = 0, []
+
+    def wrong(self, what):
+        self.faults.append(what)
+
+
+def keeps(promise, file, text):
+    """Whether a text that a cut leaves has all of what was promised, or is the whole of what replaces it."""
+    if promise is None or text.startswith(promise.text):
+        return True
+    return file is not None and file.renamed > promise.renames and text.startswith(file.renamed_with)
+
+
+def look(seen, disk, promise, lengths):
+    """Each file and text that a cut leaves now; what was promised has to be in it."""
+    for file, text in disk.cuts(lengths):
+        seen.cuts += 1
+        if not keeps(promise, file, text):
+            seen.wrong(f"a cut leaves {text!r}, and {promise.text!r} was answered")
+        yield text
+
+
+# The store by its lines.
+
+
+class Told:
+    """What a store was told in a script, and so what its file has to be once a line is answered."""
+
+    def __init__(self, old, answered):
+        self.text, self.answered = old, answered
+
+    def is_wrong(self, number, live):
+        """Whether the answer of this number is Ok, and the file isn't what it was told to be."""
+        line, answer = self.answered[number]
+        call, _, word = line.partition(" ")
+        wanted = self.text
+        if call in ("append", "replace"):
+            wanted = (self.text if call == "append" else b"") + bytes.fromhex(word)
+        self.text = live
+        return answer == "ok" and live != wanted
+
+
+def of_store(walk, old, answered, lengths):
+    """Level a: nothing that a store answered is lost. answered: each line with its answer; the first is the opening."""
+    seen, told, number = Seen(), Told(old, answered), 0
+    disk, promise = walk.disk, None
+    for said in walk:
+        if said is not None:
+            promised = promise_of(disk)
+            line, answer = answered[number]
+            if told.is_wrong(number, promised.text):
+                seen.wrong(f"{line} was answered, and the file has {promised.text!r}")
+            if answer == "ok":
+                promise = promised
+            number += 1
+        for _ in look(seen, disk, promise, lengths):
+            pass
+    if number != len(answered):
+        seen.wrong(f"{number} answers are in the trace, and {len(answered)} were read")
+    return seen
+
+
+# An agent over it.
+
+
+class Handed:
+    """What was handed out so far: events and queries, and the greatest time of each."""
+
+    def __init__(self):
+        self.all, self.events, self.queries = frozenset(), 0, 0
+
+    def note(self, line):
+        words = line.split()
+        if words[0] == "e":
+            self.events = max(self.events, int(words[1]))
+        elif words[0] == "h":
+            self.queries = max(self.queries, int(words[1]))
+        if words[0] in ("e", "h"):
+            self.all |= {line}
+
+
+def clocks_in(text):
+    """The greatest time of each kind of line that is whole in a text."""
+    found = {b"event-clock": 0, b"query-clock": 0, b"clock": 0}
+    for line in text.split(b"\n")[:-1]:
+        whole = CLOCK.match(line)
+        if whole:
+            found[whole[1]] = max(found[whole[1]], int(whole[2]))
+    return found
+
+
+def is_sent_on(line):
+    """Whether a packet that is handed over is an event or a query, which comes back by the network."""
+    return isinstance(messages.decode(bytes.fromhex(line[2:])), (messages.UserEvent, messages.Query))
+
+
+def least_of(line):
+    """Which clock has to be in the file, and how high, before this is handed out or over."""
+    kind, word = line.split()[:2]
+    if kind == "p":
+        message = messages.decode(bytes.fromhex(word))
+        kind, time = ("e" if isinstance(message, messages.UserEvent) else "h"), message.LTime
+    else:
+        time = int(word)
+    return (b"event-clock" if kind == "e" else b"query-clock"), time
+
+
+def of_order(seen, disk, line, lengths):
+    """Level c: at a hand-out each cut leaves the line that it rests on, and all else that was written."""
+    clock, least = least_of(line)
+    live = disk.file().data if disk.file() else b""
+    for _, text in disk.cuts(lengths):
+        seen.cuts += 1
+        if clocks_in(text)[clock] < least:
+            seen.wrong(f"{line[:40]} was handed out, and a cut leaves {text!r}")
+        elif text != live:
+            seen.wrong(f"{line[:40]} was handed out while a cut leaves {text!r}, and not {live!r}")
+
+
+def of_agent(walk, lengths):
+    """Levels b and c, but for the openings: what was looked at in each, and at each cut the text that is left and what
+    was handed out before it, once each."""
+    whole, order, handed = Seen(), Seen(), Handed()
+    disk, promise, left = walk.disk, None, {}
+    for said in walk:
+        line = "" if said is None else said.decode().rstrip("\n")
+        if line[:2] in ("e ", "h ", "p "):
+            of_order(order, disk, line, lengths)
+            handed.note(line)
+        elif line == "ok":
+            promise = promise_of(disk)
+        for text in look(whole, disk, promise, lengths):
+            left[text, handed.all] = (handed.events, handed.queries)
+    return whole, order, left
+
+
+def of_opening(seen, text, before, greatest, after):
+    """What the agent that is opened on a text does wrong, where `before` was handed out. after: what it hands out when
+    it is offered everything again, and the times at which it fires an event and a query at first."""
+    events, queries = greatest
+    again, fired, asked = after
+    if before & again:
+        seen.wrong(f"it was left {text!r}, and hands out {sorted(before & again)[:3]} again")
+    if fired <= events or asked <= queries:
+        seen.wrong(f"it was left {text!r}, and fires at {fired} and asks at {asked}; {greatest} were handed out")

@@ -1,0 +1,172 @@
+"""Lives of a store, traced: what is told, which of its calls fail, and what is looked at."""
+
+import os
+import random
+import tempfile
+
+import disks
+import levels
+import scripts
+import traces
+
+# What the calls of the system say that are played to fail.
+ERRORS = {
+    "write": "ENOSPC",
+    "openat": "ENOSPC",
+    "rename": "ENOSPC",
+    "renameat": "ENOSPC",
+    "renameat2": "ENOSPC",
+    "fsync": "EIO",
+    "fdatasync": "EIO",
+}
+
+
+def with_room(size):
+    """The words before a host's whose files may have so many bytes: a write beyond them comes through in part, and the
+    next one fails."""
+    return ["env", "--ignore-signal=XFSZ", "prlimit", f"--fsize={size}"]
+
+
+class Run:
+    """A store driven by lines from a beginning on: its calls of the system, and each line with what it handed out and
+    its answer. After a fault it is opened again, as its user has to."""
+
+    def __init__(self, store, lines, beginning, room, fault=None, failing=None, before=()):
+        self.store, self.beginning = store, beginning
+        with tempfile.TemporaryDirectory(dir=room) as folder:
+            self.folder, self.path = os.path.realpath(folder), os.path.join(folder, "snapshot")
+            self.text, self.is_synced = scripts.BEGINNINGS[beginning]
+            if self.text is not None:
+                with open(self.path, "wb") as file:
+                    file.write(self.text)
+            self.lines = [line.replace("PATH", self.path) for line in lines]
+            self.calls, self.answered = traces.traced(
+                [*before, *store.words(fault)], store.env(fault), self.drive, failing
+            )
+
+    def drive(self, host):
+        answered = []
+        for line in self.lines:
+            answered.append((line, *host.says(line)))
+            if answered[-1][2] != "ok":
+                answered.append((self.lines[0], *host.says(self.lines[0])))
+        return answered
+
+    def walk(self):
+        disk = disks.Disk(self.folder, os.path.basename(self.path))
+        if self.text is not None:
+            disk.put(disk.name, self.text, self.is_synced)
+        return disks.Walk(disk, self.calls)
+
+    def answers(self):
+        return [(line, answer) for line, _, answer in self.answered]
+
+    def faults(self):
+        """How often a call was answered by a fault."""
+        return sum(answer != "ok" for _, _, answer in self.answered)
+
+    def syncs_of_lines(self):
+        """How often the lines that a burst appended were synced, of each burst."""
+        counts, syncs = [], 0
+        for call in self.calls:
+            syncs += call.name == "fdatasync"
+            if disks.is_saying(call) and call.texts[0] in (b"ok\n", b"Failed\n"):
+                counts.append(syncs)
+                syncs = 0
+        return [count for line, count in zip([line for line, _, _ in self.answered], counts) if line.startswith("b ")]
+
+    def packets(self):
+        """The packets that it was given, and those that it handed over, as they come back by the network."""
+        handed = [said for _, handed, _ in self.answered for said in handed]
+        own = ["r " + said[2:] for said in handed if said.startswith("p ") and levels.is_sent_on(said)]
+        return list(dict.fromkeys([*scripts.packets_in(self.lines), *own]))
+
+    def failing_places(self):
+        """The calls of the system that can be made to fail, behind the first opening: strace's words for each, by the
+        name of the call and what it is of."""
+        walk, counts, found, opened = self.walk(), {}, {}, False
+        for call in self.calls:
+            counts[call.thread, call.name] = counts.get((call.thread, call.name), 0) + 1
+            is_said = disks.is_saying(call)
+            opened |= is_said
+            if not is_said and call.result >= 0 and walk.does(call) and opened and call.name in ERRORS:
+                words = f"{call.name}:error={ERRORS[call.name]}:when={counts[call.thread, call.name]}"
+                found.setdefault(call.name, []).append(words)
+        return found
+
+
+def store_lines(drawn):
+    return ["open PATH", *scripts.of_a_store(drawn), "close"]
+
+
+def agent_lines(calls):
+    return ["o PATH", *calls, "x"]
+
+
+def of_store(run):
+    """Level a of a run."""
+    return levels.of_store(run.walk(), run.text or b"", run.answers(), disks.each_length)
+
+
+def of_agent(run, drawn):
+    """Levels b and c of a run, but for the openings."""
+    return levels.of_agent(run.walk(), disks.few_lengths(drawn))
+
+
+class Openings:
+    """Texts that cuts left, each opened again by the store's own host, without a fault, in one process."""
+
+    def __init__(self, store, room):
+        self.store, self.room = store, room
+
+    def of(self, texts, packets):
+        """Of each text what the agent that is opened on it hands out when it is offered all packets, and the times at
+        which it fires and asks before it is offered any."""
+        with tempfile.TemporaryDirectory(dir=self.room) as folder:
+            lines = []
+            for number, text in enumerate(texts):
+                again, first = (os.path.join(folder, f"{number}.{kind}") for kind in ("again", "first"))
+                for path in (again, first):
+                    with open(path, "wb") as file:
+                        file.write(text)
+                lines += [f"o {again}", *packets, "x", f"o {first}", "f 66", "q 71", "x"]
+            with traces.Host(self.store.words(None), self.store.env(None)) as host:
+                return self.read(host.say_all(lines), len(texts), len(packets))
+
+    def read(self, answered, count, packets):
+        found, each = [], packets + 6
+        for number in range(count):
+            own = answered[number * each : (number + 1) * each]
+            if any(answer != "ok" for _, answer in own):
+                raise traces.Unread(f"{self.store.name}: an opening behind a cut ends in a fault: {own}")
+            again = {line for handed, _ in own[: packets + 1] for line in handed if line[0] in "eh"}
+            times = [
+                int(line.split()[1])
+                for handed, _ in own[packets + 3 : packets + 5]
+                for line in handed
+                if line[0] in "eh"
+            ]
+            found.append((frozenset(again), *times))
+        return found
+
+
+def some_of(left, drawn, most):
+    """So many of the texts that cuts left, with what was handed out before; all of them where `most` is None."""
+    if most is None:
+        return left
+    return {it: left[it] for it in drawn.sample(list(left), min(most, len(left)))}
+
+
+def open_again(seen, store, left, packets, room):
+    """Level b: each text that a cut left is opened again, and held against what was handed out before that cut. How
+    many they were."""
+    texts = list(dict.fromkeys(text for text, _ in left))
+    after = dict(zip(texts, Openings(store, room).of(texts, packets)))
+    for (text, before), greatest in left.items():
+        levels.of_opening(seen, text, before, greatest, after[text])
+    return len(texts)
+
+
+def drawn_for(seed, *names):
+    """The random choices of one part, by the seed."""
+    return random.Random(" ".join([str(seed), *names]))

@@ -1,0 +1,114 @@
+"""What hosts are told to do: lines, drawn by a seed. hosts.py says what a line means."""
+
+import os
+import sys
+
+sys.path.insert(0, os.path.join(os.path.dirname(os.path.abspath(__file__)), "..", "..", "..", "conformance", "python"))
+from serf_agent import messages
+
+# How a file is when a host first opens it: its text, whether the process that wrote it synced it, and what a crash left
+# beside it.
+OLD = b"clock: 2\nevent-clock: 3\nquery-clock: 1\n"
+BEGINNINGS = {"no file": (None, True), "a file": (OLD, True), "a file that was never synced": (OLD, False)}
+
+
+def hex_line(text):
+    return (text + "\n").encode().hex()
+
+
+def of_a_store(drawn):
+    """Lines for a store: appends, and replacements between them."""
+    lines, time = [], 3
+    for _ in range(drawn.randint(9, 12)):
+        time += drawn.randint(1, 400)
+        kind = drawn.choice(["event-clock", "event-clock", "query-clock", "clock"])
+        lines.append(f"append {hex_line(f'{kind}: {time}')}")
+        if drawn.random() < 0.35:
+            lines.append(f"replace {hex_line(f'event-clock: {time}')}")
+    return [*lines, f"replace {hex_line(f'clock: {time}')}", f"append {hex_line('query-clock: 9')}"]
+
+
+def event(time, name):
+    return "r " + messages.encode_event(messages.UserEvent(time, name, b"", False)).hex()
+
+
+def query(time, number, name):
+    # the first flag asks for an ack
+    return "r " + messages.encode_query(messages.Query(time, number, b"", 0, b"other", [], 1, 0, 1000, name, b"")).hex()
+
+
+def state(clock, times, names):
+    slots = [messages.Slot(time, [messages.Texts(name, b"") for name in names(time)]) for time in times]
+    return "m " + messages.encode_state(messages.PushPull(clock, [], [], max(times) + 1, slots, clock)).hex()
+
+
+class Calls:
+    """The calls of an agent's life: packets, states, firings, queries, compactions and saves."""
+
+    def __init__(self, drawn):
+        self.drawn, self.count, self.time = drawn, 0, 5
+
+    def name(self):
+        self.count += 1
+        return b"n%d" % self.count
+
+    def near(self):
+        self.time += self.drawn.choice([0, 1, 1, 2, 9])
+        return max(1, self.time - self.drawn.choice([0, 0, 0, 1, 3]))
+
+    def of_state(self):
+        times = sorted({self.near() for _ in range(3)})
+        return state(self.time + 1, times, lambda _: [self.name() for _ in range(self.drawn.randint(1, 2))])
+
+    def all(self):
+        """One of each kind, and some of those that write, in an order that is drawn; some packets come twice."""
+        drawn = self.drawn
+        own = [lambda: "f " + self.name().hex(), lambda: "q " + self.name().hex(), lambda: "p", lambda: "k"]
+        foreign = [
+            lambda: event(self.near(), self.name()),
+            lambda: query(self.near(), drawn.getrandbits(32), self.name()),
+            self.of_state,
+        ]
+        kinds = [*foreign * 3, *own * 2, foreign[0], foreign[0], own[0]]
+        drawn.shuffle(kinds)
+        lines = []
+        for kind in kinds:
+            lines.append(kind())
+            again = [line for line in lines if line[0] in "rm"]
+            if again and drawn.random() < 0.3:
+                lines.append(drawn.choice(again))
+        return lines
+
+
+def of_an_agent(drawn):
+    """A life: some compactions, and one at the end."""
+    lines = []
+    for line in Calls(drawn).all():
+        lines += [line] if drawn.random() > 0.15 else [line, "c"]
+    return [*lines, "c", "f " + b"last".hex()]
+
+
+def compacting(drawn):
+    """A life with a compaction behind each call."""
+    return [word for line in Calls(drawn).all() for word in (line, "c")]
+
+
+def bursting(drawn):
+    """A life whose packets and firings come in bursts of one to six, as far as nothing else stands between them."""
+    lines, burst = [], []
+    for line in [*Calls(drawn).all(), *Calls(drawn).all(), "c"]:
+        is_over = line[0] not in "rfq" or len(burst) > drawn.randint(0, 5)
+        if burst and is_over:
+            lines.append(" ".join(["b", *burst]))
+            burst = []
+        if line[0] in "rfq":
+            burst.append(line.replace(" ", ""))
+        else:
+            lines.append(line)
+    return lines
+
+
+def packets_in(lines):
+    """The packets that the lines give, and those of bursts as if they came alone."""
+    alone = [f"{word[0]} {word[1:]}" for line in lines if line[0] == "b" for word in line.split()[1:]]
+    return [line for line in [*lines, *alone] if line[0] in "rm"]

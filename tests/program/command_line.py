@@ -1,0 +1,199 @@
+"""The command line: the commands of the documents, run, and what `--help` and the manual page say beside
+docs/COMMANDS.md.
+
+`command_line.py read` compares the pages alone, and needs no built program.
+
+- Each command that begins with `serf-replay` (or `cut`, `grep`) in an indented block of a page, and names no file in
+  capitals and no agent of the reader's, is run in the page's folder: its status is 0, or 1 for `judge`, and it writes
+  something. Where lines stand right under it that are no commands, they are what it writes.
+- docs/COMMANDS.md has a section for each command of `--help`, README names each, and the options of a section's table
+  are those of the command's help.
+- The examples of the table of statuses give just these statuses.
+- docs/serf-replay.1 has the commands, options, statuses and examples of docs/COMMANDS.md, and groff reads it without a
+  warning, where groff is there.
+- Words that no command takes are refused, and a write that fails is a fault, whatever is written.
+"""
+
+import glob
+import os
+import re
+import shutil
+import subprocess
+import sys
+
+sys.dont_write_bytecode = True
+sys.path.insert(0, os.path.dirname(os.path.dirname(os.path.abspath(__file__))))
+import checks
+from checks import TOP, text_of
+
+PAGES = (
+    "README.md",
+    "docs/*.md",
+    "examples/README.md",
+    "examples/*/README.md",
+    "bench/README.md",
+    "conformance/*/README.md",
+    "CONTRIBUTING.md",
+    "SECURITY.md",
+)
+SHOWN = re.compile(r"^ {4,}((?:(?:\./)?serf-replay|cut|grep) .*)$", re.M)
+# A block's lines right under a command: they are no commands of any program that the pages show.
+UNDER = re.compile(
+    r"\n((?: {4}(?! *(?:[A-Z_]+=|\./|serf-replay|cut |grep |mkfifo |make |cargo |pip |rt |go |python)).*\n)+)"
+)
+# A word that stands for something of the reader's own.
+OWN = re.compile(r"\b[A-Z]{2,}\b|my-agent|<|>")
+STATUS = re.compile(r"^\| (\d) \| ([^|]*) \| `serf-replay ([^`]*)` \|$", re.M)
+OPTION = re.compile(r"^\| `--([a-z-]+)([^`]*)`", re.M)
+HELP_OPTION = re.compile(r"^ {2,}(?:-\w, )?--([a-z-]+)", re.M)
+HELP_COMMAND = re.compile(r"^  ([a-z-]+)  ", re.M)
+# In the manual: an option, by itself or with its value, and a status with what it means.
+MANUAL = os.path.join("docs", "serf-replay.1")
+MANUAL_OPTION = re.compile(r"^\.TP\n\.BI? --([a-z-]+)([^\n]*)$", re.M)
+MANUAL_STATUS = re.compile(r"^\.TP\n\.B (\d)\n([^\n]*)$", re.M)
+
+
+def run(command, folder):
+    """Runs a line of a page, with the program in place of its name, by a shell that fails where a part of it fails."""
+    line = re.sub(r"(^|\| )(?:\./)?serf-replay\b", lambda found: found[1] + checks.COMMAND, command)
+    return subprocess.run(
+        ["bash", "-o", "pipefail", "-c", line], cwd=folder, stdin=subprocess.DEVNULL, capture_output=True, timeout=300
+    )
+
+
+def pages():
+    return [path for kind in PAGES for path in sorted(glob.glob(os.path.join(TOP, kind)))]
+
+
+def shown_under(page, command):
+    """What a page shows right under a command, without its indent."""
+    for place in re.finditer(rf"^    {re.escape(command)}(?=\n)", page, re.M):
+        under = UNDER.match(page, place.end())
+        if under:
+            yield "".join(line[4:] + "\n" for line in under[1].split("\n")[:-1])
+
+
+def shown_commands(count):
+    for page in pages():
+        for command in dict.fromkeys(SHOWN.findall(text_of(page))):
+            if not OWN.search(command):
+                folder = TOP if os.path.dirname(page) == os.path.join(TOP, "docs") else os.path.dirname(page)
+                ran, name = run(command, folder), f"{os.path.relpath(page, TOP)}: {command}"
+                wanted = (0, 1) if " judge " in command else (0,)
+                count.check(name, ran.returncode in wanted and ran.stdout, (ran.returncode, ran.stderr[-300:]))
+                for shown in shown_under(text_of(page), command):
+                    count.check(f"{name}: what it writes", ran.stdout.decode() == shown, ran.stdout[-600:])
+
+
+def statuses(count):
+    rows = STATUS.findall(text_of("docs", "COMMANDS.md"))
+    count.check("a row for each status", [status for status, *_ in rows] == ["0", "1", "2", "3"], rows)
+    for status, _, words in rows:
+        ran = run(f"serf-replay {words}", TOP)
+        count.check(f"status {status}: {words}", ran.returncode == int(status), (ran.returncode, ran.stderr))
+
+
+def help_of(count, words):
+    """What `--help` prints, and nothing else."""
+    status, out, err = checks.ran([*words, "--help"])
+    count.check(" ".join([*words, "--help"]), status == 0 and out and not err, (status, out, err))
+    return out.decode()
+
+
+def parts_of(text, head, name):
+    """The parts of a page behind their heads, by the name that each begins with; a part without a name is left out."""
+    parts = re.split(head, text, flags=re.M)[1:]
+    return {found[1]: part for part in parts if (found := re.match(name, part))}
+
+
+def sections():
+    """The sections of COMMANDS.md, by their commands."""
+    return parts_of(text_of("docs", "COMMANDS.md"), r"^## ", r"`([a-z-]+)`")
+
+
+def manual_and_page(count):
+    """What COMMANDS.md says of each command, the manual says, and nothing else."""
+    page, told = text_of("docs", "COMMANDS.md"), sections()
+    parts = parts_of(text_of(MANUAL).replace("\\-", "-"), r"^\.SH ", r"([A-Z ]+)\n")
+    commands = parts_of(parts.get("COMMANDS", ""), r"^\.SS ", r"([a-z-]+)\n")
+    count.check(
+        "the manual's parts",
+        list(parts) == ["NAME", "SYNOPSIS", "DESCRIPTION", "COMMANDS", "EXIT STATUS", "FILES", "EXAMPLES", "SEE ALSO"],
+        list(parts),
+    )
+    count.check("a part of the manual for each command", list(commands) == list(told), (list(commands), list(told)))
+    for name, section in told.items():
+        options = [
+            (option, value.replace('"', "").strip()) for option, value in MANUAL_OPTION.findall(commands.get(name, ""))
+        ]
+        wanted = [(option, value.strip()) for option, value in OPTION.findall(section)]
+        count.check(f"the options of {name} in the manual", options == wanted, (options, wanted))
+        count.check(
+            f"{name} in the manual's synopsis",
+            re.search(rf"^\\fBserf-replay {name}\b", parts.get("SYNOPSIS", ""), re.M),
+        )
+    rows = [(status, when) for status, when, _ in STATUS.findall(page)]
+    count.check("the manual's statuses", MANUAL_STATUS.findall(parts.get("EXIT STATUS", "")) == rows, rows)
+    shown = re.findall(r"^[^.\n].*$", parts.get("EXAMPLES", "").partition("\n")[2], re.M)
+    count.check(
+        "the manual's examples", len(shown) == len(told) and all(f"\n    {line}\n" in page for line in shown), shown
+    )
+    if shutil.which("groff"):
+        ran = subprocess.run(
+            ["groff", "-man", "-Tutf8", "-ww", MANUAL],
+            cwd=TOP,
+            stdin=subprocess.DEVNULL,
+            capture_output=True,
+            timeout=60,
+        )
+        count.check("groff reads the manual", ran.returncode == 0 and not ran.stderr, ran.stderr)
+
+
+def help_and_page(count):
+    """What --help names, COMMANDS.md and README name, and nothing else."""
+    readme, told = text_of("README.md"), sections()
+    commands = [name for name in HELP_COMMAND.findall(help_of(count, [])) if name != "help"]
+    count.check("a section for each command", sorted(told) == sorted(commands), (sorted(told), sorted(commands)))
+    for name in commands:
+        own = help_of(count, [name])
+        options = set(HELP_OPTION.findall(own)) - {"help"}
+        wanted = {option for option, _ in OPTION.findall(told.get(name, ""))}
+        count.check(f"the options of {name}", options == wanted, (sorted(options), sorted(wanted)))
+        count.check(
+            f"an example of {name}",
+            re.search(rf"^Example: .*serf-replay {name}\b", own, re.M) and f"serf-replay {name}" in told.get(name, ""),
+            own,
+        )
+        count.check(f"README names {name}", f"serf-replay {name}" in readme)
+
+
+def refused(count):
+    status, out, err = checks.ran(["--version"])
+    count.check("--version", status == 0 and out and not err, (status, out, err))
+    for words in ([], ["bogus"], ["replay", "a", "b"], ["decode", "a", "b"], ["clocks"]):
+        status, out, err = checks.ran(words)
+        count.check("refused: " + " ".join(words), status == 2 and err and not out, (status, out, err))
+
+
+def full_device(count):
+    """A write that fails is a fault, whatever is written."""
+    schedule = checks.read("examples", "deploy_gossiped_twice.schedule")
+    there = os.path.exists("/dev/full")
+    count.check("there is a full device", there)
+    if not there:
+        return
+    for words in (["replay"], ["decode", "06ff"], ["clocks", "-"], ["--help"], ["--version"], ["decode", "--help"]):
+        command = [checks.PROGRAM, *words]
+        with open("/dev/full", "wb") as full:
+            ran = subprocess.run(command, input=schedule, stdout=full, stderr=subprocess.PIPE, timeout=checks.LIMIT)
+        count.check("a full device: " + " ".join(words), (ran.returncode, ran.stderr) == (3, b"write fault\n"), ran)
+
+
+def main(words):
+    if words == ["read"]:
+        return checks.run(manual_and_page)
+    return checks.over_program(manual_and_page, shown_commands, statuses, help_and_page, refused, full_device)
+
+
+if __name__ == "__main__":
+    sys.exit(main(sys.argv[1:]))

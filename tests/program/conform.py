@@ -1,0 +1,386 @@
+"""`conform`: agents that reply as they should, or otherwise, and agents that don't reply at all.
+
+    tests/program/conform.py [PROGRAM]
+
+The subject is made from a trace: it gives, call after call, what the trace shows, in the words of docs/PIPE.md. Each
+case turns one thing of that. Where conformance/python/agent.py is there, it is held against all examples too.
+"""
+
+import os
+import subprocess
+import sys
+import tempfile
+
+sys.dont_write_bytecode = True
+sys.path.insert(0, os.path.dirname(os.path.dirname(os.path.abspath(__file__))))
+import checks
+import programs
+from piped_agents import LIMIT, PYTHON_AGENT, compare
+
+# A subject: it reads calls and answers each with the next of its replies, and then ends.
+SUBJECT = """import sys
+replies = open(sys.argv[1], "rb").read().split(b"\\0")
+for reply in replies:
+    if not sys.stdin.buffer.readline():
+        sys.exit(0)
+    sys.stdout.buffer.write(reply)
+    sys.stdout.buffer.flush()
+"""
+
+
+class Packet:
+    """A reader of a packet's MessagePack value, and a writer that spells it otherwise."""
+
+    def __init__(self, packet):
+        self.bytes, self.at = packet, 1
+
+    def take(self, count):
+        self.at += count
+        return self.bytes[self.at - count:self.at]
+
+    def number(self, count):
+        return int.from_bytes(self.take(count), "big")
+
+    def value(self):
+        head = self.number(1)
+        if head < 0x80:
+            return head
+        if head < 0x90:
+            return {bytes(self.value()): self.value() for _ in range(head & 15)}
+        if head < 0xa0:
+            return [self.value() for _ in range(head & 15)]
+        if head < 0xc0:
+            return self.take(head & 31)
+        if head in (0xc0, 0xc2, 0xc3):
+            return {0xc0: None, 0xc2: False, 0xc3: True}[head]
+        if 0xcc <= head <= 0xcf:
+            return self.number(1 << (head - 0xcc))
+        if head in (0xda, 0xdb):
+            return self.take(self.number(2 << (head - 0xda)))
+        raise ValueError(head)
+
+
+def spell(value):
+    """A value with wide numbers, and a map's fields the other way round."""
+    if value is None:
+        return b"\xc0"
+    if isinstance(value, bool):
+        return b"\xc3" if value else b"\xc2"
+    if isinstance(value, int):
+        return b"\xcf" + value.to_bytes(8, "big")
+    if isinstance(value, bytes):
+        return b"\xc6" + len(value).to_bytes(4, "big") + value
+    if isinstance(value, list):
+        return b"\xdd" + len(value).to_bytes(4, "big") + b"".join(map(spell, value))
+    return b"\xdf" + len(value).to_bytes(4, "big") + b"".join(spell(k) + spell(v) for k, v in reversed(value.items()))
+
+
+def respelled(packet):
+    return packet[:1] + spell(Packet(packet).value())
+
+
+def without_nils(packet):
+    """A state with an empty slot more behind its others."""
+    value = Packet(packet).value()
+    value[b"Events"] = value[b"Events"] + [None]
+    return packet[:1] + spell(value)
+
+
+def hexed(text):
+    return text.hex() or "-"
+
+
+class Turn:
+    """What a call is replied: its lines, and the packet that it gave."""
+
+    def __init__(self, lines, given):
+        self.lines, self.given = lines, given
+
+    def text(self, change=lambda packet, given: packet):
+        out = []
+        for line in self.lines:
+            if line.startswith("sent "):
+                packet = change(bytes.fromhex(line[5:]), self.given)
+                line = "sent " + packet.hex()
+            out.append(line)
+        return ("\n".join(out) + "\n\n").encode()
+
+
+def turns_of(path):
+    """The turns of each agent of a schedule, by its trace."""
+    schedule, trace = checks.text_of(path + ".schedule"), checks.text_of(path + ".trace")
+    actions = [line.split() for line in schedule.split("\n") if line.split() and line[0] != "#"]
+    agents = sum(1 for words in actions if words[0] == "agent")
+    shown = {}
+    for line in trace.split("\n")[:-1]:
+        number, text = line.split(" ", 1)
+        shown.setdefault(int(number), []).append(text)
+    turns, sent = [[Turn(["opened 1 1 1"], None)] for _ in range(agents)], []
+    for number, words in enumerate(actions[agents:], 1):
+        answer, *rest = shown[number]
+        given = None
+        if words[0] in ("deliver", "merge"):
+            given = sent[int(words[2])] if int(words[2]) < len(sent) else None
+        lines = [answer]
+        if answer in ("ack", "response"):
+            value = Packet(given).value()
+            line = f"counted {answer} {value[b'LTime']} {value[b'ID']} {hexed(value[b'From'])}"
+            lines.append(line + (f" {hexed(value[b'Payload'])}" if answer == "response" else ""))
+        for line in rest:
+            kind, *parts = line.split()
+            if kind == "sent":
+                sent.append(bytes.fromhex(parts[1]) if parts[1] != "-" else b"")
+            lines.append(" ".join([kind] + parts[1:]))
+        if words[0] == "inject" or (words[0] in ("deliver", "merge") and given is None):
+            continue
+        if int(words[1]) < agents:
+            turns[int(words[1])].append(Turn(lines, given))
+    return turns
+
+
+class Cases:
+    def __init__(self, folder, count):
+        self.folder, self.count = folder, count
+        self.subject = os.path.join(folder, "subject.py")
+        with open(self.subject, "w") as file:
+            file.write(SUBJECT)
+
+    def replies(self, name, replies, schedule, status, said, words=()):
+        path = os.path.join(self.folder, "replies")
+        with open(path, "wb") as file:
+            file.write(b"\0".join(replies))
+        self.run(name, [sys.executable, self.subject, path], schedule, status, said, words)
+
+    def run(self, name, agent, schedule, status, said, words=()):
+        got = compare([schedule, *words], agent)
+        missing = [part for part in said if part not in got[1]]
+        self.count.check(name, got[0] == status and not missing, f"wanted {status} and {said}, got {got}")
+
+
+def text_of(turns, change=lambda packet, given: packet):
+    return [turn.text(change) for turn in turns]
+
+
+def otherwise(packet, given):
+    """Each packet that is not sent on, spelled otherwise."""
+    return packet if packet == given else respelled(packet)
+
+
+def examples(cases):
+    for name in checks.names_in(checks.EXAMPLES):
+        path = os.path.join(checks.EXAMPLES, name)
+        turns = turns_of(path)
+        replies = [reply for agent in turns for reply in text_of(agent)]
+        agree = [f"agent {a}: {len(agent)} calls agree" for a, agent in enumerate(turns)]
+        cases.replies(name, replies, path + ".schedule", 0, agree)
+        replies = [reply for agent in turns for reply in text_of(agent, otherwise)]
+        cases.replies(name + ", spelled otherwise", replies, path + ".schedule", 0, agree)
+        if os.path.exists(PYTHON_AGENT):
+            cases.run(name + ", the agent in Python", [sys.executable, PYTHON_AGENT], path + ".schedule", 0, agree)
+
+
+def by_meaning(cases):
+    path = os.path.join(checks.EXAMPLES, "deploy_gossiped_twice")
+    turns = turns_of(path)[1]
+    words, schedule = ["--agent", "1"], path + ".schedule"
+    good = text_of(turns)
+    cases.replies("one agent", good, schedule, 0, ["agent 1: 3 calls agree"], words)
+    cases.replies(
+        "a respelled rebroadcast", text_of(turns, lambda p, g: respelled(p)), schedule, 1, ["action 2, line 9"], words
+    )
+    changes = {
+        "another answer": good[:2] + [good[2].replace(b"Seen", b"TooOld")],
+        "another payload": [good[0], good[1].replace(b"7631 0", b"7632 0"), good[2]],
+        "another time": [good[0], good[1].replace(b"event 1 ", b"event 2 "), good[2]],
+        "a line more": [good[0], good[1][:-1] + b"event 1 61 - 0\n\n", good[2]],
+        "a line less": [good[0], b"new\n" + good[1].split(b"\n")[1] + b"\n\n", good[2]],
+        "no answer": [good[0], b"\n", good[2]],
+        "a bad word": [good[0], good[1].replace(b"event 1", b"event x"), good[2]],
+        "any bytes": [good[0], bytes(range(11, 256)) + b"\n\n", good[2]],
+        "a carriage return": [good[0], good[1].replace(b"\n", b"\r\n", 1), good[2]],
+    }
+    for name, replies in changes.items():
+        number = 3 if name == "another answer" else 2
+        got = [] if name == "no answer" else ["  got: "]
+        cases.replies(
+            name, replies, schedule, 1, [f"action {number}, line {number + 7}: deliver ", "  wanted: ", *got], words
+        )
+    leading = good[1].replace(b"event 1 ", b"event  0001 ").replace(b"7631 0", b"7631  0")
+    cases.replies("zeros and spaces", [good[0], leading, good[2]], schedule, 0, ["agent 1: 3 calls agree"], words)
+    cases.replies(
+        "unsupported",
+        [good[0], b"unsupported\n\n"],
+        schedule,
+        0,
+        ["agent 1: 1 calls agree; action 2 is unsupported"],
+        words,
+    )
+    ends = {
+        "no reply": [],
+        "no reply to the last call": good[:2],
+        "half a reply": [good[0], good[1][:40]],
+        "a reply without its empty line": good[:2] + [good[2][:-1]],
+    }
+    for name, replies in ends.items():
+        cases.replies(name, replies, schedule, 3, ["the agent ended"], words)
+    cases.run("an agent that isn't there", ["false"], schedule, 3, [], words)
+    cases.run("no agent", None, schedule, 3, [], words)
+    if programs.IS_UNPROVED:
+        print("not run: a reply that is too long, over a program that was compiled with checks")
+    else:
+        cases.replies(
+            "a reply that is too long", [good[0], b"a" * 67_200_000], schedule, 1, ["the reply is too long"], words
+        )
+
+
+def states(cases):
+    path = os.path.join(checks.EXAMPLES, "a_partition_healed_by_push_pull")
+    turns = turns_of(path)
+    replies = [
+        reply for agent in turns for reply in text_of(agent, lambda p, g: without_nils(p) if p[:1] == b"\x02" else p)
+    ]
+    cases.replies("an empty slot more", replies, path + ".schedule", 0, ["calls agree"])
+
+
+def refused(cases):
+    path = os.path.join(cases.folder, "bad.schedule")
+    with open(path, "w") as file:
+        file.write("agent 61 4 4 512 8 keep\nfire 0 61 - 2\n")
+    cases.run("a bad line", ["cat"], path, 1, ["bad line 2 BadWord 5"])
+    ran = subprocess.run(
+        [checks.PROGRAM, "conform", path], stdin=subprocess.DEVNULL, capture_output=True, timeout=LIMIT
+    )
+    cases.count.check("nothing is written before that", ran.stdout == b"", ran.stdout)
+    cases.run("no file", ["cat"], os.path.join(cases.folder, "none"), 3, ["read fault"])
+    good = os.path.join(checks.EXAMPLES, "deploy_gossiped_twice.schedule")
+    cases.run("a bad agent", ["cat"], good, 2, ["--agent"], ["--agent", "x"])
+    cases.run("bad rules", ["cat"], good, 2, ["--rules"], ["--rules", "mine"])
+    cases.run("no such agent", ["cat"], good, 1, ["no agent 7"], ["--agent", "7"])
+
+
+def rules(cases):
+    path = os.path.join(checks.EXAMPLES, "a_disk_that_fails_in_a_merge")
+    turns = turns_of(path)
+    replies = text_of(turns[1])
+    said = ["agent 1: 1 calls agree; action 5 rests on an own rule"]
+    cases.replies("Serf's rules", replies, path + ".schedule", 0, said, ["--agent", "1", "--rules", "serf"])
+    said = [f"agent 1: {len(turns[1])} calls agree"]
+    cases.replies("all rules", replies, path + ".schedule", 0, said, ["--agent", "1", "--rules", "own"])
+
+
+def seeds(cases):
+    """Random schedules: an agent that agrees, one that doesn't, one that ends, and words that are refused."""
+    good = [sys.executable, PYTHON_AGENT]
+    for kind in ("mixed", "merges", "restarts", "queries", "devices", "gossip"):
+        said = ["2 seeds and ", " calls agree"]
+        cases.run(f"seeds, {kind}", good, "--random", 0, said, ["1-2", "--kind", kind, "--actions", "80"])
+    cases.run("one seed", good, "--random", 0, ["1 seeds and "], ["7", "--agents", "2", "--actions", "20"])
+    cases.run("Serf's rules on a seed", good, "--random", 0, ["1 seeds and "], ["9", "--rules", "serf"])
+    cases.run(
+        "a wrong agent",
+        [*good, "--wrong", "never_seen"],
+        "--random",
+        1,
+        ["seed ", " seeds and ", "agent ", "  wanted: ", "  got: "],
+        ["1-20"],
+    )
+    cases.run("no agent for a seed", ["false"], "--random", 3, ["seed 1: "], ["1-2"])
+    for word in ("x", "3-1", "1-", "-1", "1-2-3", "0-18446744073709551615"):
+        cases.run(f"seeds {word}", ["cat"], f"--random={word}", 2, ["--random"])
+    cases.run("seeds of no kind", ["cat"], "--random", 2, ["--kind"], ["1-2", "--kind", "mixd"])
+    cases.run("one agent of seeds", ["cat"], "--random", 2, ["--agent"], ["1-2", "--agent", "0"])
+    cases.run(
+        "seeds and a file",
+        ["cat"],
+        os.path.join(checks.EXAMPLES, "deploy_gossiped_twice.schedule"),
+        2,
+        ["--random"],
+        ["--random", "1"],
+    )
+    ran = subprocess.run([checks.PROGRAM, "conform"], stdin=subprocess.DEVNULL, capture_output=True, timeout=LIMIT)
+    cases.count.check("neither", (ran.returncode, ran.stdout) == (2, b""), ran)
+
+
+def shrinks(cases):
+    """Fewer calls: where they go, that they fail once more, that no single one can be left out, and agents that end."""
+    saved = os.path.join(cases.folder, "saved.schedule")
+    for name, kind in (
+        ("never_seen", "mixed"), ("merge_takes_first_of_slot", "merges"), ("ack_counts_twice", "queries")
+    ):
+        agent = [sys.executable, PYTHON_AGENT, "--wrong", name]
+        cases.run(
+            f"fewer calls, {name}",
+            agent,
+            "--random",
+            1,
+            ["shrunk to "],
+            ["1-60", "--kind", kind, "--shrink", "--save", saved],
+        )
+        cases.run(f"once more, {name}", agent, saved, 1, ["agent 0: action "])
+        cases.run(f"the right agent, {name}", [sys.executable, PYTHON_AGENT], saved, 0, ["calls agree"])
+        cases.count.check(
+            f"none too many, {name}", not fails_without_one(cases, agent, saved), "a call can be left out"
+        )
+    agent = [sys.executable, PYTHON_AGENT, "--wrong", "never_seen"]
+    cases.run(
+        "to standard error",
+        agent,
+        "--random",
+        1,
+        ["shrunk to ", "\nagent ", "\ninject ", "\nmerge 0 0 "],
+        ["1-60", "--shrink"],
+    )
+    example = os.path.join(checks.EXAMPLES, "deploy_gossiped_twice.schedule")
+    cases.run("of a schedule", agent, example, 1, ["shrunk to "], ["--shrink"])
+    cases.run("of an agent that agrees", [sys.executable, PYTHON_AGENT], example, 0, ["calls agree"], ["--shrink"])
+    cases.run("a folder", agent, example, 3, ["write fault"], ["--shrink", "--save", cases.folder])
+    cases.run("a file alone", agent, example, 2, ["--save"], ["--save", saved])
+    turns = turns_of(example[: -len(".schedule")])[1]
+    bad = [turns[0].text(), b"seen\n\n"]
+    cases.replies(
+        "ends at the first trial", bad, example, 1, ["don't fail by themselves"], ["--agent", "1", "--shrink"]
+    )
+    cases.replies(
+        "ends behind it",
+        bad * 2,
+        example,
+        1,
+        ["shrunk to 1 of 1 calls; then the agent ended"],
+        ["--agent", "1", "--shrink"],
+    )
+
+
+def fails_without_one(cases, agent, path):
+    """Whether a schedule still shows a wrong agent where some call is left out."""
+    with open(path) as file:
+        lines = file.read().splitlines(keepends=True)
+    less = os.path.join(cases.folder, "less.schedule")
+    for number, line in enumerate(lines):
+        if line.split()[0] in ("agent", "inject"):
+            continue
+        with open(less, "w") as file:
+            file.writelines(lines[:number] + lines[number + 1:])
+        if compare([less], agent)[0] != 0:
+            return True
+    return False
+
+
+PARTS = (examples, by_meaning, states, refused, rules, seeds, shrinks)
+
+
+def all_parts(count):
+    with tempfile.TemporaryDirectory() as folder:
+        cases = Cases(folder, count)
+        for part in PARTS:
+            part(cases)
+
+
+def main(words):
+    if words:
+        checks.PROGRAM = words[0]
+        return checks.run(all_parts)
+    return checks.over_program(all_parts)
+
+
+if __name__ == "__main__":
+    sys.exit(main(sys.argv[1:]))

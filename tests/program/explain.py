@@ -1,0 +1,303 @@
+"""`explain`: each trace with its reasons is taken apart again, and what the reasons say is held against the trace's
+other lines; the incident's last lines; ranges; bytes that could leave their place; what is refused.
+"""
+
+import os
+import re
+import sys
+
+sys.dont_write_bytecode = True
+sys.path.insert(0, os.path.dirname(os.path.dirname(os.path.abspath(__file__))))
+import checks
+from checks import ran, read
+
+REASON = re.compile(rb"(\d+) because ([\x20-\x7e]+)\Z")
+SEEDS = (1, 2, 3)
+ACTIONS = "150"
+AGENTS = b"agent 61 4 4 512 2 keep 2\nagent 62 4 4 512 2 keep 2\n"
+
+
+def quoted(text):
+    """A text as reasons quote it."""
+    front = text if len(text) <= 64 else text[:32]
+    inner = "".join(chr(byte) if 32 <= byte < 127 and chr(byte) not in '"\\' else f"\\x{byte:02x}" for byte in front)
+    return (f'"{inner}"' if len(text) <= 64 else f'"{inner}.." ({len(text)} bytes)').encode()
+
+
+def bytes_of(word):
+    return b"" if word == b"-" else bytes.fromhex(word.decode())
+
+
+def event_words(time, name, payload):
+    return b"event %s %s %s" % (time, quoted(name), quoted(payload))
+
+
+def actions_of(schedule):
+    """The actions of a schedule, each as its words, and the agents' words."""
+    lines = [line.split() for line in schedule.split(b"\n") if line.split() and not line.startswith(b"#")]
+    return [line for line in lines if line[0] != b"agent"], [line for line in lines if line[0] == b"agent"]
+
+
+def turns_of(text):
+    """By each action's number its lines of the trace, and behind them its reasons; None where a line is elsewhere."""
+    turns = {}
+    for line in text.split(b"\n")[:-1]:
+        number = int(line.split(b" ", 1)[0])
+        reason = REASON.match(line)
+        lines, reasons = turns.setdefault(number, ([], []))
+        if number != max(turns) or (reasons and not reason):
+            return None
+        (reasons if reason else lines).append(reason[2] if reason else line.split()[1:])
+    return turns
+
+
+def plain(text):
+    return b"".join(line + b"\n" for line in text.split(b"\n")[:-1] if not REASON.match(line))
+
+
+def decoded(packets):
+    """What `decode` says of each packet, as lines of words; None of one that is refused, or is empty."""
+    said = ran(["decode"], b"".join(packet + b"\n" for packet in packets if packet != b"-"))[1].split(b"\n\n")
+    rest = iter([line.split() for line in block.split(b"\n") if line] for block in said)
+    found = [next(rest) if packet != b"-" else None for packet in packets]
+    return [lines if lines and lines[0][0] != b"refused" else None for lines in found]
+
+
+def carried(lines):
+    """The events that a push/pull carries, in its order: their slots, times, names and payloads."""
+    found, slot, time = [], None, None
+    for words in lines:
+        if words[0] == b"slot":
+            slot, time = words[1], words[2]
+        elif words[0] == b"event":
+            found.append((slot, time, bytes_of(words[1]), bytes_of(words[2])))
+    return found
+
+
+class Story:
+    """A schedule with its trace and its reasons, and what was handed out up to an action."""
+
+    def __init__(self, schedule, text):
+        self.actions, agents = actions_of(schedule)
+        self.names = [bytes_of(words[1]) for words in agents]
+        self.turns = turns_of(text)
+        self.sent = decoded([line[2] for lines, _ in self.turns.values() for line in lines if line[0] == b"sent"])
+
+    def handed(self, number):
+        """The events that an action handed out: agent, time, name, payload."""
+        lines = self.turns[number][0]
+        return [(line[1], line[2], bytes_of(line[3]), bytes_of(line[4])) for line in lines if line[0] == b"event"]
+
+    def is_seen(self, number, agent, reason, event):
+        """Whether a reason names an action, no later, that handed this agent this event."""
+        says = quoted(self.names[int(agent)]) + b" was handed " + event_words(*event) + rb" at action "
+        at = reason.removeprefix(says)
+        return at != reason and at.isdigit() and int(at) <= number and (agent, *event) in self.handed(int(at))
+
+    def merge_fault(self, number):
+        """What is wrong with the reasons of a merge, or None: each event that it carried has a line and a verdict."""
+        _, agent, packet, *_ = self.actions[number - 1]
+        wanted, reasons, new = carried(self.sent[int(packet)]), self.turns[number][1], []
+        if wanted == []:
+            return None if reasons == [b"the state carries no event"] else reasons
+        if len(wanted) != len(reasons):
+            return f"{len(reasons)} lines"
+        for (slot, *event), reason in zip(wanted, reasons):
+            head = b"slot %s brings %s: " % (slot, event_words(*event))
+            verdict = reason.removeprefix(head)
+            if verdict == b"new, and handed out":
+                new.append((agent, *event))
+            elif not (verdict != reason and self.verdict_holds(number, agent, event, verdict)):
+                return reason
+        return None if new == self.handed(number) else "hand-outs"
+
+    def verdict_holds(self, number, agent, event, verdict):
+        numbers = [int(word) for word in re.findall(rb"(?<![\w\"])\d+", verdict)]
+        time = int(event[0])
+        if verdict.startswith(b"below the least time "):
+            return time < numbers[0]
+        if verdict.startswith(b"too old: "):
+            return numbers[2] - numbers[1] > time == numbers[0]
+        if verdict.startswith(b"too many of its time: "):
+            return numbers[1] == time
+        return verdict.startswith(b"seen: ") and self.is_seen(number, agent, verdict.removeprefix(b"seen: "), event)
+
+
+def taken_apart(count, name, schedule):
+    """The trace stands in it as it is, and behind each action's lines at least one reason."""
+    status, text, said = ran(["explain"], schedule)
+    traced = ran(["replay"], schedule)
+    count.check(f"{name}: its trace", (status, plain(text), said) == traced, (status, said))
+    turns = turns_of(text)
+    if status == 0:
+        numbers = list(range(1, len(actions_of(schedule)[0]) + 1))
+        count.check(
+            f"{name}: a reason for each action",
+            turns is not None and list(turns) == numbers and all(reasons for _, reasons in turns.values()),
+        )
+    return Story(schedule, text) if status == 0 and turns else None
+
+
+def event_in(lines):
+    """The event that a packet is: its time, name and payload."""
+    fields = {words[0]: words[1] for words in lines[1:]}
+    return fields[b"LTime"], bytes_of(fields[b"Name"]), bytes_of(fields[b"Payload"])
+
+
+def what_is_said(count, name, story):
+    """What was seen was handed out before, and a merge has its verdicts."""
+    seen = merges = 0
+    for number, words in enumerate(story.actions, 1):
+        lines, reasons = story.turns[number]
+        answer = lines[0]
+        if words[0] == b"deliver" and answer == [b"ignored", b"Seen"] and b" was handed " in reasons[0]:
+            event = event_in(story.sent[int(words[2])])
+            count.check(
+                f"{name}: action {number} was seen", story.is_seen(number - 1, words[1], reasons[0], event), reasons
+            )
+            seen += 1
+        if words[0] == b"merge" and answer == [b"merged"]:
+            fault = story.merge_fault(number)
+            count.check(f"{name}: action {number} merges", fault is None, fault)
+            merges += 1
+    return seen, merges
+
+
+def examples(count):
+    names = checks.names_in(checks.EXAMPLES)
+    count.check("ten examples", len(names) >= 10)
+    for name in names:
+        story = taken_apart(count, name, read("examples", name + ".schedule"))
+        if story:
+            what_is_said(count, name, story)
+
+
+def random_schedules(count):
+    seen = merges = 0
+    for kind in checks.KINDS:
+        for seed in SEEDS:
+            schedule = ran(["random", str(seed), "--kind", kind, "--actions", ACTIONS])[1]
+            story = taken_apart(count, f"{kind} {seed}", schedule)
+            if story:
+                some = what_is_said(count, f"{kind} {seed}", story)
+                seen, merges = seen + some[0], merges + some[1]
+    count.check("some were seen, and some merged", seen >= 30 and merges >= 30, (seen, merges))
+
+
+def incident(count):
+    """The page of the incident has the last lines as they are, and so has a file; its pictures are the program's."""
+    page = read("examples", "incident", "README.md").decode()
+    for name in ("as_flushed", "as_serf_kept"):
+        schedule = ran(["write"], read("examples", "incident", name + ".written"))[1]
+        story = taken_apart(count, name, schedule)
+        if story:
+            what_is_said(count, name, story)
+        at = 1 + next(place for place, words in enumerate(actions_of(schedule)[0]) if words[0] == b"restart")
+        status, text, said = ran(["explain", "--agent", "1", "--from", str(at)], schedule)
+        count.check(
+            f"{name}: the last lines stand in a file", text == read("examples", "incident", name + ".reasons"), text
+        )
+        shown = "".join("    " + line + "\n" for line in text.decode().split("\n")[:-1])
+        count.check(f"{name}: its picture", ran(["draw"], schedule)[1] == read("examples", "incident", name + ".svg"))
+        count.check(
+            f"{name}: the last lines stand in the page", (status, said) == (0, b"") and shown and shown in page, text
+        )
+
+
+def partition(count):
+    """The schedule of the other night hands out what its log has; its picture is what the program draws."""
+    schedule = ran(["write"], read("examples", "partition", "as_it_ran.written"))[1]
+    story = taken_apart(count, "partition", schedule)
+    if story:
+        what_is_said(count, "partition", story)
+    count.check("partition: its picture", ran(["draw"], schedule)[1] == read("examples", "partition", "as_it_ran.svg"))
+    names = [bytes.fromhex(line.split()[1].decode()) for line in schedule.split(b"\n") if line.startswith(b"agent ")]
+    handed = re.findall(rb"^\d+ event (\d+) (\d+) (\w+) (\w+) 0$", ran(["replay"], schedule)[1], re.M)
+    said = sorted(
+        b"event %s %s %s %s" % (names[int(agent)], time, *(bytes.fromhex(word.decode()) for word in (name, payload)))
+        for agent, time, name, payload in handed
+    )
+    log = sorted(read("examples", "partition", "handlers.log").split(b"\n")[:-1])
+    count.check("partition: the schedule hands out what the log has", said == log, said)
+
+
+def ranges(count):
+    schedule = read("examples", "deploy_gossiped_twice.schedule")
+    status, whole, _ = ran(["explain"], schedule)
+    actions = actions_of(schedule)[0]
+    actor = {number: words[1] if words[0] != b"inject" else None for number, words in enumerate(actions, 1)}
+    cases = [
+        (["--from", "2"], lambda n: n >= 2),
+        (["--to", "2"], lambda n: n <= 2),
+        (["--from", "2", "--to", "2"], lambda n: n == 2),
+    ]
+    cases += [
+        (["--agent", "1"], lambda n: actor[n] == b"1"),
+        (["--agent", "1", "--from", "3"], lambda n: actor[n] == b"1" and n >= 3),
+        (["--agent", "9"], lambda n: False),
+    ]
+    for words, is_shown in cases:
+        wanted = b"".join(line + b"\n" for line in whole.split(b"\n")[:-1] if is_shown(int(line.split()[0])))
+        count.check(f"range {words}", ran(["explain", *words], schedule) == (0, wanted, b""))
+    said = b"nothing to show: the schedule has %d actions\n" % len(actions)
+    count.check("a range behind the end", ran(["explain", "--from", "100"], schedule) == (0, b"", said))
+    for words in (["--agent", "x"], ["--from", "-1"], ["--to", "18446744073709551616"]):
+        status, text, _ = ran(["explain", *words], schedule)
+        count.check(f"bad words {words}", (status, text) == (2, b""))
+
+
+def reasons_of(schedule, number):
+    return turns_of(ran(["explain"], schedule)[1])[number][1]
+
+
+def any_bytes(count):
+    """Names and payloads of any bytes stay between their quotes."""
+    name, payload = bytes(range(48)), b'"\n9 because \x1b[2J\\' + bytes(range(0x7F, 0xA0))
+    schedule = b"agent 0a2220626563617573652031 4 4 512 2 keep\nfire 0 %s %s 0\ndeliver 0 0 0\n" % (
+        name.hex().encode(), payload.hex().encode()
+    )
+    story = taken_apart(count, "any bytes", schedule)
+    if story:
+        count.check("any bytes are seen", what_is_said(count, "any bytes", story)[0] == 1)
+    long = b"fire 0 %s - 0\ndeliver 1 0 0\ndeliver 1 0 0\n" % (b"41" * 300)
+    wanted = b'"b" was handed event 1 "%s.." (300 bytes) "" at action 2' % (b"A" * 32)
+    count.check("a long name", reasons_of(AGENTS + long, 3) == [wanted])
+
+
+def said_rows(count):
+    """What is said where nothing else in the trace tells it."""
+    fires = b"fire 0 61 %s 0\n" * 9 % tuple(b"%02x" % n for n in range(9))
+    for name, schedule, number, wanted in (
+        (
+            "too old",
+            AGENTS + fires + b"deliver 1 8 0\ndeliver 1 0 0\n",
+            11,
+            b'event 1 "a" "\\x00": time 1 is more than 4 times below the event clock 10',
+        ),
+        ("no agent", AGENTS + b"fire 7 61 - 0\n", 1, b"no agent has the number 7: agents count from 0"),
+        (
+            "no packet",
+            AGENTS + b"deliver 0 3 0\n",
+            1,
+            b"no packet has the number 3: so many were sent, counted from 0: 0",
+        ),
+        (
+            "too large",
+            AGENTS + b"fire 0 61 %s 0\n" % (b"41" * 600),
+            1,
+            b"name and payload have 601 bytes together, and the packet 631; at most 512 may be fired",
+        ),
+    ):
+        got = reasons_of(schedule, number)
+        count.check(name, got == [wanted], got)
+
+
+def refusals(count):
+    for schedule in (AGENTS + b"deliver 0\n", b"fire\n", AGENTS + b"agent 61 4 4 512 2 keep\n"):
+        wanted = ran(["replay"], schedule)
+        count.check(f"refused {schedule[-20:]}", ran(["explain"], schedule) == wanted and wanted[0] == 1, wanted)
+    count.check("a file that is not there", ran(["explain", "/nowhere/at/all"]) == (3, b"", b"read fault\n"))
+
+
+if __name__ == "__main__":
+    sys.exit(checks.over_program(examples, random_schedules, incident, partition, ranges, any_bytes, said_rows, refusals))

@@ -1,0 +1,173 @@
+"""`random`: each kind's first seeds, replayed.
+
+Of each seed the program writes the same bytes twice, which are those of this version (DIGESTS). `replay` takes them and
+answers each action, and there are as many actions as were asked for. The largest schedule ends below 16 MiB, and takes
+few processor seconds. Bad words of a command line are refused. With `--rules serf` no turn of a trace rests on a rule
+of this project's own, and the median of the actions that are left is printed.
+
+    tests/program/random_schedules.py [--digests]
+
+--digests prints the digests as they are now: another version of the generator gets another number, and new ones.
+"""
+
+import hashlib
+import os
+import re
+import resource
+import statistics
+import subprocess
+import sys
+
+sys.dont_write_bytecode = True
+sys.path.insert(0, os.path.dirname(os.path.dirname(os.path.abspath(__file__))))
+import checks
+
+SEEDS = range(1, 11)
+ACTIONS = 120
+
+# How many processor seconds a schedule of the greatest size may take.
+MAX_SECONDS = 10
+
+# Of each kind the digest of the schedules of SEEDS, one behind another, at version 2.
+DIGESTS = {
+    "mixed": "b9cd228fd85d35cb",
+    "tiny": "4eb4246ba44a8d15",
+    "merges": "44ed1e3aca2c174d",
+    "restarts": "b779bb902f567561",
+    "devices": "2976f978ba47070a",
+    "injections": "650d602e095bf565",
+    "queries": "b8da9c4e46cc326b",
+    "limits": "776d2258f6ac2953",
+    "exhaustion": "ee31bd2038c03e7f",
+    "per-time": "90e0b6c7d503c3a2",
+    "compactions": "efdfd2cf3b218aad",
+    "gossip": "7c76b8d8aab82291",
+}
+
+# Of each kind the seeds whose schedules keep to Serf's rules here.
+COMMON_SEEDS = range(1, 21)
+
+# The answers that rest on a rule of this project's own (docs/DECISIONS.md), and a restart with a tail.
+OWN_ANSWER = re.compile(
+    rb"^\d+ (?:ignored (?:Oversize|TimeFull)|refused (?:Wire|Exhausted|RespondersFull|Stopped|SinkFault)"
+    rb"|broken|compacted)\b",
+    re.M,
+)
+TAIL = re.compile(rb"^restart \d+ [^-\n]", re.M)
+
+# Words that are refused, with their status.
+REFUSED = (
+    (["random"], 2),
+    (["random", "x"], 2),
+    (["random", "18446744073709551616"], 2),
+    (["random", "1", "--kind", "mixd"], 2),
+    (["random", "1", "--actions", "-1"], 2),
+    (["random", "1", "2"], 2),
+    (["random", "1", "--rules", "mine"], 2),
+)
+
+
+def ran(words, given=b""):
+    return subprocess.run([checks.PROGRAM, *words], input=given, capture_output=True, timeout=checks.LIMIT)
+
+
+def schedule_of(seed, kind, *words):
+    return ran(["random", str(seed), "--kind", kind, "--actions", str(ACTIONS), *words])
+
+
+def actions_in(text):
+    return sum(not line.startswith((b"#", b"agent ")) for line in text.splitlines())
+
+
+def wrong_seed(seed, kind, made, again):
+    """What is wrong with the schedule of a seed, or None."""
+    if made.returncode or made.stderr:
+        return f"status {made.returncode}: {made.stderr}"
+    if made.stdout != again.stdout:
+        return "it has other bytes the second time"
+    if made.stdout.split(b"\n")[
+        0
+    ] != f"# random {seed} --kind {kind} --agents 0 --actions {ACTIONS} version 2".encode():
+        return "its first line doesn't say what was asked for"
+    if actions_in(made.stdout) != ACTIONS:
+        return f"it has {actions_in(made.stdout)} actions"
+    replayed = ran(["replay"], made.stdout)
+    if replayed.returncode or replayed.stderr:
+        return f"replay: status {replayed.returncode}: {replayed.stderr}"
+    answered = {line.split(b" ")[0] for line in replayed.stdout.splitlines()}
+    return None if len(answered) == ACTIONS else "replay answers fewer actions"
+
+
+def wrong_common(seed, kind, made):
+    """What is wrong with the schedule of a seed that keeps to Serf's rules, or None."""
+    if made.returncode or made.stderr:
+        return f"status {made.returncode}: {made.stderr}"
+    if made.stdout.split(b"\n")[
+        0
+    ] != f"# random {seed} --kind {kind} --agents 0 --actions {ACTIONS} --rules serf version 2".encode():
+        return "its first line doesn't say what was asked for"
+    if actions_in(made.stdout) > ACTIONS:
+        return f"it has {actions_in(made.stdout)} actions"
+    replayed = ran(["replay"], made.stdout)
+    if replayed.returncode or replayed.stderr:
+        return f"replay: status {replayed.returncode}: {replayed.stderr}"
+    own = OWN_ANSWER.search(replayed.stdout) or TAIL.search(made.stdout)
+    return f"an own rule: {own[0]}" if own else None
+
+
+def common_schedules(count):
+    for kind in checks.KINDS:
+        made = {seed: schedule_of(seed, kind, "--rules", "serf") for seed in COMMON_SEEDS}
+        left = statistics.median(actions_in(schedule.stdout) for schedule in made.values())
+        print(f"{kind}: {left:g} of {ACTIONS} actions keep to Serf's rules in the median")
+        for seed, schedule in made.items():
+            fault = wrong_common(seed, kind, schedule)
+            count.check(f"{kind} {seed}, Serf's rules", not fault, fault)
+
+
+def processor_seconds():
+    used = resource.getrusage(resource.RUSAGE_CHILDREN)
+    return used.ru_utime + used.ru_stime
+
+
+def largest(kind):
+    """What is wrong with the largest schedule of a kind, or None."""
+    began = processor_seconds()
+    made = ran(["random", "1", "--kind", kind, "--agents", "4", "--actions", "100000000"])
+    seconds = processor_seconds() - began
+    print(f"{kind}: {len(made.stdout)} bytes and {actions_in(made.stdout)} actions in {seconds:.2f} processor seconds")
+    if made.returncode:
+        return f"status {made.returncode}: {made.stderr}"
+    if not checks.LONGEST - 200_000 < len(made.stdout) <= checks.LONGEST:
+        return f"it has {len(made.stdout)} bytes"
+    return None if seconds < MAX_SECONDS else f"it took {seconds:.1f} processor seconds"
+
+
+def first_seeds(count):
+    for kind in checks.KINDS:
+        digest = hashlib.sha256()
+        for seed in SEEDS:
+            made = schedule_of(seed, kind)
+            digest.update(made.stdout)
+            fault = wrong_seed(seed, kind, made, schedule_of(seed, kind))
+            count.check(f"{kind} {seed}", not fault, fault)
+        short = digest.hexdigest()[:16]
+        if "--digests" in sys.argv:
+            print(f'    "{kind}": "{short}",')
+        count.check(f"{kind}, its bytes", DIGESTS.get(kind) == short, f"digest {short}")
+
+
+def largest_schedules(count):
+    for kind in checks.KINDS:
+        fault = largest(kind)
+        count.check(f"{kind}, the largest", not fault, fault)
+
+
+def refused(count):
+    for words, status in REFUSED:
+        got = ran(words)
+        count.check(" ".join(words), (got.returncode, got.stdout) == (status, b""), f"status {got.returncode}")
+
+
+if __name__ == "__main__":
+    sys.exit(checks.over_program(first_seeds, largest_schedules, common_schedules, refused))

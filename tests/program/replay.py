@@ -1,0 +1,246 @@
+"""`replay`: each example beside its trace, refused schedules, long ones, progress on a terminal, memory, and summaries.
+
+The worked rows are in rows.py, and `replay --stream` in stream.py.
+"""
+
+import os
+import pty
+import re
+import resource
+import subprocess
+import sys
+import tempfile
+import threading
+import time
+
+sys.dont_write_bytecode = True
+sys.path.insert(0, os.path.dirname(os.path.dirname(os.path.abspath(__file__))))
+import checks
+import programs
+
+# Schedules, the number of the first bad line, and what is wrong with it.
+BAD_LINES = (
+    # (nothing is written before a bad line)
+    (b"agent 61 4 4 512 8 keep\nfire 0 78 - 0\nfirst\n", 3, b"UnknownWord"),
+    (b"# four words\nagent 61 x 4 512 8 keep\n", 2, b"BadWord 3"),
+    (b"agent 61 0 4 512 8 keep\n", 1, b"BadConfig"),
+    (b"agent 61 4 4 9217 8 keep\n", 1, b"BadConfig"),
+    (b"agent 61 4 4 512 8 keep 0\n", 1, b"BadConfig"),
+    (b"agent - 4 4 512 8 keep\n", 1, b"BadConfig"),
+    (b"agent 61 4 4 512 8 keep x\n", 1, b"BadWord 8"),
+    (b"agent 61 4 4 512 8 keep 2 2\n", 1, b"WordCount"),
+    (b"agent 61 4 4 512 8 both\n", 1, b"BadWord 7"),
+    (b"agent 6 x 4 512 8 keep\n", 1, b"BadWord 2"),
+    (b"agent 4a 4 4 512 8 keep\nagent 4A 4 4 512 8 ignore\n", 2, b"NameTwice"),
+    (b"compact 0\nagent 61\n", 2, b"LateAgent"),
+    (b"fire 0 78 - 0\r\n", 1, b"BadWord 5"),
+    (b"\r\n", 1, b"UnknownWord"),
+    (b" # x\n", 1, b"UnknownWord"),
+    (b"fire 0 78 - 0 # x\n", 1, b"WordCount"),
+    (b"fire 0 78 - 00\n", 1, b"BadWord 5"),
+    (b"fire +0 78 - 0\n", 1, b"BadWord 2"),
+    (b"fire 18446744073709551616 78 - 0\n", 1, b"BadWord 2"),
+    (b"fire 0 786 - 0\n", 1, b"BadWord 3"),
+    (b"fire\t0 78 - 0\n", 1, b"UnknownWord"),
+    (b"Fire 0 78 - 0\n", 1, b"UnknownWord"),
+    (b"deliver 0 0\n", 1, b"WordCount"),
+    (b"\n# fire\n\n  \ndeliver 0 0 -1", 5, b"BadWord 4"),
+    (b"deliver 0 0 0\n\xff\xfe", 2, b"UnknownWord"),
+    (b"state\n", 1, b"WordCount"),
+    (b"state a\n", 1, b"BadWord 2"),
+    (b"merge 0 0 Join\n", 1, b"BadWord 4"),
+    (b"merge 0 0\n", 1, b"WordCount"),
+    (b"query 0 0 1 78 - 5\n", 1, b"WordCount"),
+    (b"query 0 0 4294967296 78 - 5 0\n", 1, b"BadWord 4"),
+    (b"query 0 0 1 78 x 5 0\n", 1, b"BadWord 6"),
+    (b"query 0 0 1 78 - 9223372036854775808 0\n", 1, b"BadWord 7"),
+    (b"query 0 0 1 78 - 5 4\n", 1, b"BadWord 8"),
+    (b"query 0 0 1 78 - 5 0 00 0\n", 1, b"BadWord 10"),
+    (b"query 0 0 1 78 - 5 4 0\n", 1, b"BadWord 8"),
+    (b"respond 0 0 0\n", 1, b"WordCount"),
+    (b"respond 0 0 x -\n", 1, b"BadWord 4"),
+    (b"restart 0\n", 1, b"WordCount"),
+    (b"restart 0 0\n", 1, b"BadWord 3"),
+    (b"break 0 append 0\n", 1, b"BadWord 4"),
+    (b"break 0 replace 1\n", 1, b"BadWord 3"),
+    (b"break 0 flush\n", 1, b"WordCount"),
+    (b"inject\n", 1, b"WordCount"),
+    (b"inject 0g\n", 1, b"BadWord 2"),
+    (b"close 0\n", 1, b"WordCount"),
+    (b"close 0 -\n", 1, b"BadWord 3"),
+    (b"save 0 0\n", 1, b"WordCount"),
+    (b"save -\n", 1, b"BadWord 2"),
+    (b"compact\n", 1, b"WordCount"),
+    (b"compact 00x\n", 1, b"BadWord 2"),
+)
+
+
+def examples(count):
+    names = checks.names_in(checks.EXAMPLES)
+    count.check("ten examples", len(names) >= 10)
+    for name in names:
+        path = os.path.join(checks.EXAMPLES, name)
+        trace, schedule = checks.read(path + ".trace"), checks.read(path + ".schedule")
+        count.exactly(name, ["replay", path + ".schedule"], 0, trace, b"")
+        count.exactly(name + " on standard input", ["replay"], 0, trace, b"", schedule)
+        count.exactly(name + " as `-`", ["replay", "-"], 0, trace, b"", schedule)
+
+
+def bad_lines(count):
+    for given, line, cause in BAD_LINES:
+        said = b"bad line %d %s\n" % (line, cause)
+        count.exactly(f"the schedule {given}", ["replay"], 1, b"", said, given)
+
+
+def faults(count):
+    longest = checks.LONGEST
+    count.exactly("an empty schedule", ["replay"], 0, b"", b"")
+    count.exactly("the longest text", ["replay"], 0, b"", b"", b"\n" * longest)
+    count.exactly("the longest line", ["replay"], 1, b"", b"bad line 1 UnknownWord\n", b"x" * longest)
+    count.exactly("the longest comment", ["replay"], 0, b"", b"", b"#" + b"x" * (longest - 1))
+    count.exactly("one byte more", ["replay"], 1, b"", b"too long\n", b"\n" * (longest + 1))
+    count.exactly("one byte more, with a fault before it", ["replay"], 1, b"", b"too long\n", b"!" + b"\n" * longest)
+    count.exactly("a missing file", ["replay", os.path.join(checks.TOP, "no_such_file")], 3, b"", b"read fault\n")
+    count.exactly("a folder", ["replay", checks.TOP], 3, b"", b"read fault\n")
+
+
+def on_a_terminal(words):
+    """The status and the output of a run whose standard error is a terminal, and what that shows."""
+    ours, theirs = pty.openpty()
+    shown = []
+
+    def show():
+        try:
+            while some := os.read(ours, 1000):
+                shown.append(some)
+        except OSError:
+            pass
+
+    reader = threading.Thread(target=show)
+    reader.start()
+    ran = subprocess.run([checks.PROGRAM, *words], stdout=subprocess.PIPE, stderr=theirs, timeout=600)
+    os.close(theirs)
+    reader.join(60)
+    os.close(ours)
+    return ran.returncode, ran.stdout, b"".join(shown)
+
+
+def short_run_on_a_terminal(count):
+    """A run of less than a second shows no progress, on a terminal either."""
+    path = os.path.join(checks.EXAMPLES, "deploy_gossiped_twice.schedule")
+    trace = checks.read("examples", "deploy_gossiped_twice.trace")
+    got = on_a_terminal(["replay", path])
+    count.check("a short run on a terminal", got == (0, trace, b""), f"got {got}")
+
+
+def long_schedule(actions):
+    """A schedule of so many actions, most of which merge a state of many slots."""
+    slots = 20_000
+    state = b"\x02\x81\xa6Events\xdc" + slots.to_bytes(2, "big") + b"\xc0" * slots
+    return b"agent 61 4 4 512 8 keep\ninject " + state.hex().encode() + b"\n" + b"merge 0 0 sync\n" * (actions - 1)
+
+
+def long_run_on_a_terminal(count):
+    """A longer one tells once a second how many actions are done, on a terminal alone, and gives the same trace."""
+    actions, took = 4096, 0
+    while took < 3 and actions < 1_000_000:
+        actions *= 2
+        schedule = long_schedule(actions)
+        before = time.monotonic()
+        piped = checks.ran(["replay"], schedule)
+        took = time.monotonic() - before
+    count.check("a long run", piped[::2] == (0, b""), piped[::2])
+    count.check("its trace", piped[1].endswith(b"\n%d merged\n" % actions), piped[1][-100:])
+    with tempfile.NamedTemporaryFile() as file:
+        file.write(schedule)
+        file.flush()
+        status, out, shown = on_a_terminal(["replay", file.name])
+    lines = shown.decode("ascii", "replace").splitlines()
+    told = [re.fullmatch(r"(\d+) of (\d+) actions", line) for line in lines]
+    done = [int(line[1]) for line in told if line]
+    well = all(told) and all(int(line[2]) == actions for line in told) and all(number % 1024 == 0 for number in done)
+    count.check(
+        "its progress on a terminal",
+        lines and well and done == sorted(set(done)),
+        f"{actions} actions, shown {lines[:5]}",
+    )
+    count.check(
+        "its trace on a terminal", (status, out) == (0, piped[1]), f"{status}, {len(out)} bytes of {len(piped[1])}"
+    )
+
+
+def peak_kib(schedule):
+    """The peak of the resident set of a run that passes, in KiB, or what was wrong with it."""
+    with tempfile.TemporaryFile() as given:
+        given.write(schedule)
+        given.seek(0)
+        child = subprocess.Popen([checks.PROGRAM, "replay"], stdin=given, stdout=subprocess.DEVNULL)
+        _, status, usage = os.wait4(child.pid, 0)
+    child.returncode = os.waitstatus_to_exitcode(status)
+    return usage.ru_maxrss if status == 0 else f"status {status}"
+
+
+def memory_of_agents(count):
+    """Agents of 512 slots that do nothing take at most 1 KiB each, their lines and the program included.
+
+    There are so many that what the system tells is not the peak of this interpreter, as it is of a small run.
+    """
+    agents = 50_000
+    peak = peak_kib(b"".join(b"agent %08x 512 512 512 8 keep\n" % number for number in range(agents)))
+    count.check(f"{agents} agents that do nothing", isinstance(peak, int) and peak <= agents, f"{peak} KiB")
+
+
+def no_memory(count):
+    """Where memory is short, nothing is written but the fault."""
+    schedule = b"agent 61 4 4 512 8 keep\n" + b"fire 0 78 - 0\n" * 100_000
+    some = 12 * 1024 * 1024
+    ran = subprocess.run(
+        [checks.PROGRAM, "replay"],
+        input=schedule,
+        capture_output=True,
+        timeout=600,
+        preexec_fn=lambda: resource.setrlimit(resource.RLIMIT_AS, (some, some)),
+    )
+    count.check(
+        "a run without memory", (ran.returncode, ran.stdout, ran.stderr) == (3, b"", b"no memory\n"), str(ran)[-300:]
+    )
+    status, out, err = checks.ran(["replay"], schedule)
+    count.check(
+        "the same run with memory", (status, err) == (0, b"") and out.count(b" fired ") == 100_000, (status, err)
+    )
+
+
+def summaries(count):
+    """What `--summary` says in place of a trace."""
+    schedule = os.path.join(checks.EXAMPLES, "deploy_gossiped_twice.schedule")
+    said = (
+        b"actions 3\n"
+        b"answered fired: 1, last at action 1\n"
+        b"answered new: 1, last at action 2\n"
+        b"answered ignored Seen: 1, last at action 3\n"
+        b"agent 0 was handed: 1, last at action 1\n"
+        b"agent 1 was handed: 1, last at action 2\n"
+        b"event 1 6465706c6f79 7631 was handed out: 2, last at action 2\n"
+    )
+    count.exactly("a summary", ["replay", "--summary", schedule], 0, said, b"")
+    count.exactly("and on standard input", ["replay", "--summary", "-"], 0, said, b"", checks.read(schedule))
+    count.exactly("of nothing", ["replay", "--summary"], 0, b"actions 0\n", b"")
+    count.exactly("of a bad line", ["replay", "--summary"], 1, b"", b"bad line 1 UnknownWord\n", b"fires 0\n")
+
+
+PARTS = (examples, bad_lines, faults, short_run_on_a_terminal, summaries)
+
+# What looks at how long a run takes and how much memory it has: a program that is compiled unproved has checks in it.
+PROVED_ALONE = (long_run_on_a_terminal, memory_of_agents, no_memory)
+
+
+def main():
+    if programs.IS_UNPROVED:
+        for part in PROVED_ALONE:
+            print(f"not run: {part.__name__}, over a program that was compiled with checks")
+        return checks.over_program(*PARTS)
+    return checks.over_program(*PARTS, *PROVED_ALONE)
+
+
+if __name__ == "__main__":
+    sys.exit(main())

@@ -1,0 +1,151 @@
+"""The worked rows: each schedule of tests/rows, by `replay`, and its trace, and those of the examples, by `judge`.
+
+    tests/program/rows.py [NAME..]
+
+With names, those rows alone are run, as ./serf-replay runs them, proved or not.
+
+NAME.trace is the whole trace that is wanted; NAME.fault the line on standard error of a schedule that is
+refused; NAME.lines facts about the trace: `N WORDS` is a line of it, `!N WORD` says that action N has no line
+with this second word, and `=N COUNT` that action N has so many lines. A row has one of the three.
+
+No schedule hands an agent one event or one query twice: the trace of each row and each example is judged too
+(`judge`). It is proved that `replay` writes the trace of the run, what `judge` reads in it, and that it finds the first
+repeat there. That it takes the trace's events for events is seen with one line of them said again: this is a repeat.
+"""
+
+import os
+import re
+import subprocess
+import sys
+
+sys.dont_write_bytecode = True
+sys.path.insert(0, os.path.dirname(os.path.dirname(os.path.abspath(__file__))))
+import checks
+
+ENDINGS = ("trace", "fault", "lines")
+
+# How the line begins that ./serf-replay says where the program isn't proved.
+UNPROVED = "serf-replay: this program is compiled without its proofs"
+
+# What a fact may be, and the second words that `!` may have.
+FACT = re.compile(r"(?P<line>\d+) .+|!(?P<absent>\d+) (?P<word>\S+)|=(?P<counted>\d+) \d+")
+ABSENT = ("sent", "event", "handed")
+
+# What `judge` says of a trace without a repeat. A trace has no lines of firings.
+NO_REPEAT = "Once: holds\nQueryOnce: holds\nFired: not asked: no fired lines\nLater: not asked: no fired lines\n"
+
+
+def actions_in(schedule):
+    """How many actions a schedule has: its lines but for agents, comments and empty ones."""
+    lines = [line.split() for line in schedule.split("\n") if not line.startswith("#")]
+    return sum(words[0] != "agent" for words in lines if words)
+
+
+def misshapen(fact, actions):
+    """What is wrong with a fact of a schedule with so many actions, or None."""
+    found = FACT.fullmatch(fact)
+    if not found:
+        return f"{fact!r} is no fact"
+    number = int(found["line"] or found["absent"] or found["counted"])
+    if not 1 <= number <= actions:
+        return f"{fact!r} names action {number} of {actions}"
+    if found["absent"] and found["word"] not in ABSENT:
+        return f"{fact!r}: the word is to be one of {', '.join(ABSENT)}"
+    return None
+
+
+def is_kept(fact, lines):
+    if fact.startswith("="):
+        number, count = fact[1:].split()
+        return sum(line.split(" ")[0] == number for line in lines) == int(count)
+    if fact.startswith("!"):
+        return fact[1:].split() not in [line.split(" ")[:2] for line in lines]
+    return fact in lines
+
+
+def wrong_facts(path, trace):
+    """What is wrong with the facts of a row, or None."""
+    facts = [fact for fact in checks.text_of(path + ".lines").splitlines() if fact]
+    if not facts:
+        return "there are no facts"
+    actions = actions_in(checks.text_of(path + ".schedule"))
+    shapes = [misshapen(fact, actions) for fact in facts]
+    missing = [f"{fact!r} does not hold" for fact in facts if not is_kept(fact, trace.splitlines())]
+    return "; ".join([*filter(None, shapes), *missing][:3])[:300] or None
+
+
+def said_by(command, given, program=checks.PROGRAM):
+    """The status of a command on a text, and what it writes on standard output and on standard error."""
+    ran = subprocess.run([program, command], input=given.encode("ascii"), capture_output=True, timeout=checks.LIMIT)
+    lines = ran.stderr.decode("ascii", "replace").splitlines(True)
+    err = "".join(line for line in lines if not line.startswith(UNPROVED))
+    return ran.returncode, ran.stdout.decode("ascii", "replace"), err
+
+
+def wrong(path, said):
+    """What differs in a row whose schedule `replay` answers so, or None."""
+    wanted = [ending for ending in ENDINGS if os.path.exists(f"{path}.{ending}")]
+    if len(wanted) != 1:
+        return f"a row has one of {', '.join('.' + ending for ending in ENDINGS)}, and this one has {wanted or 'none'}"
+    status, out, err = said
+    if wanted == ["fault"]:
+        refused = (1, "", checks.text_of(path + ".fault"))
+        return None if said == refused else f"wanted {refused}, got {(status, out[:200], err)}"
+    if status != 0 or err:
+        return f"status {status}: {err}"
+    if wanted == ["trace"]:
+        return None if out == checks.text_of(path + ".trace") else "the trace differs"
+    return wrong_facts(path, out)
+
+
+def repeats(path, said):
+    """What `judge` says otherwise than it should of a trace, or None. What is refused has no trace."""
+    status, trace, _ = said
+    if os.path.exists(path + ".fault"):
+        return None if (status, trace) == (1, "") else f"wanted no trace, got {(status, trace[:200])}"
+    got = said_by("judge", trace)
+    if got != (0, NO_REPEAT, ""):
+        return f"wanted {NO_REPEAT!r}, got {got}"
+    events = [line for line in trace.splitlines(True) if line.split(" ")[1:2] == ["event"]]
+    status, out, err = said_by("judge", trace + events[-1]) if events else (1, "Once: line", "")
+    if status == 1 and out.startswith("Once: line") and not err:
+        return None
+    return f"said again: {events[-1]!r}, got {(status, out, err)}"
+
+
+def by_name(names):
+    """These rows alone, as ./serf-replay runs them."""
+    count, rows = checks.Checks(), checks.names_in(checks.ROWS)
+    for name in names:
+        path = os.path.join(checks.ROWS, name)
+        fault = "there is no such row"
+        if name in rows:
+            fault = wrong(path, said_by("replay", checks.text_of(path + ".schedule"), checks.COMMAND))
+        count.check(name, not fault, fault)
+    return count.finish()
+
+
+def all_rows(count):
+    """Each row beside what is wanted of it; and of each row and each example, that nothing is repeated."""
+    rows, examples = checks.names_in(checks.ROWS), checks.names_in(checks.EXAMPLES)
+    count.check("there are rows and examples", rows and examples)
+    for name in rows:
+        path = os.path.join(checks.ROWS, name)
+        said = said_by("replay", checks.text_of(path + ".schedule"))
+        for what, fault in ((name, wrong(path, said)), (f"{name}, and repeats", repeats(path, said))):
+            count.check(what, not fault, fault)
+    for name in examples:
+        # (that `replay` writes the traces of the examples is in replay.py)
+        path = os.path.join(checks.EXAMPLES, name)
+        fault = repeats(path, (0, checks.text_of(path + ".trace"), ""))
+        count.check(f"{name}, and repeats", not fault, fault)
+    others = [name for name in os.listdir(checks.ROWS) if name.rpartition(".")[0] not in rows]
+    count.check("files without a schedule", not others, others)
+
+
+def main(names):
+    return by_name(names) if names else checks.over_program(all_rows)
+
+
+if __name__ == "__main__":
+    sys.exit(main(sys.argv[1:]))

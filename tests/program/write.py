@@ -1,0 +1,189 @@
+"""`write`: schedules that a person wrote, each example in both forms; each fault with its line, word and sentence."""
+
+import os
+import sys
+
+sys.dont_write_bytecode = True
+sys.path.insert(0, os.path.dirname(os.path.dirname(os.path.abspath(__file__))))
+import checks
+
+AGENTS = b"agent a\nagent b\n"
+NAME = b"here stands the agent's name, which no agent above has"
+SETTING = b"here may stand events=N, queries=N, limit=N, responders=N, pertime=N, keep or ignore"
+BOUNDS = b"a name has 1 to 128 bytes, limit is at most 9216, and the other numbers of an agent are 1 to 65536"
+COMMAND = (
+    b"here may stand agent, fire, deliver, state, merge, query, respond, restart, break, inject, close, save, compact, "
+    b"give or take"
+)
+AGENT = b"here stands the name of an agent above, or an agent's number"
+PACKET = (
+    b"here stands a label above whose line sent a packet, as in d2, or in d2/1 for its second one; "
+    b"or a packet's number"
+)
+BYTES = b"here stands a text in quotes, bytes in hex digits, or - for none"
+NUMBER = b"here stands a number"
+COUNT = b"here stands a number from 1 on"
+MODE = b"here stands join or sync"
+CALL = b"here stands append, flush, replace-old or replace-new"
+COALESCE = b"here may stand coalesce, or the line ends"
+TAIL = b"here may stand tail with its bytes, or the line ends"
+AT = b"here may stand at with a moment, or the line ends"
+TIME = b"here stands a time, as in 10ms, with ns, us, ms or s behind its number"
+OPTION = b"here may stand id=N, timeout=TIME, ack, quiet or filter=HEX, or the line ends"
+END = b"the line ends before this word"
+QUOTE = b"the text that begins here needs a closing quote; a quote within a text is written \\x22"
+ESCAPE = b"in a text a backslash stands only before x and two hex digits, as in \\x0a"
+LABEL = b"a label is a new word that is no number and has no slash, with a colon behind it"
+FIRST = b"all agents stand before the first action"
+
+# A text, and the line, the word and the sentence of its fault.
+FAULTS = [
+    (b"agent\n", 1, 2, NAME),
+    (b"agent a\nagent a\n", 2, 2, NAME),
+    (b'agent a\nagent "a"\n', 2, 2, NAME),
+    (b"agent a events\n", 1, 3, SETTING),
+    (b"agent a keep events=4 size=4\n", 1, 5, SETTING),
+    (b"agent a events=x\n", 1, 3, SETTING),
+    (b'agent a "events"\n', 1, 3, SETTING),
+    (b"agent a events=0\n", 1, 2, BOUNDS),
+    (b"agent a limit=9217\n", 1, 2, BOUNDS),
+    (b'agent ""\n', 1, 2, BOUNDS),
+    (AGENTS + b"state a\nagent c\n", 4, 1, FIRST),
+    (b"agents a\n", 1, 1, COMMAND),
+    (b'"agent" a\n', 1, 1, COMMAND),
+    (AGENTS + b"d: agent c\n", 3, 2, COMMAND),
+    (AGENTS + b"d:\n", 3, 2, COMMAND),
+    (AGENTS + b"state c\n", 3, 2, AGENT),
+    (AGENTS + b"state\n", 3, 2, AGENT),
+    (AGENTS + b"d: state c\n", 3, 3, AGENT),
+    (AGENTS + b"deliver b d\n", 3, 3, PACKET),
+    (AGENTS + b"d: state a\ndeliver b d/1\n", 4, 3, PACKET),
+    (AGENTS + b"d: save a\ndeliver b d\n", 4, 3, PACKET),
+    (AGENTS + b"d: state a\ndeliver b d/\n", 4, 3, PACKET),
+    (AGENTS + b"deliver b d\nd: state a\n", 3, 3, PACKET),
+    (AGENTS + b"fire a xx\n", 3, 3, BYTES),
+    (AGENTS + b"fire a\n", 3, 3, BYTES),
+    (AGENTS + b"fire a - abc\n", 3, 4, BYTES),
+    (AGENTS + b"fire a - - 1\n", 3, 5, COALESCE),
+    (AGENTS + b"fire a - - coalesce now\n", 3, 6, END),
+    (AGENTS + b"respond a x -\n", 3, 3, NUMBER),
+    (AGENTS + b"break a flush 0\n", 3, 4, COUNT),
+    (AGENTS + b"break a fsync\n", 3, 3, CALL),
+    (AGENTS + b"merge a 0\n", 3, 4, MODE),
+    (AGENTS + b"restart a -\n", 3, 3, TAIL),
+    (AGENTS + b"restart a tail\n", 3, 4, BYTES),
+    (AGENTS + b"deliver a 0 10ms\n", 3, 4, AT),
+    (AGENTS + b"deliver a 0 at\n", 3, 5, TIME),
+    (AGENTS + b"deliver a 0 at 10m\n", 3, 5, TIME),
+    (AGENTS + b"deliver a 0 at ms\n", 3, 5, TIME),
+    (AGENTS + b"close a at 18446744074s\n", 3, 4, TIME),
+    (AGENTS + b"query a - - ack=1\n", 3, 5, OPTION),
+    (AGENTS + b"query a - - id=4294967296\n", 3, 5, OPTION),
+    (AGENTS + b"query a - - at 1s timeout=9223372037s\n", 3, 7, OPTION),
+    (AGENTS + b"save a b\n", 3, 3, END),
+    (AGENTS + b'fire a "b\n', 3, 3, QUOTE),
+    (AGENTS + b'fire a "b" "\n', 3, 4, QUOTE),
+    (AGENTS + b'fire a "\\n"\n', 3, 3, ESCAPE),
+    (AGENTS + b'fire a "\\x4"\n', 3, 3, ESCAPE),
+    (AGENTS + b"d: state a\nd: state a\n", 4, 1, LABEL),
+    (AGENTS + b"5: state a\n", 3, 1, LABEL),
+    (AGENTS + b"d/1: state a\n", 3, 1, LABEL),
+    (AGENTS + b": state a\n", 3, 1, LABEL),
+    (b"agent a\r\nstate b\r\n", 2, 2, AGENT),
+    (b"\n# a comment\n   \nstate 0 x", 4, 3, END),
+    (b"a\nb\n", 1, 1, COMMAND),
+    (b"\x00\xff", 1, 1, COMMAND),
+]
+
+DEFAULTS = b"agent 61 512 512 512 1024 keep 1024\n"
+
+# A text, and the schedule that it means.
+TEXTS = [
+    (b"", b""),
+    (b"# nothing\n\n", b""),
+    (b"agent a\n", DEFAULTS),
+    (b"agent a", DEFAULTS),
+    (b"agent a # its name\r\n", DEFAULTS),
+    (b"agent a events=1 queries=2 limit=3 responders=4 pertime=5 ignore\n", b"agent 61 1 2 3 4 ignore 5\n"),
+    (b'agent "a b"\nsave "a b"\n', b"agent 612062 512 512 512 1024 keep 1024\nsave 0\n"),
+    (b'agent a\nfire a "v 2\\x22#" "#"\n', DEFAULTS + b"fire 0 7620322223 23 0\n"),
+    (b"agent a\nfire a 00ff\nfire 7 - - coalesce\n", DEFAULTS + b"fire 0 00ff - 0\nfire 7 - - 1\n"),
+    (
+        b"agent a\nclose a\nclose a at 7\nclose a at 7ns\nclose a at 7us\nclose a at 7ms\nclose a at 7s\n",
+        DEFAULTS + b"close 0 0\nclose 0 7\nclose 0 7\nclose 0 7000\nclose 0 7000000\nclose 0 7000000000\n",
+    ),
+    (
+        b'agent a\nquery a "q" "p"\nquery a "q" - at 3us id=7 timeout=2ms quiet filter=00 ack filter=-\n',
+        DEFAULTS + b"query 0 0 0 71 70 1000000000 0\nquery 0 3000 7 71 - 2000000 3 00 -\n",
+    ),
+    (
+        b"agent a\nbreak a append\nbreak a replace-new 3\nrespond a 2 - at 1s\ncompact a\n",
+        DEFAULTS + b"break 0 append 1\nbreak 0 replace-new 3\nrespond 0 2 1000000000 -\ncompact 0\n",
+    ),
+    (
+        b"agent a\ntake a 00 sync\nd: take a 01 join\ngive a 02\ngive a 03 at 1us\ndeliver a d\n",
+        DEFAULTS
+        + b"inject 00\nmerge 0 0 sync\ninject 01\nmerge 0 1 join\ninject 02\ndeliver 0 2 0\n"
+        + b"inject 03\ndeliver 0 3 1000\ndeliver 0 1 0\n",
+    ),
+    (
+        b"agent a\ninject 00\nq: query a - - ack\ndeliver a q\ndeliver a q/1\ndeliver a q/0\ndeliver a 9\n",
+        DEFAULTS
+        + b"inject 00\nquery 0 0 0 - - 1000000000 1\ndeliver 0 1 0\ndeliver 0 2 0\ndeliver 0 1 0\ndeliver 0 9 0\n",
+    ),
+]
+
+
+def plain(schedule):
+    """A schedule without its comments, with the last number of each agent said."""
+    lines = []
+    for line in schedule.splitlines():
+        if line and not line.startswith(b"#"):
+            lines.append(line + (b" 1024" if line.startswith(b"agent ") and len(line.split()) == 7 else b""))
+    return b"".join(line + b"\n" for line in lines)
+
+
+def examples(count):
+    names = checks.names_in(checks.EXAMPLES, ".written")
+    count.check("ten examples", len(names) >= 10)
+    for name in names:
+        path = os.path.join(checks.EXAMPLES, name)
+        text = checks.read(path + ".written")
+        schedule = count.exactly(name, ["write", path + ".written"], 0, plain(checks.read(path + ".schedule")), b"")
+        count.exactly(name + " on standard input", ["write"], 0, schedule, b"", text)
+        count.exactly(name + " with CRLF", ["write", "-"], 0, schedule, b"", text.replace(b"\n", b"\r\n"))
+        count.exactly(name + " replayed", ["replay"], 0, checks.read(path + ".trace"), b"", schedule)
+
+
+# How the incident's traces end, without the packets: what real Serf handed out again, and this project's agents don't.
+ENDS = {
+    "as_flushed": [b"restarted 1 4 1", b"state", b"merged"],
+    "as_serf_kept": [b"restarted 2 3 1", b"state", b"merged", b"event 1 3 6465706c6f79 7632 0"],
+}
+
+
+def incident(count):
+    for name, end in ENDS.items():
+        text = checks.read("examples", "incident", name + ".written")
+        written = checks.ran(["write"], text)
+        replayed = checks.ran(["replay"], written[1])
+        said = [line.split(b" ", 1)[1] for line in replayed[1].splitlines()]
+        last = [line for line in said if not line.startswith(b"sent ")][-len(end) :]
+        is_short = len(text.splitlines()) <= 25
+        count.check(name, is_short and written[0] == replayed[0] == 0 and last == end, (written, replayed))
+
+
+def texts(count):
+    for text, schedule in TEXTS:
+        count.exactly(repr(text), ["write"], 0, schedule, b"", text)
+
+
+def faults(count):
+    for text, line, word, sentence in FAULTS:
+        count.exactly(repr(text), ["write"], 1, b"", b"bad line %d word %d: %s\n" % (line, word, sentence), text)
+    count.exactly("no such file", ["write", os.path.join(checks.EXAMPLES, "none")], 3, b"", b"read fault\n")
+    count.exactly("too long", ["write"], 1, b"", b"too long\n", b"#" * (checks.LONGEST + 1))
+
+
+if __name__ == "__main__":
+    sys.exit(checks.over_program(examples, incident, texts, faults))

@@ -1,0 +1,304 @@
+"""The documents name what is there: paths, crates, public items, clauses, links, commands and their statuses.
+
+Each check is one thing that a document names:
+
+- a path in backquotes stands in the repository (from its top, from the document, from a crate or a crate's src);
+- `crate::item` and `Type::method` are public items, and `serf_name` is a crate, or a function of a header in C;
+- a clause named in the tables of PROMISES.md, CRATES.md or WRONG_BODIES.md, or in brackets behind a function, is a
+  clause of some contract;
+- a link leads to a file that stands;
+- the table of ARCHITECTURE.md, "To add something", has each file of a crate that names the sibling of a column;
+- tests/README.md has each script of tests/, and no script of a test stands beside its folders;
+- each CALLING.md is what `tools/calling.py` makes of the sources;
+- a command that begins with `./` or with `python3` names a script that stands, and a job that the program has
+  (`./my-..` is the reader's own).
+"""
+
+import glob
+import os
+import re
+import sys
+
+sys.dont_write_bytecode = True
+sys.path.insert(0, os.path.dirname(os.path.dirname(os.path.abspath(__file__))))
+import checks
+from checks import TOP, text_of
+import calling
+
+# Folders that hold no documents of ours.
+SKIPPED = {"out", "target", ".git", "node_modules"}
+
+ENDINGS = (
+    "rt",
+    "antt",
+    "md",
+    "py",
+    "schedule",
+    "trace",
+    "snapshot",
+    "hex",
+    "edit",
+    "rattle",
+    "h",
+    "c",
+    "go",
+    "rs",
+    "toml",
+    "sh",
+    "svg",
+    "txt",
+)
+
+# What a file outside the repository is called where a document speaks of it: Serf's own sources, and a reader's files.
+FOREIGN = {"serf.go", "delegate.go", "snapshot.go", "query.go", "messages.go", "local.snapshot", "config.go", "kitchenrue.example/serfagent", "TryLockError::WouldBlock"}
+
+# How a file names the siblings in the head of ARCHITECTURE.md's table "To add something".
+SIBLINGS = {
+    "Oversize": r"\bOversize\b",
+    "TimeFull": r"\bTimeFull\b",
+    "RespondersFull": r"\bRespondersFull\b",
+    "save": r"\b(?:Save|Saved)\b",
+    "relay_factor": r"relay_factor|RelayFactor",
+}
+
+SPAN = re.compile(r"`([^`\n]+)`")
+LINK = re.compile(r"\[[^\]\n]*\]\(([^)\s]+)\)")
+COMMAND = re.compile(r"^(?: {4,}|\$ )?((?:\./|python3 )[\w./-]+)((?: [\w./-]+)*)", re.M)
+
+
+def documents():
+    """All pages, by their path from the top."""
+    found = []
+    for folder, folders, names in os.walk(TOP):
+        folders[:] = [name for name in folders if name not in SKIPPED and not name.startswith(".")]
+        found += [os.path.relpath(os.path.join(folder, name), TOP) for name in names if name.endswith(".md")]
+    return sorted(found)
+
+
+def paths_of(kind):
+    return [
+        path
+        for path in glob.glob(f"{TOP}/crates/*/{kind}/**/*", recursive=True)
+        if os.path.isfile(path) and path.endswith((".rt", ".antt"))
+    ]
+
+
+def sources(kind):
+    return [text_of(path) for path in paths_of(kind)]
+
+
+class Tree:
+    """What the repository has to be named."""
+
+    def __init__(self):
+        self.crates = {
+            os.path.basename(path) for path in glob.glob(f"{TOP}/crates/*") if os.path.isdir(os.path.join(path, "src"))
+        }
+        headers = [text_of(path) for path in glob.glob(f"{TOP}/include/*.h") + glob.glob(f"{TOP}/bindings/c/*.h")]
+        self.functions = set(re.findall(r"\b(serf_\w+)\(", "\n".join(headers)))
+        code = "\n".join(sources("src"))
+        self.specs = "\n".join(sources("specs"))
+        items = re.findall(
+            r"\bpub(?:\(crate\))? (?:const )?(?:unsafe )?(?:extern \"C\" )?(?:fn|struct|enum|trait|type|const) (\w+)",
+            code,
+        )
+        methods = re.findall(r"\bfn (\w+)", code)
+        variants = re.findall(r"^    (\w+)(?:\(.*\)|\s*\{.*\})?,", code, re.M)
+        self.items = set(items) | set(methods) | set(variants)
+        self.clauses = set(re.findall(r"\bensures (\w+)", code)) | set(
+            re.findall(r"^\s+(?:pub )?(\w+)\s*:", self.specs, re.M)
+        )
+
+    def has_path(self, span, document):
+        """Whether a path leads to something: from the top, the page's folder, any crate, or a crate's src."""
+        bases = [
+            TOP,
+            os.path.join(TOP, os.path.dirname(document)),
+            *glob.glob(f"{TOP}/crates/*"),
+            *glob.glob(f"{TOP}/crates/*/*"),
+        ]
+        return any(glob.glob(os.path.join(base, span)) for base in bases)
+
+
+def is_path(span):
+    return (
+        bool(re.fullmatch(r"[\w.*/{},-]+", span))
+        and ("/" in span and not span.startswith("/") or span.rpartition(".")[2] in ENDINGS and "." in span)
+    )
+
+
+def alternatives(span):
+    """The paths that `a.{b,c}` stands for."""
+    found = re.search(r"\{([^{}]*)\}", span)
+    if not found:
+        return [span]
+    return [
+        path
+        for word in found[1].split(",")
+        for path in alternatives(span[: found.start()] + word + span[found.end() :])
+    ]
+
+
+def wrong_span(tree, document, span):
+    """What is wrong with a word in backquotes, or None."""
+    if span in FOREIGN or re.fullmatch(r"\.\w+", span) or re.search(r"NAME|FILE|CRATE", span):
+        return None
+    if re.fullmatch(r"serf_\w+", span):
+        return None if span in tree.crates | tree.functions else "no such crate or function"
+    if re.fullmatch(r"\w+(::\w+)+", span):
+        crate, *rest = span.split("::")
+        if crate.startswith("serf_") and crate not in tree.crates:
+            return "no such crate"
+        missing = [name for name in rest if name not in tree.items]
+        return f"no item {missing[0]}" if missing else None
+    if is_path(span):
+        missing = [path for path in alternatives(span) if not tree.has_path(path.rstrip("/"), document)]
+        return f"no such file: {missing[0]}" if missing else None
+    return None
+
+
+def clauses_in(page):
+    """The clauses that a page's tables begin a row with, or name behind a function; a crate is none."""
+    found = re.findall(r"^\| `((?!serf_)\w+)` \|", page, re.M)
+    return found + [
+        name
+        for names in re.findall(r"clauses? ((?:`\w+`(?:, | and )?)+)", page)
+        for name in re.findall(r"`(\w+)`", names)
+    ]
+
+
+def wrong_command(jobs, page, script, words):
+    """What is wrong with a command that a page shows, or None."""
+    path = script.removeprefix("python3 ")
+    if f" -o {path.removeprefix('./')}" in page or path.startswith("./my-") or path == "-m":
+        return None
+    if not os.path.isfile(os.path.join(TOP, path)):
+        return "no such script"
+    if os.path.basename(path) == "serf-replay" and words and words[0] not in jobs:
+        return f"the program has no job {words[0]!r}"
+    return None
+
+
+def missing_siblings(page):
+    """Each file of a crate that names a sibling of "To add something", and what is wrong with the table, or None."""
+    head, *rows = [
+        line.strip("|").split("|")
+        for line in page.partition("## To add something\n")[2].split("\n")
+        if line.startswith("|")
+    ]
+    words = {word: at for at, cell in enumerate(head) for word in SPAN.findall(cell)}
+    cells = {crate: row for row in rows for crate in SPAN.findall(row[0])}
+    for path in [path for kind in ("src", "specs", "proofs") for path in paths_of(kind)]:
+        row, text = cells.get(os.path.relpath(path, TOP).split(os.sep)[1], [""] * len(head)), text_of(path)
+        for word, sibling in SIBLINGS.items():
+            if re.search(sibling, text):
+                is_named = any(path.endswith(os.sep + name) for name in SPAN.findall(row[words[word]]))
+                yield f"{os.path.relpath(path, TOP)} ({word})", None if is_named else "isn't in the table"
+
+
+# What the scripts of tests/ share, beside the folders that they stand in.
+SHARED = {"checks.py", "piped_agents.py"}
+
+
+def missing_scripts(page):
+    """Each script of tests/, and what is wrong with its place or with its line of the page, or None."""
+    for path in sorted(glob.glob("tests/*.py", root_dir=TOP) + glob.glob("tests/*/*.py", root_dir=TOP)):
+        name = path.removeprefix("tests/")
+        if "/" in name:
+            yield path, None if f"\n- `{name}`: " in page else "has no line"
+        else:
+            yield path, None if name in SHARED else "stands in none of the folders, so ./test doesn't run it"
+
+
+def jobs_of_program():
+    """The words that the program's command line knows."""
+    text = "\n".join(sources("src"))
+    return set(re.findall(r"^\s+\"([a-z-]+)\" => \w+::run\(", text, re.M)) | {"--help", "--version", "help"}
+
+
+# Where the version of what is built next stands, beside the program's own.
+VERSIONS = {
+    os.path.join("bindings", "rust", "Cargo.toml"): r'^version = "([0-9.]+)"$',
+    os.path.join("bindings", "python", "pyproject.toml"): r'^version = "([0-9.]+)"$',
+    os.path.join("bindings", "python", "serf_agent", "__init__.py"): r'^__version__ = "([0-9.]+)"$',
+    os.path.join("bindings", "c", "Makefile"): r"^VERSION = ([0-9.]+)$",
+    "CHANGELOG.md": r"^## ([0-9][0-9.]*)$",
+}
+
+
+def other_versions():
+    """Each file that tells the version, and what is wrong with it, or None: all tell the program's."""
+    (own,) = re.findall(r'\.version\("([0-9.]+)"\)', "\n".join(sources("src")))
+    for path, form in VERSIONS.items():
+        told = re.findall(form, text_of(path), re.M)[:1]
+        yield "version", None if told == [own] else f"is {told}, and the program's is {own}", path
+
+
+# What was measured: a number of nanoseconds to milliseconds, of MB, or of minutes of so many processors.
+FIGURE = re.compile(
+    r"\b\d[\d,.]*(?: to \d[\d,.]*)? "
+    r"(?:ns|nanoseconds|microseconds|milliseconds|MB|processor minutes|minutes on \w+ processors)\b"
+)
+
+
+def figures_twice(pages):
+    """Each figure that was measured, what is wrong with it, or None, and its page. Where there are two pages, the
+    second should lead to the first."""
+    found = {}
+    for page in pages:
+        for figure in FIGURE.findall(text_of(page)):
+            found.setdefault(figure, {})[page] = None
+    for figure, where in sorted(found.items()):
+        yield figure, None if len(where) == 1 else f"stands in {' and '.join(where)}", list(where)[0]
+
+
+def quoted(page):
+    """Each definition that PROMISES.md quotes, and what is wrong with it, or None: it stands so in a file of specs."""
+    specs = "\n".join(sources("specs"))
+    for block in re.findall(r"(?:^    .*\n)+", page, re.M):
+        text = re.sub(r"^    ", "", block, flags=re.M)
+        if re.search(r"^abbrev ", text, re.M):
+            yield re.search(r"^abbrev pub (\w+)", text, re.M)[1], None if text in specs else "isn't quoted as it stands"
+
+
+# The pages whose tables name clauses.
+OF_CLAUSES = tuple(os.path.join("docs", name) for name in ("PROMISES.md", "CRATES.md", "WRONG_BODIES.md"))
+
+
+def checks_of(tree, jobs, document):
+    """What a document names, and what is wrong with each, or None."""
+    page = text_of(document)
+    for span in sorted(set(SPAN.findall(page))):
+        yield span, wrong_span(tree, document, span)
+    for link in LINK.findall(page):
+        if not link.startswith("#"):
+            stands = "://" in link or tree.has_path(link.partition("#")[0], document)
+            yield link, None if stands else "leads nowhere"
+    for script, words in COMMAND.findall(page):
+        yield script + words, wrong_command(jobs, page, script, words.split())
+    if document == os.path.join("docs", "ARCHITECTURE.md"):
+        yield from missing_siblings(page)
+    if document == os.path.join("docs", "PROMISES.md"):
+        yield from quoted(page)
+    if document == os.path.join("tests", "README.md"):
+        yield from missing_scripts(page)
+    if document in OF_CLAUSES:
+        for clause in clauses_in(page):
+            yield clause, None if clause in tree.clauses else "no such clause"
+
+
+def named(count):
+    tree, jobs = Tree(), jobs_of_program()
+    for path, is_made in calling.made():
+        count.check(path, is_made, "isn't what the sources give: tools/calling.py makes it")
+    for what, fault, path in figures_twice(list(documents())):
+        count.check(f"{path}: `{what}`", fault is None, fault)
+    for what, fault, path in other_versions():
+        count.check(f"{path}: `{what}`", fault is None, fault)
+    for document in documents():
+        for what, fault in checks_of(tree, jobs, document):
+            count.check(f"{document}: `{what}`", fault is None, fault)
+
+
+if __name__ == "__main__":
+    sys.exit(checks.run(named))

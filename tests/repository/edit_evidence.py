@@ -1,0 +1,280 @@
+"""Evidence of refusals: what a sum of an edit covers, which lines are believed, and which edits a commit draws.
+
+All is tried on a small repository that this makes; no edit is really checked here, but by a stand-in that knows which
+of them are harmless.
+"""
+
+import os
+import sys
+import tempfile
+
+sys.dont_write_bytecode = True
+sys.path.insert(0, os.path.dirname(os.path.dirname(os.path.abspath(__file__))))
+import checks
+import edit_checks
+import edits
+import evidence
+import mutants
+import reach
+
+FILES = {
+    "crates.txt": "serf_low:\nserf_high: serf_low\n",
+    "crates/serf_low/src/lib.rt": """//! Low.
+ghost use Rattle.serf_low.specs.Sum.{total};
+
+/// Adds.
+pub fn add(a: u8, b: u8) -> u8
+    ensures sum { result ≡ total a b }
+{
+    a + b
+}
+
+/// Nothing that anybody above uses.
+pub fn aside(a: u8) -> u8
+    ensures same { result ≡ a }
+{
+    a
+}
+""",
+    "crates/serf_low/specs/Lib.antt": "pub mod Sum\n",
+    "crates/serf_low/specs/Sum.antt": (
+        "abbrev pub total : ℕ → ℕ → ℕ\ntotal a b = a + b\n\nabbrev pub other : ℕ → ℕ\nother a = a\n"
+    ),
+    "crates/serf_high/src/lib.rt": """//! High.
+ghost use Rattle.serf_high.specs.Twice.{twice};
+use serf_low::add;
+
+/// Doubles.
+pub fn double(a: u8) -> u8
+    ensures double { result ≡ twice a }
+{
+    add(a, a)
+}
+
+/// Halves.
+pub fn half(a: u8) -> u8
+    ensures half { result ≡ a }
+{
+    a
+}
+""",
+    "crates/serf_high/specs/Lib.antt": "pub mod Twice\n",
+    "crates/serf_high/specs/Twice.antt": (
+        "use Rattle.serf_low.specs.Sum.{total}\n\nabbrev pub twice : ℕ → ℕ\ntwice a = total a a\n"
+    ),
+    "crates/serf_high/proofs/double/Answers.antt": (
+        "use Rattle.serf_high.proofs.Lemmas.{doubled}\n\nanswers = doubled\n"
+    ),
+    "crates/serf_high/proofs/Lemmas.antt": "pub doubled : ℕ\ndoubled = 2\n",
+    "crates/serf_high/proofs/Others.antt": "pub halved : ℕ\nhalved = 1\n",
+    "crates/serf_high/mutants/adds_nothing.edit": "file: src/lib.rt\nold: add(a, a)\nnew: add(a, 0)\n",
+    "crates/serf_high/mutants/half_of_nothing.edit": (
+        "file: src/lib.rt\nturns: half\nold:     ensures half { result ≡ a }\nnew:     ensures half { result ≡ 0 }\n"
+    ),
+    "crates/serf_high/mutants/adds_by_steps.edit": (
+        "file: src/lib.rt\nold: add(a, a)\nnew: if a == 0 { 1 } else { add(a, a) }\n"
+        "twin: if a == 0 { add(a, a) } else { add(a, a) }\n"
+    ),
+}
+
+# What each change of a file does to the sum of the edit of `double`.
+CHANGES = [
+    ("a body below", "crates/serf_low/src/lib.rt", "    a + b", "    b + a", False),
+    ("a contract below that is called", "crates/serf_low/src/lib.rt", "ensures sum {", "ensures added {", True),
+    ("a contract below that nothing calls", "crates/serf_low/src/lib.rt", "ensures same {", "ensures equal {", False),
+    (
+        "a definition below that the contract reaches",
+        "crates/serf_low/specs/Sum.antt",
+        "total a b = a + b",
+        "total a b = b + a",
+        True,
+    ),
+    ("a definition below that nothing reaches", "crates/serf_low/specs/Sum.antt", "other a = a", "other a = 0", False),
+    ("the edited function", "crates/serf_high/src/lib.rt", "add(a, a)\n}", "add(a, a) \n    + 0\n}", True),
+    ("another function's body", "crates/serf_high/src/lib.rt", "    a\n}", "    a + 0\n}", False),
+    ("a comment", "crates/serf_high/src/lib.rt", "/// Doubles.", "/// Doubles it.", False),
+    ("a lemma that its proof imports", "crates/serf_high/proofs/Lemmas.antt", "doubled = 2", "doubled = 3", True),
+    ("a lemma that it doesn't import", "crates/serf_high/proofs/Others.antt", "halved = 1", "halved = 2", False),
+    ("its definition", "crates/serf_high/specs/Twice.antt", "twice a = total a a", "twice a = total a (a + 0)", True),
+    ("what its crate uses", "crates.txt", "serf_high: serf_low", "serf_high: serf_low hex", True),
+]
+
+
+def write(top, path, text):
+    os.makedirs(os.path.dirname(os.path.join(top, path)) or top, exist_ok=True)
+    with open(os.path.join(top, path), "w", encoding="utf-8") as file:
+        file.write(text)
+
+
+def repository(room):
+    """The small repository, which the tools take for their own."""
+    for path, text in FILES.items():
+        write(room, path, text)
+    edits.TOP = mutants.TOP = room
+    evidence.FOLDER = os.path.join(room, "tests", "refused")
+
+
+def sum_of(top, name="adds_nothing"):
+    edit = next(it for it in edits.edits_of("serf_high") if it.name == name)
+    return reach.Reach(top).sum_of("serf_high", edit)
+
+
+def sums(count, top):
+    before = sum_of(top)
+    count.check("two sums of the same sources", before == sum_of(top))
+    for name, path, old, new, changes in CHANGES:
+        text = FILES[path]
+        count.check(f"{name}: its text stands", text.count(old) == 1, text)
+        write(top, path, text.replace(old, new))
+        if name == "the edited function":
+            # the edit's own text has to stand still
+            write(top, path, text.replace("    add(a, a)", "    let b = a;\n    add(a, a)"))
+        count.check(
+            name, (sum_of(top) != before) == changes, "its sum changed" if not changes else "its sum is the same"
+        )
+        write(top, path, text)
+    twin = sum_of(top, "adds_by_steps")
+    path = "crates/serf_high/mutants/adds_by_steps.edit"
+    write(top, path, FILES[path].replace("twin: if a == 0 { add(a, a)", "twin: if a == 0 { add(0, a)"))
+    count.check("its twin", sum_of(top, "adds_by_steps") != twin)
+    write(top, path, FILES[path])
+
+
+class Crate:
+    """What the runs know of a crate."""
+
+    name = "serf_high"
+
+
+class Run(mutants.Run):
+    """A run whose checks are a stand-in: the edits of `harmless` are not refused. It notes which are tried."""
+
+    def __init__(self, harmless, commit, words=()):
+        self.rt, self.harmless, self.commit, self.tried_names = None, harmless, commit, []
+        self.is_control, self.is_anew, self.writes = False, "--anew" in words, "--write" in words
+        self.now, self.reach, self.counts = "toolchain a\njudge 0", reach.Reach(edits.TOP), mutants.Counts()
+
+    def tried(self, crate, own):
+        found = {}
+        for edit in own:
+            self.tried_names.append(edit.name)
+            found[edit.name] = (
+                None if edit.name in self.harmless else edit_checks.Refusal("shape", "double: returns-clause-double")
+            )
+            self.counts.add(found[edit.name], True)
+        return found
+
+
+def run(harmless, commit, *words):
+    it = Run(harmless, commit, words)
+    it.try_crate(Crate)
+    return it
+
+
+def drawing(name):
+    """A commit that draws this edit alone, and one that draws none."""
+    names = [edit.name for edit in edits.edits_of("serf_high")]
+    drawn = {at: [it for it in names if evidence.is_drawn(f"serf_high/{it}", str(at))] for at in range(2000)}
+    return next(str(at) for at in drawn if drawn[at] == [name]), next(str(at) for at in drawn if not drawn[at])
+
+
+def believed(count, top):
+    mutants.say = lambda text: None
+    one, none = drawing("adds_nothing")
+    names = sorted(edit.name for edit in edits.edits_of("serf_high"))
+    first = run([], none, "--write")
+    count.check("without evidence all are tried", sorted(first.tried_names) == names, first.tried_names)
+    count.check(
+        "with evidence none is", run([], none).tried_names == [] and run([], none).counts.believed == len(names)
+    )
+    count.check("but what the commit draws", run([], one).tried_names == ["adds_nothing"])
+    count.check("a harmless edit that isn't drawn is believed", run(["adds_nothing"], none).counts.failed == 0)
+    drawn = run(["adds_nothing"], one)
+    count.check(
+        "a harmless edit that is drawn fails, and all of its crate are tried",
+        drawn.counts.failed == 1 and sorted(drawn.tried_names) == names,
+        drawn.tried_names,
+    )
+    anew = run(["adds_nothing"], none, "--anew")
+    count.check("and --anew finds it", anew.counts.failed == 1 and sorted(anew.tried_names) == names)
+    path = evidence.path_of("serf_high")
+    with open(path, encoding="utf-8") as file:
+        text = file.read()
+    for name, changed, tried in (
+        ("another toolchain", text.replace("toolchain a", "toolchain b"), names),
+        ("other scripts", text.replace("judge 0", "judge 1"), names),
+        ("a sum that was changed by hand", text.replace("adds_nothing ", "adds_nothing 0"), ["adds_nothing"]),
+        ("cut off in the middle", text[: len(text) - 40], [names[-1]]),
+        ("an empty file", "", names),
+        ("garbage", "\x00\xff\n" * 9, names),
+    ):
+        write(top, os.path.relpath(path, top), changed)
+        got = sorted(run([], none).tried_names)
+        count.check(name, got == sorted(tried), got)
+    write(top, os.path.relpath(path, top), text + "gone " + "0" * 32 + " shape double: x\n")
+    known = evidence.Evidence("serf_high", "toolchain a\njudge 0")
+    count.check("an edit that is gone is named", len(known.gone(set(names))) == 1)
+    write(top, os.path.relpath(path, top), text)
+    write(
+        top,
+        "crates/serf_high/specs/Twice.antt",
+        FILES["crates/serf_high/specs/Twice.antt"].replace("total a a", "total a 0"),
+    )
+    got = run([], none).tried_names
+    count.check(
+        "what reads a changed definition is tried", sorted(got) == sorted(["adds_nothing", "adds_by_steps"]), got
+    )
+
+
+def drawn_share(count):
+    names = [f"serf_any/edit_{number}" for number in range(400)]
+    counts = [sum(evidence.is_drawn(name, f"commit {at}") for name in names) for at in range(200)]
+    count.check("about 5 in 100 are drawn", 0.045 < sum(counts) / 200 / 400 < 0.055, sum(counts))
+    count.check(
+        "each is drawn by some commit",
+        all(any(evidence.is_drawn(name, f"commit {at}") for at in range(400)) for name in names),
+    )
+
+
+def kinds(count):
+    """What shows that an edit is refused."""
+    twin = next(it for it in edits.edits_of("serf_high") if it.name == "adds_by_steps")
+    plain = next(it for it in edits.edits_of("serf_high") if it.name == "adds_nothing")
+    goal, false = edit_checks.Goal("returns-clause-double"), edit_checks.Goal("returns-clause-double", True)
+    for name, edit, own, has_twin, kind in (
+        ("the same shape", plain, [("double", [goal])], False, "shape"),
+        ("values at which a goal is false", twin, [("double", [goal, false])], False, "false"),
+        ("a proved twin", twin, [("double", [goal])], True, "twin"),
+        ("another shape alone", twin, [("double", [goal])], False, "open"),
+    ):
+        count.check(name, edit_checks.refusal_of(edit, own, has_twin).kind == kind)
+    count.check("no open goal", edit_checks.refusal_of(plain, [], True) is None)
+    for name, line, is_proved in (
+        ("a function without a hole", "fn serf_high::double: no holes", True),
+        (
+            "a function that calls one whose proof is a hole",
+            "fn serf_high::double: depends on a hole in `Rattle.serf_high.proofs.half.Proof.half_spec`",
+            True,
+        ),
+        (
+            "a function with an open goal",
+            "fn serf_high::double: not proved; it stands on `Rattle.serf_high.proofs.double.Goals`",
+            False,
+        ),
+        ("another function", "fn serf_high::double_twice: no holes", False),
+    ):
+        count.check(name, edit_checks.is_proved(f"note: one\n{line}\nonly=1 holes=0\n", "double") == is_proved)
+    count.check("a twin's texts", twin.twin().pairs[0][2] == "if a == 0 { add(a, a) } else { add(a, a) }")
+
+
+def of_edits(count):
+    with tempfile.TemporaryDirectory(prefix="evidence-") as room:
+        repository(room)
+        sums(count, room)
+        kinds(count)
+        believed(count, room)
+        drawn_share(count)
+
+
+if __name__ == "__main__":
+    sys.exit(checks.run(of_edits))

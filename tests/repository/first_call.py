@@ -1,0 +1,269 @@
+"""The first calls of a fresh clone: ./serf-replay answers at once, and never runs a program that isn't current.
+
+One call is real, over a copy of what git tracks. All others go through a stand-in for the toolchain's command, in
+tests/repository/first_call, so that a build takes no time: fault lines and statuses of an unproved program, one that
+can't be compiled, a changed source, one that was taken away, one that changes during the build, a build that is broken
+off, a failed proof, no toolchain, and a folder that can't be written.
+"""
+
+import os
+import re
+import shutil
+import signal
+import subprocess
+import sys
+import tempfile
+import time
+
+sys.dont_write_bytecode = True
+sys.path.insert(0, os.path.dirname(os.path.dirname(os.path.abspath(__file__))))
+import checks
+from checks import TOP
+
+EXAMPLE = os.path.join("examples", "deploy_gossiped_twice")
+
+# How long the first call of a fresh clone may take. It is to answer within two minutes on four processors; the gate
+# allows twice that, since a machine may be shared or slow, and prints the time.
+MOST_SECONDS = 240
+
+UNPROVED = "this program is compiled without its proofs"
+
+# How long a second call may take, over what the first one compiled.
+SECOND_SECONDS = 10
+
+# (what `./test --quick` sets is not for the clones)
+os.environ.pop("SERF_UNPROVED", None)
+
+
+class Clone:
+    """A repository of one program over one library, with this one's scripts and the stand-in."""
+
+    def __init__(self, root):
+        self.top = os.path.join(root, "clone")
+        self.bin = os.path.join(root, "bin")
+        self.source = os.path.join(self.top, "crates", "serf_replay_program", "src", "main.rt")
+        for crate in ("low", "serf_replay_program"):
+            os.makedirs(os.path.join(self.top, "crates", crate, "src"))
+        self.write(self.source, "one\n")
+        self.write(os.path.join(self.top, "crates", "low", "src", "lib.rt"), "low\n")
+        self.write(os.path.join(self.top, "crates.txt"), "low:\nserf_replay_program: low\n")
+        shutil.copytree(os.path.join(TOP, "tools"), os.path.join(self.top, "tools"))
+        for name in ("serf-replay", "prove", "test"):
+            shutil.copy(os.path.join(TOP, name), self.top)
+        shutil.copytree(os.path.join(TOP, "tests", "repository", "first_call"), self.bin)
+
+    @staticmethod
+    def write(path, text):
+        with open(path, "w", encoding="utf-8") as file:
+            file.write(text)
+
+    def order(self, *words):
+        self.write(os.path.join(self.bin, "orders"), " ".join(words))
+
+    def environment(self, has_rt=True):
+        path = [self.bin] if has_rt else []
+        return {**os.environ, "PATH": os.pathsep.join([*path, os.path.dirname(sys.executable), "/usr/bin", "/bin"])}
+
+    def run(self, *words, has_rt=True, given=""):
+        ran = subprocess.run(
+            [os.path.join(self.top, words[0]), *words[1:]],
+            env=self.environment(has_rt),
+            input=given,
+            capture_output=True,
+            text=True,
+            timeout=120,
+        )
+        return ran.returncode, ran.stdout, ran.stderr
+
+    def is_unproved(self, text):
+        status, out, err = self.run("serf-replay", "x")
+        return (
+            (status, out) == (0, f"unproved {text} x\n")
+            and UNPROVED in err
+            and "./prove" in err
+            and "run=ended" not in err
+        )
+
+    def is_proved(self, text):
+        return self.run("serf-replay", "x") == (0, f"proved {text} x\n", "")
+
+
+def unproved(count, clone):
+    """An unproved program's fault lines and status are its own; it is compiled once, or it is told why it can't be."""
+    clone.order("refuses")
+    schedule = os.path.join(clone.top, "schedule")
+    clone.write(schedule, "of a file\n")
+    for name, words, given, said in (
+        ("on standard input", ["replay"], "given\n", "given"), ("in a file", ["replay", schedule], "", "of a file")
+    ):
+        status, out, err = clone.run("serf-replay", *words, given=given)
+        sentence, *lines = err.splitlines()
+        well = (status, out, lines) == (1, "", ["a fault", f"bad line: {said}"]) and UNPROVED in sentence
+        count.check(f"a refused schedule {name}", well, (status, out, err))
+    clone.order()
+    count.check("it is compiled", clone.is_unproved("one"))
+    clone.order("uncompiled")
+    count.check("a second call compiles nothing", clone.is_unproved("one"))
+    clone.write(clone.source, "none\n")
+    status, out, err = clone.run("serf-replay", "x")
+    count.check(
+        "one that can't be compiled",
+        (status, out) == (3, "") and "could not be compiled" in err and "src/main.rt is not" in err,
+        (status, out, err),
+    )
+    clone.write(clone.source, "one\n")
+    clone.order()
+
+
+def builds(count, clone):
+    count.check("nothing is built yet", clone.is_unproved("one"), clone.run("serf-replay", "x"))
+    status, out, err = clone.run("prove")
+    count.check(
+        "a build", status == 0 and out == "" and "proving low" in err and "low is proved" in err, (status, out, err)
+    )
+    count.check("the proved program runs", clone.is_proved("one"), clone.run("serf-replay", "x"))
+    count.check("nothing to build", clone.run("prove")[0] == 0)
+
+
+def sources(count, clone):
+    old = os.stat(clone.source)
+    clone.write(clone.source, "two\n")
+    os.utime(clone.source, ns=(old.st_atime_ns, old.st_mtime_ns))
+    count.check("a changed source of the same age", clone.is_unproved("two"), clone.run("serf-replay", "x"))
+    clone.write(clone.source, "one\n")
+    count.check("a source that is put back", clone.is_proved("one"), clone.run("serf-replay", "x"))
+    library = os.path.join(clone.top, "crates", "low", "src", "lib.rt")
+    os.rename(library, library + ".gone")
+    clone.write(library + ".gone", "low\n")
+    count.check("a source that was renamed", clone.is_unproved("one"), clone.run("serf-replay", "x"))
+    os.remove(library + ".gone")
+    count.check("a source that was taken away", clone.is_unproved("one"), clone.run("serf-replay", "x"))
+    clone.write(library, "low\n")
+    program = os.path.join(clone.top, "crates", "serf_replay_program", "out", "serf_replay_program")
+    count.check("the program that was built", clone.is_proved("one"), clone.run("serf-replay", "x"))
+    clone.order("newer")
+    count.check("a program of another toolchain", clone.is_unproved("one"), clone.run("serf-replay", "x"))
+    clone.order()
+    with open(program, "a", encoding="utf-8") as file:
+        file.write("echo another\n")
+    count.check("another program in its place", clone.is_unproved("one"), clone.run("serf-replay", "x"))
+
+
+def changing(count, clone):
+    clone.order("changes")
+    status, _, err = clone.run("prove")
+    count.check("a source that changes during the build", status == 3 and "a source changed" in err, (status, err))
+    count.check("what it built is not current", clone.is_unproved("one\nmore"), clone.run("serf-replay", "x"))
+    clone.order()
+    clone.write(clone.source, "three\n")
+    count.check("the next build", clone.run("prove")[0] == 0 and clone.is_proved("three"))
+
+
+def broken_off(count, clone):
+    clone.write(clone.source, "four\n")
+    clone.order("hangs")
+    ran = subprocess.Popen(
+        [os.path.join(clone.top, "prove")],
+        env=clone.environment(),
+        stdin=subprocess.DEVNULL,
+        stdout=subprocess.DEVNULL,
+        stderr=subprocess.DEVNULL,
+        start_new_session=True,
+    )
+    for _ in range(600):
+        if os.path.exists(os.path.join(clone.bin, "hanging")):
+            break
+        time.sleep(0.05)
+    os.killpg(ran.pid, signal.SIGINT)
+    count.check("a build that is broken off ends", ran.wait(timeout=60) != 0)
+    clone.order()
+    count.check("what it left is not current", clone.is_unproved("four"), clone.run("serf-replay", "x"))
+    count.check("the next build begins anew", clone.run("prove")[0] == 0 and clone.is_proved("four"))
+
+
+def refused(count, clone):
+    clone.write(clone.source, "five\n")
+    shutil.rmtree(os.path.join(clone.top, "crates", "low", "out"))
+    clone.order("unproved")
+    status, _, err = clone.run("prove")
+    count.check(
+        "a failed proof", status == 3 and "low: not proved" in err and "low is not proved" in err, (status, err)
+    )
+    clone.order("false")
+    status, _, err = clone.run("prove")
+    count.check(
+        "a failed proof of the program",
+        status == 3 and "main: not proved" in err and "serf_replay_program was not built" in err,
+        (status, err),
+    )
+    count.check("nothing is built of it", clone.is_unproved("five"), clone.run("serf-replay", "x"))
+    clone.order()
+    shutil.rmtree(os.path.join(clone.top, "crates", "serf_replay_program", "out", "unproved"))
+    for name in ("serf-replay", "prove", "test"):
+        status, out, err = clone.run(name, has_rt=False)
+        count.check(
+            f"{name} without the toolchain", (status, out) == (3, "") and "not on PATH" in err, (status, out, err)
+        )
+    out = os.path.join(clone.top, "crates", "serf_replay_program", "out")
+    shutil.rmtree(out)
+    clone.write(out, "a file\n")
+    status, _, err = clone.run("prove")
+    count.check(
+        "a folder that can't be written", status == 3 and "prove: " in err and "Traceback" not in err, (status, err)
+    )
+    status, _, err = clone.run("serf-replay", "x")
+    said = re.search(r"^unproved: \S+: [A-Z][a-z ]+$", err, re.M)
+    count.check("a folder that can't be written, of the program without its proofs", status == 3 and said, (status, err))
+
+
+def fresh_clone(count, root):
+    """The first call, over what git tracks."""
+    top = os.path.join(root, "fresh")
+    listed = subprocess.run(
+        ["git", "ls-files", "-z"], cwd=TOP, stdout=subprocess.PIPE, check=True
+    ).stdout.decode().split("\0")
+    for name in filter(None, listed):
+        if os.path.isfile(os.path.join(TOP, name)):
+            os.makedirs(os.path.dirname(os.path.join(top, name)), exist_ok=True)
+            shutil.copy(os.path.join(TOP, name), os.path.join(top, name))
+    began = time.monotonic()
+    ran = subprocess.run(
+        ["./serf-replay", "replay", EXAMPLE + ".schedule"], cwd=top, capture_output=True, text=True, timeout=900
+    )
+    took = time.monotonic() - began
+    print(f"the first call of a fresh clone took {took:.0f} seconds")
+    trace = checks.text_of(EXAMPLE + ".trace")
+    count.check("the first call's trace", (ran.returncode, ran.stdout) == (0, trace), ran)
+    count.check(
+        "its sentence", ran.stderr.count("\n") == 1 and UNPROVED in ran.stderr and "./prove" in ran.stderr, ran.stderr
+    )
+    count.check(f"it takes at most {MOST_SECONDS} seconds", took <= MOST_SECONDS, took)
+    began = time.monotonic()
+    again = subprocess.run(
+        ["./serf-replay", "replay", EXAMPLE + ".schedule"], cwd=top, capture_output=True, text=True, timeout=900
+    )
+    took = time.monotonic() - began
+    count.check(
+        "a second call, at once",
+        (again.returncode, again.stdout, again.stderr) == (0, ran.stdout, ran.stderr) and took <= SECOND_SECONDS,
+        (took, again),
+    )
+
+
+def one_figure(count):
+    """The build's time is told in one page and by two scripts, in the same words."""
+    figure = "about 45 minutes on four processors"
+    for name in ("README.md", "serf-replay", os.path.join("bench", "run")):
+        count.check(f"the build's time in {name}", figure in checks.text_of(name))
+
+
+def first_calls(count):
+    with tempfile.TemporaryDirectory(prefix="first-call-") as root:
+        clone = Clone(root)
+        for part in (unproved, builds, sources, changing, broken_off, refused):
+            part(count, clone)
+        fresh_clone(count, root)
+
+
+if __name__ == "__main__":
+    sys.exit(checks.run(first_calls, one_figure))

@@ -1,0 +1,163 @@
+"""./release: from a green gate alone, the same bytes twice, and each file with its hash."""
+
+import hashlib
+import os
+import re
+import shutil
+import stat
+import subprocess
+import sys
+import tarfile
+import tempfile
+
+sys.dont_write_bytecode = True
+sys.path.insert(0, os.path.dirname(os.path.dirname(os.path.abspath(__file__))))
+import checks
+import green
+from checks import TOP
+
+# What stands for the program and the library here: the gate's own are not looked into.
+PROGRAM = "#!/bin/sh\necho serf-replay 9.8.7\n"
+NAME = "serf-replay-9.8.7-x86_64-linux"
+
+# What of the repository is copied: what ./release reads, and itself.
+PARTS = [
+    "README.md", "LICENSE", "CHANGELOG.md", "SECURITY.md", "install", "include", "bindings", "docs", "examples",
+    "release", "tools",
+]
+
+
+def write(path, text):
+    os.makedirs(os.path.dirname(path), exist_ok=True)
+    with open(path, "w", encoding="utf-8") as file:
+        file.write(text)
+
+
+def clone(root):
+    """A repository with the archive's files as they are here, and with outputs that stand for the built ones."""
+    top = os.path.join(root, "clone")
+    os.makedirs(top)
+    for name in PARTS:
+        path, to = os.path.join(TOP, name), os.path.join(top, name)
+        if os.path.isdir(path):
+            shutil.copytree(path, to, symlinks=True, ignore=shutil.ignore_patterns("out", "target", "native", "__pycache__"))
+        else:
+            shutil.copy(path, to)
+    shutil.copy(os.path.join(TOP, ".gitignore"), top)
+    who = ["-c", "user.name=a", "-c", "user.email=a@localhost"]
+    for words in (["init", "-q"], ["add", "-A"], [*who, "commit", "-qm", "all"]):
+        subprocess.run(["git", *words], cwd=top, check=True)
+    program = os.path.join(top, "crates", "serf_replay_program", "out", "serf_replay_program")
+    write(program, PROGRAM)
+    os.chmod(program, os.stat(program).st_mode | stat.S_IXUSR)
+    compile_library(os.path.join(top, "crates", "serf_agent_c", "out", "libserf_agent_c.a"))
+    return top
+
+
+def compile_library(path):
+    """A static library that stands for the proved one: it has the calls of the header, and they do nothing."""
+    with open(os.path.join(TOP, "include", "serf_agent.h"), encoding="utf-8") as file:
+        calls = re.findall(r"^uint32_t (serf_agent_\w+)\(([^)]*)\);", re.sub(r"/\*.*?\*/", "", file.read(), flags=re.S), re.M)
+    os.makedirs(os.path.dirname(path))
+    write(f"{path}.c", '#include "serf_agent.h"\n' + "".join(f"uint32_t {name}({words}) {{ return 1; }}\n" for name, words in calls))
+    subprocess.run(["cc", "-w", "-fPIC", f"-I{TOP}/include", "-c", "-o", f"{path}.o", f"{path}.c"], check=True)
+    subprocess.run(["ar", "rcs", path, f"{path}.o"], check=True)
+
+
+def release(top, folder):
+    os.makedirs(folder, exist_ok=True)
+    ran = subprocess.run(
+        [os.path.join(top, "release"), folder], stdin=subprocess.DEVNULL, capture_output=True, text=True
+    )
+    return ran.returncode, ran.stderr
+
+
+def refused(count, top, root):
+    count.check("refused with no green gate", release(top, os.path.join(root, "none"))[0] == 3)
+    before = green.state(top)
+    write(os.path.join(top, "docs", "more.md"), "more\n")
+    green.keep(top, before)
+    count.check("no mark where a file came during the gate", not green.holds(top))
+    os.remove(os.path.join(top, "docs", "more.md"))
+    green.keep(top, before)
+    count.check("a mark where nothing changed", green.holds(top))
+    write(os.path.join(top, "docs", "more.md"), "more\n")
+    count.check("refused where a file came since", release(top, os.path.join(root, "none"))[0] == 3)
+    os.remove(os.path.join(top, "docs", "more.md"))
+    for path in (green.PROGRAM, green.LIBRARY):
+        with open(os.path.join(top, path), "r+b") as file:
+            tested = file.read()
+            file.write(b"another\n")
+        status, said = release(top, os.path.join(root, "none"))
+        count.check(
+            f"refused where {os.path.basename(path)} is another than the gate tested",
+            status == 3 and "not passed" in said,
+            (status, said),
+        )
+        with open(os.path.join(top, path), "wb") as file:
+            file.write(tested)
+    os.rename(os.path.join(top, green.LIBRARY), os.path.join(root, "library"))
+    count.check("refused where the library is gone", release(top, os.path.join(root, "none"))[0] == 3)
+    os.rename(os.path.join(root, "library"), os.path.join(top, green.LIBRARY))
+
+
+def twice_the_same(count, top, root):
+    texts = []
+    for name in ("one", "two"):
+        status, said = release(top, os.path.join(root, name))
+        count.check(f"release {name}", status == 0, said)
+        with open(os.path.join(root, name, f"{NAME}.tar.gz"), "rb") as file:
+            texts.append(file.read())
+    count.check("twice the same bytes", texts[0] == texts[1])
+    with open(os.path.join(root, "one", f"{NAME}.tar.gz.sha256"), encoding="utf-8") as file:
+        count.check("its hash", file.read().split() == [hashlib.sha256(texts[0]).hexdigest(), f"{NAME}.tar.gz"])
+
+
+def unpacked(count, root):
+    with tarfile.open(os.path.join(root, "one", f"{NAME}.tar.gz")) as tar:
+        tar.extractall(os.path.join(root, "unpacked"), filter="data")
+    top = os.path.join(root, "unpacked", NAME)
+    checked = subprocess.run(["sha256sum", "-c", "--quiet", "SHA256SUMS"], cwd=top, capture_output=True, text=True)
+    count.check("each file's hash", checked.returncode == 0, checked.stdout + checked.stderr)
+    for path in (
+        "README.md",
+        "LICENSE",
+        "bin/serf-replay",
+        "lib/libserf_agent_c.a",
+        "docs/COMMANDS.md",
+        "docs/serf-replay.1",
+        "examples/README.md",
+        "include/serf_agent.h",
+        "bindings/c/example.c",
+        "install",
+        "lib/libserf_agent.a",
+        "lib/libserf_agent.so",
+        "docs/serf_agent.3",
+        "bindings/rust/native/libserf_agent_c.a",
+        "bindings/rust/native/serf_agent.h",
+        "bindings/rust/LICENSE",
+        "bindings/go/serfagent/libserf_agent_c.a",
+    ):
+        count.check(f"it has {path}", os.path.isfile(os.path.join(top, path)))
+    ran = subprocess.run([os.path.join(top, "bin", "serf-replay"), "--version"], capture_output=True, text=True)
+    count.check("the program runs", ran.stdout == "serf-replay 9.8.7\n", ran)
+    made = subprocess.run(["make", "-n", "-C", os.path.join(top, "bindings", "c")], capture_output=True, text=True)
+    count.check(
+        "the binding in C takes its library",
+        made.returncode == 0 and "../../lib/libserf_agent_c.a" in made.stdout,
+        made,
+    )
+    wheels = [name for name in os.listdir(top) if name.endswith(".whl")]
+    count.check("it has Python's wheel", len(wheels) == 1, wheels)
+
+
+def archives(count):
+    with tempfile.TemporaryDirectory(prefix="release-") as root:
+        top = clone(root)
+        refused(count, top, root)
+        twice_the_same(count, top, root)
+        unpacked(count, root)
+
+
+if __name__ == "__main__":
+    sys.exit(checks.run(archives))

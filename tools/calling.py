@@ -1,0 +1,161 @@
+#!/usr/bin/env python3
+"""tools/calling.py [--check]: writes CALLING.md of the crates that programs outside are likely to call: what each is for, a
+caller that the gate compiles, and its calls in a line each. All of it is read from the sources.
+
+--check writes nothing, and has status 1, with a line a page, where one isn't what the sources give.
+"""
+
+import glob
+import os
+import re
+import sys
+
+TOP = os.path.dirname(os.path.dirname(os.path.abspath(__file__)))
+
+# The caller of each crate: functions of a file that a script of tests/ compiles, or that is proved.
+CALLERS = {
+    "serf_wire": ("tests/library/units/changed.rattle", ["is_same_event"]),
+    "serf_snap": ("tests/library/units/snapshots.rattle", ["opened", "take"]),
+    "serf_store": ("tests/library/units/stores.rattle", ["store_keeps_what_is_noted"]),
+    "serf_agent": ("crates/serf_example/src/main.rt", ["open_over", "tell"]),
+    "serf_world": ("tests/library/units/clusters.rattle", ["configs", "named_twice"]),
+    "serf_replay": ("tests/library/units/streams.rattle", ["a_line_is_done_as_it_is_read"]),
+    "serf_conform": ("crates/serf_hunt/src/trying.rt", ["try_calls"]),
+}
+
+ITEM = re.compile(r"^pub (?:const )?(fn|struct|enum|trait) (\w+)")
+IMPL = re.compile(r"^impl(?:<.*?>)? (?:(\w+)(?:<.*>)? for )?(\w+)")
+METHOD = re.compile(r"^    pub (?:const )?fn (\w+)")
+TRAIT_METHOD = re.compile(r"^    fn (\w+)")
+# Where a signature is over, and its clauses or its body begin.
+BODY = re.compile(r"\s*(?:ensures\b|requires\b|where\b|ghost\b|\{|;|measure\b)")
+
+
+def read(*parts):
+    with open(os.path.join(TOP, *parts), encoding="utf-8") as file:
+        return file.read()
+
+
+def exported(lib):
+    """The names that a crate shows."""
+    words = " ".join(re.findall(r"^pub use (?!serf_)[\w:]*?(?:::)?(\{[^}]*\}|\w+);", lib, re.M))
+    return set(re.findall(r"\w+", words))
+
+
+def signature(lines):
+    """A function's signature in a line, up to its clauses."""
+    text = ""
+    for line in lines:
+        if BODY.match(line):
+            break
+        line = line.partition(" // ")[0]
+        if line.strip().startswith("//"):
+            continue
+        text += " " + line.strip()
+        if line.rstrip().endswith(("{", ";")):
+            break
+    text = re.sub(r"\s+", " ", text.strip().rstrip("{;").strip())
+    text = re.sub(r"^(?:pub )?(?:const )?fn ", "", text)
+    return text.replace("( ", "(").replace(", )", ")").replace(",)", ")")
+
+
+def sentence(docs):
+    """The first sentence of an item's docs."""
+    text = " ".join(line.strip().removeprefix("///").strip() for line in docs).split("  ")[0]
+    found = re.match(r"(.*?[.:])(?: [A-Z`(]|$)", text)
+    return (found[1].rstrip(":") if found else text).replace("|", "\\|")
+
+
+def items_in(path):
+    """The public items of a file: the type that each belongs to, its name, its signature, and its first sentence."""
+    docs, kind, owner = [], "", None
+    lines = read(path).split("\n")
+    for at, line in enumerate(lines):
+        stripped = line.strip()
+        if stripped.startswith("///"):
+            docs.append(stripped)
+            continue
+        if stripped.startswith("#["):
+            continue
+        item, impl = ITEM.match(line), IMPL.match(line)
+        method = METHOD.match(line) if kind != "trait" else TRAIT_METHOD.match(line)
+        if item:
+            kind, owner = (item[1], item[2]) if item[1] == "trait" else ("", None)
+            yield None, item[2], signature(lines[at:]) if item[1] == "fn" else item[2], sentence(docs)
+        elif impl:
+            # (a trait's calls stand at the trait)
+            kind, owner = ("for", None) if impl[1] else ("impl", impl[2])
+        elif method and owner:
+            yield owner, method[1], f"{owner}::{signature(lines[at:])}", sentence(docs)
+        if stripped:
+            docs = []
+
+
+def calls(crate):
+    """The rows of a crate's calls: types with their methods, then functions."""
+    shown, found = exported(read("crates", crate, "src", "lib.rt")), []
+    for path in sorted(glob.glob(os.path.join(TOP, "crates", crate, "src", "**", "*.rt"), recursive=True)):
+        found += [one for one in items_in(os.path.relpath(path, TOP)) if (one[0] or one[1]) in shown]
+    order = sorted(found, key=lambda one: ((one[0] or one[1])[0].islower(), (one[0] or one[1]).lower(), one[0] is not None))
+    return [f"| `{what}` | {says} |" for _, _, what, says in order]
+
+
+def function(text, name):
+    """A function of a file as it stands, with its docs."""
+    found = re.search(rf"^(?:///.*\n|#\[.*\n)*(?:pub )?fn {name}\b(?s:.*?)^\}}$", text, re.M)
+    if not found:
+        sys.exit(f"calling: there is no function {name}")
+    return found[0]
+
+
+def page(crate):
+    text = read("crates", crate, "src", "lib.rt")
+    purpose = re.sub(r"^//! ?", "", re.match(r"(?://!.*\n)+", text)[0], flags=re.M).strip()
+    path, names = CALLERS[crate]
+    caller = "\n\n".join(function(read(path), name) for name in names)
+    shown = re.sub(r"^(?=.)", "    ", caller, flags=re.M)
+    rows = "\n".join(calls(crate))
+    return f"""# Calling `{crate}`
+
+{purpose}
+
+## A caller
+
+Of `{path}`, as it stands there:
+
+{shown}
+
+## Its calls
+
+The contract of each stands at its function. [CRATES.md](../../docs/CRATES.md) says what they promise together.
+
+| Call | What it is |
+|---|---|
+{rows}
+"""
+
+
+def made():
+    """Each page, and whether it is what the sources give."""
+    for crate in CALLERS:
+        path = os.path.join("crates", crate, "CALLING.md")
+        yield path, os.path.exists(os.path.join(TOP, path)) and read(path) == page(crate)
+
+
+def main(words):
+    if words not in ([], ["--check"]):
+        print(__doc__.strip(), file=sys.stderr)
+        return 2
+    if words:
+        faults = [path for path, is_made in made() if not is_made]
+        for path in faults:
+            print(f"{path} isn't what the sources give: tools/calling.py makes it")
+        return int(bool(faults))
+    for crate in CALLERS:
+        with open(os.path.join(TOP, "crates", crate, "CALLING.md"), "w", encoding="utf-8") as file:
+            file.write(page(crate))
+    return 0
+
+
+if __name__ == "__main__":
+    sys.exit(main(sys.argv[1:]))

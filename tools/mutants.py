@@ -1,0 +1,218 @@
+#!/usr/bin/env python3
+"""Wrong bodies: each edit of crates/NAME/mutants turns one function, and its contract has to refuse it.
+
+    python3 tools/mutants.py [CRATE..] [--list] [--control] [--over-ci] [--anew] [--write]
+
+What refused an edit stands in tests/refused (tools/evidence.py). The edits whose line is not of what their check reads
+now are tried, and of the others 5 in 100, drawn by the commit's hash; where one of these is not refused any more, all
+edits of its crate are. tools/edit_checks.py says how edits are tried, and what shows that one is refused.
+
+--list prints each edit with the functions that it turns, and tries none. --control makes the same checks without the
+edits: each function that an edit turns has to be proved there. --over-ci takes the libraries that `rt ci` left, as the
+gate does; without it they are built first. --anew tries all. --write writes what was found to tests/refused.
+"""
+
+import os
+import re
+import resource
+import secrets
+import sys
+import tempfile
+import threading
+import time
+import traceback
+from concurrent.futures import ThreadPoolExecutor
+
+TOP = os.path.dirname(os.path.dirname(os.path.abspath(__file__)))
+sys.dont_write_bytecode = True
+import edit_checks
+import edits
+import evidence
+import libraries
+import reach
+import toolchain
+
+# How many crates are tried side by side: a check takes one processor, and up to 3 GB.
+LANES = min(os.cpu_count() or 1, 5)
+
+
+class Counts:
+    """What came of a run's edits."""
+
+    def __init__(self):
+        self.lock = threading.Lock()
+        self.believed = self.tried = self.failed = 0
+        self.kinds = {}
+
+    def add(self, refusal, was_tried):
+        with self.lock:
+            self.tried += was_tried
+            self.believed += not was_tried
+            self.failed += refusal is None
+            if refusal:
+                self.kinds[refusal.kind] = self.kinds.get(refusal.kind, 0) + 1
+
+    def fail(self):
+        with self.lock:
+            self.failed += 1
+
+
+class Run:
+    """One run over crates: what is known of their edits, and which of them are tried."""
+
+    def __init__(self, rt, words):
+        self.rt = rt
+        self.is_control, self.is_anew, self.writes = "--control" in words, "--anew" in words, "--write" in words
+        self.now = evidence.head()
+        # (an archive has no commit: the share is drawn by a number that nobody knows)
+        self.commit = evidence.commit() or secrets.token_hex(20)
+        self.reach = reach.Reach(TOP)
+        self.counts = Counts()
+
+    def sums(self, crate, own):
+        return {edit.name: self.reach.sum_of(crate, edit)[:32] for edit in own}
+
+    def planned(self, crate, own, known, sums):
+        """The edits that are tried, and what refused each of the others."""
+        believed = (
+            {} if self.is_anew or self.is_control else {edit.name: known.refusal(edit, sums[edit.name]) for edit in own}
+        )
+        believed = {name: refusal for name, refusal in believed.items() if refusal}
+        rest = {
+            name: refusal for name, refusal in believed.items() if not evidence.is_drawn(f"{crate}/{name}", self.commit)
+        }
+        return [edit for edit in own if edit.name not in rest], rest, believed.keys() - rest.keys()
+
+    def try_crate(self, crate):
+        """Tries the edits of a crate, prints what came of them, and writes it where that is asked."""
+        own = edits.edits_of(crate.name)
+        known, sums = evidence.Evidence(crate.name, self.now), self.sums(crate.name, own)
+        for line in [*known.faults, *known.gone({edit.name for edit in own})]:
+            say(line)
+        todo, rest, drawn = self.planned(crate.name, own, known, sums)
+        found = self.tried(crate, todo)
+        if any(found[name] is None for name in drawn):
+            say(f"{crate.name}: a drawn edit is not refused any more: all its edits are tried")
+            found |= self.tried(crate, [edit for edit in own if edit.name in rest])
+            rest = {}
+        for refusal in rest.values():
+            self.counts.add(refusal, False)
+        if self.writes and not self.is_control and sums == evidence_sums(crate.name, own):
+            known.write(self.now, sums, {name: refusal for name, refusal in (rest | found).items() if refusal})
+
+    def tried(self, crate, own):
+        """What refused each of these edits, by name."""
+        found = {}
+        with tempfile.TemporaryDirectory(prefix="mutants-", ignore_cleanup_errors=True) as kept:
+            checks = edit_checks.Checks(self.rt, crate, kept)
+            for batch in edits.batches_of(own):
+                began = time.monotonic()
+                if self.is_control:
+                    goals, said = checks.open_goals(batch, True)
+                    refusals = [
+                        None if open_goals else edit_checks.Refusal("control", "proved without the edit")
+                        for open_goals in goals
+                    ]
+                else:
+                    refusals, said = checks.refusals(batch)
+                log(crate, batch, began, said)
+                for edit, refusal in zip(batch, refusals):
+                    found[edit.name] = refusal
+                    self.counts.add(refusal, True)
+                    say(
+                        f"{crate.name}/{edit.name}: {refusal}"
+                        if refusal
+                        else f"FAILED {crate.name}/{edit.name}: {self.failure(edit)}"
+                    )
+                if not all(refusals):
+                    lines = [line[:200] for line in said.split("\n") if re.search(r"error|not proved|no proof", line)]
+                    say("\n".join(lines[:40]))
+        return found
+
+    def failure(self, edit):
+        functions = ", ".join(edit.functions)
+        return (
+            f"without the edit a goal is open in {functions}"
+            if self.is_control
+            else f"no goal of meaning is open in {functions}"
+        )
+
+    def try_whole(self, crate):
+        """Tries the edits of a crate. What ends this too early is said and counts as a failure, and the other crates
+        go on."""
+        try:
+            self.try_crate(crate)
+        except Exception as why:
+            where = traceback.extract_tb(why.__traceback__)[-1]
+            say(f"FAILED {crate.name}: {why!r:.300}, at {os.path.basename(where.filename)}:{where.lineno}")
+            self.counts.fail()
+
+
+def evidence_sums(crate, own):
+    """The sums of edits over the sources as they are now, read anew."""
+    now = reach.Reach(TOP)
+    return {edit.name: now.sum_of(crate, edit)[:32] for edit in own}
+
+
+def say(text):
+    if text:
+        print(text, flush=True)
+
+
+def log(crate, batch, began, said):
+    """Appends what the toolchain said to a file, where MUTANTS_LOG names a folder."""
+    if os.environ.get("MUTANTS_LOG"):
+        with open(os.path.join(os.environ["MUTANTS_LOG"], f"{crate.name}.log"), "a", encoding="utf-8") as file:
+            file.write(f"==== {time.monotonic() - began:.1f} {[edit.name for edit in batch]}\n{said}\n")
+
+
+def unbuilt(crates, over_ci):
+    """Why the libraries below these crates are not those of the sources as they are, or None. Without `over_ci` they
+    are built."""
+    if over_ci:
+        return libraries.fault_of(crates)
+    for below in {it.folder: it for crate in crates for it in crate.below()}.values():
+        if below.build_rlib([], anew=False):
+            return f"{below.name} is not proved"
+    return None
+
+
+def main(words):
+    names = [word for word in words if not word.startswith("--")]
+    rt = toolchain.load()
+    if rt is None:
+        print("mutants: rt, the command of the Rattle toolchain, is not on PATH\n0 passed, 1 failed")
+        return 3
+    rt.rtlib.guarded()
+    os.chdir(TOP)
+    crates = [crate for crate in rt.rtlib.crates_below(TOP) if not names or crate.name in names]
+    crates = [crate for crate in crates if os.path.isdir(os.path.join(crate.folder, "mutants"))]
+    try:
+        listed = {crate.name: edits.edits_of(crate.name) for crate in crates}
+    except edits.BadEdit as why:
+        print(f"FAILED {why}\n0 passed, 1 failed")
+        return 1
+    if "--list" in words:
+        for name, own in listed.items():
+            for edit in own:
+                print(f"{name}/{edit.name}: {', '.join(edit.functions)}")
+        return 0
+    why = unbuilt(crates, "--over-ci" in words)
+    if why:
+        print(f"FAILED {why}\n0 passed, 1 failed")
+        return 1
+    began, run = time.monotonic(), Run(rt, words)
+    # the crates with most edits first
+    with ThreadPoolExecutor(LANES) as pool:
+        list(pool.map(run.try_whole, sorted(crates, key=lambda it: -len(listed[it.name]))))
+    used, counts = resource.getrusage(resource.RUSAGE_CHILDREN), run.counts
+    kinds = ", ".join(f"{kind} {number}" for kind, number in sorted(counts.kinds.items()))
+    print(f"{counts.tried} edits tried, {counts.believed} believed; refused by kind: {kinds}")
+    print(f"{used.ru_utime + used.ru_stime:.0f} processor seconds, {time.monotonic() - began:.0f} seconds")
+    total = counts.tried + counts.believed
+    print(f"{total - min(counts.failed, total)} passed, {counts.failed} failed")
+    return 1 if counts.failed else 0
+
+
+if __name__ == "__main__":
+    sys.exit(main(sys.argv[1:]))
