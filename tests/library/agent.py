@@ -1,4 +1,5 @@
-"""The agent for operators (`agent/`): formatted, vetted, and its own tests under Go's race detector.
+"""The agent for operators (`agent/`): built and packed as its page says, formatted, vetted, and its own tests under Go's
+race detector.
 
     tests/library/agent.py [--library FILE] [--over-ci]
 
@@ -10,7 +11,9 @@ does.
 import argparse
 import os
 import re
+import shutil
 import sys
+import tempfile
 
 sys.dont_write_bytecode = True
 sys.path.insert(0, os.path.dirname(os.path.dirname(os.path.abspath(__file__))))
@@ -20,6 +23,24 @@ from checks import TOP
 
 # A test of Go's and how it ended.
 TEST = re.compile(r"^--- (PASS|FAIL): (\S+)", re.M)
+
+
+def built(count, library, folder):
+    """The program, by the script that README and AGENT.md show, and the package that has it."""
+    program, package = os.path.join(folder, "kitchenrue-agent"), os.path.join(folder, "kitchenrue-agent.deb")
+    status, said = c_library.ran([os.path.join(TOP, "agent", "build"), program, library])
+    count.check("agent/build", status == 0, said[-2000:])
+    status, said = c_library.ran([program, "-version"])
+    count.check("-version", status == 0 and "kitchenrue-agent" in said.lower(), (status, said))
+    status, said = c_library.ran([program, "-no-such-flag"])
+    count.check("a flag that there isn't", status != 0 and "no-such-flag" in said, (status, said))
+    if shutil.which("dpkg-deb") is None:
+        print("not run: the Debian package, since dpkg-deb is not on PATH")
+        return
+    status, said = c_library.ran([os.path.join(TOP, "agent", "package", "deb"), package, library])
+    count.check("agent/package/deb", status == 0, said[-2000:])
+    status, said = c_library.ran(["dpkg-deb", "-c", package])
+    count.check("the package has the program", "/usr/bin/kitchenrue-agent" in said, (status, said))
 
 
 def main():
@@ -33,6 +54,8 @@ def main():
         count.check("the library is built", False, fault)
         return count.finish()
     folder = os.path.dirname(os.path.abspath(asked.library or c_library.LIBRARY))
+    with tempfile.TemporaryDirectory(prefix="agent-") as own:
+        built(count, folder, own)
     status, said = c_library.ran([os.path.join(TOP, "agent", "test"), folder, "-v", "-count=1"])
     for end, name in TEST.findall(said):
         count.check(name, end == "PASS", said[-2000:])
