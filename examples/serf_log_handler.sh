@@ -1,4 +1,38 @@
 #!/bin/sh
-# Writes a line for `serf-replay judge`: serf agent -event-handler user=./serf_log_handler.sh (a space is written %20).
-payload=$(sed 's/%/%25/g; s/ /%20/g; s/$/%0A/' | tr -d '\n' | sed 's/%0A$//')
-echo "event $SERF_SELF_NAME $SERF_USER_LTIME $(echo "$SERF_USER_EVENT" | sed 's/%/%25/g; s/ /%20/g') ${payload:--}" >>"${SERF_LOG:-serf.log}"
+# Writes a line for `serf-replay judge` of each user event and each query that an agent hands to its handlers:
+#     serf agent -event-handler user=./serf_log_handler.sh -event-handler query=./serf_log_handler.sh
+# SERF_LOG says to which file. Standard output stays empty, so a query gets no answer from here.
+#
+# Each text is one word: a space is %20, a newline %0A and a percent sign %25. An empty text is -, and the text - is %2D.
+# Serf ends a payload by a newline where it has none, so one newline at its end is left out.
+# Serf gives a handler no ID of a query: a checksum of its name and payload stands in its place.
+LC_ALL=C
+export LC_ALL
+
+# The text on standard input, as one word.
+word() {
+	text=$(sed 's/%/%25/g; s/ /%20/g; s/$/%0A/' | tr -d '\n' | sed 's/%0A$//')
+	case $text in
+	'') text=- ;;
+	-) text=%2D ;;
+	esac
+	printf '%s' "$text"
+}
+
+node=$(printf '%s' "$SERF_SELF_NAME" | word)
+payload=$(word)
+case $SERF_EVENT in
+user)
+	name=$(printf '%s' "$SERF_USER_EVENT" | word)
+	line="event $node $SERF_USER_LTIME $name $payload"
+	;;
+query)
+	name=$(printf '%s' "$SERF_QUERY_NAME" | word)
+	sum=$(printf '%s %s' "$name" "$payload" | cksum)
+	line="query $node $SERF_QUERY_LTIME ${sum%% *}"
+	;;
+*)
+	exit 0
+	;;
+esac
+printf '%s\n' "$line" >>"${SERF_LOG:-serf.log}"

@@ -1,4 +1,4 @@
-"""Agents behind the pipe (docs/PIPE.md), held by `conform`: for the scripts that hold one."""
+"""Agents behind the pipe (docs/PIPE.md), held by `conform`: for the scripts that hold one, or run what a page shows of it."""
 
 import os
 import subprocess
@@ -35,3 +35,24 @@ def compare(words, agent, program=None):
         subject.kill()
         subject.wait()
     return status, report.decode(errors="replace")
+
+
+def folder_of_reader(path, agent=None, program=None):
+    """Makes a folder as a reader's of the pages: with the program, what the pages name beside it, and an agent of the
+    reader's own where one is given."""
+    os.mkdir(path)
+    for name in ("examples", "conformance"):
+        os.symlink(os.path.join(checks.TOP, name), os.path.join(path, name))
+    for name, to in (("serf-replay", program or checks.PROGRAM), ("my-agent", agent)):
+        if to:
+            with open(os.path.join(path, name), "w", encoding="utf-8") as file:
+                file.write(f'#!/bin/sh\nexec "{to}" "$@"\n')
+            os.chmod(os.path.join(path, name), 0o755)
+    return path
+
+
+def by_shell(folder, lines, **env):
+    """What lines of a page do, by a shell in such a folder."""
+    env = {**os.environ, "PATH": f"{folder}{os.pathsep}{os.environ['PATH']}", **env}
+    words = {"cwd": folder, "env": env, "stdin": subprocess.DEVNULL, "capture_output": True, "text": True}
+    return subprocess.run(["bash", "-c", lines], timeout=LIMIT, **words)

@@ -50,6 +50,10 @@ def path_of(crate):
     return os.path.join(FOLDER, f"{crate}.txt")
 
 
+# What is said of a crate whose evidence is of another toolchain.
+ELSEWHERE = re.compile(r"^tests/refused/(\w+)\.txt is of another toolchain: ", re.M)
+
+
 class Evidence:
     """The lines of one crate, and what is wrong with its file."""
 
@@ -64,7 +68,8 @@ class Evidence:
             return
         first, second, *lines = [line for line in text.split("\n") if not line.startswith("#")] + ["", ""]
         if f"{first}\n{second}" != now:
-            self.faults.append(f"tests/refused/{crate}.txt is of another toolchain, or other scripts judged: its edits are tried anew")
+            why = "is of another toolchain" if first != now.split("\n")[0] else "was judged by other scripts"
+            self.faults.append(f"tests/refused/{crate}.txt {why}: its edits are tried anew")
             return
         for line in lines:
             found = LINE.match(line)

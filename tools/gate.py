@@ -7,6 +7,7 @@ import threading
 import time
 
 import costs
+import evidence
 import machine
 
 TOP = os.path.dirname(os.path.dirname(os.path.abspath(__file__)))
@@ -23,6 +24,9 @@ WELL = re.compile(r"^rt: (\w+ proved$|\w+ is kept|\w+: trying its must-fail|must
 
 # The crate whose proof from nothing is the yardstick, and the name under which this machine keeps its processor seconds.
 YARDSTICK = "serf_wire"
+
+# The parts of the budget, as the page's rows name them.
+PROOFS, EDITS, MUTANTS, SCRIPTS = PARTS = ("proofs and programs", "must-fail edits", "tools/mutants.py", "other scripts")
 
 # One part prints at a time.
 PRINTING = threading.Lock()
@@ -100,36 +104,31 @@ class Progress:
         return 100 * (1 - sum(self.costs.get(name, 0) for name in self.left) / total)
 
 
-def section(title):
-    """The text of GATE.md under a title."""
+def rows():
+    """The rows of the page's table: how much has to run at least, and the processor seconds, None where a row has none."""
     with open(PAGE, encoding="utf-8") as page:
-        return page.read().partition(f"\n## {title}\n")[2].partition("\n## ")[0]
-
-
-def table(title):
-    """The rows of GATE.md under a title that name something and a number."""
-    rows = re.findall(r"^\| ([^|]+?) \| (\d+) \|", section(title), re.M)
-    return {name.replace("`", ""): int(count) for name, count in rows}
+        lines = [line.strip("|\n").split("|") for line in page if line.startswith("|")][2:]
+    numbers = {name.strip().replace("`", ""): [int(cell) if cell.strip().isdigit() else None for cell in cells] for name, *cells in lines}
+    return {name: (own + [None, None])[:2] for name, own in numbers.items()}
 
 
 def crate_costs():
     """The processor seconds of each crate's proof, as the page has them."""
-    return table("What each crate costs")
+    return {name: seconds for name, (_, seconds) in rows().items() if name.startswith("serf_")}
 
 
 def wanted():
     """How much has to run at least, by its name."""
-    return table("What has to run")
+    return {name: least for name, (least, _) in rows().items() if least is not None}
 
 
 class Budget:
-    """The page's budget: processor seconds by part, at a yardstick."""
+    """The page's budget: processor seconds by part, at a yardstick, which is a crate's proof."""
 
     def __init__(self):
-        rows = table("The budget")
-        self.yardstick = rows.pop("the yardstick")
-        self.all = rows.pop("in all")
-        self.parts = rows
+        self.yardstick = crate_costs()[YARDSTICK]
+        self.parts = {name: seconds for name, (_, seconds) in rows().items() if name in PARTS}
+        self.all = sum(self.parts.values())
 
     def scale(self, measured):
         """What a processor second of this machine is worth, in those of the page."""
@@ -145,6 +144,13 @@ class Budget:
         if used > 1.1 * self.all:
             return f"the gate took {used:.0f} processor seconds at the page's yardstick, and docs/GATE.md has {self.all}"
         return None
+
+
+def seconds_elsewhere(part):
+    """The processor seconds that the wrong bodies took of the crates whose evidence is of another toolchain: all edits of
+    these are tried, which no change of a source has caused. So they stand beside the budget."""
+    crates = set(evidence.ELSEWHERE.findall(part.said))
+    return sum(used for (crate, _), used in part.crates.items() if crate in crates)
 
 
 def yardstick_of(part):

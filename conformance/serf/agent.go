@@ -5,6 +5,7 @@ package serf
 
 import (
 	"bufio"
+	"bytes"
 	"encoding/hex"
 	"fmt"
 	"io/ioutil"
@@ -15,6 +16,7 @@ import (
 	"strings"
 	"time"
 
+	"github.com/hashicorp/go-msgpack/codec"
 	"github.com/hashicorp/memberlist"
 )
 
@@ -79,11 +81,11 @@ func unhexed(word string) []byte {
 	return got(hex.DecodeString(word))
 }
 
-func hexed(bytes []byte) string {
-	if len(bytes) == 0 {
+func hexed(data []byte) string {
+	if len(data) == 0 {
 		return "-"
 	}
-	return hex.EncodeToString(bytes)
+	return hex.EncodeToString(data)
 }
 
 func number(word string) uint64 { return got(strconv.ParseUint(word, 10, 64)) }
@@ -176,7 +178,7 @@ func (a *PipeAgent) Reply(line string) (reply string) {
 }
 
 var pipeCalls = map[string]func(a *PipeAgent, words []string) string{
-	"open": (*PipeAgent).open, "save": (*PipeAgent).save, "restart": (*PipeAgent).restart,
+	"open": (*PipeAgent).open, "save": (*PipeAgent).save, "restart": (*PipeAgent).restart, "look": (*PipeAgent).look,
 	"fire": (*PipeAgent).fire, "deliver": (*PipeAgent).deliver, "state": (*PipeAgent).state, "merge": (*PipeAgent).merge,
 	"query": (*PipeAgent).query, "respond": (*PipeAgent).respond, "close": (*PipeAgent).closeQueries,
 }
@@ -205,6 +207,14 @@ func (a *PipeAgent) restart(words []string) string {
 	return a.restartOn(append(got(ioutil.ReadFile(a.path())), unhexed(words[0])...), "restarted")
 }
 
+// look is what Serf has: its clocks, its least times, and its snapshot's text.
+func (a *PipeAgent) look([]string) string {
+	a.snap.buffered.Flush()
+	s := a.serf
+	return fmt.Sprintf("looked %d %d %d %d %d\nkept %s", s.clock.Time(), s.eventClock.Time(), s.queryClock.Time(), s.eventMinTime, s.queryMinTime,
+		hexed(got(ioutil.ReadFile(a.path()))))
+}
+
 func (a *PipeAgent) save([]string) string  { a.snap.updateClock(); return "saved" }
 func (a *PipeAgent) state([]string) string { return "state\nsent " + hexed(a.told().LocalState(false)) }
 
@@ -220,6 +230,11 @@ func (a *PipeAgent) merge(words []string) string {
 	packet := unhexed(words[0])
 	if messageType(packet[0]) != messagePushPullType {
 		return "refused NotPushPull"
+	}
+	var state messagePushPull
+	must(decodeMessage(packet[1:], &state))
+	if len(state.StatusLTimes)+len(state.LeftMembers) > 0 {
+		return "unsupported" // Serf's member clock follows the status times
 	}
 	a.told().MergeRemoteState(packet, words[1] == "join")
 	lines := a.did("merged")
@@ -281,11 +296,25 @@ func (a *PipeAgent) deliverQuery(packet []byte, now uint64) string {
 	return a.entered("query", query.LTime, later(now, query.Timeout))
 }
 
-// isForeign tells whether a filter asks for tags, which no agent of the reference has, or spells a name in MessagePack's
-// bin form, which this codec doesn't read as a text.
+// hasBin tells whether a filter has the head of a value in bin form.
+func hasBin(filter []byte) bool {
+	return bytes.IndexByte(filter, 0xc4) >= 0 || bytes.IndexByte(filter, 0xc5) >= 0 || bytes.IndexByte(filter, 0xc6) >= 0
+}
+
+// isForeign tells whether a filter asks for tags, which no agent of the reference has, or is one that this codec reads
+// otherwise than the reference: with a name in MessagePack's bin form, which it doesn't read as a text, as a map, which it
+// reads as a list, or with bytes behind its value, which it passes over.
 func isForeign(filters [][]byte) bool {
 	for _, filter := range filters {
-		if filter[0] == byte(filterTagType) || strings.IndexByte(string(filter), 0xc4) >= 0 {
+		if filter[0] == byte(filterTagType) || hasBin(filter) {
+			return true
+		}
+		if rest := filter[1:]; len(rest) > 0 && (rest[0]>>4 == 8 || rest[0] >= 0xde && rest[0] <= 0xdf) {
+			return true
+		}
+		var names []string
+		rest := bytes.NewReader(filter[1:])
+		if err := codec.NewDecoder(rest, &codec.MsgpackHandle{}).Decode(&names); err == nil && rest.Len() > 0 {
 			return true
 		}
 	}

@@ -5,7 +5,8 @@ _serf_replay() {
     [[ $word == = ]] && before== word=
     case "$command $before" in
         *' =') files=yes ;;
-        'random --kind') words='mixed tiny merges restarts devices injections queries limits exhaustion per-time compactions gossip' ;;
+        'replay --as') words='text csv json' ;;
+        'random --kind') words='mixed tiny merges restarts devices injections queries limits exhaustion per-time compactions gossip spellings' ;;
         'random --agents') : ;;
         'random --actions') : ;;
         'random --rules') words='serf own' ;;
@@ -17,24 +18,26 @@ _serf_replay() {
         'draw --agent') : ;;
         'draw --from') : ;;
         'draw --to') : ;;
+        'draw --event') : ;;
         'conform --agent') : ;;
         'conform --rules') words='serf own' ;;
         'conform --random') : ;;
-        'conform --kind') words='mixed tiny merges restarts devices injections queries limits exhaustion per-time compactions gossip' ;;
+        'conform --kind') words='mixed tiny merges restarts devices injections queries limits exhaustion per-time compactions gossip spellings' ;;
         'conform --agents') : ;;
         'conform --actions') : ;;
         'conform --save') files=yes ;;
+        'conform --report') files=yes ;;
         *) case "$command" in
-            replay) words='--stream --summary --help' files=yes ;;
+            replay) words='--stream --summary --as --help' files=yes ;;
             decode) words='--help' ;;
             encode) words='--help' ;;
             clocks) words='--help' files=yes ;;
             random) words='--kind --agents --actions --rules --help' ;;
-            judge) words='--kept --help' files=yes ;;
+            judge) words='--missed --kept --help' files=yes ;;
             explain) words='--agent --from --to --help' files=yes ;;
-            draw) words='--as --agent --from --to --help' files=yes ;;
+            draw) words='--as --agent --from --to --taken --event --help' files=yes ;;
             write) words='--help' files=yes ;;
-            conform) words='--agent --rules --random --kind --agents --actions --shrink --save --help' files=yes ;;
+            conform) words='--agent --rules --random --kind --agents --actions --shrink --save --report --help' files=yes ;;
             help) words='' ;;
         esac
     esac

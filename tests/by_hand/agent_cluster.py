@@ -1,11 +1,15 @@
-"""By hand, since it needs Go, Serf and memberlist's sources: kills in a cluster of stock agents and of ours.
+"""By hand, since it needs Go, Serf and memberlist's sources: kills, losses and cuts in a cluster of stock agents and of ours.
 
-    tests/by_hand/agent_cluster.py [--minutes M] [--stock N] [--ours N] [--agent PROGRAM] [--judge PROGRAM] [--keep]
+    tests/by_hand/agent_cluster.py [--minutes M] [--kills N] [--events N] [--stock N] [--ours N] [--lose SHARE] [--repeat SHARE]
+                                   [--calm] [--seed S] [--library FOLDER] [--agent PROGRAM] [--judge PROGRAM] [--keep]
 
 Events are fired at random nodes in bursts, and a random node is killed by SIGKILL and started again on its snapshot, by which
-alone it rejoins. Then all comes to rest, and `serf-replay judge` reads the log of all handlers of ours, with their snapshots.
+alone it rejoins. Ours lose packets and repeat them, and are cut off from a random half of all nodes again and again (by the
+transport of agent/internal/gossip/faults.go); --calm leaves that out. It ends at the first of so many minutes, kills or events.
+Then all comes to rest, and `serf-replay judge` reads the log of all handlers of ours, with their snapshots.
+
 It fails where a handler of ours ran an event twice, or where the judge says otherwise. How often stock's handlers did is told
-beside it, and how many events each kind never ran.
+beside it, how many events each kind never ran, and of ours why, by their records.
 """
 
 import argparse
@@ -26,13 +30,35 @@ from agent_cluster_kit import Agent, until
 HANDLER = os.path.join(kit.TOP, "examples", "serf_log_handler.sh")
 
 
-def cluster(folder, program, stock, ours):
+def arguments():
+    parser = argparse.ArgumentParser(description=__doc__, formatter_class=argparse.RawDescriptionHelpFormatter)
+    parser.add_argument("--minutes", type=float, default=60)
+    parser.add_argument("--kills", type=int, default=1000)
+    parser.add_argument("--events", type=int, default=20000)
+    parser.add_argument("--stock", type=int, default=5)
+    parser.add_argument("--ours", type=int, default=5)
+    parser.add_argument("--lose", type=float, default=0.1)
+    parser.add_argument("--repeat", type=float, default=0.1)
+    parser.add_argument("--calm", action="store_true")
+    parser.add_argument("--seed", type=int, default=1)
+    parser.add_argument("--library")
+    parser.add_argument("--agent")
+    parser.add_argument("--judge", default=os.path.join(kit.TOP, "serf-replay"))
+    parser.add_argument("--keep", action="store_true")
+    return parser.parse_args()
+
+
+def cluster(folder, program, asked):
     agents = []
-    for number in range(1, stock + ours + 1):
-        is_ours = number > stock
+    for number in range(1, asked.stock + asked.ours + 1):
+        is_ours = number > asked.stock
         agent = Agent(folder, program if is_ours else ["serf", "agent"], f"{'ours' if is_ours else 'stock'}{number}", number, net="127.0.8")
         agent.is_ours, agent.events = is_ours, os.path.join(folder, f"{agent.name}.events")
         agent.words = ["-snapshot", agent.snapshot, "-event-handler", f"user=SERF_LOG={agent.events} sh {HANDLER}"]
+        if is_ours:
+            agent.words += ["-record", agent.record]
+            agent.faults = os.path.join(folder, f"{agent.name}.faults")
+            agent.env = {**os.environ, "KITCHENRUE_FAULTS": agent.faults}
         agents.append(agent)
     return agents
 
@@ -46,24 +72,60 @@ def ran(agent):
         return []
 
 
-def torment(agents, minutes, draw):
-    """Fires and kills for so long: how many were fired, and how often each kind was killed."""
-    end, fired, kills = time.monotonic() + 60 * minutes, 0, collections.Counter()
-    next_kill = time.monotonic() + 2
-    while time.monotonic() < end:
-        up = [agent for agent in agents if agent.process.poll() is None]
-        for _ in range(draw.randint(1, 3)):
-            fired += 1
-            draw.choice(up).serf("event", "-coalesce=false", "deploy", f"v{fired}")
-        time.sleep(draw.uniform(0.1, 0.5))
-        if time.monotonic() > next_kill:
-            victim = draw.choice(agents)
+def put_faults(agents, asked, side=()):
+    """Has ours lose and repeat packets, and cuts those of one side off from all others."""
+    for agent in agents:
+        if agent.is_ours:
+            beyond = [other.addr for other in agents if side and (other in side) != (agent in side)]
+            with open(f"{agent.faults}.new", "w", encoding="ascii") as file:
+                file.write(f"lose {asked.lose}\nrepeat {asked.repeat}\n" + (f"cut {' '.join(beyond)}\n" if beyond else ""))
+            os.replace(f"{agent.faults}.new", agent.faults)
+
+
+class Torment:
+    """What is done to the cluster, until the first of its bounds."""
+
+    def __init__(self, agents, asked):
+        self.agents, self.asked, self.draw = agents, asked, random.Random(asked.seed)
+        self.fired, self.cuts, self.kills = 0, 0, collections.Counter()
+        self.next_kill = time.monotonic() + 2
+        self.next_cut, self.mended_at = time.monotonic() + 5, None
+
+    def fire(self):
+        up = [agent for agent in self.agents if agent.process.poll() is None]
+        for _ in range(self.draw.randint(1, 3)):
+            self.fired += 1
+            self.draw.choice(up).serf("event", "-coalesce=false", "deploy", f"v{self.fired}")
+
+    def cut(self):
+        """Cuts and mends, each in its time."""
+        now = time.monotonic()
+        if self.mended_at is None and now > self.next_cut:
+            put_faults(self.agents, self.asked, self.draw.sample(self.agents, len(self.agents) // 2))
+            self.cuts, self.mended_at = self.cuts + 1, now + self.draw.uniform(2, 8)
+        elif self.mended_at is not None and now > self.mended_at:
+            put_faults(self.agents, self.asked)
+            self.mended_at, self.next_cut = None, now + self.draw.uniform(3, 10)
+
+    def kill(self):
+        if time.monotonic() > self.next_kill:
+            victim = self.draw.choice(self.agents)
             victim.end()
-            kills["ours" if victim.is_ours else "stock"] += 1
-            time.sleep(draw.uniform(0.1, 1.5))
+            self.kills["ours" if victim.is_ours else "stock"] += 1
+            time.sleep(self.draw.uniform(0.1, 1.5))
             victim.start()
-            next_kill = time.monotonic() + draw.uniform(0.2, 1.5)
-    return fired, kills
+            self.next_kill = time.monotonic() + self.draw.uniform(0.2, 1.5)
+
+    def run(self):
+        end = time.monotonic() + 60 * self.asked.minutes
+        while time.monotonic() < end and self.kills.total() < self.asked.kills and self.fired < self.asked.events:
+            self.fire()
+            time.sleep(self.draw.uniform(0.1, 0.5))
+            if not self.asked.calm:
+                self.cut()
+            self.kill()
+        if not self.asked.calm:
+            put_faults(self.agents, argparse.Namespace(lose=0, repeat=0))
 
 
 def judged(agents, folder, judge):
@@ -81,33 +143,29 @@ def judged(agents, folder, judge):
     return done.returncode, done.stdout
 
 
-def main():
-    parser = argparse.ArgumentParser()
-    parser.add_argument("--minutes", type=float, default=60)
-    parser.add_argument("--stock", type=int, default=5)
-    parser.add_argument("--ours", type=int, default=5)
-    parser.add_argument("--seed", type=int, default=1)
-    parser.add_argument("--agent")
-    parser.add_argument("--judge", default=os.path.join(kit.TOP, "serf-replay"))
-    parser.add_argument("--keep", action="store_true")
-    asked = parser.parse_args()
-    missing = kit.needed()
-    if missing:
-        sys.exit(f"it needs {missing}")
-    folder = tempfile.mkdtemp(prefix="agents-")
-    agents = cluster(folder, asked.agent or kit.build(folder), asked.stock, asked.ours)
-    try:
-        for agent in agents:
-            agent.start(*(["-join", agents[0].addr] if agent is not agents[0] else []))
-        fired, kills = torment(agents, asked.minutes, random.Random(asked.seed))
-        names = {agent.name for agent in agents}
-        whole = until(lambda: all(agent.status(name) == "alive" for agent in agents for name in names), 90)
-        time.sleep(5)
-    finally:
-        for agent in agents:
-            agent.end()
-    repeats = collections.Counter()
-    print(f"{fired} events, all nodes {'see' if whole else 'do not see'} one another at the end")
+def why(agent, payloads):
+    """Why a node of ours never ran these events, by its record."""
+    text = ""
+    for name in (f"{agent.record}.1", agent.record):
+        if os.path.exists(name):
+            with open(name, encoding="ascii", errors="replace") as file:
+                text += file.read()
+    handed = {line.split()[3] for line in text.splitlines() if line.startswith("event ") and len(line.split()) == 5}
+    causes = collections.Counter()
+    for payload in payloads:
+        raw = payload.encode()
+        if raw.hex() in handed:
+            causes["killed between its line and its handler"] += 1
+        elif (b"\xa7Payload" + bytes([0xA0 | len(raw)]) + raw).hex() in text:
+            causes["it came, and was too old or below the least time: a later one came first, or it was killed behind the line"] += 1
+        else:
+            causes["it never came: who fired it was killed before it was sent, or nobody kept it"] += 1
+    return causes
+
+
+def told(agents, torment):
+    """Tells what each kind did: how many repeats each has."""
+    repeats, causes = collections.Counter(), collections.Counter()
     for kind in ("stock", "ours"):
         of_kind = [agent for agent in agents if agent.is_ours == (kind == "ours")]
         once = 0
@@ -115,8 +173,38 @@ def main():
             counts = collections.Counter(ran(agent))
             once += len(counts)
             repeats[kind] += sum(count - 1 for count in counts.values())
-        pairs = fired * len(of_kind)
-        print(f"{kind}: {kills[kind]} kills, {once} of {pairs} pairs of an event and a node ran, {repeats[kind]} repeats, {pairs - once} never ran")
+            if agent.is_ours:
+                had = {line.split()[-1] for line in counts}
+                causes += why(agent, [f"v{number}" for number in range(1, torment.fired + 1) if f"v{number}" not in had])
+        pairs = torment.fired * len(of_kind)
+        print(f"{kind}: {torment.kills[kind]} kills, {once} of {pairs} pairs of an event and a node ran, {repeats[kind]} repeats, {pairs - once} never ran")
+    for cause, count in causes.most_common():
+        print(f"ours, never ran: {count}: {cause}")
+    return repeats
+
+
+def main():
+    asked = arguments()
+    missing = kit.needed()
+    if missing:
+        sys.exit(f"it needs {missing}")
+    folder = tempfile.mkdtemp(prefix="agents-")
+    agents = cluster(folder, asked.agent or kit.build(folder, asked.library, ["-tags", "faults"]), asked)
+    torment = Torment(agents, asked)
+    try:
+        for agent in agents:
+            agent.start(*(["-join", agents[0].addr] if agent is not agents[0] else []))
+        if not asked.calm:
+            put_faults(agents, asked)
+        torment.run()
+        names = {agent.name for agent in agents}
+        whole = until(lambda: all(agent.status(name) == "alive" for agent in agents for name in names), 90)
+        time.sleep(5)
+    finally:
+        for agent in agents:
+            agent.end()
+    print(f"{torment.fired} events, {torment.cuts} cuts, all nodes {'see' if whole else 'do not see'} one another at the end")
+    repeats = told(agents, torment)
     status, text = judged(agents, folder, asked.judge)
     print(text, end="")
     if asked.keep:

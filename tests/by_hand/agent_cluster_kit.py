@@ -21,15 +21,15 @@ echo "$SERF_EVENT|$SERF_SELF_NAME|$SERF_SELF_ROLE|$SERF_TAG_ROLE|$SERF_USER_EVEN
 """
 
 
-def build(folder, library=None, race=True):
-    """Builds the agent into a folder, as its build script does: the program's path."""
+def build(folder, library=None, flags=("-race",)):
+    """Builds the agent into a folder, as its build script does, with these flags of Go: the program's path."""
     if library is None:
         fault = c_library.fault_of_library()
         if fault:
             sys.exit(f"the library: {fault}")
         library = os.path.dirname(c_library.LIBRARY)
     path = os.path.join(folder, "kitchenrue-agent")
-    words = [os.path.join(TOP, "agent", "build"), path, library] + (["-race"] if race else [])
+    words = [os.path.join(TOP, "agent", "build"), path, library, *flags]
     subprocess.run(words, check=True)
     return path
 
@@ -45,14 +45,16 @@ class Agent:
         self.words = list(words)
         self.handled = os.path.join(folder, f"{name}.handled")
         self.snapshot = os.path.join(folder, f"{name}.snapshot")
+        self.record = os.path.join(folder, f"{name}.record")
+        self.env = None
         self.log = os.path.join(folder, f"{name}.log")
         self.process = None
 
     def start(self, *more):
         words = [*self.program, "-node", self.name, "-bind", f"{self.addr}:7946", "-rpc-addr", self.rpc, "-log-level", "debug", *self.words, *more]
         with open(self.log, "a", encoding="utf-8") as log:
-            self.process = subprocess.Popen(words, stdin=subprocess.DEVNULL, stdout=log, stderr=log, start_new_session=True)
-        until(lambda: self.process.poll() is not None or said(["serf", "members", f"-rpc-addr={self.rpc}", *self.token()])[0] == 0, 20)
+            self.process = subprocess.Popen(words, stdin=subprocess.DEVNULL, stdout=log, stderr=log, start_new_session=True, env=self.env)
+        until(lambda: self.process.poll() is not None or said(["serf", "members", f"-rpc-addr={self.rpc}", *self.token()])[0] == 0, 60)
         return self
 
     def token(self):

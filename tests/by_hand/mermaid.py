@@ -58,7 +58,7 @@ class Drawn:
         self.name = name
         self.text = ran(["draw", "--as", "mermaid", *words], schedule).decode()
         self.root = tree.fromstring(ran(["draw", *words], schedule))
-        heads = [head.text or "" for head in self.root.findall(f"{SVG}text[@class='h']")]
+        heads = [head.text or "" for head in self.root.findall(f"{SVG}text[@class='h']") if head.get("y") == "065"]
         self.lanes = list(zip(range(len(heads)) if agents is None else agents, heads))
 
     def who(self, x):
@@ -72,12 +72,13 @@ class Drawn:
                 start, end = (place.split() for place in path.get("d")[1:].split("L"))
                 arrows[int(end[1])] = (ARROWS[path.get("class")], self.who(start[0]))
         messages = []
-        for number, group in zip(self.root.findall(f"{SVG}text[@class='n']"), self.root.findall(f"{SVG}g"), strict=True):
+        numbers = self.root.findall(f"{SVG}text[@class='n']")
+        dots = [group for group in self.root.findall(f"{SVG}g") if group.get("class")]
+        labels = [text for text in self.root.findall(f"{SVG}text") if text.get("class") in ARROWS]
+        for number, group, label in zip(numbers, dots, labels, strict=True):
             x, y = group.get("transform")[len("translate(") : -1].split()
-            label, *clock = sorted(group.findall(f"{SVG}text"), key=lambda text: text.get("class") == "c")
-            text = ", ".join([f"{number.text} {label.text or ''}", *(text.text for text in clock)])
             kind, sender = arrows.pop(int(y), ("NOTE", self.who(x)))
-            messages.append([kind, sender, self.who(x), text.strip()])
+            messages.append([kind, sender, self.who(x), f"{number.text} {label.text or ''}".strip()])
         actors = [[f"a{agent}", f"{agent} {name}".strip()] for agent, name in self.lanes]
         if any("outside" in message[1:3] for message in messages):
             actors.append(["outside", "outside"])
@@ -131,7 +132,7 @@ def parts():
     agents = b"".join(b"agent %02x 4 4 512 8 keep\n" % (97 + number) for number in range(12))
     text = agents + b"fire 0 78 79 0\ndeliver 11 0 0\ndeliver 1 0 0\ninject ff\ndeliver 0 2 0\ndeliver 0 99 0\n"
     text += b"deliver 12 0 0\nfire 12 78 79 0\nrestart 11 -\n"
-    for words in (), ("--from", "2", "--to", "3"), ("--from", "100"):
+    for words in (), ("--from", "2", "--to", "3"), ("--from", "100"), ("--taken",), ("--event", "x"), ("--event", "x", "--taken"):
         yield Drawn(f"12 agents {' '.join(words)}", text, words)
     for agents in ([11], [0, 1]):
         words = [word for agent in agents for word in ("--agent", str(agent))]

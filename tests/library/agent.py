@@ -1,16 +1,19 @@
-"""The agent for operators (`agent/`): built and packed as its page says, formatted, vetted, and its own tests under Go's
-race detector.
+"""The agent for operators (`agent/`): built and packed as its page says, formatted, vetted, its own tests under Go's race
+detector, what they recorded as a schedule (`examples/schedule_of_records.py`), and what the pages show of agents
+(`agent/shown.py`).
 
     tests/library/agent.py [--library FILE] [--over-ci]
 
-Go, memberlist and go-msgpack have to be there, as `tools/packages` installs them. --library takes another static
-library than that of crates/serf_agent_c, which else is built; --over-ci builds it over what `rt ci` left, as the gate
-does.
+Go, memberlist and go-msgpack have to be there, as `tools/packages` installs them, and the program has to be built. --library
+takes another static library than that of crates/serf_agent_c, which else is built; --over-ci builds it over what `rt ci`
+left, as the gate does.
 """
 
 import argparse
+import importlib.util
 import os
 import re
+import shlex
 import shutil
 import sys
 import tempfile
@@ -21,8 +24,28 @@ import checks
 import c_library
 from checks import TOP
 
+sys.path.insert(0, os.path.join(TOP, "tests", "library", "agent"))
+import pages
+import shown
+
 # A test of Go's and how it ended.
 TEST = re.compile(r"^--- (PASS|FAIL): (\S+)", re.M)
+
+
+def unbuilt(count, library, folder):
+    """What agent/build says where Go or the library is missing: a sentence, and status 3."""
+    few, alone = os.path.join(folder, "few"), os.path.join(folder, "alone", "agent", "build")
+    os.makedirs(few)
+    for name in ("dirname", "uname"):
+        os.symlink(shutil.which(name), os.path.join(few, name))
+    os.makedirs(os.path.dirname(alone))
+    shutil.copy(os.path.join(TOP, "agent", "build"), alone)
+    for what, script, path, says in (
+        ("without Go", os.path.join(TOP, "agent", "build"), few, "agent/build: go is not on PATH"),
+        ("without the library", alone, os.environ["PATH"], "agent/build: there is no libserf_agent_c.a"),
+    ):
+        status, said = c_library.ran([script, os.path.join(folder, "none"), library if path == few else folder], env={**os.environ, "PATH": path})
+        count.check(f"agent/build {what}", status == 3 and said.startswith(says) and said.count("\n") == 1, (status, said))
 
 
 def built(count, library, folder):
@@ -34,6 +57,7 @@ def built(count, library, folder):
     count.check("-version", status == 0 and "kitchenrue-agent" in said.lower(), (status, said))
     status, said = c_library.ran([program, "-no-such-flag"])
     count.check("a flag that there isn't", status != 0 and "no-such-flag" in said, (status, said))
+    unbuilt(count, library, folder)
     if shutil.which("dpkg-deb") is None:
         print("not run: the Debian package, since dpkg-deb is not on PATH")
         return
@@ -41,6 +65,124 @@ def built(count, library, folder):
     count.check("agent/package/deb", status == 0, said[-2000:])
     status, said = c_library.ran(["dpkg-deb", "-c", package])
     count.check("the package has the program", "/usr/bin/kitchenrue-agent" in said, (status, said))
+
+
+SCRIPT = os.path.join(TOP, "examples", "schedule_of_records.py")
+
+
+def loaded():
+    """The script as a module."""
+    module = importlib.util.module_from_spec(importlib.util.spec_from_file_location("schedule_of_records", SCRIPT))
+    module.__spec__.loader.exec_module(module)
+    return module
+
+
+def handed_out(lines, number):
+    """What a trace says that an agent was handed, in order."""
+    words = [line.split() for line in lines]
+    return [[it[1], *it[3:]] for it in words if it[1] in ("event", "handed") and it[2] == str(number)]
+
+
+def scheduled(count, what, *words):
+    """The schedule of records, and its trace as lines."""
+    status, written = c_library.ran([sys.executable, SCRIPT, *words])
+    count.check(f"{what}: a schedule is written", status == 0, written)
+    status, schedule, said = checks.ran(["write"], written.encode())
+    count.check(f"{what}: it can be read", status == 0, said)
+    status, trace, said = checks.ran(["replay"], schedule)
+    count.check(f"{what}: it runs", status == 0, said)
+    return written, schedule, trace.decode().splitlines()
+
+
+def recorded(count, folder):
+    """What three nodes recorded says as a schedule just what was handed to each."""
+    module = loaded()
+    paths = [os.path.join(folder, f"{name}.record") for name in "abc"]
+    nodes = [module.Node(path, lambda what: count.check("a record is whole", False, what)) for path in paths]
+    for more in ([], ["--taken"]):
+        what = " ".join(["three records", *more])
+        written, schedule, trace = scheduled(count, what, *more, *paths)
+        for number, node in enumerate(nodes):
+            wanted, lives = [], -1
+            for call in node.calls:
+                lives += call.kind == "open"
+                wanted += [[line[0], *line[1:]] for line in call.reply if line[0] in ("event", "handed")]
+            count.check(f"{what}: node {number} was handed the same", handed_out(trace, number) == wanted, trace)
+            count.check(f"{what}: lives of node {number}", sum(line.startswith(f'restart "{node.name.decode()}"') for line in written.splitlines()) == lives, written)
+        answers = {line.split()[0]: line.split()[1:] for line in reversed(trace)}
+        actions = [line for line in written.splitlines() if not line.startswith("agent ")]
+        other = [(line, answers[str(at)]) for at, line in enumerate(actions, 1) if " # " in line and line.split(" # ")[1].split()[1:] != answers[str(at)]]
+        count.check(f"{what}: each call has the answer of the reference", len(actions) == len(answers) and not other, other)
+        count.check(f"{what}: all is told", sum(" # " in line for line in actions) > 20, written)
+        # of what nodes here sent, only a query by tags is another packet at who passes
+        injected = sum(": inject " in line for line in written.splitlines())
+        count.check(f"{what}: packets are those that were sent", injected <= 1, written)
+        for command in (["explain"], ["draw"], ["draw", "--as", "mermaid"]):
+            status, text, said = checks.ran(command, schedule)
+            count.check(f"{what}: {' '.join(command)}", status == 0 and text, said)
+    explained = checks.ran(["explain", "--agent", "2"], schedule)[1].decode()
+    # (by gossip or by a state, whichever was first)
+    count.check("explain says why the third node had the second event", re.search(r'because (slot \d brings )?event 2 "deploy" "v2": ("c" takes|new, and handed out)', explained), explained)
+    count.check("and from where on it goes on", "because its snapshot keeps clock" in explained, explained)
+
+
+def shown_of_records(count, folder):
+    """What docs/AGENT.md shows of records, run as it stands on the records of two nodes."""
+    own = os.path.join(folder, "day")
+    for node, name in (("web1", "a"), ("web2", "b")):
+        os.makedirs(os.path.join(own, node))
+        shutil.copy(os.path.join(folder, f"{name}.record"), os.path.join(own, node, "record"))
+    # (the unproved program is started by a script that wants its own folder)
+    with open(os.path.join(own, "serf-replay"), "w", encoding="utf-8") as file:
+        file.write(f'#!/bin/sh\nexec {shlex.quote(checks.PROGRAM)} "$@"\n')
+    os.chmod(file.name, 0o755)
+    env = {**os.environ, "PATH": os.pathsep.join([own, os.environ["PATH"]])}
+    for command in pages.of(pages.AGENT, "docs/AGENT.md"):
+        if command.text.startswith(("examples/", "serf-replay ")):
+            text = command.text.replace("examples/", f"{TOP}/examples/")
+            status, said = c_library.ran(["sh", "-ec", text], cwd=own, env=env)
+            count.check(command.name(), status == 0, said)
+    picture = checks.text_of(os.path.join(own, "day.svg"))
+    count.check("the day's picture", picture.startswith("<svg"), picture[:300])
+
+
+def cut_off(count, folder):
+    """Records that are cut off, that turned over, or that are none."""
+    with open(os.path.join(folder, "c.record"), encoding="ascii") as file:
+        whole = file.read()
+    other = os.path.join(folder, "cut.record")
+
+    def written(*parts):
+        for number, part in enumerate(reversed(parts)):
+            with open(other + (f".{number}" if number else ""), "w", encoding="ascii") as file:
+                file.write(part)
+        return c_library.ran([sys.executable, SCRIPT, other])
+
+    text, module, last = written(whole)[1], loaded(), ""
+    for number, at in enumerate(range(0, len(whole), max(1, len(whole) // 40))):
+        with open(other, "w", encoding="ascii") as file:
+            file.write(whole[:at])
+        try:
+            schedule = module.Schedule([module.Node(other, lambda what: None)], False).write()
+        except module.Fault as fault:
+            schedule = ""
+            count.check(f"cut at {at}: it has no call", at < 200 and "no record of an agent" in str(fault), fault)
+        # (a life that answers more needs more of the record)
+        count.check(f"cut at {at}: what is whole is taken", len(schedule.splitlines()) >= len(last.splitlines()), schedule)
+        last = schedule
+        if number % 10 == 9:
+            status, _, said = checks.ran(["write"], schedule.encode())
+            count.check(f"cut at {at}: it can be read", status == 0, said)
+    # the second file begins with the clocks at its place, behind any call of the first
+    at = whole.index("\n\n", len(whole) // 3) + 2
+    head = whole[: whole.index("\n\n") + 2].replace("\n", "\n# goes on\n", 1)
+    count.check("two files are as one", written(whole[:at], head + whole[at:]) == (0, text))
+    os.remove(f"{other}.1")
+    status, said = written(head + whole[at:])
+    count.check("a record that begins late", status == 0 and "in the middle of a life" in said, said)
+    for what, words in (("none", [os.path.join(folder, "none")]), ("a folder", [folder]), ("one node twice", [other, other])):
+        status, said = c_library.ran([sys.executable, SCRIPT, *words])
+        count.check(f"{what}: a sentence", status == 1 and said.count("\n") <= 3 and "Traceback" not in said, said)
 
 
 def main():
@@ -56,11 +198,25 @@ def main():
     folder = os.path.dirname(os.path.abspath(asked.library or c_library.LIBRARY))
     with tempfile.TemporaryDirectory(prefix="agent-") as own:
         built(count, folder, own)
-    status, said = c_library.ran([os.path.join(TOP, "agent", "test"), folder, "-v", "-count=1"])
+        tested(count, folder, own)
+    with tempfile.TemporaryDirectory(prefix="pages-") as own:
+        shown.try_pages(count, folder, own)
+    return count.finish()
+
+
+def tested(count, folder, own):
+    """Its own tests, and what they recorded."""
+    words = [os.path.join(TOP, "agent", "test"), folder, "-v", "-count=1"]
+    status, said = c_library.ran(words, env={**os.environ, "KITCHENRUE_RECORDS": own})
     for end, name in TEST.findall(said):
         count.check(name, end == "PASS", said[-2000:])
     count.check("they end well, and no line is unformatted or doubtful", status == 0, said[-2000:])
-    return count.finish()
+    if not os.path.exists(checks.PROGRAM):
+        count.check("the program is built", False, "./prove makes it, and SERF_UNPROVED=1 takes the one that ./serf-replay compiled")
+        return
+    recorded(count, own)
+    shown_of_records(count, own)
+    cut_off(count, own)
 
 
 if __name__ == "__main__":

@@ -22,13 +22,15 @@ sys.dont_write_bytecode = True
 sys.path.insert(0, os.path.dirname(os.path.dirname(os.path.abspath(__file__))))
 import checks
 import c_library
+import pages
 import piped_agents
 import programs
 from checks import TOP
 
-sys.path.insert(0, os.path.join(TOP, "tests", "library", "embed"))
+sys.path[:0] = [os.path.join(TOP, "tests", "library", part) for part in ("embed", "packages")]
 import bursts
 import declarations
+import host_lines
 import starved
 import stores
 
@@ -134,6 +136,9 @@ def memory(count, places):
                 "want of memory, under valgrind",
                 ["valgrind", "-q", "--error-exitcode=9", "--leak-check=full", path],
             )
+    members = compile_c(count, places, "members", os.path.join(SOURCES, "members.c"), wrapped)
+    if members:
+        counted(count, "what a host of members asks", [members])
     fault = starved.make(places)
     count.check("a library whose calls run out of memory", fault is None, fault)
 
@@ -184,7 +189,7 @@ def in_python(count, places):
     stores.try_store(count, "Python", places, [sys.executable, os.path.join(SOURCES, "store_driver.py")])
     more["env"]["PYTHONPATH"] = os.path.join(BINDINGS, "python")
     example(count, "Python", places, [sys.executable, "-m", "serf_agent"], **more)
-    for name in ("bad_input", "misuse"):
+    for name in ("bad_input", "members", "misuse"):
         counted(
             count,
             f"{name} in Python",
@@ -288,6 +293,12 @@ def delegate_in_go(count, places, env):
     os.symlink(os.path.join(BINDINGS, "go"), os.path.join(own, "src", "kitchenrue.example"))
     env = dict(env, GO111MODULE="off", GOFLAGS="", GOPATH=f"{own}:{GO_CODE}")
     tests_in_go(count, "serfdelegate", "kitchenrue.example/serfdelegate", {"env": env})
+    lines = os.path.join(own, "src", "lines")
+    os.mkdir(lines)
+    with open(os.path.join(lines, "main.go"), "w", encoding="utf-8") as file:
+        file.write(host_lines.program("go"))
+    status, said = c_library.ran(["go", "vet", "lines"], env=env)
+    count.check("Go: README's lines", status == 0, said[-2000:])
 
 
 def in_pipe(count, places, program):
@@ -315,6 +326,19 @@ def in_pipe(count, places, program):
             status == 0 and f"{SEEDS} seeds and" in report,
             f"{status}: {report[-600:]}",
         )
+    shown(count, places, agent, program)
+
+
+def shown(count, places, agent, program):
+    """What the pages show of a reader's agent, with the one in C in its place. Each page's pipe is made by itself."""
+    folder = piped_agents.folder_of_reader(places.of("reader"), agent, program)
+    replies = os.path.join(folder, "replies")
+    for command in pages.of(pages.EMBED):
+        if command.text.startswith("mkfifo") and os.path.exists(replies):
+            os.remove(replies)
+        ran = piped_agents.by_shell(folder, command.text)
+        says = "calls agree" in ran.stderr or command.text == "mkfifo replies"
+        count.check(command.name(), ran.returncode == 0 and says, (ran.returncode, ran.stderr[-600:]))
 
 
 def declared(count, places, crate):
@@ -359,7 +383,7 @@ def main():
         run(total, "python", in_python, places)
         run(total, "rust", in_rust, places)
         run(total, "go", in_go, places)
-        run(total, "pipe", in_pipe, places, asked.program)
+        run(total, "pipe", in_pipe, places, asked.program and os.path.abspath(asked.program))
     finally:
         shutil.rmtree(folder)
     return total.finish()

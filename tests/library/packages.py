@@ -23,11 +23,15 @@ import time
 sys.dont_write_bytecode = True
 sys.path.insert(0, os.path.dirname(os.path.dirname(os.path.abspath(__file__))))
 import checks
+import pages
 from checks import TOP
 import c_library
 import manual_of_header
 
 HERE = os.path.join(TOP, "tests", "library", "packages")
+sys.path.insert(0, HERE)
+import host_lines
+
 BINDINGS = os.path.join(TOP, "bindings")
 
 # What a copy of a file in a binding's own folder is the copy of.
@@ -114,11 +118,23 @@ def refused(count, name, answer, sentence):
     count.check(f"refused: {name}", answer[0] != 0 and re.search(sentence, answer[1]), f"{answer[0]}: {answer[1][-1500:]}")
 
 
+def as_shown(binding):
+    """The commands of a binding's page."""
+    return pages.of(pages.PACKAGES, f"bindings/{binding}/README.md")
+
+
 def write(path, text):
     with open(path, "wb" if isinstance(text, bytes) else "w") as file:
         file.write(text)
     os.chmod(path, 0o755)
     return path
+
+
+def given(folder, name, text):
+    """A file in a folder of the user's."""
+    path = write(os.path.join(folder, name), text)
+    if AS_USER:
+        os.chown(path, 65534, 65534)
 
 
 def aged(path, to):
@@ -158,6 +174,11 @@ def in_c(count, archive):
     static = ["cc", "-I", os.path.join(prefix, "include"), "-o", run, source, os.path.join(prefix, "lib", "libserf_agent.a")]
     if well(count, "a host over the static library", by_user(home, *static), ""):
         well(count, "the example over the static library", by_user(home, run, archive.home_of(home, "static")), archive.example)
+    lines = archive.home_of(home, "lines")
+    given(lines, "host.c", host_lines.program("c"))
+    static[-3:] = ["-Wall", "-Wextra", "-Werror", "-o", "host", "host.c", static[-1]]
+    if well(count, "README's lines in C", by_user(lines, *static, home=home), ""):
+        well(count, "what they print", by_user(lines, "./host", home=home), host_lines.SAYS)
     by_tools(count, archive, home, prefix, source)
     clone = archive.copy(home, "bindings", "c")
     make = ["make", "-s", "-C", clone, f"TOP={archive.top}", f"OUT={home}/out"]
@@ -192,10 +213,16 @@ def in_python(count, archive):
     if not well(count, "an environment", by_user(home, python, "-m", "venv", "own")):
         return
     python = os.path.join(home, "own", "bin", "python")
-    if not well(count, "pip installs the wheel", by_user(home, python, "-m", "pip", "install", "--no-index", archive.wheel)):
-        return
-    well(count, "python -m serf_agent", by_user(home, python, "-m", "serf_agent"), archive.example)
+    own = {"PATH": f"{os.path.dirname(python)}:{os.environ['PATH']}", "PIP_NO_INDEX": "1"}
+    for shown in as_shown("python"):
+        # the first one installs the wheel
+        answer = by_user(archive.top, "sh", "-ec", shown.text, home=home, **own)
+        if not well(count, shown.name(), answer, None if shown.text.startswith("pip ") else archive.example):
+            return
     well(count, "python -m serf_agent FOLDER", by_user(home, python, "-m", "serf_agent", archive.home_of(home, "kept")), archive.example)
+    lines = archive.home_of(home, "lines")
+    given(lines, "host.py", host_lines.program("python"))
+    well(count, "README's lines in Python", by_user(lines, python, "host.py", home=home), host_lines.SAYS)
     said = by_user(home, python, os.path.join(HERE, "typed.py"))
     well(count, "every method is typed, and the version is the package's", said, "")
     built = archive.home_of(home, "wheels")
@@ -225,14 +252,20 @@ def in_rust(count, archive):
     os.makedirs(os.path.join(own, "src"))
     write(os.path.join(own, "Cargo.toml"), f'[package]\nname = "app"\nversion = "0.1.0"\nedition = "2021"\n\n[dependencies]\nserf_agent = {{ path = "{archive.path("bindings", "rust")}" }}\n')
     shutil.copy(archive.path("bindings", "rust", "examples", "two_agents.rs"), os.path.join(own, "src", "main.rs"))
+    os.mkdir(os.path.join(own, "src", "bin"))
+    write(os.path.join(own, "src", "bin", "lines.rs"), host_lines.program("rust"))
     if AS_USER:
         subprocess.run(["chown", "-R", "65534:65534", own], check=True)
     if well(count, "a crate that depends on the archive's builds", by_user(own, "cargo", "build", "-q", home=home, **target), ""):
         well(count, "the example in Rust", by_user(own, os.path.join(home, "target", "debug", "app"), archive.home_of(home, "kept")), archive.example)
+        well(count, "README's lines in Rust", by_user(own, os.path.join(home, "target", "debug", "lines")), host_lines.SAYS)
     crate = archive.copy(home, "bindings", "rust")
     answer = by_user(crate, "cargo", "package", home=home, **target)
     well(count, "cargo package verifies", answer)
     count.check("cargo package says nothing of what is missing", "Verifying" in answer[1] and not re.search(r"warning: (?!ignoring example)", answer[1]), answer[1])
+    for shown in as_shown("rust"):
+        answer = by_user(crate, "sh", "-ec", shown.text.replace("FOLDER", archive.home_of(home, "shown")), home=home, **target)
+        count.check(shown.name(), answer[0] == 0 and answer[1].endswith(archive.example), answer)
     shutil.rmtree(os.path.join(crate, "native"))
     refused(count, "no library in Rust", by_user(crate, "cargo", "build", home=home, **target), r"serf_agent: the static library isn't in this package: SERF_AGENT_LIBRARY has to name")
     refused(count, "a library that isn't there", by_user(crate, "cargo", "build", home=home, SERF_AGENT_LIBRARY="/none/a.a", **target), r"serf_agent: there is no library at /none/a\.a")
@@ -259,6 +292,9 @@ def in_go(count, archive):
     vet = {**more, "GOFLAGS": "-mod=readonly"}
     for folder in (module, programs):
         well(count, f"go vet of {os.path.basename(folder)}, without memberlist", by_user(folder, "go", "vet", "./...", **vet), "")
+    for shown in as_shown("go"):
+        line = shown.text.replace("FOLDER", archive.home_of(home, "shown"))
+        well(count, shown.name(), by_user(programs, "sh", "-ec", line, **vet), archive.example)
     # a fork changes one line, and all that stands beside the module still builds
     fork = archive.copy(home, "bindings", "go")
     line = os.path.join(fork, "serfagent", "go.mod")
@@ -289,10 +325,22 @@ def installed(count, archive):
     refused(count, "an installation where nobody may write", by_user(home, archive.path("install"), "/proc/none"), "^install: /proc/none can't be written; name another folder$")
     refused(count, "an installation without a folder", by_user(home, archive.path("install")), r"^usage: \./install PREFIX")
     refused(count, "an installation of a clone", by_user(home, os.path.join(TOP, "install"), prefix) if os.access(TOP, os.X_OK) else (1, ""), "^install: this is no release's archive")
+    without_make(count, archive, home)
     copy = archive.copy(home, "install")
     os.makedirs(os.path.join(home, "bin"))
     aged_program(archive, os.path.join(home, "bin", "serf-replay"))
     refused(count, "a program on an old C library", by_user(home, "sh", copy, prefix), "^install: the C library of this system is older than the one that the program was linked with: ")
+
+
+def without_make(count, archive, home):
+    """Where there is no make the library for C is left out, and that is said."""
+    few, prefix = archive.home_of(home, "few"), os.path.join(home, "without_make")
+    for name in ("sh", "dirname", "uname", "mkdir", "install"):
+        by_user(home, "ln", "-s", shutil.which(name), few)
+    answer = by_user(home, "env", f"PATH={few}", archive.path("install"), prefix)
+    well(count, "an installation without make", answer)
+    says = "install: make isn't on PATH, so the library for C was left out\n" in answer[1]
+    count.check("it says what it left out", says and not os.path.exists(os.path.join(prefix, "lib")), answer[1])
 
 
 def page(count, archive):
@@ -303,7 +351,7 @@ def page(count, archive):
     name = re.search(r"(serf-replay-\S+)\.tar\.gz", parts["The archive"])[1]
     by_user(home, "sh", "-ec", f"cp -r {archive.top} {name}; chmod -R u+w {name}; tar czf {name}.tar.gz {name}; sha256sum {name}.tar.gz >{name}.tar.gz.sha256; rm -r {name}")
     needs = {"Rust": "cargo", "Go": "go"}
-    for title in ("The archive", "C", "Python", "Rust", "Go"):
+    for title in [title for title, text in parts.items() if re.search(r"^ {4}", text, re.M)]:
         if title in needs and shutil.which(needs[title]) is None:
             print(f"not run: {title} in docs/START.md, since {needs[title]} is not on PATH")
             continue

@@ -3,9 +3,9 @@ docs/COMMANDS.md.
 
 `command_line.py read` compares the pages alone, and needs no built program.
 
-- Each command that begins with `serf-replay` (or `cut`, `grep`) in an indented block of a page, and names no file in
-  capitals and no agent of the reader's, is run in the page's folder: its status is 0, or 1 for `judge`, and it writes
-  something. Where lines stand right under it that are no commands, they are what it writes.
+- Each command of a page that begins with `serf-replay` (or `cut`, `grep`) is run in the page's folder, or at the top where
+  the page is in docs/: its status is 0, or 1 for `judge`, and it writes something. Where lines stand under it that are no
+  commands, they are what it writes.
 - docs/COMMANDS.md has a section for each command of `--help`, README names each, and the options of a section's table
   are those of the command's help.
 - The examples of the table of statuses give just these statuses.
@@ -14,7 +14,6 @@ docs/COMMANDS.md.
 - Words that no command takes are refused, and a write that fails is a fault, whatever is written.
 """
 
-import glob
 import os
 import re
 import shutil
@@ -24,25 +23,9 @@ import sys
 sys.dont_write_bytecode = True
 sys.path.insert(0, os.path.dirname(os.path.dirname(os.path.abspath(__file__))))
 import checks
+import pages
 from checks import TOP, text_of
 
-PAGES = (
-    "README.md",
-    "docs/*.md",
-    "examples/README.md",
-    "examples/*/README.md",
-    "bench/README.md",
-    "conformance/*/README.md",
-    "CONTRIBUTING.md",
-    "SECURITY.md",
-)
-SHOWN = re.compile(r"^ {4,}((?:(?:\./)?serf-replay|cut|grep) .*)$", re.M)
-# A block's lines right under a command: they are no commands of any program that the pages show.
-UNDER = re.compile(
-    r"\n((?: {4}(?! *(?:[A-Z_]+=|\./|serf-replay|cut |grep |mkfifo |make |cargo |pip |rt |go |python)).*\n)+)"
-)
-# A word that stands for something of the reader's own.
-OWN = re.compile(r"\b[A-Z]{2,}\b|my-agent|<|>")
 STATUS = re.compile(r"^\| (\d) \| ([^|]*) \| `serf-replay ([^`]*)` \|$", re.M)
 OPTION = re.compile(r"^\| `--([a-z-]+)([^`]*)`", re.M)
 HELP_OPTION = re.compile(r"^ {2,}(?:-\w, )?--([a-z-]+)", re.M)
@@ -61,28 +44,13 @@ def run(command, folder):
     )
 
 
-def pages():
-    return [path for kind in PAGES for path in sorted(glob.glob(os.path.join(TOP, kind)))]
-
-
-def shown_under(page, command):
-    """What a page shows right under a command, without its indent."""
-    for place in re.finditer(rf"^    {re.escape(command)}(?=\n)", page, re.M):
-        under = UNDER.match(page, place.end())
-        if under:
-            yield "".join(line[4:] + "\n" for line in under[1].split("\n")[:-1])
-
-
 def shown_commands(count):
-    for page in pages():
-        for command in dict.fromkeys(SHOWN.findall(text_of(page))):
-            if not OWN.search(command):
-                folder = TOP if os.path.dirname(page) == os.path.join(TOP, "docs") else os.path.dirname(page)
-                ran, name = run(command, folder), f"{os.path.relpath(page, TOP)}: {command}"
-                wanted = (0, 1) if " judge " in command else (0,)
-                count.check(name, ran.returncode in wanted and ran.stdout, (ran.returncode, ran.stderr[-300:]))
-                for shown in shown_under(text_of(page), command):
-                    count.check(f"{name}: what it writes", ran.stdout.decode() == shown, ran.stdout[-600:])
+    for shown in pages.of(pages.COMMAND_LINE):
+        folder = os.path.join(TOP, os.path.dirname(shown.page).removeprefix("docs"))
+        ran, wanted = run(shown.text, folder), (0, 1) if " judge " in shown.text else (0,)
+        count.check(shown.name(), ran.returncode in wanted and ran.stdout, (ran.returncode, ran.stderr[-300:]))
+        if shown.output:
+            count.check(f"{shown.name()}: what it writes", ran.stdout.decode() == shown.output, ran.stdout[-600:])
 
 
 def statuses(count):
@@ -170,14 +138,27 @@ def help_and_page(count):
 def refused(count):
     status, out, err = checks.ran(["--version"])
     count.check("--version", status == 0 and out and not err, (status, out, err))
-    for words in ([], ["bogus"], ["replay", "a", "b"], ["decode", "a", "b"], ["clocks"]):
+    many = [[*words, "--agents", count] for words in (["random", "1"], ["conform", "--random", "1"]) for count in ("65", "1000000")]
+    for words in ([], ["bogus"], ["replay", "a", "b"], ["decode", "a", "b"], ["clocks"], *many):
         status, out, err = checks.ran(words)
         count.check("refused: " + " ".join(words), status == 2 and err and not out, (status, out, err))
 
 
+def bad_words(count):
+    """What may stand for an option is told."""
+    for words, may in (
+        (["draw", "--as", "png"], "--as: here may stand svg or mermaid"),
+        (["conform", "x", "--save", "y"], "--save: here may stand a file, where --shrink is given too"),
+    ):
+        told = (2, b"", f"error: a bad word for {may}\n".encode())
+        count.exactly("a bad word: " + " ".join(words), words, *told)
+    for words in (["random", "1"], ["random", "1", "--agents", "0"]):
+        count.check("as many agents as the seed says: " + " ".join(words), checks.ran(words) == checks.ran(["random", "1"]))
+
+
 def full_device(count):
     """A write that fails is a fault, whatever is written."""
-    schedule = checks.read("examples", "deploy_gossiped_twice.schedule")
+    given = {"replay": checks.read("examples", "deploy_gossiped_twice.schedule"), "clocks": b"clock: 1\n"}
     there = os.path.exists("/dev/full")
     count.check("there is a full device", there)
     if not there:
@@ -185,14 +166,14 @@ def full_device(count):
     for words in (["replay"], ["decode", "06ff"], ["clocks", "-"], ["--help"], ["--version"], ["decode", "--help"]):
         command = [checks.PROGRAM, *words]
         with open("/dev/full", "wb") as full:
-            ran = subprocess.run(command, input=schedule, stdout=full, stderr=subprocess.PIPE, timeout=checks.LIMIT)
+            ran = subprocess.run(command, input=given.get(words[0], b""), stdout=full, stderr=subprocess.PIPE, timeout=checks.LIMIT)
         count.check("a full device: " + " ".join(words), (ran.returncode, ran.stderr) == (3, b"write fault\n"), ran)
 
 
 def main(words):
     if words == ["read"]:
         return checks.run(manual_and_page)
-    return checks.over_program(manual_and_page, shown_commands, statuses, help_and_page, refused, full_device)
+    return checks.over_program(manual_and_page, shown_commands, statuses, help_and_page, refused, bad_words, full_device)
 
 
 if __name__ == "__main__":

@@ -3,9 +3,11 @@
     tests/program/conform.py [PROGRAM]
 
 The subject is made from a trace: it gives, call after call, what the trace shows, in the words of docs/PIPE.md. Each
-case turns one thing of that. Where conformance/python/agent.py is there, it is held against all examples too.
+case turns one thing of that. Where conformance/python/agent.py is there, it is held against all examples too. What
+docs/CONFORMANCE.md and docs/PIPE.md show of agents is compared with what comes.
 """
 
+import json
 import os
 import subprocess
 import sys
@@ -14,17 +16,32 @@ import tempfile
 sys.dont_write_bytecode = True
 sys.path.insert(0, os.path.dirname(os.path.dirname(os.path.abspath(__file__))))
 import checks
+import pages
 import programs
-from piped_agents import LIMIT, PYTHON_AGENT, compare
+from piped_agents import LIMIT, PYTHON_AGENT, by_shell, compare, folder_of_reader
 
-# A subject: it reads calls and answers each with the next of its replies, and then ends.
+sys.path.insert(0, os.path.dirname(PYTHON_AGENT))
+from serf_agent import switches
+
+# A subject: it reads calls and answers each with the next of its replies, and then ends. `look` is unsupported, or where a
+# file is named for it, answered with the next of that file's replies.
 SUBJECT = """import sys
 replies = open(sys.argv[1], "rb").read().split(b"\\0")
-for reply in replies:
-    if not sys.stdin.buffer.readline():
-        sys.exit(0)
+looks = open(sys.argv[2], "rb").read().split(b"\\0") if len(sys.argv) > 2 else None
+while True:
+    call = sys.stdin.buffer.readline()
+    if call == b"look\\n" and looks is None:
+        reply = b"unsupported\\n\\n"
+    else:
+        given = looks if call == b"look\\n" else replies
+        if not call or not given:
+            sys.exit(0)
+        reply = given.pop(0)
     sys.stdout.buffer.write(reply)
     sys.stdout.buffer.flush()
+    if not reply.endswith(b"\\n\\n"):
+        # (half a reply: nothing follows it)
+        sys.exit(0)
 """
 
 
@@ -211,8 +228,17 @@ def by_meaning(cases):
         "unsupported",
         [good[0], b"unsupported\n\n"],
         schedule,
+        1,
+        ["agent 1: 1 calls agree; action 2 is unsupported", "of 1 agents 1 ended at an unsupported call", "no call but open was compared"],
+        words,
+    )
+    cases.replies("not even open", [b"unsupported\n\n"], schedule, 1, ["no call but open was compared"], words)
+    cases.replies(
+        "unsupported behind a call",
+        [*good[:2], b"unsupported\n\n"],
+        schedule,
         0,
-        ["agent 1: 1 calls agree; action 2 is unsupported"],
+        ["agent 1: 2 calls agree; action 3 is unsupported", "of 1 agents 1 ended at an unsupported call"],
         words,
     )
     ends = {
@@ -251,11 +277,59 @@ def refused(cases):
         [checks.PROGRAM, "conform", path], stdin=subprocess.DEVNULL, capture_output=True, timeout=LIMIT
     )
     cases.count.check("nothing is written before that", ran.stdout == b"", ran.stdout)
-    cases.run("no file", ["cat"], os.path.join(cases.folder, "none"), 3, ["read fault"])
+    cases.run("no file", ["cat"], os.path.join(cases.folder, "none"), 3, ["none: no such file"])
     good = os.path.join(checks.EXAMPLES, "deploy_gossiped_twice.schedule")
     cases.run("a bad agent", ["cat"], good, 2, ["--agent"], ["--agent", "x"])
     cases.run("bad rules", ["cat"], good, 2, ["--rules"], ["--rules", "mine"])
     cases.run("no such agent", ["cat"], good, 1, ["no agent 7"], ["--agent", "7"])
+
+
+# What `look` is answered behind the opening.
+NEW = b"looked 1 1 1 1 1\nkept -\n\n"
+
+
+def looked(cases, name, looks, status, said, words=()):
+    """Agent 1 of the example replies well, and to its looks so: behind the opening, and behind its last call."""
+    path = os.path.join(checks.EXAMPLES, "deploy_gossiped_twice")
+    replies, given = os.path.join(cases.folder, "replies"), os.path.join(cases.folder, "looks")
+    for file_name, parts in ((replies, text_of(turns_of(path)[1])), (given, looks)):
+        with open(file_name, "wb") as file:
+            file.write(b"\0".join(parts))
+    agent = [sys.executable, cases.subject, replies, given]
+    cases.run(name, agent, path + ".schedule", status, said, ["--agent", "1", *words])
+
+
+def looks(cases):
+    """What an agent has, behind its calls: agents that have it, or something else, and that end at a look."""
+    last = b"looked 1 2 1 1 1\nkept 6576656e742d636c6f636b3a20310a\n\n"
+    agrees, serf = ["agent 1: 3 calls agree"], ["--rules", "serf"]
+    looked(cases, "looks that agree", [NEW, last], 0, agrees)
+    looked(cases, "no looks", [b"unsupported\n\n"] * 2, 0, [*agrees, "2 looks are unsupported"])
+    looked(cases, "one look", [NEW, b"unsupported\n\n"], 0, [*agrees, "1 looks are unsupported"])
+    opened = ["agent 1: look\n", "  wanted: looked 1 1 1 1 1\n", "kept -\n", "  got: "]
+    behind = ["agent 1: behind its last call: look\n", "  wanted: looked 1 2 1 1 1\n", "  got: "]
+    changes = {
+        "another clock": last.replace(b"1 2 1", b"1 3 1"),
+        "another least time": last.replace(b"1 1 1\n", b"1 2 1\n"),
+        "another text": last.replace(b"310a", b"320a"),
+        "no text": last.split(b"\n")[0] + b"\n\n",
+        "two texts": last[:-1] + last.split(b"\n")[1] + b"\n\n",
+        "an answer of another call": b"saved\n\n",
+    }
+    for name, reply in changes.items():
+        looked(cases, f"a look: {name}", [NEW, reply], 1, behind)
+        looked(cases, f"a look by Serf's rules: {name}", [NEW, reply], 1, behind, serf)
+        looked(cases, f"the first look: {name}", [reply, last], 1, opened)
+    same = last.replace(b"kept ", b"kept 636c6f636b3a20300a")
+    looked(cases, "a text of the same clocks", [NEW, same], 1, behind)
+    looked(cases, "a text of the same clocks, by Serf's rules", [NEW, same], 0, agrees, serf)
+    looked(cases, "it ends at a look", [NEW], 3, ["agent 1: behind its last call: look\n", "the agent ended"])
+    for name in switches.ONLY_BY_LOOK:
+        agent = [sys.executable, PYTHON_AGENT, "--wrong", name]
+        saved = os.path.join(cases.folder, f"{name}.schedule")
+        cases.run(name, agent, "--random", 1, [": look\n", "shrunk to "], ["1-200", "--shrink", "--save", saved])
+        cases.run(f"once more, {name}", agent, saved, 1, [": look\n"])
+        cases.run(f"the right agent, {name}", [sys.executable, PYTHON_AGENT], saved, 0, ["calls agree"])
 
 
 def rules(cases):
@@ -327,7 +401,7 @@ def shrinks(cases):
         agent,
         "--random",
         1,
-        ["shrunk to ", "\nagent ", "\ninject ", "\nmerge 0 0 "],
+        ["shrunk to ", "\nagent ", "\ninject ", "\ndeliver 0 0 "],
         ["1-60", "--shrink"],
     )
     example = os.path.join(checks.EXAMPLES, "deploy_gossiped_twice.schedule")
@@ -365,7 +439,129 @@ def fails_without_one(cases, agent, path):
     return False
 
 
-PARTS = (examples, by_meaning, states, refused, rules, seeds, shrinks)
+def told(cases, name, agent, words, status, wanted):
+    """Holds an agent with a report, whose lines have to have just these members, and be printable ASCII."""
+    path = os.path.join(cases.folder, "told.jsonl")
+    got = compare([*words, "--report", path], agent)
+    with open(path, "rb") as file:
+        text = file.read()
+    os.remove(path)
+    lines = [json.loads(line) for line in text.decode("ascii").splitlines()]
+    plain = all(32 <= byte < 127 or byte == 10 for byte in text)
+    cases.count.check(name, got[0] == status and plain and lines == wanted, (got, text))
+
+
+def machine_reports(cases):
+    """A report for machines: where replies differ, where an agent ends, of seeds, and where all agree."""
+    path = os.path.join(checks.EXAMPLES, "deploy_gossiped_twice")
+    schedule, turns = path + ".schedule", turns_of(path)
+    call = f"deliver {turns[1][1].given.hex()} 0"
+    end = {"report": "end", "schedules": 1, "calls": 3, "disagreements": 0, "status": 0}
+    good = [sys.executable, PYTHON_AGENT]
+    told(cases, "a report of what agrees", good, [schedule, "--agent", "1"], 0, [end])
+    strange = bytes(byte for byte in range(1, 256) if byte != 10)
+    replies = os.path.join(cases.folder, "told")
+    for name, last, more in (("any bytes", strange + b"\n\n", "differs"), ("no more", b"", "ended")):
+        with open(replies, "wb") as file:
+            file.write(b"\0".join([turns[1][0].text(), last] if last else [turns[1][0].text()]))
+        found = {"report": more, "seed": None, "agent": 1, "agreed": 1, "action": 2, "line": 9, "call": call}
+        found |= {"wanted": "\n".join(turns[1][1].lines), "got": strange.decode("latin-1") + "\n" if last else ""}
+        status = 1 if last else 3
+        sums = end | {"calls": 1, "disagreements": 1, "status": status}
+        words = [schedule, "--agent", "1"]
+        told(cases, f"a report, {name}", [sys.executable, cases.subject, replies], words, status, [found, sums])
+    sums = end | {"schedules": 2, "calls": 0, "status": 0}
+    agreed = compare(["--random", "1-2", "--actions", "40"], good)[1].split()
+    told(
+        cases,
+        "a report of seeds",
+        good,
+        ["--random", "1-2", "--actions", "40"],
+        0,
+        [sums | {"calls": int(agreed[3])}],
+    )
+    seed_told(cases)
+    cases.run("a report to a folder", good, schedule, 3, ["write fault"], ["--report", cases.folder])
+
+
+def seed_told(cases):
+    """The report of a seed that finds a wrong agent says what standard error does."""
+    path = os.path.join(cases.folder, "told.jsonl")
+    agent = [sys.executable, PYTHON_AGENT, "--wrong", "never_seen"]
+    status, said = compare(["--random", "1-60", "--shrink", "--report", path], agent)
+    with open(path) as file:
+        found, sums = [json.loads(line) for line in file]
+    place = f"agent {found['agent']}: action {found['action']}, line {found['line']}: {found['call'][:60]}"
+    begins = f"seed {found['seed']}: {sums['schedules']} seeds and {sums['calls']} calls agree before"
+    holds = status == 1 == sums["disagreements"] == sums["status"] and begins in said and place in said
+    cases.count.check("a report of a seed's find", holds and found["report"] == "differs", (status, said, found, sums))
+
+
+def listings(page):
+    """What a page shows that is no command."""
+    return [block for _, block in pages.blocks(page) if not pages.COMMAND.match(block)]
+
+
+def reports(cases):
+    """The reports of docs/CONFORMANCE.md, and its one find from start to end."""
+    page, wrong = os.path.join("docs", "CONFORMANCE.md"), [sys.executable, PYTHON_AGENT, "--wrong"]
+    report, of_seeds, of_find, saved = listings(page)
+    example = os.path.join(checks.EXAMPLES, "deploy_gossiped_twice.schedule")
+    got = compare([example], [*wrong, "never_seen"])
+    cases.count.check(f"{page}: the report", got == (1, report), got)
+    got = compare(["--random", "1-200"], [*wrong, "greatest_time_accepted"])
+    cases.count.check(f"{page}: the report of seeds", got == (1, of_seeds), got)
+    again = os.path.join(cases.folder, "again.schedule")
+    with open(again, "wb") as file:
+        file.write(checks.ran(["random", "2"])[1])
+    got = compare([again, "--agent", "2"], [*wrong, "greatest_time_accepted"])
+    cases.count.check(f"{page}: the same calls again", got == (1, of_seeds.partition("\n")[2]), got)
+    folder = folder_of_reader(os.path.join(cases.folder, "reader"))
+    for command in pages.of(pages.CONFORM, page):
+        if "conform " in command.text:
+            ran = by_shell(folder, "mkfifo replies\n" + command.text)
+            cases.count.check(command.name(), ran.stderr.startswith(of_find) and "shrunk to 2 of 18 calls" in ran.stderr, ran)
+            cases.count.check(f"{page}: what is saved", checks.read(folder, "found.schedule").decode() == saved, saved)
+
+
+def shares(cases):
+    """How seeds are spread: `hold` is the reader's script, which here notes the seeds that it is given."""
+    with open(os.path.join(cases.folder, "hold"), "w") as file:
+        file.write('echo "$1"\n')
+    for command in pages.of(pages.CONFORM):
+        if "hold " in command.text:
+            tasks = range(50) if "SLURM_ARRAY_TASK_ID" in command.text else [0]
+            said = "".join(by_shell(cases.folder, command.text, SLURM_ARRAY_TASK_ID=str(task)).stdout for task in tasks)
+            shares = sorted(tuple(map(int, share.split("-"))) for share in said.split())
+            seeds = [seed for first, last in shares for seed in range(first, last + 1)]
+            cases.count.check(command.name(), seeds == list(range(1, 2001)), said)
+
+
+def calls_of(text):
+    """The calls of docs/PIPE.md's examples, and the reply of each."""
+    found, is_call = [], True
+    for line in text.split("\n")[:-1]:
+        if is_call:
+            found.append((line, []))
+        elif line != ".":
+            found[-1][1].append(line)
+        is_call = line == "."
+    return [call for call, _ in found], [reply for _, reply in found]
+
+
+def pipe(cases):
+    """The calls of docs/PIPE.md, and the replies that it shows, by the agent in Python."""
+    page = os.path.join("docs", "PIPE.md")
+    first, replies, last = listings(page)
+    calls, wanted = calls_of(last)
+    cases.count.check(f"{page}: calls", len(calls) == 20 and all(wanted), (calls, wanted))
+    said = "".join("".join(line + "\n" for line in reply) + "\n" for reply in wanted)
+    for name, given, shown in (("the first two calls", first, replies + "\n"), ("its examples", "\n".join(calls) + "\n", said)):
+        ran = subprocess.run([sys.executable, PYTHON_AGENT], input=given, capture_output=True, text=True, timeout=LIMIT)
+        cases.count.check(f"{page}: {name}", ran.stdout == shown, ran)
+
+
+PARTS = (examples, by_meaning, states, refused, looks, rules, seeds, shrinks, reports, machine_reports, shares, pipe)
 
 
 def all_parts(count):

@@ -4,6 +4,7 @@ Every value was worked out by hand from the formats (docs/FORMATS.md), or belong
 """
 
 import os
+import subprocess
 import sys
 
 sys.dont_write_bytecode = True
@@ -181,8 +182,8 @@ PACKETS = (
     # messages that are not read
     (b"\x00", "foreign 0\n"),
     (b"\x06\xff", "foreign 6\n"),
-    (b"\x09", "foreign 9\n"),
-    (b"\x09\xc1", "foreign 9\n"),
+    (b"\x01", "foreign 1\n"),
+    (b"\x01\xc1", "foreign 1\n"),
 )
 
 # The place of the first missing part of the event above, cut after so many bytes.
@@ -294,15 +295,28 @@ def long_lines(count):
 
 
 def framing(count):
-    """What begins as a packet of memberlist's own is told."""
+    """What begins as a packet of memberlist's framing, or is its own, is told, beside its answer."""
+    ack, alive = b"0282a75061796c6f6164a0a55365714e6f01", b"0482ab496e6361726e6174696f6e01a44e616d65a178"
     for digits, status, said, kind in (
-        (b"0c00000000", 1, b"refused UnknownType 12", b"12, a checksum"),
-        (b"0803", 0, b"foreign 8", b"8, a user message"),
-        (b"0700", 0, b"foreign 7", b"7, a compound message"),
-        (b"09", 0, b"foreign 9", b"9, a compressed message"),
+        (b"0c00000000", 1, b"refused UnknownType 12", b"begins as memberlist's framing: 12, a checksum"),
+        (b"0803", 0, b"foreign 8", b"begins as memberlist's framing: 8, a user message"),
+        (b"0700", 0, b"foreign 7", b"begins as memberlist's framing: 7, a compound message"),
+        (b"09", 0, b"foreign 9", b"begins as memberlist's framing: 9, a compressed message"),
+        (b"0182a55365714e6f01", 0, b"foreign 1", b"looks like memberlist's own: a ping or an ack"),
+        (b"0381ab496e6361726e6174696f6e", 1, b"refused Truncated 14", b"looks like memberlist's own: that a node is suspect, alive or dead"),
     ):
-        out, err = b"foreign 6\n\n" + said + b"\n\n", b"line 2 begins as memberlist's framing: " + kind + b"\n"
+        out, err = b"foreign 6\n\n" + said + b"\n\n", b"line 2 " + kind + b"\n"
         count.exactly(f"framing {digits.decode()}", ["decode"], status, out, err, b"06\n" + digits + b"\n")
+    for digits, kind in (
+        (ack, b"looks like memberlist's own: a ping or an ack"),
+        (alive, b"looks like memberlist's own: that a node is suspect, alive or dead"),
+        (b"09", b"begins as memberlist's framing: 9, a compressed message"),
+    ):
+        made = subprocess.run([checks.PROGRAM, "decode", digits.decode()], capture_output=True, timeout=checks.LIMIT)
+        count.check(f"alone {digits.decode()}", made.stderr.startswith(b"the packet " + kind + b"\n"), made.stderr)
+    for digits in (b"0281a55365714e", b"0481a55365714e6f01", b"0181ab496e6361726e6174696f6e01", b"06a55365714e6f"):
+        made = subprocess.run([checks.PROGRAM, "decode", digits.decode()], capture_output=True, timeout=checks.LIMIT)
+        count.check(f"not memberlist's {digits.decode()}", b"memberlist" not in made.stderr, made.stderr)
     count.exactly("a relay of something else", ["decode"], 0, b"foreign 8\n\n", b"", b"080a\n")
 
 

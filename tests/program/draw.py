@@ -1,4 +1,5 @@
-"""`draw`: each example beside its stored picture, any bytes in names and payloads, ranges, and that no labels overlap.
+"""`draw`: each example beside its stored picture, any bytes in names and payloads, what leaves actions out, what a merge
+handed out, and that no labels overlap and none covers an arrow.
 
 A label's box is an estimate: 45 units a character, which is 0.6 of the size of the font. Mermaid itself is not run
 here: its text is held against the part of its grammar of sequence diagrams that is used, as Mermaid's documents have
@@ -17,10 +18,11 @@ import checks
 
 SVG = "{http://www.w3.org/2000/svg}"
 GLYPH = 45
+NAMED_ROWS = 40
 PLACE = re.compile(r"translate\((-?\d+) (\d+)\)")
 
 # A participant with its alias; a message between two participants, or a note over one, with a text to the line's end.
-TEXT = r"(\d+ (?:[A-Za-z0-9 .@_]|#\d+;)*(?:, clock \d+)?)"
+TEXT = r"(\d+ (?:[A-Za-z0-9 .@_]|#\d+;)*)"
 WHO = r"(a\d+|outside)"
 PARTICIPANT = re.compile(rf"participant (a\d+) as {TEXT}\Z")
 MESSAGE = re.compile(rf"{WHO}(->>|-->>|-x){WHO}: {TEXT}\Z")
@@ -42,6 +44,28 @@ def paths(root):
     ]
 
 
+def dots(root):
+    """The groups of what stands where an agent acts."""
+    return [group for group in root.findall(f"{SVG}g") if group.get("class")]
+
+
+def labels(root):
+    """The labels of the rows."""
+    return [text.text or "" for text in root.findall(f"{SVG}text") if text.get("class") in ("t", "i", "r")]
+
+
+def heads(root):
+    """The lanes' names, by their lines."""
+    found = {}
+    for text in root.findall(f"{SVG}text[@class='h']"):
+        found.setdefault(int(text.get("y")), []).append(text.text)
+    return found
+
+
+def lanes_of(root):
+    return len(root.findall(f"{SVG}path[@class='l']"))
+
+
 def crosses(root):
     return [path.get("transform") for path in root.findall(f"{SVG}path") if path.get("class") == "x"]
 
@@ -57,51 +81,61 @@ def mermaid_is_sound(count, name, words, schedule, root):
     head, *lines, end = ran.stdout.decode("ascii").split("\n")
     count.check(f"{name}: a sequence diagram", (ran.returncode, head, end) == (0, "sequenceDiagram", ""), ran)
     who = [PARTICIPANT.match(line) for line in lines]
-    lanes = len(root.findall(f"{SVG}text[@class='h']"))
+    lanes = lanes_of(root)
     count.check(f"{name}: its participants", all(who[:lanes]) and not any(who[lanes:]), lines)
     messages, notes = [MESSAGE.match(line) for line in lines[lanes:]], [NOTE.match(line) for line in lines[lanes:]]
     count.check(f"{name}: its lines", all(message or note for message, note in zip(messages, notes)), lines)
     count.check(f"{name}: its messages", len(list(filter(None, messages))) == len(paths(root)), lines)
-    texts = [
-        re.sub(r", clock \d+\Z", "", shown((message or note).groups()[-1]))
-        for message, note in zip(messages, notes)
-        if message or note
-    ]
+    texts = [shown((message or note).groups()[-1]) for message, note in zip(messages, notes) if message or note]
     numbers = [text.text for text in root.findall(f"{SVG}text[@class='n']")]
-    labels = [
-        next(text.text or "" for text in group.findall(f"{SVG}text") if text.get("class") != "c")
-        for group in root.findall(f"{SVG}g")
-    ]
-    count.check(f"{name}: its texts", texts == [f"{number} {label}" for number, label in zip(numbers, labels)], texts)
+    count.check(f"{name}: its texts", texts == [f"{number} {label}" for number, label in zip(numbers, labels(root))], texts)
 
 
 def boxes(root):
-    """The boxes of all labels: left, right, and the middle of the line."""
+    """The boxes of all texts: left, right, and the foot of the line."""
     for text in root.findall(f"{SVG}text"):
         x, width = int(text.get("x")), GLYPH * len(text.text or "")
-        yield (
-            (x - width // 2, x + width // 2, int(text.get("y")))
-            if text.get("class") == "h"
-            else (x, x + width, int(text.get("y")))
-        )
+        at = x - width // 2 if text.get("class") == "h" else x
+        yield at, at + width, int(text.get("y"))
     for group in root.findall(f"{SVG}g"):
         x, y = map(int, PLACE.match(group.get("transform")).groups())
         for text in group.findall(f"{SVG}text"):
-            width = GLYPH * len(text.text or "")
-            at = x + int(text.get("dx"))
-            yield (at - width, at, y + 25) if text.get("class") == "c" else (at, at + width, y + 25)
+            at = x + int(text.get("x"))
+            yield at, at + GLYPH * len(text.text or ""), y + int(text.get("y"))
 
 
 def nothing_overlaps(count, name, root):
     lines = {}
-    left, _, width, _ = map(int, root.get("viewBox").split())
+    left, above, width, height = map(int, root.get("viewBox").split())
     for from_, to, y in boxes(root):
-        count.check(f"{name}: a label is cut", left <= from_ and to <= left + width, (from_, to, y))
+        count.check(f"{name}: a label is cut", left <= from_ and to <= left + width and above < y < above + height, (from_, to, y))
         lines.setdefault(y, []).append((from_, to))
     for y, spans in lines.items():
         spans.sort()
         apart = all(a[1] <= b[0] for a, b in zip(spans, spans[1:]))
         count.check(f"{name}: labels overlap at {y}", apart, spans)
+    right = max([x for _, places in paths(root) for x, _ in places], default=left)
+    label = min([int(text.get("x")) for text in root.findall(f"{SVG}text") if text.get("class") in ("t", "i", "r")], default=right + 1)
+    count.check(f"{name}: no label covers an arrow", right < label, (right, label))
+
+
+def line_of(row):
+    """The line of a row, counted from 0: behind each 40 rows one line is for the names."""
+    return 1 + row + row // NAMED_ROWS
+
+
+def lines_are_sound(count, name, root):
+    """A line for each row, in order, and the names above each 40."""
+    numbers = root.findall(f"{SVG}text[@class='n']")
+    lines = [line_of(row) for row in range(len(numbers))]
+    count.check(f"{name}: a line for each row", [int(text.get("y")) for text in numbers] == [100 * line + 75 for line in lines])
+    above = [100 * (row + row // NAMED_ROWS) + 65 for row in range(0, max(len(numbers), 1), NAMED_ROWS)]
+    found = heads(root)
+    count.check(f"{name}: the names above each 40 rows", list(found) == (above if lanes_of(root) else []), list(found))
+    count.check(f"{name}: all names each time", all(names == found[65] for names in found.values()), found)
+    legend = [group for group in root.findall(f"{SVG}g") if not group.get("class")]
+    wanted = f"translate(-980 {line_of(len(numbers))}50)"
+    count.check(f"{name}: the legend below", [group.get("transform") for group in legend] == [wanted], wanted)
 
 
 def examples(count):
@@ -115,11 +149,24 @@ def examples(count):
         given = [line for line in lines if line[:1] in ([b"deliver"], [b"merge"])]
         count.check(f"{name}: an arrow for each delivery and merge", len(paths(root)) == len(given), paths(root))
         nothing_overlaps(count, name, root)
+        lines_are_sound(count, name, root)
         trace = [line.split() for line in checks.read(path + ".trace").splitlines()]
         sent = [line[2] for line in trace if line[1] == b"sent"]
         lost = [number for number in sent if number not in {line[2] for line in given}]
         count.check(f"{name}: a cross for each packet that nobody got", len(crosses(root)) == len(lost), lost)
         mermaid_is_sound(count, name, [path + ".schedule"], b"", root)
+
+
+def colours(count):
+    """Each colour stands as it is in light before its variable: librsvg, and what is built on it, knows no variables."""
+    style = checks.text_of(checks.EXAMPLES, "deploy_gossiped_twice.svg").partition("<style>")[2].partition("</style>")[0]
+    light = dict(re.findall(r"--(\w+):(#\w+)", style.partition("@media")[0]))
+    wanted = re.findall(r"(\w+):var\(--(\w+)\)", style)
+    count.check("the style has colours", len(light) == 6 and len(wanted) >= 6, style)
+    for kind, name in wanted:
+        before = rf"{kind}:{light.get(name)};{kind}:var\(--{name}\)"
+        missing = [rule for rule in style.split("}") if f"{kind}:var(--{name})" in rule and not re.search(before, rule)]
+        count.check(f"{kind} of {name} without variables", not missing, missing)
 
 
 AGENTS = b"agent 61 4 4 512 8 keep\nagent 62 4 4 512 8 keep\n"
@@ -159,6 +206,12 @@ def bad_bytes(count):
         b"AAAAAAAA..(400)" in ran.stdout and b">9216 bytes injected<" in ran.stdout,
         ran.stdout,
     )
+    clock = 2**64 - 2
+    late = b"84a54c54696d65cf%016x" % clock + b"a44e616d65a178a75061796c6f6164a0a24343c2"
+    root = tree.fromstring(drawn([], AGENTS + b"inject 03%s\ndeliver 0 0 0\n" % late).stdout)
+    wanted = [f"x  @{clock} injected", f"x  @{clock} new, clock {clock + 1}"]
+    count.check("the last time", labels(root) == wanted, labels(root))
+    nothing_overlaps(count, "the last time", root)
 
 
 def root_of(words, schedule):
@@ -183,11 +236,13 @@ def arrows(count):
     count.check("a packet that nobody gets has a cross", crosses(root) == wanted_crosses, crosses(root))
     mermaid_is_sound(count, "arrows", [], text, root)
     root = tree.fromstring(drawn(["--from", "2", "--to", "3"], text).stdout)
-    count.check("a range has its arrows", paths(root) == wanted[:2], paths(root))
+    wanted = [("t", ((500, 150), (1500, 150))), ("i", ((500, 150), (1500, 250)))]
+    count.check("a range has its arrows, on its own lines", paths(root) == wanted, paths(root))
+    lines_are_sound(count, "a range", root)
     root = tree.fromstring(drawn(["--agent", "1"], text).stdout)
     count.check(
         "an agent by itself has its arrows, from the left edge",
-        paths(root) == [("t", ((-500, 150), (500, 250))), ("i", ((-500, 150), (500, 350)))],
+        paths(root) == [("t", ((-500, 150), (500, 150))), ("i", ((-500, 150), (500, 250)))],
         paths(root),
     )
     ran = drawn(["--from", "100"], text)
@@ -202,7 +257,74 @@ def arrows(count):
     for words in (["--agent", "x"], ["--as", "png"]):
         ran = drawn(words, text)
         count.check(f"bad words {words}", (ran.returncode, ran.stdout) == (2, b""), ran)
+    for agent, words in (("2", ["--agent", "2"]), ("7", ["--agent", "1", "--agent", "7", "--agent", "9"])):
+        told = b"error: --agent %s: the schedule has 2 agents, counted from 0\n" % agent.encode()
+        ran = drawn(words, text)
+        count.check(f"an agent that isn't there: {words}", (ran.returncode, ran.stdout, ran.stderr) == (2, b"", told), ran)
+    for words, empty in (([], b""), (["--as", "mermaid"], b"# nothing\n")):
+        ran = drawn(words, empty)
+        told = b"the schedule has no agents: the picture is empty\n"
+        count.check("an empty schedule is told", ran.stdout and (ran.returncode, ran.stderr) == (0, told), ran)
+    ran = drawn(["--agent", "0"], b"")
+    told = b"error: --agent 0: the schedule has 0 agents, counted from 0\n"
+    count.check("an agent of an empty schedule", (ran.returncode, ran.stdout, ran.stderr) == (2, b"", told), ran)
     count.check("an SVG where it is asked for", drawn(["--as", "svg"], text).stdout == drawn([], text).stdout)
+
+
+# a fires three events, b merges them, and again; c gets the second twice, and the third behind a restart.
+STORY = (
+    b"agent 61 4 4 512 8 keep\nagent 62 4 4 512 8 keep\nagent 63 4 4 512 8 keep\n"
+    b"fire 0 61 31 0\nfire 0 62 32 0\nfire 0 63 - 0\nstate 0\nmerge 1 3 join\nmerge 1 3 join\n"
+    b"deliver 2 1 0\ndeliver 2 1 0\nrestart 2 -\ndeliver 2 2 0\ninject ff\ndeliver 2 6 0\nmerge 2 0 join\n"
+)
+
+
+def merges(count):
+    """A merge names what it handed out."""
+    told = [label for label in labels(root_of([], STORY)) if "merged" in label]
+    count.check("two, and how many more", told == ["state @4 merged: a 1 @1, b 2 @2, +1, clock 4", "state @4 merged"], told)
+    for number, wanted in ((1, ": e1  @1"), (2, ": e1  @1, e2  @2"), (3, ": e1  @1, e2  @2, +1"), (12, ": e1  @1, e2  @2, +10")):
+        text = b"agent 61 64 4 512 8 keep\nagent 62 64 4 512 8 keep\n"
+        text += b"".join(b"fire 0 %s - 0\n" % (b"e%d" % (i + 1)).hex().encode() for i in range(number))
+        text += b"state 0\nmerge 1 %d join\n" % number
+        said = labels(root_of([], text))[-1]
+        count.check(f"{number} events", said == f"state @{number + 1} merged{wanted}, clock {number + 1}", said)
+    long = b"agent 61 64 4 512 8 keep\nagent 62 64 4 512 8 keep\n"
+    long += b"".join(b"fire 0 %s %s 0\n" % (b"6e" * 20, b"70" * 300) for _ in range(5)) + b"state 0\nmerge 1 5 join\n"
+    said = labels(root_of([], long))[-1]
+    wanted = "state @6 merged: nnnnnnnn..(20) pppppppp..(300) @1, nnnnn.., +3, clock 6"
+    count.check("a long label keeps its end", said == wanted and len(said) == 72, said)
+
+
+def choices(count):
+    """What --taken and --event leave out; the numbers of what is left stay."""
+    whole = root_of([], STORY)
+    every = list(zip([text.text for text in whole.findall(f"{SVG}text[@class='n']")], labels(whole)))
+    for words, numbers in (
+        (["--taken"], [1, 2, 3, 4, 5, 6, 7, 9, 10, 11]),
+        (["--event", "b"], [2, 5, 7, 8]),
+        (["--event", "b", "--taken"], [2, 5, 7]),
+        (["--event", "c"], [3, 5, 10]),
+        (["--event", "a"], [1, 5]),
+        (["--event", "b", "--agent", "2"], [7, 8]),
+        (["--event", "b", "--from", "3"], [5, 7, 8]),
+        (["--event", "nothing"], []),
+    ):
+        root, name = root_of(words, STORY), " ".join(words)
+        found = list(zip([text.text for text in root.findall(f"{SVG}text[@class='n']")], labels(root)))
+        wanted = [(number, label) for number, label in every if int(number) in numbers]
+        if "--event" in words:
+            wanted = [(number, label.replace("a 1 @1, b 2 @2, +1", {"a": "a 1 @1", "b": "b 2 @2", "c": "c  @3"}.get(words[1], ""))) for number, label in wanted]
+        count.check(f"{name}: its rows", found == wanted, found)
+        lines_are_sound(count, name, root)
+        nothing_overlaps(count, name, root)
+        mermaid_is_sound(count, name, words, STORY, root)
+    count.check("ignored ones are left out", {kind for kind, _ in paths(root_of(["--taken"], STORY))} == {"t"})
+    text = AGENTS + b"inject 0384a54c54696d6501a44e616d65a178a75061796c6f6164a0a24343c2\ndeliver 1 0 0\ninject 06\n"
+    found = labels(root_of(["--event", "x"], text))
+    count.check("an injected event has its name", found == ["x  @1 injected", "x  @1 new, clock 2"], found)
+    lost = crosses(root_of(["--event", "b"], STORY + b"fire 1 62 33 0\nfire 1 63 33 0\n"))
+    count.check("crosses of what is drawn alone", lost == ["translate(2500 350)", "translate(1500 550)"], lost)
 
 
 def many(count):
@@ -212,11 +334,13 @@ def many(count):
         b"fire %d 6465706c6f79 7631 0\n" % (i % 30) + b"deliver %d %d 0\n" % ((i * 7 + 1) % 30, i) for i in range(150)
     )
     root = tree.fromstring(drawn([], agents + actions).stdout)
-    count.check("30 lanes", len(root.findall(f"{SVG}text[@class='h']")) == 30)
+    count.check("30 lanes", lanes_of(root) == 30)
+    count.check("names 8 times", [len(names) for names in heads(root).values()] == [30] * 8, heads(root))
+    lines_are_sound(count, "a large cluster", root)
     count.check("150 arrows", len(paths(root)) == 150)
     nothing_overlaps(count, "a large cluster", root)
     mermaid_is_sound(count, "a large cluster", [], agents + actions, root)
 
 
 if __name__ == "__main__":
-    sys.exit(checks.over_program(examples, bad_bytes, arrows, many))
+    sys.exit(checks.over_program(examples, colours, bad_bytes, arrows, merges, choices, many))

@@ -296,7 +296,7 @@ def refusals(count):
     for schedule in (AGENTS + b"deliver 0\n", b"fire\n", AGENTS + b"agent 61 4 4 512 2 keep\n"):
         wanted = ran(["replay"], schedule)
         count.check(f"refused {schedule[-20:]}", ran(["explain"], schedule) == wanted and wanted[0] == 1, wanted)
-    count.check("a file that is not there", ran(["explain", "/nowhere/at/all"]) == (3, b"", b"read fault\n"))
+    count.check("a file that is not there", ran(["explain", "/nowhere/at/all"]) == (3, b"", b"/nowhere/at/all: no such file\n"))
 
 
 if __name__ == "__main__":

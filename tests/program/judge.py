@@ -1,10 +1,13 @@
-"""`judge`: logs of handlers and traces, what in them comes twice, from nowhere or too late, and faults of their lines.
+"""`judge`: logs of handlers and traces, what in them comes twice, from nowhere or too late, what a snapshot leaves open, and
+faults of their lines.
 
 That no worked row and no example repeats anything is in rows.py.
 """
 
 import os
 import sys
+import tempfile
+import time
 
 sys.dont_write_bytecode = True
 sys.path.insert(0, os.path.dirname(os.path.dirname(os.path.abspath(__file__))))
@@ -14,12 +17,23 @@ INCIDENT = os.path.join(checks.EXAMPLES, "incident")
 LOG, KEPT = os.path.join(INCIDENT, "handlers.log"), os.path.join(INCIDENT, "beta.snapshot")
 
 ONCE, QUERY_ONCE = b"Once: holds\n", b"QueryOnce: holds\n"
+NO_EVENTS, NO_QUERIES = b"Once: not asked: no event lines\n", b"QueryOnce: not asked: no query lines\n"
 NO_FIRINGS = b"Fired: not asked: no fired lines\nLater: not asked: no fired lines\n"
-HOLDS = ONCE + QUERY_ONCE + NO_FIRINGS
+
+
+def read(events, queries, nodes):
+    """The line that says how much was read."""
+    return b"read: %d events, %d queries, %d nodes\n" % (events, queries, nodes)
+
+
+def holds(events, nodes):
+    """The verdicts on a log of events alone that has no repeat."""
+    return read(events, 0, nodes) + ONCE + NO_QUERIES + NO_FIRINGS
 
 
 def incident(count):
-    said = b'Once: line 7 repeats line 6: beta 3 "deploy" "v2"\n' + QUERY_ONCE + NO_FIRINGS
+    tally = b"beta was handed an event again on 1 line: time 3, line 7\n2 other nodes were handed each event once\n"
+    said = read(7, 0, 3) + b'Once: line 7 repeats line 6: beta 3 "deploy" "v2"\n' + tally + NO_QUERIES + NO_FIRINGS
     again = b"beta keeps event-clock 2, and line 6 was handed out at 3: it can be handed out again\n"
     count.exactly("the incident", ["judge", LOG, "--kept", "beta=" + KEPT], 1, said + again, b"")
     count.exactly("its log alone", ["judge", LOG], 1, said, b"")
@@ -28,15 +42,160 @@ def incident(count):
 
 def repeats(count):
     log = b"# two nodes\n\nevent a 1 x y\nevent b 1 x y\nrestarted a\nevent a 2 x y\nevent a 1 x z\n"
-    count.exactly("no repeat", ["judge", "-"], 0, HOLDS, b"", log)
-    kept = HOLDS + b"gamma keeps event-clock 2: nothing was handed out above it\n"
-    log = b"event gamma 2 x y\nevent beta 3 x y\n"
-    count.exactly("the rest is kept", ["judge", "--kept", "gamma=" + KEPT], 0, kept, b"", log)
-    count.exactly("an empty log", ["judge"], 0, HOLDS, b"")
-    said = ONCE + b"QueryOnce: line 3 repeats line 1: a 7 9\n" + NO_FIRINGS
+    count.exactly("no repeat", ["judge", "-"], 0, holds(4, 2), b"", log)
+    tally = b"a was handed a query again on 2 lines: times 7 to 7, lines 3 to 4\n1 other node was handed each query once\n"
+    said = read(0, 4, 2) + NO_EVENTS + b"QueryOnce: line 3 repeats line 1: a 7 9\n" + tally + NO_FIRINGS
     count.exactly("a query twice", ["judge"], 1, said, b"", b"query a 7 9\nquery b 7 9\nquery a 7 9\nquery a 7 9\n")
-    said = b'Once: line 2 repeats line 1: a 1 "\\xff\\x22" "\\x5c"\n' + QUERY_ONCE + NO_FIRINGS
+    tally = b"a was handed an event again on 1 line: time 1, line 2\n"
+    said = read(2, 0, 1) + b'Once: line 2 repeats line 1: a 1 "\\xff\\x22" "\\x5c"\n' + tally + NO_QUERIES + NO_FIRINGS
     count.exactly("any bytes", ["judge"], 1, said, b"", b'event a 1 \xff" \\\n' * 2)
+
+
+def lines_again(log, word):
+    """What `judge` says behind the first repeat, by this script's own count."""
+    had, rows, nodes = set(), {}, []
+    for number, line in enumerate(log.splitlines(), 1):
+        what, node, time = line.split(b" ")[:3]
+        if what != word:
+            continue
+        if node not in nodes:
+            nodes.append(node)
+        if line in had:
+            rows.setdefault(node, []).append((int(time), number))
+        had.add(line)
+    said = b""
+    thing = {b"event": b"an event", b"query": b"a query"}[word]
+    for node, places in rows.items():
+        times = [time for time, _ in places]
+        if len(places) == 1:
+            said += b"%s was handed %s again on 1 line: time %d, line %d\n" % (node, thing, times[0], places[0][1])
+        else:
+            found = (node, thing, len(places), min(times), max(times), places[0][1], places[-1][1])
+            said += b"%s was handed %s again on %d lines: times %d to %d, lines %d to %d\n" % found
+    others = len(nodes) - len(rows)
+    if others:
+        verb = b"node was" if others == 1 else b"nodes were"
+        said += b"%d other %s handed each %s once\n" % (others, verb, word)
+    return said
+
+
+def every_repeat(count):
+    """Each node with repeats has its line, in the order of their first ones."""
+    burst = b"".join(b"event gamma %d burst n%d\n" % (time, time) for time in range(10, 21))
+    one = burst.replace(b"gamma", b"alpha") + burst + b"event beta 10 burst n10\n" + burst
+    turned = b"".join(reversed(burst.splitlines(keepends=True)))
+    for name, log in (
+        ("eleven of one node", one),
+        ("again in another order", burst + turned),
+        ("three times", burst * 3),
+        ("two nodes, the later first", burst + burst.replace(b"gamma", b"beta") * 2 + burst),
+        ("the same at another node", burst + burst.replace(b"gamma", b"beta") + b"event beta 15 burst n15\n"),
+    ):
+        got = checks.ran(["judge"], log)
+        count.check(f"each repeat: {name}", got[0] == 1 and got[1].split(b"\n", 2)[2].startswith(lines_again(log, b"event") + NO_QUERIES), got)
+    log = b"query a 5 1\nquery b 4 1\nquery b 4 1\nquery a 3 1\nquery a 5 1\nquery a 3 1\nquery c 5 1\n"
+    got = checks.ran(["judge"], log)
+    count.check("each repeat: queries", got[0] == 1 and got[1].split(b"\n", 3)[3] == lines_again(log, b"query") + NO_FIRINGS, got)
+
+
+def missed(count):
+    """Which nodes never had an event."""
+    path = os.path.join(checks.EXAMPLES, "partition", "handlers.log")
+    said = b'Missed: 2 "deploy" "v2" never came to delta\nMissed: 1 of 4 events were missed by a node\n'
+    count.exactly("an event missed", ["judge", path, "--missed"], 0, holds(15, 4) + said, b"")
+    log = b"event a 1 x y\nevent b 1 x y\n"
+    count.exactly("nothing missed", ["judge", "--missed"], 0, holds(2, 2) + b"Missed: each of 2 nodes had each of 1 events\n", b"", log)
+    none = read(0, 1, 1) + NO_EVENTS + QUERY_ONCE + NO_FIRINGS + b"Missed: not asked: no event lines\n"
+    count.exactly("no event to miss", ["judge", "--missed"], 0, none, b"", b"query a 7 9\n")
+    # A node that fired and had nothing is no receiver; of one content each payload and time is an event of its own.
+    log = b"fired z 1 x y\nevent a 1 x y\nevent b 1 x z\nevent a 2 x y\nevent c 1 x y\nevent a 1 x y\n"
+    said = b'Missed: 1 "x" "y" never came to b\nMissed: 1 "x" "z" never came to a, c\nMissed: 2 "x" "y" never came to b, c\n'
+    got = checks.ran(["judge", "--missed"], log)
+    count.check("each event of its own", got[1].endswith(said + b"Missed: 3 of 3 events were missed by a node\n"), got)
+    for nodes in (17, 18):
+        log = b"event n0 1 x y\n" + b"".join(b"event n%d 2 x y\n" % node for node in range(nodes))
+        names = b", ".join(b"n%d" % node for node in range(1, 17))
+        said = b'Missed: 1 "x" "y" never came to ' + names + (b" and others" if nodes == 18 else b"") + b"\nMissed: 1 of 2 events"
+        got = checks.ran(["judge", "--missed"], log)
+        count.check(f"{nodes - 1} nodes that missed it", got[0] == 0 and said in got[1], got)
+
+
+def long_logs(count):
+    """20,000 lines, each node's and each event's own, are judged in a time that goes with the lines, not with their pairs."""
+    log = b"".join(b"event n%d %d x y\n" % (line, line) for line in range(10000)) * 2
+    started = time.monotonic()
+    got = checks.ran(["judge", "--missed"], log)
+    took = time.monotonic() - started
+    lines = got[1].splitlines()
+    last = b"Missed: 10000 of 10000 events were missed by a node"
+    count.check("a long log: each repeat and each event missed", got[0] == 1 and len(lines) == 20006 and lines[-1] == last, (got[0], len(lines), lines[-1:]))
+    count.check("a long log: in 60 seconds, on a program compiled without its proofs too", took < 60, took)
+
+
+def not_asked(count):
+    """What the log has no lines for doesn't hold: it isn't asked."""
+    said = read(0, 0, 0) + NO_EVENTS + NO_QUERIES + NO_FIRINGS
+    count.exactly("an empty log", ["judge"], 0, said, b"")
+    count.exactly("restarts alone", ["judge"], 0, said, b"", b"restarted a\n")
+    said = read(0, 1, 1) + NO_EVENTS + QUERY_ONCE + NO_FIRINGS
+    count.exactly("queries alone", ["judge"], 0, said, b"", b"query a 7 9\n")
+    fired = b"Fired: not asked: no event lines\nLater: not asked: no event lines\n"
+    count.exactly("firings alone", ["judge"], 0, read(0, 0, 1) + NO_EVENTS + NO_QUERIES + fired, b"", b"fired a 1 x y\n")
+
+
+# Snapshots beside a log; what is said of them, and the status.
+EVENTS, QUERIES = b"event b 5 d v\n", b"query a 5 7\n"
+KEPT_TEXTS = (
+    ("an event clock below", EVENTS, "b", b"event-clock: 4\n", b"b keeps event-clock 4, and line 1 was handed out at 5: it can be handed out again\n", 1),
+    ("an event clock at it", EVENTS, "b", b"event-clock: 5\n", b"b keeps event-clock 5: nothing was handed out above it\n", 0),
+    ("a query clock below", QUERIES, "a", b"query-clock: 3\n", b"a keeps query-clock 3, and line 1 was handed out at 5: it can be handed out again\n", 1),
+    ("a query clock at it", QUERIES, "a", b"query-clock: 5\n", b"a keeps query-clock 5: nothing was handed out above it\n", 0),
+    (
+        "both",
+        EVENTS + b"query b 6 7\n",
+        "b",
+        b"query-clock: 3\nevent-clock: 7\n",
+        b"b keeps event-clock 7: nothing was handed out above it\nb keeps query-clock 3, and line 2 was handed out at 6: it can be handed out again\n",
+        1,
+    ),
+    ("a fresh snapshot", EVENTS, "b", b"", b"b keeps event-clock 0, and line 1 was handed out at 5: it can be handed out again\n", 1),
+    ("members alone", EVENTS, "b", b"alive: b 10.0.0.2:7946\n", b"b keeps event-clock 0, and line 1 was handed out at 5: it can be handed out again\n", 1),
+    (
+        "a leave",
+        EVENTS,
+        "b",
+        b"event-clock: 7\nleave\nclock: 2\n",
+        b"b with -rejoin keeps event-clock 7: nothing was handed out above it\n"
+        b"b without -rejoin keeps event-clock 0, and line 1 was handed out at 5: it can be handed out again\n",
+        1,
+    ),
+    (
+        "an event behind two leaves",
+        EVENTS,
+        "b",
+        b"event-clock: 7\nleave\nevent-clock: 3\nleave\nevent-clock: 6\nleave",
+        b"b with -rejoin keeps event-clock 7: nothing was handed out above it\nb without -rejoin keeps event-clock 6: nothing was handed out above it\n",
+        0,
+    ),
+    ("no line of its own", EVENTS, "b", b"event-clock: 7\nleaves\n leave\nleave \n", b"b keeps event-clock 7: nothing was handed out above it\n", 0),
+)
+
+
+def kept(count):
+    with tempfile.TemporaryDirectory() as folder:
+        path = os.path.join(folder, "snapshot")
+        for name, log, node, text, said, status in KEPT_TEXTS:
+            with open(path, "wb") as file:
+                file.write(text)
+            got = checks.ran(["judge", "--kept", f"{node}={path}"], log)
+            count.check(f"kept: {name}", (got[0], got[2]) == (status, b"") and got[1].endswith(b"no fired lines\n" + said), got)
+        with open(path, "wb") as file:
+            file.write(b"event b 5 d v\n")
+        none = os.fsencode(path) + b": no line of a snapshot\n"
+        count.exactly("a log for a snapshot", ["judge", "--kept", f"b={path}"], 1, b"", none, EVENTS)
+    said = b"error: --kept B=/dev/null: the log has no event and no query of a node 'B'\n"
+    count.exactly("a node that isn't there", ["judge", "--kept", "B=/dev/null"], 2, b"", said, EVENTS)
+    count.exactly("a snapshot that isn't there", ["judge", "--kept", "b=/nowhere"], 3, b"", b"/nowhere: no such file\n", EVENTS)
 
 
 # What is right or wrong with firings; what is said of Fired and of Later, and the log.
@@ -78,7 +237,9 @@ FIRINGS = (
 def firings(count):
     for name, fired, later, log in FIRINGS:
         status = 0 if (fired, later) == (b"holds", b"holds") else 1
-        said = ONCE + QUERY_ONCE + b"Fired: " + fired + b"\nLater: " + later + b"\n"
+        events = [line for line in log.splitlines() if line.startswith(b"event")]
+        nodes = {line.split()[1] for line in log.splitlines()}
+        said = read(len(events), 0, len(nodes)) + ONCE + NO_QUERIES + b"Fired: " + fired + b"\nLater: " + later + b"\n"
         count.exactly(name, ["judge"], status, said, b"", log)
 
 
@@ -97,10 +258,10 @@ def bad_lines(count):
 
 def traces(count):
     path = os.path.join(checks.EXAMPLES, "deploy_gossiped_twice.trace")
-    count.exactly("a trace", ["judge", path], 0, HOLDS, b"")
+    count.exactly("a trace", ["judge", path], 0, holds(2, 2), b"")
     got = checks.ran(["judge"], checks.read(path) * 2)
-    count.check("a trace behind itself", got[0] == 1 and got[1].startswith(b"Once: line "), got)
+    count.check("a trace behind itself", got[0] == 1 and b"\nOnce: line " in got[1], got)
 
 
 if __name__ == "__main__":
-    sys.exit(checks.over_program(incident, repeats, firings, bad_lines, traces))
+    sys.exit(checks.over_program(incident, repeats, every_repeat, missed, long_logs, not_asked, kept, firings, bad_lines, traces))

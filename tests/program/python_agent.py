@@ -128,10 +128,11 @@ def is_shown(name, given):
 
 def unshown(given):
     """What is wrong with the switches that these schedules show, or None."""
-    quiet = [name for name in switches.SWITCHES if not is_shown(name, given)]
-    count = len(switches.SWITCHES) - len(quiet)
-    print(f"{count} of {len(switches.SWITCHES)} switches are shown; not {', '.join(quiet) or 'one is missing'}")
-    return None if 100 * count >= SHOWN * len(switches.SWITCHES) else f"{count} of {len(switches.SWITCHES)} are shown"
+    names = [name for name in switches.SWITCHES if name not in switches.ONLY_BY_LOOK]
+    quiet = [name for name in names if not is_shown(name, given)]
+    count = len(names) - len(quiet)
+    print(f"{count} of {len(names)} switches are shown; not {', '.join(quiet) or 'one is missing'}")
+    return None if 100 * count >= SHOWN * len(names) else f"{count} of {len(names)} are shown"
 
 
 def calls_left(name):

@@ -28,20 +28,21 @@ ACTIONS = 120
 # How many processor seconds a schedule of the greatest size may take.
 MAX_SECONDS = 10
 
-# Of each kind the digest of the schedules of SEEDS, one behind another, at version 2.
+# Of each kind the digest of the schedules of SEEDS, one behind another, at version 3.
 DIGESTS = {
-    "mixed": "b9cd228fd85d35cb",
-    "tiny": "4eb4246ba44a8d15",
-    "merges": "44ed1e3aca2c174d",
-    "restarts": "b779bb902f567561",
-    "devices": "2976f978ba47070a",
-    "injections": "650d602e095bf565",
-    "queries": "b8da9c4e46cc326b",
-    "limits": "776d2258f6ac2953",
-    "exhaustion": "ee31bd2038c03e7f",
-    "per-time": "90e0b6c7d503c3a2",
-    "compactions": "efdfd2cf3b218aad",
-    "gossip": "7c76b8d8aab82291",
+    "mixed": "03f0973e4c68494a",
+    "tiny": "a5938c680b3a8518",
+    "merges": "dfc103577d2c5391",
+    "restarts": "27571fd8b218d301",
+    "devices": "0fb8eeec408b1a2a",
+    "injections": "a9e92c5da4c6dcc3",
+    "queries": "a987bb10b9421aa4",
+    "limits": "7eb6135db9c07b38",
+    "exhaustion": "f462d2a93f28892f",
+    "per-time": "975004e55013e851",
+    "compactions": "7151e245edda409b",
+    "gossip": "b63c231dee895263",
+    "spellings": "870176363a7adcd5",
 }
 
 # Of each kind the seeds whose schedules keep to Serf's rules here.
@@ -87,7 +88,7 @@ def wrong_seed(seed, kind, made, again):
         return "it has other bytes the second time"
     if made.stdout.split(b"\n")[
         0
-    ] != f"# random {seed} --kind {kind} --agents 0 --actions {ACTIONS} version 2".encode():
+    ] != f"# random {seed} --kind {kind} --agents 0 --actions {ACTIONS} version 3".encode():
         return "its first line doesn't say what was asked for"
     if actions_in(made.stdout) != ACTIONS:
         return f"it has {actions_in(made.stdout)} actions"
@@ -104,7 +105,7 @@ def wrong_common(seed, kind, made):
         return f"status {made.returncode}: {made.stderr}"
     if made.stdout.split(b"\n")[
         0
-    ] != f"# random {seed} --kind {kind} --agents 0 --actions {ACTIONS} --rules serf version 2".encode():
+    ] != f"# random {seed} --kind {kind} --agents 0 --actions {ACTIONS} --rules serf version 3".encode():
         return "its first line doesn't say what was asked for"
     if actions_in(made.stdout) > ACTIONS:
         return f"it has {actions_in(made.stdout)} actions"

@@ -3,6 +3,8 @@
 The worked rows are in rows.py, and `replay --stream` in stream.py.
 """
 
+import csv
+import json
 import os
 import pty
 import re
@@ -100,8 +102,14 @@ def faults(count):
     count.exactly("the longest comment", ["replay"], 0, b"", b"", b"#" + b"x" * (longest - 1))
     count.exactly("one byte more", ["replay"], 1, b"", b"too long\n", b"\n" * (longest + 1))
     count.exactly("one byte more, with a fault before it", ["replay"], 1, b"", b"too long\n", b"!" + b"\n" * longest)
-    count.exactly("a missing file", ["replay", os.path.join(checks.TOP, "no_such_file")], 3, b"", b"read fault\n")
-    count.exactly("a folder", ["replay", checks.TOP], 3, b"", b"read fault\n")
+    path = os.path.join(checks.TOP, "no_such_file")
+    count.exactly("a missing file", ["replay", path], 3, b"", os.fsencode(path) + b": no such file\n")
+    count.exactly("a folder", ["replay", checks.TOP], 3, b"", os.fsencode(checks.TOP) + b": read fault\n")
+    path = os.path.join(checks.EXAMPLES, "deploy_gossiped_twice.written")
+    hint = b"a written schedule? serf-replay write %s | serf-replay replay\n" % os.fsencode(path)
+    for words in (["replay"], ["replay", "--stream"], ["explain"]):
+        got = checks.ran([*words, path])
+        count.check(f"a written schedule: {words}", got[:2] == (1, b"") and got[2].startswith(b"bad line ") and got[2].endswith(b"\n" + hint), got)
 
 
 def on_a_terminal(words):
@@ -228,7 +236,35 @@ def summaries(count):
     count.exactly("of a bad line", ["replay", "--summary"], 1, b"", b"bad line 1 UnknownWord\n", b"fires 0\n")
 
 
-PARTS = (examples, bad_lines, faults, short_run_on_a_terminal, summaries)
+# A schedule whose third agent is handed nothing, and what its summary has for machines.
+ROWS_SCHEDULE = b"agent 61 2 2 512 8 ignore 1\nagent 62 2 2 512 8 ignore 1\nagent 63 2 2 512 8 ignore 1\n"
+ROWS_SCHEDULE += b"fire 0 646570 - 0\ndeliver 1 0 0\ndeliver 1 0 0\n"
+ROWS = [
+    {"what": "actions", "times": 3},
+    {"what": "answer", "answer": "fired", "times": 1, "last": 1},
+    {"what": "answer", "answer": "new", "times": 1, "last": 2},
+    {"what": "answer", "answer": "ignored Seen", "times": 1, "last": 3},
+    {"what": "agent", "agent": 0, "times": 1, "last": 1},
+    {"what": "agent", "agent": 1, "times": 1, "last": 2},
+    {"what": "agent", "agent": 2, "times": 0},
+    {"what": "event", "time": 1, "name": "646570", "payload": "-", "times": 2, "last": 2},
+]
+
+
+def summaries_for_machines(count):
+    """The rows of a summary, as CSV and as JSON, and words that are refused."""
+    status, out, err = checks.ran(["replay", "--summary", "--as", "json"], ROWS_SCHEDULE)
+    count.check("as JSON", (status, [json.loads(line) for line in out.splitlines()], err) == (0, ROWS, b""), out)
+    status, out, err = checks.ran(["replay", "--summary", "--as", "csv"], ROWS_SCHEDULE)
+    rows = [{name: value for name, value in row.items() if value} for row in csv.DictReader(out.decode().splitlines())]
+    wanted = [{name: str(value) for name, value in row.items()} for row in ROWS]
+    count.check("as CSV", (status, rows, err) == (0, wanted, b""), out)
+    for words in (["--summary", "--as", "xml"], ["--as", "csv"], ["--stream", "--as", "json"]):
+        said = b"error: a bad word for --as: here may stand text, csv or json, where --summary is given too\n"
+        count.exactly(" ".join(words), ["replay", *words], 2, b"", said, ROWS_SCHEDULE)
+
+
+PARTS = (examples, bad_lines, faults, short_run_on_a_terminal, summaries, summaries_for_machines)
 
 # What looks at how long a run takes and how much memory it has: a program that is compiled unproved has checks in it.
 PROVED_ALONE = (long_run_on_a_terminal, memory_of_agents, no_memory)

@@ -31,8 +31,20 @@ UNPROVED = "serf-replay: this program is compiled without its proofs"
 FACT = re.compile(r"(?P<line>\d+) .+|!(?P<absent>\d+) (?P<word>\S+)|=(?P<counted>\d+) \d+")
 ABSENT = ("sent", "event", "handed")
 
-# What `judge` says of a trace without a repeat. A trace has no lines of firings.
-NO_REPEAT = "Once: holds\nQueryOnce: holds\nFired: not asked: no fired lines\nLater: not asked: no fired lines\n"
+# What `judge` says of a trace without a repeat, as the trace has events and queries or not. It has no lines of firings.
+NO_REPEAT = re.compile(
+    r"read: (\d+) events, (\d+) queries, \d+ nodes\n"
+    r"Once: (holds|not asked: no event lines)\nQueryOnce: (holds|not asked: no query lines)\n"
+    r"Fired: not asked: no fired lines\nLater: not asked: no fired lines\n"
+)
+
+
+def is_no_repeat(trace, text):
+    """Whether this is said of a trace without a repeat, with as many events and queries as it has."""
+    found = NO_REPEAT.fullmatch(text)
+    second = [line.split(" ")[1] for line in trace.splitlines()]
+    counts = [str(second.count(word)) for word in ("event", "handed")]
+    return bool(found) and [found[1], found[2]] == counts and [found[3] == "holds", found[4] == "holds"] == [count != "0" for count in counts]
 
 
 def actions_in(schedule):
@@ -104,11 +116,11 @@ def repeats(path, said):
     if os.path.exists(path + ".fault"):
         return None if (status, trace) == (1, "") else f"wanted no trace, got {(status, trace[:200])}"
     got = said_by("judge", trace)
-    if got != (0, NO_REPEAT, ""):
-        return f"wanted {NO_REPEAT!r}, got {got}"
+    if got[0] != 0 or got[2] or not is_no_repeat(trace, got[1]):
+        return f"wanted no repeat, got {got}"
     events = [line for line in trace.splitlines(True) if line.split(" ")[1:2] == ["event"]]
-    status, out, err = said_by("judge", trace + events[-1]) if events else (1, "Once: line", "")
-    if status == 1 and out.startswith("Once: line") and not err:
+    status, out, err = said_by("judge", trace + events[-1]) if events else (1, "\nOnce: line", "")
+    if status == 1 and "\nOnce: line" in out and not err:
         return None
     return f"said again: {events[-1]!r}, got {(status, out, err)}"
 

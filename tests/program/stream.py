@@ -96,8 +96,8 @@ def while_it_runs(count):
 
 
 def devices(count):
-    count.exactly("a file that isn't there", [*STREAM, "/nowhere"], 3, b"", b"read fault\n")
-    count.exactly("a folder", [*STREAM, checks.TOP], 3, b"", b"read fault\n")
+    count.exactly("a file that isn't there", [*STREAM, "/nowhere"], 3, b"", b"/nowhere: no such file\n")
+    count.exactly("a folder", [*STREAM, checks.TOP], 3, b"", os.fsencode(checks.TOP) + b": read fault\n")
     with open("/dev/full", "wb") as full:
         done = subprocess.run(
             [checks.PROGRAM, *STREAM],

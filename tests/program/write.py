@@ -181,7 +181,8 @@ def texts(count):
 def faults(count):
     for text, line, word, sentence in FAULTS:
         count.exactly(repr(text), ["write"], 1, b"", b"bad line %d word %d: %s\n" % (line, word, sentence), text)
-    count.exactly("no such file", ["write", os.path.join(checks.EXAMPLES, "none")], 3, b"", b"read fault\n")
+    path = os.path.join(checks.EXAMPLES, "none")
+    count.exactly("no such file", ["write", path], 3, b"", os.fsencode(path) + b": no such file\n")
     count.exactly("too long", ["write"], 1, b"", b"too long\n", b"#" * (checks.LONGEST + 1))
 
 

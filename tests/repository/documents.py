@@ -9,9 +9,12 @@ Each check is one thing that a document names:
 - a link leads to a file that stands;
 - the table of ARCHITECTURE.md, "To add something", has each file of a crate that names the sibling of a column;
 - tests/README.md has each script of tests/, and no script of a test stands beside its folders;
+- docs/GATE.md is one table, with a least count of each script of `./test`, and the cost of each crate and each part;
 - each CALLING.md is what `tools/calling.py` makes of the sources;
 - a command that begins with `./` or with `python3` names a script that stands, and a job that the program has
-  (`./my-..` is the reader's own).
+  (`./my-..` is the reader's own);
+- a command in an indented block is run by a script of tests/, and a block that is none is told what it is
+  (`tests/pages.py`).
 """
 
 import glob
@@ -22,11 +25,11 @@ import sys
 sys.dont_write_bytecode = True
 sys.path.insert(0, os.path.dirname(os.path.dirname(os.path.abspath(__file__))))
 import checks
+import pages
 from checks import TOP, text_of
+from pages import documents
 import calling
-
-# Folders that hold no documents of ours.
-SKIPPED = {"out", "target", ".git", "node_modules"}
+import gate
 
 ENDINGS = (
     "rt",
@@ -64,15 +67,6 @@ SIBLINGS = {
 SPAN = re.compile(r"`([^`\n]+)`")
 LINK = re.compile(r"\[[^\]\n]*\]\(([^)\s]+)\)")
 COMMAND = re.compile(r"^(?: {4,}|\$ )?((?:\./|python3 )[\w./-]+)((?: [\w./-]+)*)", re.M)
-
-
-def documents():
-    """All pages, by their path from the top."""
-    found = []
-    for folder, folders, names in os.walk(TOP):
-        folders[:] = [name for name in folders if name not in SKIPPED and not name.startswith(".")]
-        found += [os.path.relpath(os.path.join(folder, name), TOP) for name in names if name.endswith(".md")]
-    return sorted(found)
 
 
 def paths_of(kind):
@@ -197,7 +191,7 @@ def missing_siblings(page):
 
 
 # What the scripts of tests/ share, beside the folders that they stand in.
-SHARED = {"checks.py", "piped_agents.py"}
+SHARED = {"checks.py", "pages.py", "piped_agents.py"}
 
 
 def missing_scripts(page):
@@ -208,6 +202,20 @@ def missing_scripts(page):
             yield path, None if f"\n- `{name}`: " in page else "has no line"
         else:
             yield path, None if name in SHARED else "stands in none of the folders, so ./test doesn't run it"
+
+
+def rows_of_gate(crates):
+    """Each script of the gate, crate and part of the budget, and what is wrong with its row of GATE.md, or None."""
+    rows, page = gate.rows(), text_of("docs", "GATE.md")
+    yield "its table", None if len(re.findall(r"^\|-", page, re.M)) == 1 else "is not one"
+    scripts = [path for path in glob.glob("tests/*/*.py", root_dir=TOP) if not path.startswith("tests/by_hand/")]
+    for name in [*scripts, gate.MUTANTS]:
+        yield name, None if name in gate.wanted() else "has no least count"
+    for name in [*crates, *gate.PARTS]:
+        yield name, None if rows.get(name, [0, 0])[1] else "has no processor seconds"
+    known = {*scripts, *crates, *gate.PARTS}
+    for name in rows:
+        yield name, None if name in known or name.partition(" ")[0] in scripts else "is a row of nothing"
 
 
 def jobs_of_program():
@@ -234,18 +242,19 @@ def other_versions():
         yield "version", None if told == [own] else f"is {told}, and the program's is {own}", path
 
 
-# What was measured: a number of nanoseconds to milliseconds, of MB, or of minutes of so many processors.
+# What was measured: a number of nanoseconds to milliseconds, of MB, of a processor's seconds or minutes, of minutes of so
+# many processors, of events a second, or of instructions.
 FIGURE = re.compile(
     r"\b\d[\d,.]*(?: to \d[\d,.]*)? "
-    r"(?:ns|nanoseconds|microseconds|milliseconds|MB|processor minutes|minutes on \w+ processors)\b"
+    r"(?:ns|nanoseconds|microseconds|milliseconds|MB|processor seconds|processor minutes|minutes on \w+ processors|events a second|instructions)\b"
 )
 
 
-def figures_twice(pages):
+def figures_twice(documents):
     """Each figure that was measured, what is wrong with it, or None, and its page. Where there are two pages, the
     second should lead to the first."""
     found = {}
-    for page in pages:
+    for page in documents:
         for figure in FIGURE.findall(text_of(page)):
             found.setdefault(figure, {})[page] = None
     for figure, where in sorted(found.items()):
@@ -291,7 +300,11 @@ def named(count):
     tree, jobs = Tree(), jobs_of_program()
     for path, is_made in calling.made():
         count.check(path, is_made, "isn't what the sources give: tools/calling.py makes it")
-    for what, fault, path in figures_twice(list(documents())):
+    for what, fault, path in figures_twice(documents()):
+        count.check(f"{path}: `{what}`", fault is None, fault)
+    for what, fault in rows_of_gate(tree.crates):
+        count.check(f"docs/GATE.md: `{what}`", fault is None, fault)
+    for what, fault, path in pages.faults():
         count.check(f"{path}: `{what}`", fault is None, fault)
     for what, fault, path in other_versions():
         count.check(f"{path}: `{what}`", fault is None, fault)

@@ -14,6 +14,7 @@ import checks
 import edit_checks
 import edits
 import evidence
+import gate
 import mutants
 import reach
 
@@ -211,6 +212,16 @@ def believed(count, top):
         write(top, os.path.relpath(path, top), changed)
         got = sorted(run([], none).tried_names)
         count.check(name, got == sorted(tried), got)
+    for name, changed, crates in (
+        ("evidence of another toolchain stands beside the budget", text.replace("toolchain a", "toolchain b"), ["serf_high"]),
+        ("what other scripts judged does not", text.replace("judge 0", "judge 1"), []),
+        ("nor what is believed", text, []),
+    ):
+        write(top, os.path.relpath(path, top), changed)
+        said = "\n".join(evidence.Evidence("serf_high", "toolchain a\njudge 0").faults)
+        part = gate.Part("wrong bodies")
+        part.said, part.crates = said, {("serf_high", "edits"): 5.0, ("serf_low", "edits"): 7.0}
+        count.check(name, gate.seconds_elsewhere(part) == 5.0 * len(crates), said)
     write(top, os.path.relpath(path, top), text + "gone " + "0" * 32 + " shape double: x\n")
     known = evidence.Evidence("serf_high", "toolchain a\njudge 0")
     count.check("an edit that is gone is named", len(known.gone(set(names))) == 1)

@@ -1,7 +1,7 @@
 """The first calls of a fresh clone: ./serf-replay answers at once, and never runs a program that isn't current.
 
-One call is real, over a copy of what git tracks. All others go through a stand-in for the toolchain's command, in
-tests/repository/first_call, so that a build takes no time: fault lines and statuses of an unproved program, one that
+One call is real, over a copy of what git tracks, and so is README's command over the program that it compiled. All others
+go through a stand-in for the toolchain's command, in tests/repository/first_call, so that a build takes no time: fault lines and statuses of an unproved program, one that
 can't be compiled, a changed source, one that was taken away, one that changes during the build, a build that is broken
 off, a failed proof, no toolchain, and a folder that can't be written.
 """
@@ -18,6 +18,7 @@ import time
 sys.dont_write_bytecode = True
 sys.path.insert(0, os.path.dirname(os.path.dirname(os.path.abspath(__file__))))
 import checks
+import pages
 from checks import TOP
 
 EXAMPLE = os.path.join("examples", "deploy_gossiped_twice")
@@ -48,8 +49,9 @@ class Clone:
         self.write(os.path.join(self.top, "crates", "low", "src", "lib.rt"), "low\n")
         self.write(os.path.join(self.top, "crates.txt"), "low:\nserf_replay_program: low\n")
         shutil.copytree(os.path.join(TOP, "tools"), os.path.join(self.top, "tools"))
-        for name in ("serf-replay", "prove", "test"):
-            shutil.copy(os.path.join(TOP, name), self.top)
+        os.mkdir(os.path.join(self.top, "bench"))
+        for name in ("serf-replay", "prove", "test", os.path.join("bench", "run")):
+            shutil.copy(os.path.join(TOP, name), os.path.join(self.top, name))
         shutil.copytree(os.path.join(TOP, "tests", "repository", "first_call"), self.bin)
 
     @staticmethod
@@ -199,7 +201,7 @@ def refused(count, clone):
     count.check("nothing is built of it", clone.is_unproved("five"), clone.run("serf-replay", "x"))
     clone.order()
     shutil.rmtree(os.path.join(clone.top, "crates", "serf_replay_program", "out", "unproved"))
-    for name in ("serf-replay", "prove", "test"):
+    for name in ("serf-replay", "prove", "test", os.path.join("bench", "run")):
         status, out, err = clone.run(name, has_rt=False)
         count.check(
             f"{name} without the toolchain", (status, out) == (3, "") and "not on PATH" in err, (status, out, err)
@@ -248,13 +250,18 @@ def fresh_clone(count, root):
         (again.returncode, again.stdout, again.stderr) == (0, ran.stdout, ran.stderr) and took <= SECOND_SECONDS,
         (took, again),
     )
+    for command in pages.of(pages.FIRST_CALL):
+        ran = subprocess.run(["bash", "-c", command.text], cwd=top, capture_output=True, text=True, timeout=900)
+        count.check(command.name(), ran.returncode == 0 and ran.stdout.endswith(" 0 failed\n"), ran)
 
 
 def one_figure(count):
-    """The build's time is told in one page and by two scripts, in the same words."""
+    """The build's time is told in one page and by two scripts, in the same words, and so is the compilation's."""
     figure = "about 45 minutes on four processors"
     for name in ("README.md", "serf-replay", os.path.join("bench", "run")):
         count.check(f"the build's time in {name}", figure in checks.text_of(name))
+    for name in ("README.md", "serf-replay"):
+        count.check(f"the compilation's time in {name}", "two minutes" in checks.text_of(name))
 
 
 def first_calls(count):

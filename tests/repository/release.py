@@ -22,8 +22,8 @@ NAME = "serf-replay-9.8.7-x86_64-linux"
 
 # What of the repository is copied: what ./release reads, and itself.
 PARTS = [
-    "README.md", "LICENSE", "CHANGELOG.md", "SECURITY.md", "install", "include", "bindings", "docs", "examples",
-    "release", "tools",
+    "README.md", "LICENSE", "CHANGELOG.md", "SECURITY.md", "install", "include", "bindings", "agent", "conformance", "docs",
+    "examples", "release", "tools",
 ]
 
 
@@ -64,11 +64,11 @@ def compile_library(path):
     subprocess.run(["ar", "rcs", path, f"{path}.o"], check=True)
 
 
-def release(top, folder):
-    os.makedirs(folder, exist_ok=True)
-    ran = subprocess.run(
-        [os.path.join(top, "release"), folder], stdin=subprocess.DEVNULL, capture_output=True, text=True
-    )
+def release(top, folder, **env):
+    if not folder.startswith("/proc/"):
+        os.makedirs(folder, exist_ok=True)
+    words = {"stdin": subprocess.DEVNULL, "capture_output": True, "text": True, "env": {**os.environ, **env}}
+    ran = subprocess.run([os.path.join(top, "release"), folder], **words)
     return ran.returncode, ran.stderr
 
 
@@ -101,6 +101,22 @@ def refused(count, top, root):
     os.rename(os.path.join(root, "library"), os.path.join(top, green.LIBRARY))
 
 
+def unmade(count, top, root):
+    """A sentence where nothing can be written, where there is no compiler, and where there is no make."""
+    path = f"/proc/none/{NAME}.tar.gz"
+    answer = release(top, "/proc/none")
+    count.check("refused where nothing can be written", answer == (3, f"release: {path}: No such file or directory\n"), answer)
+    status, said = release(top, os.path.join(root, "none"), CC="none")
+    count.check("refused without a compiler", status == 3 and "there is no C compiler none on PATH" in said, (status, said))
+    few = os.path.join(root, "few")
+    os.mkdir(few)
+    for name in ("env", "git"):
+        os.symlink(shutil.which(name), os.path.join(few, name))
+    os.symlink(sys.executable, os.path.join(few, "python3"))
+    answer = release(top, os.path.join(root, "none"), PATH=few)
+    count.check("refused without make", answer == (3, "release: make: No such file or directory\n"), answer)
+
+
 def twice_the_same(count, top, root):
     texts = []
     for name in ("one", "two"):
@@ -130,6 +146,9 @@ def unpacked(count, root):
         "include/serf_agent.h",
         "bindings/c/example.c",
         "install",
+        "agent/build",
+        "agent/package/Containerfile",
+        "conformance/python/agent.py",
         "lib/libserf_agent.a",
         "lib/libserf_agent.so",
         "docs/serf_agent.3",
@@ -155,6 +174,7 @@ def archives(count):
     with tempfile.TemporaryDirectory(prefix="release-") as root:
         top = clone(root)
         refused(count, top, root)
+        unmade(count, top, root)
         twice_the_same(count, top, root)
         unpacked(count, root)
 

@@ -6,8 +6,6 @@ import (
 	"errors"
 	"fmt"
 	"io"
-	"os"
-	"path/filepath"
 	"sync/atomic"
 	"time"
 
@@ -19,7 +17,6 @@ import (
 	"kitchenrue.example/agent/internal/logs"
 	"kitchenrue.example/agent/internal/rpc"
 	"kitchenrue.example/agent/internal/snapshot"
-	"kitchenrue.example/serfagent"
 )
 
 // handlersGrace is how long handlers that wait may still run at the end.
@@ -60,9 +57,9 @@ func Start(conf config.Config, out io.Writer) (*App, error) {
 	if err != nil {
 		return nil, err
 	}
-	proved, previous, err := a.openSnapshot()
+	agent, previous, err := a.openAgent()
 	if err != nil {
-		return nil, fmt.Errorf("-snapshot: %w", err)
+		return nil, err
 	}
 	a.runner = handlers.New(a.log.Logger, conf.HandlerTimeout, scripts, func() handlers.Self {
 		return handlers.Self{Name: conf.NodeName, Tags: a.tags.all()}
@@ -70,11 +67,11 @@ func Start(conf config.Config, out io.Writer) (*App, error) {
 	a.coalescer = handlers.NewCoalescer(handlers.CoalescePeriod, handlers.QuietPeriod, a.out)
 	a.log.Print("[INFO] agent: Serf agent starting")
 	a.node, err = gossip.Create(gossip.Options{
-		Config: &a.config, Log: a.log.Logger, Agent: gossip.Proved{Agent: proved}, Keys: keys, Tags: a.tags.all(), Snapshot: a.file, Previous: previous,
+		Config: &a.config, Log: a.log.Logger, Agent: agent, Keys: keys, Tags: a.tags.all(), Snapshot: a.file, Previous: previous,
 		Out: a.coalescer.Add, HasRoom: a.runner.HasRoom, Room: a.runner.Room(), Fatal: a.end,
 	})
 	if err != nil {
-		proved.Close()
+		agent.Close()
 		a.closeRest(0)
 		return nil, err
 	}
@@ -90,39 +87,6 @@ func Start(conf config.Config, out io.Writer) (*App, error) {
 	}
 	a.server.Store(server)
 	return a, nil
-}
-
-// openSnapshot opens the proved agent on its file, and the lines of members in it.
-func (a *App) openSnapshot() (*serfagent.Agent, []snapshot.Address, error) {
-	path := a.config.Snapshot
-	if path == "" {
-		folder, err := shortLived()
-		if err != nil {
-			return nil, nil, err
-		}
-		a.folder, path = folder, filepath.Join(folder, clocksFile)
-	}
-	settings := serfagent.DefaultSettings()
-	settings.IgnoreOld, settings.EventLimit = true, uint64(a.config.UserEventSizeLimit)
-	proved, err := serfagent.Open(a.config.NodeName, path, settings)
-	if err != nil {
-		a.removeFolder()
-		return nil, nil, err
-	}
-	file, previous, err := snapshot.Open(path, a.config.Rejoin)
-	if err != nil {
-		proved.Close()
-		a.removeFolder()
-		return nil, nil, err
-	}
-	a.file = file
-	return proved, previous, nil
-}
-
-func (a *App) removeFolder() {
-	if a.folder != "" {
-		os.RemoveAll(a.folder)
-	}
 }
 
 // out gets what is to be handled: one at a time.

@@ -186,30 +186,74 @@ func TestStartsThatFail(t *testing.T) {
 		t.Fatal(err)
 	}
 	defer taken.Close()
-	first, _ := start(t, "-snapshot", filepath.Join(folder, "locked"))
+	in := func(name string) string { return filepath.Join(folder, name) }
+	first, _ := start(t, "-snapshot", in("locked"), "-record", in("recorded"))
 	defer first.Close()
-	for says, words := range map[string][]string{
-		"no event":                 {"-event-handler", "foo=bar"},
-		"-tags-file":               {"-tags-file", file},
-		"-keyring-file":            {"-keyring-file", file},
-		"exceeds limit of 512":     {"-tag", "a=" + strings.Repeat("x", 600)},
-		"another agent has":        {"-snapshot", filepath.Join(folder, "locked")},
-		"names no plain file":      {"-snapshot", folder},
-		"folder of the file":       {"-snapshot", filepath.Join(folder, "none", "none")},
-		"address already in use":   {"-rpc-addr", taken.Addr().String()},
-		"assign requested address": {"-bind", "192.0.2.1:7946"},
+	if err := syscall.Mkfifo(in("pipe"), 0o600); err != nil {
+		t.Fatal(err)
+	}
+	missing := in("none/none")
+	for _, one := range []struct{ words, says string }{
+		{"-event-handler foo=bar", "no event"},
+		{"-tag a=" + strings.Repeat("x", 600), "exceeds limit of 512"},
+		{"-rpc-addr " + taken.Addr().String(), "address already in use"},
+		{"-bind 192.0.2.1:7946", "assign requested address"},
+		{"-snapshot " + in("locked"), "-snapshot: " + in("locked") + ": another agent has"},
+		{"-snapshot " + folder, "names no plain file"},
+		{"-snapshot " + in("pipe"), "names no plain file"},
+		{"-snapshot " + missing, "folder of the file"},
+		{"-snapshot /sys/none", "may not be written"},
+		{"-snapshot " + in("both") + " -record " + in("both"), "-snapshot: " + in("both") + ": another agent has"},
+		{"-record " + in("recorded"), "-record: another program has"},
+		{"-record " + in("locked"), "-record: another program has"},
+		{"-record " + folder, "is a directory"},
+		{"-record " + in("pipe"), "is no plain file"},
+		{"-record " + file, "is no record"},
+		{"-record " + missing, "no such file"},
+		{"-record /sys/none", "permission denied"},
+		{"-tags-file " + file, "-tags-file: invalid character"},
+		{"-tags-file " + folder, "-tags-file: " + folder + " is no plain file"},
+		{"-tags-file " + in("pipe"), "is no plain file"},
+		{"-tags-file /dev/full", "is no plain file"},
+		{"-keyring-file " + file, "is no list of keys"},
+		{"-keyring-file " + folder, "is no plain file"},
+		{"-keyring-file " + in("pipe"), "is no plain file"},
+		{"-keyring-file " + missing, "no such file"},
+		{"-keyring-file /sys/none -encrypt cg8StVXbQJ0gPvMd9o7yrg==", "permission denied"},
 	} {
 		out := &said{}
-		a, err := Start(conf(t, words...), out)
+		a, err := Start(conf(t, strings.Fields(one.words)...), out)
 		if err == nil {
 			a.Close()
 		}
-		if err == nil || !strings.Contains(err.Error(), says) {
-			t.Errorf("%s: %v", says, err)
+		if err == nil || !strings.Contains(err.Error(), one.says) || strings.Contains(err.Error(), "\n") {
+			t.Errorf("%s: %v", one.words, err)
 		}
 	}
 	if _, err := Start(conf(t, "-snapshot", filepath.Join(folder, "locked")), &said{}); !errors.Is(err, serfagent.ErrLocked) {
 		t.Error(err)
+	}
+}
+
+// What can't be kept isn't taken.
+func TestTagsThatCannotBeKept(t *testing.T) {
+	folder := filepath.Join(t.TempDir(), "folder")
+	if err := os.Mkdir(folder, 0o700); err != nil {
+		t.Fatal(err)
+	}
+	a, _ := start(t, "-tags-file", filepath.Join(folder, "tags"))
+	defer a.Close()
+	if err := a.UpdateTags(map[string]string{"size": "big"}, nil); err != nil {
+		t.Error(err)
+	}
+	if err := os.RemoveAll(folder); err != nil {
+		t.Fatal(err)
+	}
+	if err := a.UpdateTags(map[string]string{"size": "small"}, nil); err == nil || !strings.Contains(err.Error(), "-tags-file") {
+		t.Error(err)
+	}
+	if !reflect.DeepEqual(a.tags.all(), map[string]string{"size": "big"}) || !reflect.DeepEqual(a.node.Tags(), a.tags.all()) {
+		t.Error(a.tags.all(), a.node.Tags())
 	}
 }
 

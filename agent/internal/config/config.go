@@ -45,6 +45,9 @@ type Config struct {
 	Rejoin bool
 	// Snapshot is the file of clocks and members.
 	Snapshot string
+	// Record is the file of what comes and goes, and RecordSize how many bytes it may have before it turns over.
+	Record     string
+	RecordSize int
 	// Profile is lan, wan or local: how fast gossip goes.
 	Profile string
 	// LeaveOnTerminate leaves at SIGTERM; SkipLeaveOnInterrupt doesn't at SIGINT.
@@ -69,7 +72,7 @@ func Default() Config {
 		Bind: "0.0.0.0", RPCAddr: "127.0.0.1:7373", LogLevel: "INFO", Profile: "lan", Tags: map[string]string{},
 		RetryInterval: 30 * time.Second, ReconnectInterval: 30 * time.Second, ReconnectTimeout: 24 * time.Hour,
 		TombstoneTimeout: 24 * time.Hour, BroadcastTimeout: 5 * time.Second, Compression: true, UserEventSizeLimit: 512,
-		HandlerTimeout: 10 * time.Minute,
+		HandlerTimeout: 10 * time.Minute, RecordSize: 64 << 20,
 	}
 }
 
@@ -88,6 +91,9 @@ func IsLevel(level string) bool {
 
 // MaxName is how many bytes a node's name may have.
 const MaxName = 128
+
+// MinRecord is the least number of bytes at which a record turns over.
+const MinRecord = 1 << 12
 
 // validate says what can't be, and fills in the host's name.
 func (c *Config) validate() error {
@@ -185,6 +191,9 @@ func (c *Config) validateNumbers() error {
 	}
 	if c.HandlerTimeout < 0 {
 		return fmt.Errorf("-handler-timeout: %v is below 0", c.HandlerTimeout)
+	}
+	if c.RecordSize < MinRecord {
+		return fmt.Errorf("-record-size: %d is below %d", c.RecordSize, MinRecord)
 	}
 	if c.Rejoin && c.Snapshot == "" {
 		return fmt.Errorf("-rejoin: it needs -snapshot")

@@ -84,6 +84,8 @@ func TestRefusals(t *testing.T) {
 		{"-encrypt QUJD", "3"},
 		{"-encrypt cg8StVXbQJ0gPvMd9o7yrg== -keyring-file /dev/null", "leave -encrypt out"},
 		{"-rejoin", "needs -snapshot"},
+		{"-record-size 4095", "-record-size: 4095 is below 4096"},
+		{"-record-size much", "no number"},
 		{"-retry-max x", "no number"},
 		{"-retry-max -1", "below 0"},
 		{"-retry-interval 3", "no time"},

@@ -6,6 +6,7 @@ import (
 	"io"
 	"os"
 	"path/filepath"
+	"syscall"
 )
 
 // Write replaces a file by these bytes, on the disk: a crash leaves the old ones or the new ones.
@@ -42,13 +43,16 @@ func SyncFolder(path string) error {
 	return folder.Sync()
 }
 
-// Read reads a file of at most so many bytes.
+// Read reads a plain file of at most so many bytes. It waits for nobody, as the opening of a pipe would.
 func Read(path string, most int64) ([]byte, error) {
-	file, err := os.Open(path)
+	file, err := os.OpenFile(path, os.O_RDONLY|syscall.O_NONBLOCK, 0)
 	if err != nil {
 		return nil, err
 	}
 	defer file.Close()
+	if about, err := file.Stat(); err != nil || !about.Mode().IsRegular() {
+		return nil, fmt.Errorf("%s is no plain file", path)
+	}
 	data, err := io.ReadAll(io.LimitReader(file, most+1))
 	if err == nil && int64(len(data)) > most {
 		err = fmt.Errorf("%s has more than %d bytes", path, most)

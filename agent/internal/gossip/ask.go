@@ -117,7 +117,6 @@ func (n *Node) ask(params rpc.QueryParams) (*rpc.Asked, error) {
 	}
 	var answers chan rpc.Answer
 	var asked *serfagent.Asked
-	var packet []byte
 	err := n.inOrder(func() (err error) {
 		if !n.HasRoom() || len(n.open) >= maxOpen {
 			return ErrBusy
@@ -126,14 +125,7 @@ func (n *Node) ask(params rpc.QueryParams) (*rpc.Asked, error) {
 		if asked, err = n.Agent.Query(n.now(), id, []byte(params.Name), params.Payload, how); err != nil {
 			return err
 		}
-		query, err := wire.ReadQuery(asked.Packet)
-		if err != nil {
-			return refusal(err.Error())
-		}
-		if packet = asked.Packet; len(given) < len(filters) {
-			packet = query.With(packet, filters)
-		}
-		answers = n.openQuery(asking{query.Time, id}, params.Timeout)
+		answers = n.openQuery(asking{asked.Time, id}, params.Timeout)
 		n.handQuery(asked.Query)
 		return nil
 	})
@@ -145,6 +137,15 @@ func (n *Node) ask(params rpc.QueryParams) (*rpc.Asked, error) {
 	}
 	if asked.Query != nil && asked.Ack != nil {
 		n.send(asked.Query, asked.Ack)
+	}
+	packet := asked.Packet
+	if len(given) < len(filters) {
+		// (the filters of this node's own packet are found as those of any other)
+		query, err := wire.ReadQuery(packet)
+		if err != nil {
+			return nil, refusal(err.Error())
+		}
+		packet = query.With(packet, filters)
 	}
 	n.gossip(n.queries, packet, nil)
 	return &rpc.Asked{Answers: answers}, nil

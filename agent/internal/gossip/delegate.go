@@ -7,7 +7,6 @@ import (
 
 	"kitchenrue.example/agent/internal/event"
 	"kitchenrue.example/agent/internal/wire"
-	"kitchenrue.example/serfagent"
 )
 
 // What memberlist calls. None of these waits for the disk, a handler or a client.
@@ -88,12 +87,7 @@ func (n *Node) makeStates() {
 		case <-n.ctx.Done():
 			return
 		case answer := <-n.asked:
-			states := n.Members.States()
-			statuses := make([]serfagent.Status, 0, len(states.Status))
-			for name, time := range states.Status {
-				statuses = append(statuses, serfagent.Status{Name: name, Time: time})
-			}
-			state, err := n.Agent.LocalState(statuses, states.Left)
+			state, err := n.Agent.LocalState(n.Members.States())
 			n.made.Lock()
 			if err == nil {
 				n.state = state

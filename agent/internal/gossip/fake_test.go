@@ -5,6 +5,7 @@ import (
 	"log"
 	"path/filepath"
 	"sync"
+	"sync/atomic"
 	"testing"
 	"time"
 
@@ -131,6 +132,27 @@ func (o *one) join(other *one) {
 	}
 }
 
+// intent is the packet of an intent.
+func intent(t *testing.T, time uint64, node string, isLeave bool) []byte {
+	t.Helper()
+	packet, err := serfagent.Intent{Time: time, Node: []byte(node), Leave: isLeave}.Packet()
+	if err != nil {
+		t.Fatal(err)
+	}
+	return packet
+}
+
+// timeOf is the time of a member's status.
+func (o *one) timeOf(name string) uint64 {
+	statuses, _ := o.Members.States()
+	for _, status := range statuses {
+		if status.Name == name {
+			return status.Time
+		}
+	}
+	return 0
+}
+
 // eventually waits until this holds.
 func eventually(t *testing.T, what string, holds func() bool) {
 	t.Helper()
@@ -153,7 +175,7 @@ func soon(t *testing.T, what string, done func()) {
 	}()
 	select {
 	case <-over:
-	case <-time.After(2 * time.Second):
+	case <-time.After(10 * time.Second):
 		t.Fatalf("it waits: %s", what)
 	}
 }
@@ -167,6 +189,23 @@ type fake struct {
 	bursts []int
 	// Where it isn't nil, ReceiveAll holds the agent until it is closed, as one does that waits for a disk.
 	flush chan struct{}
+	// Where it isn't nil, the time for a word of this node's comes when it is closed, as it does where a disk is slow.
+	word chan struct{}
+	// For so many of them memory is wanting.
+	wanting atomic.Int64
+}
+
+// wordTime is the time of each word of this node's.
+func (f *fake) wordTime() uint64 { return 7 }
+
+func (f *fake) NextMemberTime() (uint64, error) {
+	if f.word != nil {
+		<-f.word
+	}
+	if f.wanting.Add(-1) >= 0 {
+		return 0, serfagent.OutOfMemory
+	}
+	return f.wordTime(), nil
 }
 
 func (f *fake) ReceiveAll(_ uint64, packets [][]byte) (outcomes []Outcome, err error) {
@@ -213,6 +252,7 @@ func (f *fake) Query(uint64, uint32, []byte, []byte, serfagent.QueryParams) (*se
 func (f *fake) Respond(uint64, uint64, []byte) ([]byte, error) { return nil, serfagent.NotHanded }
 func (f *fake) CloseDue(uint64) ([]*serfagent.Closed, error)   { return nil, nil }
 func (f *fake) Clocks() (serfagent.Clocks, error)              { return serfagent.Clocks{}, nil }
+func (f *fake) ObserveMember(uint64) error                     { return nil }
 func (f *fake) SaveMemberClock() error                         { return nil }
 func (f *fake) Compact() error                                 { return nil }
 func (f *fake) Close() error                                   { return nil }

@@ -11,15 +11,19 @@ import (
 
 	"kitchenrue.example/agent/internal/event"
 	"kitchenrue.example/agent/internal/wire"
+	"kitchenrue.example/serfagent"
 )
 
-// How often members are reaped, and how long a leave is waited for behind its sending: Serf's own times.
+// How often members are reaped, and how long a leave is waited for behind its sending: Serf's own times. sayTime is how long the
+// word of a join waits that had no memory.
 const (
 	reapTime  = 15 * time.Second
 	leaveTime = time.Second
+	sayTime   = time.Second
 )
 
-// Join joins by addresses: how many were joined. Where it isn't replaying, the events from before are ignored.
+// Join joins by addresses: how many were joined. Where it isn't replaying, the events from before are ignored. The others are
+// told soon: that waits for the disk, and Join doesn't.
 func (n *Node) Join(existing []string, isReplaying bool) (int, error) {
 	if n.isLeaving.Load() {
 		return 0, errors.New("Serf can't Join after Leave or Shutdown")
@@ -30,16 +34,32 @@ func (n *Node) Join(existing []string, isReplaying bool) (int, error) {
 	}
 	count, err := n.List().Join(existing)
 	if count > 0 {
-		if said := n.say(false); said != nil {
-			return count, said
-		}
 		// (some were joined, so it worked)
+		tell(n.joined)
 		return count, nil
 	}
 	if err == nil {
 		err = errors.New("nobody was named")
 	}
 	return 0, err
+}
+
+// sayJoins tells the others that this node is there, whenever it has joined.
+func (n *Node) sayJoins() {
+	for {
+		select {
+		case <-n.ctx.Done():
+			return
+		case <-n.joined:
+		}
+		err := n.sayThere()
+		if err != nil && !errors.Is(err, ErrEnded) {
+			n.Log.Printf("[WARN] serf: the others weren't told of a join: %v", err)
+		}
+		if err == serfagent.OutOfMemory {
+			time.AfterFunc(sayTime, func() { tell(n.joined) })
+		}
+	}
 }
 
 // Rejoin joins one of those that the snapshot leaves alive, whichever is there. The snapshot says which events are old.
@@ -76,7 +96,9 @@ func (n *Node) Leave(ctx context.Context) error {
 	if n.isLeaving.Swap(true) {
 		return errors.New("Leave already in progress")
 	}
-	sent, err := n.sayThat(wire.Intent{Node: n.Config.NodeName, IsLeave: true})
+	n.saying.Lock()
+	sent, err := n.sayThat(serfagent.Intent{Node: []byte(n.Config.NodeName), Leave: true})
+	n.saying.Unlock()
 	if err != nil {
 		return err
 	}
@@ -116,7 +138,7 @@ func (n *Node) ForceLeave(name string, isPruning bool) error {
 	if name == n.Config.NodeName {
 		return errors.New("a node leaves by `serf leave`")
 	}
-	sent, err := n.sayThat(wire.Intent{Node: name, IsLeave: true, Prune: isPruning})
+	sent, err := n.sayThat(serfagent.Intent{Node: []byte(name), Leave: true, Prune: isPruning})
 	if err != nil {
 		return err
 	}

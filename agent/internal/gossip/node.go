@@ -56,12 +56,11 @@ type Node struct {
 	Options
 	Members *members.List
 
-	list     atomic.Pointer[memberlist.Memberlist]
-	messages wire.Members
-	began    time.Time
-	ctx      context.Context
-	stop     context.CancelFunc
-	over     sync.WaitGroup
+	list  atomic.Pointer[memberlist.Memberlist]
+	began time.Time
+	ctx   context.Context
+	stop  context.CancelFunc
+	over  sync.WaitGroup
 
 	// order is held over each call that hands out, and its flush, until what was handed out has gone on. memberlist never
 	// takes it.
@@ -82,9 +81,12 @@ type Node struct {
 	gossiping                sync.Mutex
 	intents, queries, events *memberlist.TransmitLimitedQueue
 
-	// isReplaying counts joins that take old events, too. isLeaving: this node says that it leaves.
+	// isIgnoring counts joins that take no old events. isLeaving: this node says that it leaves.
 	isIgnoring atomic.Int64
 	isLeaving  atomic.Bool
+	// saying is held while this node says that it is there, or leaves. joined has something where it joined, and says so soon.
+	saying sync.Mutex
+	joined chan struct{}
 
 	tagging sync.Mutex
 	tags    map[string]string
@@ -110,9 +112,9 @@ func Create(options Options) (*Node, error) {
 	}
 	ctx, stop := context.WithCancel(context.Background())
 	n := &Node{
-		Options: options, messages: wire.Decoder{}, began: time.Now(), ctx: ctx, stop: stop, open: map[asking]*opened{},
+		Options: options, began: time.Now(), ctx: ctx, stop: stop, open: map[asking]*opened{},
 		packets: newQueue(), states: newQueue(), due: make(chan struct{}, 1), internal: make(chan *serfagent.Handed, 64),
-		conflicts: make(chan struct{}, 1), tags: options.Tags, data: data, asked: make(chan chan<- []byte), lines: newLines(),
+		conflicts: make(chan struct{}, 1), joined: make(chan struct{}, 1), tags: options.Tags, data: data, asked: make(chan chan<- []byte), lines: newLines(),
 	}
 	n.Members = members.New(options.Config.NodeName, options.Log, options.Out, n.lines.add)
 	if n.state, err = options.Agent.LocalState(nil, nil); err != nil {
@@ -133,7 +135,7 @@ func Create(options Options) (*Node, error) {
 		return nil, fmt.Errorf("gossip: %w", err)
 	}
 	n.list.Store(list)
-	for _, run := range []func(){n.take, n.makeStates, n.answerInternal, n.settleConflicts, n.keep, n.reap, n.reconnect} {
+	for _, run := range []func(){n.take, n.makeStates, n.answerInternal, n.settleConflicts, n.sayJoins, n.keep, n.reap, n.reconnect} {
 		n.over.Add(1)
 		go func(run func()) {
 			defer n.over.Done()
@@ -176,11 +178,19 @@ func (n *Node) memberlistConfig() (*memberlist.Config, error) {
 	conf.EnableCompression = c.Compression
 	conf.Keyring = n.Keys.Ring()
 	conf.Logger = n.Log
-	return conf, nil
+	return conf, withFaults(conf)
 }
 
 // List is memberlist's.
 func (n *Node) List() *memberlist.Memberlist { return n.list.Load() }
+
+// tell leaves something in a channel, where nothing is there yet.
+func tell(about chan<- struct{}) {
+	select {
+	case about <- struct{}{}:
+	default:
+	}
+}
 
 // now is a moment of a clock that doesn't go back.
 func (n *Node) now() uint64 { return uint64(time.Since(n.began)) }

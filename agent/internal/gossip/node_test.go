@@ -79,7 +79,7 @@ func TestQueries(t *testing.T) {
 		{"by relays", rpc.QueryParams{RelayFactor: 3}, "ab"},
 	} {
 		by := test.by
-		by.Name, by.Timeout, by.WantAck, by.Payload = test.name, 700*time.Millisecond, true, []byte("pay")
+		by.Name, by.Timeout, by.WantAck, by.Payload = test.name, 2*time.Second, true, []byte("pay")
 		asked, err := a.Query(by)
 		if err != nil {
 			t.Fatal(test.name, err)
@@ -221,8 +221,8 @@ func TestComingBack(t *testing.T) {
 func TestOldLeavesAreRefuted(t *testing.T) {
 	a, b := pair(t)
 	for i := uint64(1); i < 4; i++ {
-		a.NotifyMsg(wire.Decoder{}.WriteIntent(wire.Intent{Time: i * 100, Node: "a", IsLeave: true}))
-		eventually(t, "b hears that a is there", func() bool { return b.Members.States().Status["a"] >= i*100 })
+		a.NotifyMsg(intent(t, i*100, "a", true))
+		eventually(t, "b hears that a is there", func() bool { return b.timeOf("a") >= i*100 })
 		if b.status("a") != "alive" || a.status("a") != "alive" {
 			t.Error(a.status("a"), b.status("a"))
 		}
@@ -235,11 +235,11 @@ func TestStatesThatSayItLeftAreRefuted(t *testing.T) {
 	if err != nil {
 		t.Fatal(err)
 	}
-	if err := a.witness(899); err != nil {
+	if err := a.Agent.ObserveMember(899); err != nil {
 		t.Fatal(err)
 	}
 	a.MergeRemoteState(state, false)
-	eventually(t, "b hears that a is there", func() bool { return b.Members.States().Status["a"] >= 900 })
+	eventually(t, "b hears that a is there", func() bool { return b.timeOf("a") >= 900 })
 	if b.status("a") != "alive" || a.status("a") != "alive" {
 		t.Error(a.status("a"), b.status("a"))
 	}
@@ -303,6 +303,45 @@ func TestWhoHasAName(t *testing.T) {
 	}
 }
 
+// The second node of a name ends, and the first stays.
+func TestTwoNodesOfOneName(t *testing.T) {
+	a, b := pair(t)
+	c := start(t, "c", t.TempDir())
+	c.join(b)
+	eventually(t, "c knows a", func() bool { return c.status("a") == "alive" && a.status("c") == "alive" })
+	twin := start(t, "a", t.TempDir())
+	if _, err := twin.Join([]string{b.List().LocalNode().Address()}, false); err != nil {
+		t.Log(err)
+	}
+	eventually(t, "the second one ends", func() bool {
+		twin.mu.Lock()
+		defer twin.mu.Unlock()
+		return len(twin.fatal) == 1 && strings.Contains(twin.fatal[0].Error(), "another node has the name")
+	})
+	a.mu.Lock()
+	defer a.mu.Unlock()
+	if m, _ := b.Members.Get("a"); len(a.fatal) > 0 || m.Port != a.List().LocalNode().Port {
+		t.Error(a.fatal, m)
+	}
+}
+
+// A name that no agent takes comes only from a stranger: it is a member like others, and its intents are none.
+func TestANameOf129Bytes(t *testing.T) {
+	a, b := pair(t)
+	name := strings.Repeat("x", 129)
+	a.NotifyJoin(&memberlist.Node{Name: name, Addr: []byte{127, 0, 0, 9}, Port: 1, Meta: []byte("\xff\x80")})
+	a.NotifyMsg(intent(t, 9, name, true))
+	a.NotifyMsg(intent(t, 9, strings.Repeat("y", 129), true))
+	if err := b.Fire("deploy", nil, false); err != nil {
+		t.Fatal(err)
+	}
+	eventually(t, "events go on", func() bool { return len(a.got("deploy")) == 1 })
+	a.NotifyLeave(&memberlist.Node{Name: name})
+	if a.status(name) == "" || len(a.fatal) > 0 {
+		t.Error(a.status(name), a.fatal)
+	}
+}
+
 // What the network brings, whatever it is, ends nothing.
 func TestHostilePackets(t *testing.T) {
 	a, b := pair(t)
@@ -313,7 +352,7 @@ func TestHostilePackets(t *testing.T) {
 		}
 	}
 	for i := 0; i < 3*4096; i++ {
-		a.NotifyMsg(wire.Decoder{}.WriteIntent(wire.Intent{Time: uint64(i), Node: fmt.Sprint("n", i), IsLeave: i%2 == 0}))
+		a.NotifyMsg(intent(t, uint64(i), fmt.Sprint("n", i), i%2 == 0))
 	}
 	eventually(t, "all is taken", func() bool { return len(a.packets.came) == 0 && len(a.states.came) == 0 })
 	if err := b.Fire("deploy", nil, false); err != nil {
@@ -341,146 +380,5 @@ func TestRelaysGoToMembersAlone(t *testing.T) {
 	_ = stranger.SetReadDeadline(time.Now().Add(time.Second))
 	if count, err := stranger.Read(make([]byte, 1500)); err == nil {
 		t.Errorf("no member has this address, and it got %d bytes", count)
-	}
-}
-
-// Nothing that memberlist calls waits for the disk.
-func TestFlushHoldsNobody(t *testing.T) {
-	f := &fake{flush: make(chan struct{})}
-	a := start(t, "a", "", withAgent(f))
-	a.NotifyMsg([]byte{3})
-	eventually(t, "the agent flushes", func() bool {
-		if f.mu.TryLock() {
-			f.mu.Unlock()
-			return false
-		}
-		return true
-	})
-	node := &memberlist.Node{Name: "b", Addr: []byte{127, 0, 0, 1}, Meta: []byte("\xff\x80")}
-	soon(t, "NotifyMsg", func() { a.NotifyMsg([]byte{3}) })
-	soon(t, "MergeRemoteState", func() { a.MergeRemoteState([]byte{2}, true) })
-	soon(t, "LocalState", func() { a.LocalState(false) })
-	soon(t, "GetBroadcasts", func() { a.GetBroadcasts(0, 1000) })
-	soon(t, "NodeMeta", func() { a.NodeMeta(512) })
-	soon(t, "NotifyJoin", func() { a.NotifyJoin(node) })
-	soon(t, "NotifyUpdate", func() { a.NotifyUpdate(node) })
-	soon(t, "NotifyConflict", func() { a.NotifyConflict(node, node) })
-	soon(t, "NotifyLeave", func() { a.NotifyLeave(node) })
-	close(f.flush)
-}
-
-// A flood of intents leaves room for queries and events.
-func TestRoomForAll(t *testing.T) {
-	a := start(t, "a", "", withAgent(&fake{}))
-	kinds := func() (kinds [3]int) {
-		for _, packet := range a.GetBroadcasts(2, 1400) {
-			kinds[packet[0]]++
-		}
-		return kinds
-	}
-	for i := 0; i < 1000; i++ {
-		a.gossip(a.intents, make([]byte, 30), nil)
-	}
-	if found := kinds(); found[0] < 40 {
-		t.Error(found)
-	}
-	for i := 0; i < 1000; i++ {
-		a.gossip(a.queries, append([]byte{1}, make([]byte, 29)...), nil)
-		a.gossip(a.Node.events, append([]byte{2}, make([]byte, 29)...), nil)
-	}
-	if found := kinds(); found[0] < 20 || found[1] < 10 || found[2] < 10 {
-		t.Error(found)
-	}
-}
-
-func TestBounds(t *testing.T) {
-	f := &fake{flush: make(chan struct{})}
-	a := start(t, "a", "", withAgent(f))
-	for i := 0; i < 3*Waiting; i++ {
-		a.NotifyMsg([]byte{3, byte(i)})
-		a.MergeRemoteState(make([]byte, 1<<16), false)
-	}
-	if len(a.packets.pieces) > Waiting || a.states.bytes > waitingBytes || a.Dropped() < 2*Waiting-1 {
-		t.Error(len(a.packets.pieces), a.states.bytes, a.Dropped())
-	}
-	close(f.flush)
-	for i := 0; i < 2*Waiting; i++ {
-		if err := a.Fire("x", nil, false); err != nil {
-			t.Fatal(err)
-		}
-	}
-	if _, events, _ := a.Queued(); events > Waiting {
-		t.Error(events)
-	}
-	waiting := newLines()
-	for i := 0; i < 2*maxLines; i++ {
-		waiting.add("alive: x 1:1\n")
-	}
-	if all, isTooMany := waiting.take(); len(all) != maxLines || !isTooMany {
-		t.Error(len(all), isTooMany)
-	}
-}
-
-// Packets that wait while the agent is busy are given to it together, and go on in order.
-func TestBursts(t *testing.T) {
-	f := &fake{flush: make(chan struct{})}
-	a := start(t, "a", "", withAgent(f), func(o *Options) { o.Burst = 64 })
-	a.NotifyMsg([]byte{3, 'a'})
-	eventually(t, "the agent is busy", func() bool { return len(a.packets.came) == 0 })
-	var want []string
-	for i := 0; i < 200; i++ {
-		want = append(want, fmt.Sprintf("%03d", i))
-		a.NotifyMsg(append([]byte{3}, want[i]...))
-		a.NotifyMsg([]byte{3})
-		a.NotifyMsg(wire.Decoder{}.WriteIntent(wire.Intent{Time: 1, Node: "x"}))
-	}
-	close(f.flush)
-	eventually(t, "all are taken", func() bool { return len(a.got("fake")) == 201 })
-	if found := a.got("fake")[1:]; !reflect.DeepEqual(found, want) {
-		t.Error(found)
-	}
-	f.mu.Lock()
-	defer f.mu.Unlock()
-	if len(f.bursts) > 10 || f.bursts[1] != 64 {
-		t.Error(f.bursts)
-	}
-	if _, events, _ := a.Queued(); events != 201 {
-		t.Error(events)
-	}
-}
-
-// Where handlers are behind, nothing is taken, and nothing is fired.
-func TestFullHandlers(t *testing.T) {
-	a, b := pair(t)
-	a.mu.Lock()
-	a.isFull = true
-	a.mu.Unlock()
-	if err := a.Fire("x", nil, false); !errors.Is(err, ErrBusy) {
-		t.Error(err)
-	}
-	if _, err := a.Query(rpc.QueryParams{Name: "x"}); !errors.Is(err, ErrBusy) {
-		t.Error(err)
-	}
-	time.Sleep(1200 * time.Millisecond)
-	if err := b.Fire("deploy", nil, false); err != nil {
-		t.Fatal(err)
-	}
-	time.Sleep(500 * time.Millisecond)
-	if len(a.got("deploy")) > 1 {
-		t.Error("more than the one that was under way is taken")
-	}
-	a.mu.Lock()
-	a.isFull = false
-	a.mu.Unlock()
-	eventually(t, "it is taken then", func() bool { return len(a.got("deploy")) == 1 })
-}
-
-func TestFaultOfTheFile(t *testing.T) {
-	f := &fake{receive: serfagent.ErrFull}
-	a := start(t, "a", "", withAgent(f))
-	a.NotifyMsg([]byte{3})
-	eventually(t, "it is told", func() bool { a.mu.Lock(); defer a.mu.Unlock(); return len(a.fatal) == 1 })
-	if err := a.Fire("x", nil, false); !errors.Is(err, ErrEnded) {
-		t.Error(err)
 	}
 }

@@ -8,7 +8,7 @@ import (
 
 // Burst is how many packets are taken by one call of ReceiveAll at most, and so behind one flush. A kill between that flush and
 // the handlers costs at most the handlers of so many packets.
-const Burst = 64
+const Burst = 256
 
 // unreadWait is how long ReceiveAll waits for memory, before it tries again to read what came of packets that were taken.
 const unreadWait = 10 * time.Millisecond
@@ -31,6 +31,9 @@ type Agent interface {
 	Respond(now, number uint64, payload []byte) ([]byte, error)
 	CloseDue(now uint64) ([]*serfagent.Closed, error)
 	Clocks() (serfagent.Clocks, error)
+	// ObserveMember brings the member clock above the time of a member's word; NextMemberTime is the time of this node's own.
+	ObserveMember(time uint64) error
+	NextMemberTime() (uint64, error)
 	SaveMemberClock() error
 	Compact() error
 	Close() error

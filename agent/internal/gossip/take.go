@@ -2,7 +2,6 @@ package gossip
 
 import (
 	"errors"
-	"math"
 	"net"
 	"strings"
 	"time"
@@ -76,12 +75,12 @@ func (n *Node) takeState() error {
 		n.Log.Printf("[WARN] serf: a state was not taken: %v", err)
 		return err
 	}
-	states, err := n.messages.ReadStates(state.data)
+	said, err := serfagent.MembersOf(state.data)
 	if err != nil {
 		n.Log.Printf("[WARN] serf: what a state says of members was not taken: %v", err)
 		return nil
 	}
-	if n.Members.Merged(states) {
+	if said != nil && n.Members.Merged(said) {
 		return n.refute()
 	}
 	return nil
@@ -114,12 +113,12 @@ func (n *Node) takePackets() error {
 
 // takeIntent takes an intent.
 func (n *Node) takeIntent(packet []byte) error {
-	intent, err := n.messages.ReadIntent(packet)
+	intent, err := intentOf(packet)
 	if err != nil {
 		n.Log.Printf("[DEBUG] serf: a packet was not taken: %v", err)
 		return nil
 	}
-	if err := n.witness(intent.Time); err != nil {
+	if err := n.inOrder(func() error { return n.Agent.ObserveMember(intent.Time) }); err != nil {
 		return err
 	}
 	outcome := n.Members.Intend(intent)
@@ -132,54 +131,54 @@ func (n *Node) takeIntent(packet []byte) error {
 	return nil
 }
 
+// intentOf is the intent of a packet, or its fault.
+func intentOf(packet []byte) (serfagent.Intent, error) {
+	intent, err := serfagent.IntentOf(packet)
+	if intent != nil {
+		return *intent, nil
+	}
+	if fault, is := serfagent.IntentFaultOf(packet); is {
+		return serfagent.Intent{}, fault
+	}
+	return serfagent.Intent{}, err
+}
+
 // refute tells the others that this node has not left.
 func (n *Node) refute() error {
 	if n.isLeaving.Load() {
 		return nil
 	}
 	n.Log.Print("[DEBUG] serf: Refuting an older leave intent")
-	return n.say(false)
+	return n.sayThere()
 }
 
-// witness raises the members' clock above a time.
-func (n *Node) witness(time uint64) error {
-	if time >= math.MaxUint64-2 {
+// sayThere tells the others that this node is there, unless it leaves: no such word comes behind that of its leave.
+func (n *Node) sayThere() error {
+	n.saying.Lock()
+	defer n.saying.Unlock()
+	if n.isLeaving.Load() {
 		return nil
 	}
-	return n.inOrder(func() error {
-		_, err := n.Agent.Merge(n.messages.ClockState(time), false)
-		return err
-	})
-}
-
-// next is the next time of the members' clock.
-func (n *Node) next() (time uint64, err error) {
-	err = n.inOrder(func() error {
-		clocks, err := n.Agent.Clocks()
-		if err != nil {
-			return err
-		}
-		time = clocks.Member
-		_, err = n.Agent.Merge(n.messages.ClockState(time), false)
-		return err
-	})
-	return time, err
-}
-
-// say tells the others that this node is there, or leaves. It is known when it was sent.
-func (n *Node) say(isLeave bool) error {
-	_, err := n.sayThat(wire.Intent{Node: n.Config.NodeName, IsLeave: isLeave})
+	_, err := n.sayThat(serfagent.Intent{Node: []byte(n.Config.NodeName)})
 	return err
 }
 
 // sayThat sends an intent, with the next time, and takes it here too.
-func (n *Node) sayThat(intent wire.Intent) (sent chan struct{}, err error) {
-	if intent.Time, err = n.next(); err != nil {
+func (n *Node) sayThat(intent serfagent.Intent) (sent chan struct{}, err error) {
+	err = n.inOrder(func() (err error) {
+		intent.Time, err = n.Agent.NextMemberTime()
+		return err
+	})
+	if err != nil {
 		return nil, err
 	}
-	if intent.Node == n.Config.NodeName {
+	packet, err := intent.Packet()
+	if err != nil {
+		return nil, err
+	}
+	if string(intent.Node) == n.Config.NodeName {
 		status := event.Alive
-		if intent.IsLeave {
+		if intent.Leave {
 			status = event.Leaving
 		}
 		n.Members.Own(status, intent.Time)
@@ -187,7 +186,7 @@ func (n *Node) sayThat(intent wire.Intent) (sent chan struct{}, err error) {
 		n.Members.Intend(intent)
 	}
 	sent = make(chan struct{})
-	n.gossip(n.intents, n.messages.WriteIntent(intent), sent)
+	n.gossip(n.intents, packet, sent)
 	return sent, nil
 }
 

@@ -79,16 +79,24 @@ func TestCoalescing(t *testing.T) {
 
 func TestCoalescingEnds(t *testing.T) {
 	var all heard
-	c := NewCoalescer(300*time.Millisecond, 100*time.Millisecond, all.add)
-	for i := 0; i < 12; i++ {
-		c.Add(&event.Event{Kind: event.User, Name: "a", LTime: uint64(i), Coalesce: true})
+	c := NewCoalescer(time.Second, 500*time.Millisecond, all.add)
+	last := 0
+	for began := time.Now(); time.Since(began) < 1500*time.Millisecond; last++ {
+		c.Add(&event.Event{Kind: event.User, Name: "a", LTime: uint64(last), Coalesce: true})
 		time.Sleep(50 * time.Millisecond)
 	}
-	time.Sleep(400 * time.Millisecond)
+	isThere := func() bool {
+		all.mu.Lock()
+		defer all.mu.Unlock()
+		return len(all.texts) > 0 && all.texts[len(all.texts)-1] == fmt.Sprint("a:", last-1)
+	}
+	for began := time.Now(); !isThere() && time.Since(began) < time.Minute; {
+		time.Sleep(10 * time.Millisecond)
+	}
 	all.mu.Lock()
 	defer all.mu.Unlock()
-	if len(all.texts) < 2 || len(all.texts) > 4 || all.texts[len(all.texts)-1] != "a:11" {
-		t.Error(all.texts)
+	if len(all.texts) < 2 || len(all.texts) > 4 || all.texts[len(all.texts)-1] != fmt.Sprint("a:", last-1) {
+		t.Error(last, all.texts)
 	}
 }
 

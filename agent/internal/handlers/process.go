@@ -61,11 +61,14 @@ func runScript(ctx context.Context, command string, env []string, stdin []byte) 
 		return ended{err: err}
 	}
 	defer pipes.close()
+	isFed := pipes.feedFirst(stdin)
 	if err := cmd.Start(); err != nil {
 		return ended{err: err}
 	}
 	pipes.closeChild()
-	go pipes.feed(stdin)
+	if !isFed {
+		go pipes.feed(stdin)
+	}
 	read := make(chan *tail, 1)
 	go func() {
 		var kept tail
@@ -133,6 +136,19 @@ func openPipes(cmd *exec.Cmd) (*pipes, error) {
 	}
 	cmd.Stdin, cmd.Stdout, cmd.Stderr = p.inRead, p.outWrite, p.outWrite
 	return p, nil
+}
+
+// page is how many bytes each pipe takes while nobody reads it.
+const page = 4096
+
+// feedFirst writes an input that has room in the pipe before the script begins, so that a script whose agent is killed then has
+// all of it. It says whether it did.
+func (p *pipes) feedFirst(stdin []byte) bool {
+	if len(stdin) > page {
+		return false
+	}
+	p.feed(stdin)
+	return true
 }
 
 // feed writes the input. A script that doesn't read it holds nobody up: close ends it.

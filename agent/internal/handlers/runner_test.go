@@ -3,8 +3,10 @@ package handlers
 import (
 	"bytes"
 	"fmt"
+	"io"
 	"log"
 	"os"
+	"os/exec"
 	"path/filepath"
 	"strings"
 	"sync"
@@ -87,7 +89,7 @@ func TestAnswers(t *testing.T) {
 
 func TestScriptsThatDoNotEnd(t *testing.T) {
 	t.Parallel()
-	for _, script := range []string{"sleep 100", "sleep 100 & sleep 100", "yes", "trap '' TERM; sleep 0.2; yes > /dev/null"} {
+	for _, script := range []string{"sleep 100", "sleep 100 & sleep 100", "yes", "trap '' TERM; sleep 0.2; yes > /dev/null", "for i in $(seq 200); do sleep 100 & done; wait"} {
 		script := script
 		t.Run(script, func(t *testing.T) {
 			t.Parallel()
@@ -105,11 +107,30 @@ func TestScriptsThatDoNotEnd(t *testing.T) {
 	}
 }
 
+// A script whose agent is killed as it begins has all of its input.
+func TestTheInputIsThereFirst(t *testing.T) {
+	for length, isFirst := range map[int]bool{0: true, 2: true, page: true, page + 1: false} {
+		p, err := openPipes(exec.Command("true"))
+		if err != nil {
+			t.Fatal(err)
+		}
+		defer p.close()
+		if p.feedFirst(make([]byte, length)) != isFirst {
+			t.Error(length)
+		}
+		if isFirst {
+			if found, err := io.ReadAll(p.inRead); err != nil || len(found) != length {
+				t.Error(length, len(found), err)
+			}
+		}
+	}
+}
+
 // What a script that is ended has begun ends with it.
 func TestTheWholeGroupEnds(t *testing.T) {
 	t.Parallel()
 	file := filepath.Join(t.TempDir(), "file")
-	r, _ := newRunner(t, 500*time.Millisecond, "sleep 100 & echo $! $$ > "+file+"; trap '' TERM; sleep 100; sleep 100")
+	r, _ := newRunner(t, 2*time.Second, "sleep 100 & echo $! $$ > "+file+"; trap '' TERM; sleep 100; sleep 100")
 	r.Add(user("deploy", ""))
 	r.Close(time.Minute)
 	text, err := os.ReadFile(file)
@@ -147,11 +168,17 @@ func TestLeftInTheBackground(t *testing.T) {
 
 func TestTheEndDoesNotWait(t *testing.T) {
 	t.Parallel()
-	r, said := newRunner(t, 0, "sleep 100")
+	file := filepath.Join(t.TempDir(), "file")
+	r, said := newRunner(t, 0, "echo > "+file+"; sleep 100")
 	for i := 0; i < 3; i++ {
 		r.Add(user("deploy", ""))
 	}
-	time.Sleep(100 * time.Millisecond)
+	for i := 0; i < 6000; i++ {
+		if _, err := os.Stat(file); err == nil {
+			break
+		}
+		time.Sleep(10 * time.Millisecond)
+	}
 	began := time.Now()
 	r.Close(200 * time.Millisecond)
 	if length := time.Since(began); length > 20*time.Second {

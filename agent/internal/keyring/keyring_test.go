@@ -55,6 +55,27 @@ func TestChanges(t *testing.T) {
 	}
 }
 
+// A change that can't be kept is a fault, and the keys that there were are there.
+func TestKeysThatCannotBeKept(t *testing.T) {
+	folder := filepath.Join(t.TempDir(), "folder")
+	if err := os.Mkdir(folder, 0o700); err != nil {
+		t.Fatal(err)
+	}
+	k, err := Open(filepath.Join(folder, "keys"), key(1))
+	if err != nil {
+		t.Fatal(err)
+	}
+	if err := os.RemoveAll(folder); err != nil {
+		t.Fatal(err)
+	}
+	if err := k.Install(key(2)); err == nil {
+		t.Error("it isn't kept")
+	}
+	if all, err := k.List(); err != nil || len(all) == 0 || all[0] != text(1) {
+		t.Error(all, err)
+	}
+}
+
 func TestNone(t *testing.T) {
 	k, err := Open("", nil)
 	if err != nil || k != nil || k.Ring() != nil {

@@ -11,8 +11,9 @@ import (
 	"sync/atomic"
 	"time"
 
+	"kitchenrue.example/agent/internal/config"
 	"kitchenrue.example/agent/internal/event"
-	"kitchenrue.example/agent/internal/wire"
+	"kitchenrue.example/serfagent"
 )
 
 // How long an intent of a member that isn't known waits for it, and how many may wait.
@@ -50,7 +51,7 @@ type member struct {
 }
 
 type intent struct {
-	wire.Intent
+	serfagent.Intent
 	at time.Time
 }
 
@@ -111,7 +112,7 @@ func (l *List) Joined(is event.Member) {
 			delete(l.intents, is.Name)
 			if waits.Time > m.time && time.Since(waits.at) < intentTime {
 				m.time = waits.Time
-				if waits.IsLeave {
+				if waits.Leave {
 					m.Status, m.isPruned = event.Leaving, waits.Prune
 				}
 			}
@@ -179,24 +180,24 @@ type Outcome struct {
 }
 
 // Intend takes an intent. It counts where its time is above the one that is known of the member.
-func (l *List) Intend(is wire.Intent) (found Outcome) {
+func (l *List) Intend(is serfagent.Intent) (found Outcome) {
 	l.change(func() { found = l.intend(is) })
 	return found
 }
 
-func (l *List) intend(is wire.Intent) Outcome {
-	m := l.members[is.Node]
+func (l *List) intend(is serfagent.Intent) Outcome {
+	m := l.members[string(is.Node)]
 	if m == nil {
 		return Outcome{IsNew: l.wait(is)}
 	}
 	if is.Time <= m.time {
 		return Outcome{}
 	}
-	if is.IsLeave && is.Node == l.self && m.Status == event.Alive {
+	if is.Leave && string(is.Node) == l.self && m.Status == event.Alive {
 		return Outcome{IsWrong: true}
 	}
 	m.time = is.Time
-	if !is.IsLeave {
+	if !is.Leave {
 		if m.Status == event.Leaving {
 			m.Status, m.isPruned = event.Alive, false
 		}
@@ -217,33 +218,40 @@ func (l *List) intend(is wire.Intent) Outcome {
 	return Outcome{IsNew: true}
 }
 
-// wait keeps an intent of a member that isn't known, where there is room: whether it is new.
-func (l *List) wait(is wire.Intent) bool {
-	now := time.Now()
-	if old, has := l.intents[is.Node]; has && old.Time >= is.Time {
+// wait keeps an intent of a member that isn't known, where there is room: whether it is new. One of a name that no member can
+// have is none.
+func (l *List) wait(is serfagent.Intent) bool {
+	now, name := time.Now(), string(is.Node)
+	if name == "" || len(name) > config.MaxName {
+		return false
+	}
+	if old, has := l.intents[name]; has && old.Time >= is.Time {
 		return false
 	} else if !has && len(l.intents) >= maxIntents {
 		return false
 	}
-	l.intents[is.Node] = intent{is, now}
+	l.intents[name] = intent{is, now}
 	return true
 }
 
 // Merged takes what another node's state says: who left, and the times of the others. It says whether that is wrong of this
 // node.
-func (l *List) Merged(states wire.States) (isWrong bool) {
-	left := make(map[string]bool, len(states.Left))
+func (l *List) Merged(said *serfagent.Members) (isWrong bool) {
+	times := make(map[string]uint64, len(said.Statuses))
+	for _, one := range said.Statuses {
+		times[one.Name] = one.Time
+	}
 	l.change(func() {
-		for _, name := range states.Left {
-			left[name] = true
-			if l.intend(wire.Intent{Time: states.Status[name], Node: name, IsLeave: true}).IsWrong {
+		for _, name := range said.Left {
+			if l.intend(serfagent.Intent{Time: times[name], Node: []byte(name), Leave: true}).IsWrong {
 				isWrong = true
 			}
 		}
-		for name, time := range states.Status {
-			if !left[name] {
-				l.intend(wire.Intent{Time: time, Node: name})
-			}
+		for _, name := range said.Left {
+			delete(times, name)
+		}
+		for name, time := range times {
+			l.intend(serfagent.Intent{Time: time, Node: []byte(name)})
 		}
 	})
 	return isWrong
@@ -335,17 +343,17 @@ func (l *List) Alive() []string {
 }
 
 // States are the times of all members' status, and who left.
-func (l *List) States() wire.States {
+func (l *List) States() (statuses []serfagent.Status, left []string) {
 	l.mu.Lock()
 	defer l.mu.Unlock()
-	found := wire.States{Status: make(map[string]uint64, len(l.members))}
+	statuses = make([]serfagent.Status, 0, len(l.members))
 	for _, m := range l.members {
-		found.Status[m.Name] = m.time
+		statuses = append(statuses, serfagent.Status{Name: m.Name, Time: m.time})
 		if m.Status == event.Left {
-			found.Left = append(found.Left, m.Name)
+			left = append(left, m.Name)
 		}
 	}
-	return found
+	return statuses, left
 }
 
 // Failed is one of the members that failed, by chance, as often as Serf tries them; false where it is none's turn.

@@ -11,7 +11,7 @@ import (
 	"time"
 
 	"kitchenrue.example/agent/internal/event"
-	"kitchenrue.example/agent/internal/wire"
+	"kitchenrue.example/serfagent"
 )
 
 // cluster is a list, and what it told.
@@ -48,7 +48,7 @@ func (c *cluster) do(words string) string {
 		case "update":
 			c.Updated(node(name))
 		case "came", "leaves", "pruned":
-			outcome := c.Intend(wire.Intent{Time: time, Node: name, IsLeave: what != "came", Prune: what == "pruned"})
+			outcome := c.Intend(serfagent.Intent{Time: time, Node: []byte(name), Leave: what != "came", Prune: what == "pruned"})
 			if outcome.IsNew {
 				said = append(said, "new")
 			}
@@ -113,12 +113,16 @@ func TestLines(t *testing.T) {
 func TestMerging(t *testing.T) {
 	one, two := start(), start()
 	one.do("join a; came a 2; join b; leaves b 3; gone b; join c; gone c")
-	states := one.States()
-	if !reflect.DeepEqual(states.Left, []string{"b"}) || states.Status["a"] != 2 || states.Status["b"] != 3 {
-		t.Errorf("%+v", states)
+	statuses, left := one.States()
+	times := map[string]uint64{}
+	for _, status := range statuses {
+		times[status.Name] = status.Time
+	}
+	if !reflect.DeepEqual(left, []string{"b"}) || !reflect.DeepEqual(times, map[string]uint64{"self": 0, "a": 2, "b": 3, "c": 0}) {
+		t.Error(statuses, left)
 	}
 	two.do("join a; leaves a 1; join b")
-	if two.Merged(states) {
+	if two.Merged(&serfagent.Members{Statuses: statuses, Left: left}) {
 		t.Error("it is wrong of nobody")
 	}
 	two.do("gone a; gone b")
@@ -128,7 +132,7 @@ func TestMerging(t *testing.T) {
 	if b, _ := two.Get("b"); b.Status != event.Left {
 		t.Error(b.Status)
 	}
-	if !two.Merged(wire.States{Status: map[string]uint64{"self": 9}, Left: []string{"self"}}) {
+	if !two.Merged(&serfagent.Members{Statuses: []serfagent.Status{{Name: "self", Time: 9}}, Left: []string{"self"}}) {
 		t.Error("this node has not left")
 	}
 }
@@ -159,6 +163,18 @@ func TestIntentsAreBounded(t *testing.T) {
 	}
 	if c.do("leaves n0 4") != "new" || len(c.intents) != maxIntents {
 		t.Error("a known one is taken")
+	}
+}
+
+func TestIntentsOfNamesThatNobodyHas(t *testing.T) {
+	c := start()
+	for _, name := range []string{"", strings.Repeat("x", 129)} {
+		if c.Intend(serfagent.Intent{Time: 3, Node: []byte(name), Leave: true}).IsNew || len(c.intents) > 0 {
+			t.Errorf("%q is kept", name)
+		}
+	}
+	if c.do("leaves "+strings.Repeat("x", 128)+" 3") != "new" {
+		t.Error("a name of 128 bytes is one")
 	}
 }
 

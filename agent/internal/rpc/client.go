@@ -20,6 +20,9 @@ type times struct{ greet, rest, send, last time.Duration }
 
 var defaultTimes = times{10 * time.Second, 10 * time.Second, 10 * time.Second, time.Second}
 
+// maxWritten is how many bytes of frames are written by one call. A longer frame is written alone.
+const maxWritten = 32 << 10
+
 // How much may wait for a client, and how many streams, monitors, queries and unanswered queries it may have.
 const (
 	maxFrames     = 4096
@@ -157,12 +160,17 @@ func (c *client) answer(seq uint64, err error, bodies ...interface{}) error {
 	return c.send(append([]interface{}{header}, bodies...)...)
 }
 
-// send queues values for the client, which are written together. It doesn't wait: where too much waits, the client is ended.
+// send queues values for the client, which are written together.
 func (c *client) send(values ...interface{}) error {
 	frame, err := encode(values...)
 	if err != nil {
 		return err
 	}
+	return c.queue(frame)
+}
+
+// queue queues a frame for the client. It doesn't wait: where too much waits, the client is ended.
+func (c *client) queue(frame []byte) error {
 	c.mu.Lock()
 	defer c.mu.Unlock()
 	if c.isOver || c.isLast {
@@ -180,37 +188,43 @@ func (c *client) send(values ...interface{}) error {
 	return nil
 }
 
-// next waits for a frame; nil at the end.
-func (c *client) next() ([]byte, time.Duration) {
+// next waits for frames, and puts those that are written together into room; nothing at the end.
+func (c *client) next(room []byte) ([]byte, time.Duration) {
 	c.mu.Lock()
 	defer c.mu.Unlock()
 	for len(c.frames) == 0 && !c.isOver && !c.isLast {
 		c.changed.Wait()
 	}
-	if len(c.frames) == 0 || c.isOver {
+	if c.isOver {
 		return nil, 0
 	}
-	first := c.frames[0]
-	c.frames[0] = nil
-	c.frames = c.frames[1:]
-	c.bytes -= len(first)
-	if c.isLast {
-		return first, c.times.last
+	for len(c.frames) > 0 && (len(room) == 0 || len(room)+len(c.frames[0]) <= maxWritten) {
+		room = append(room, c.frames[0]...)
+		c.bytes -= len(c.frames[0])
+		c.frames[0] = nil
+		c.frames = c.frames[1:]
 	}
-	return first, c.times.send
+	if c.isLast {
+		return room, c.times.last
+	}
+	return room, c.times.send
 }
 
 // write writes what waits, until the end.
 func (c *client) write() {
 	defer c.end()
+	var room []byte
 	for {
-		frame, length := c.next()
-		if frame == nil {
+		together, length := c.next(room[:0])
+		if len(together) == 0 {
 			return
 		}
 		_ = c.conn.SetWriteDeadline(time.Now().Add(length))
-		if _, err := c.conn.Write(frame); err != nil {
+		if _, err := c.conn.Write(together); err != nil {
 			return
+		}
+		if room = together; cap(room) > 2*maxWritten {
+			room = nil
 		}
 	}
 }
@@ -270,21 +284,43 @@ func (c *client) follow(seq uint64, run func(ctx context.Context)) {
 	}()
 }
 
+// published is an event as streams have it.
+type published struct {
+	*event.Event
+	record []byte
+}
+
+// after is the event's record behind this header. The record is encoded once, for whichever stream wants it first.
+func (p *published) after(header answerHeader) ([]byte, error) {
+	var err error
+	if p.record == nil {
+		if p.record, err = encode(recordOf(p.Event)); err != nil {
+			return nil, err
+		}
+	}
+	frame, err := encode(header)
+	return append(frame, p.record...), err
+}
+
 // publish tells this client's streams of an event.
-func (c *client) publish(e *event.Event) {
+func (c *client) publish(e *published) {
 	c.mu.Lock()
 	var seqs []uint64
 	for seq, filters := range c.streams {
-		if filters.Takes(e) {
+		if filters.Takes(e.Event) {
 			seqs = append(seqs, seq)
 		}
 	}
 	if len(seqs) > 0 && e.Query != nil {
-		c.remember(e)
+		c.remember(e.Event)
 	}
 	c.mu.Unlock()
 	for _, seq := range seqs {
-		if err := c.send(answerHeader{Seq: seq}, recordOf(e)); err != nil {
+		frame, err := e.after(answerHeader{Seq: seq})
+		if err == nil {
+			err = c.queue(frame)
+		}
+		if err != nil {
 			if errors.Is(err, errTooSlow) {
 				c.server.log.Printf("[WARN] agent.ipc: %v was ended: %v", c.conn.RemoteAddr(), err)
 			}

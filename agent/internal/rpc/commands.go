@@ -5,6 +5,7 @@ import (
 	"crypto/subtle"
 	"errors"
 	"fmt"
+	"net"
 	"regexp"
 	"strings"
 	"time"
@@ -94,8 +95,18 @@ func (c *client) forceLeave(seq uint64, body *forceLeaveBody) error {
 }
 
 func (c *client) join(seq uint64, body *joinBody) error {
-	count, err := c.server.backend.Join(c.ctx, body.Existing, body.Replay)
-	return c.answer(seq, err, joinAnswer{int32(count)})
+	// (a join may wait long for each address, and the end of the agent doesn't wait for it)
+	joined := make(chan func() error, 1)
+	go func() {
+		count, err := c.server.backend.Join(c.ctx, body.Existing, body.Replay)
+		joined <- func() error { return c.answer(seq, err, joinAnswer{int32(count)}) }
+	}()
+	select {
+	case answer := <-joined:
+		return answer()
+	case <-c.server.ctx.Done():
+		return net.ErrClosed
+	}
 }
 
 func (c *client) members(seq uint64) error {

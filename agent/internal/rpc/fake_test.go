@@ -22,6 +22,8 @@ type fake struct {
 	isOver  bool
 	// more members, for long answers
 	more []event.Member
+	// Where it isn't nil, a join lasts until it is closed.
+	joins chan struct{}
 }
 
 func (f *fake) call(what string) {
@@ -46,6 +48,9 @@ func (f *fake) Members() []event.Member {
 }
 
 func (f *fake) Join(_ context.Context, existing []string, replay bool) (int, error) {
+	if f.joins != nil {
+		<-f.joins
+	}
 	if len(existing) == 0 {
 		return 0, errors.New("nobody was joined")
 	}
@@ -81,7 +86,7 @@ func (f *fake) Stats() map[string]map[string]string {
 	return map[string]map[string]string{"agent": {"name": "alpha"}}
 }
 
-var quick = times{300 * time.Millisecond, 300 * time.Millisecond, 300 * time.Millisecond, 100 * time.Millisecond}
+var quick = times{2 * time.Second, time.Second, time.Second, 200 * time.Millisecond}
 
 // start begins to listen.
 func start(t *testing.T, token string) (*Server, *fake, *logs.Log) {
@@ -140,7 +145,7 @@ func (p *peer) ask(command string, body ...interface{}) uint64 {
 
 func (p *peer) read(to interface{}) {
 	p.t.Helper()
-	_ = p.conn.SetReadDeadline(time.Now().Add(5 * time.Second))
+	_ = p.conn.SetReadDeadline(time.Now().Add(30 * time.Second))
 	value, err := p.in.next(1 << 20)
 	if err != nil {
 		p.t.Fatal(err)
@@ -169,7 +174,7 @@ func (p *peer) greet() *peer {
 // isEnded expects that the connection ends soon.
 func (p *peer) isEnded() {
 	p.t.Helper()
-	_ = p.conn.SetReadDeadline(time.Now().Add(5 * time.Second))
+	_ = p.conn.SetReadDeadline(time.Now().Add(30 * time.Second))
 	for {
 		if _, err := p.in.in.ReadByte(); err != nil {
 			var late net.Error

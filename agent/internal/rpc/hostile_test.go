@@ -171,6 +171,23 @@ func TestAClientThatOnlyAsks(t *testing.T) {
 	eventually(t, func() bool { return clients(s) == 0 })
 }
 
+// A join of addresses at which nobody answers holds up neither others nor the end.
+func TestAJoinThatLasts(t *testing.T) {
+	s, f, _ := start(t, "")
+	f.joins = make(chan struct{})
+	defer close(f.joins)
+	for i := 0; i < 3; i++ {
+		dial(t, s).greet().ask("join", joinBody{Existing: make([]string, 1000)})
+	}
+	p := dial(t, s).greet()
+	p.says(p.ask("tags", tagsBody{}), "")
+	began := time.Now()
+	s.Close()
+	if length := time.Since(began); length > 5*time.Second {
+		t.Errorf("the end waited %v", length)
+	}
+}
+
 func TestReader(t *testing.T) {
 	for _, one := range []struct {
 		bytes string

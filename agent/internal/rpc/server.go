@@ -160,8 +160,9 @@ func (s *Server) serve(conn net.Conn) {
 func (s *Server) Publish(e *event.Event) {
 	s.mu.Lock()
 	defer s.mu.Unlock()
+	one := &published{Event: e}
 	for c := range s.clients {
-		c.publish(e)
+		c.publish(one)
 	}
 }
 

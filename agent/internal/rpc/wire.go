@@ -2,10 +2,12 @@ package rpc
 
 import (
 	"bufio"
+	"bytes"
 	"encoding/binary"
 	"errors"
 	"fmt"
 	"io"
+	"sync"
 
 	"github.com/hashicorp/go-msgpack/codec"
 )
@@ -143,15 +145,34 @@ func decode(value []byte, to interface{}) error {
 	return nil
 }
 
+// encoder writes values behind one another, and keeps what it found out of their types.
+type encoder struct {
+	out  bytes.Buffer
+	into *codec.Encoder
+}
+
+// encoders are those that nobody uses.
+var encoders = sync.Pool{New: func() interface{} {
+	e := &encoder{}
+	e.into = codec.NewEncoder(&e.out, handle())
+	return e
+}}
+
+// maxKept is how many bytes an encoder may keep for later.
+const maxKept = 64 << 10
+
 // encode writes values behind one another.
 func encode(values ...interface{}) ([]byte, error) {
-	var whole []byte
+	e := encoders.Get().(*encoder)
+	e.out.Reset()
 	for _, value := range values {
-		var one []byte
-		if err := codec.NewEncoderBytes(&one, handle()).Encode(value); err != nil {
+		if err := e.into.Encode(value); err != nil {
 			return nil, err
 		}
-		whole = append(whole, one...)
+	}
+	whole := append([]byte(nil), e.out.Bytes()...)
+	if e.out.Cap() <= maxKept {
+		encoders.Put(e)
 	}
 	return whole, nil
 }

@@ -1,4 +1,4 @@
-// Package wire reads and writes what the agent says to other nodes beside events and queries: intents, tags, relays, keys.
+// Package wire reads and writes what the proved library doesn't: tags, relays, keys, and the filters of a query by tags.
 package wire
 
 import (
@@ -180,6 +180,14 @@ func (d *decoder) skipAll(count, depth int) {
 	for ; count > 0 && d.err == nil; count-- {
 		d.skip(depth + 1)
 	}
+}
+
+// end says what was wrong, and that nothing may stand behind the value.
+func (d *decoder) end() error {
+	if d.err == nil && len(d.rest) > 0 {
+		return ErrKind
+	}
+	return d.err
 }
 
 // fields reads a map: known is called with each key, and takes its value or says that it doesn't know it.

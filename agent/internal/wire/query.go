@@ -17,7 +17,6 @@ const maxFilters = 128
 // Query is what the agent has to know of a query's packet beside what the library says: its filters, and where they stand.
 type Query struct {
 	Filters  [][]byte
-	Time     uint64
 	from, to int
 }
 
@@ -30,10 +29,6 @@ func ReadQuery(packet []byte) (Query, error) {
 	d := &decoder{rest: packet[1:]}
 	at := func() int { return len(packet) - len(d.rest) }
 	d.fields(func(key string) bool {
-		if key == "LTime" {
-			found.Time = d.unsigned()
-			return true
-		}
 		if key != "Filters" {
 			return false
 		}
@@ -67,7 +62,7 @@ func (q Query) HasTags() bool {
 // IsTagFilter says whether a filter is of tags.
 func IsTagFilter(filter []byte) bool { return len(filter) > 0 && filter[0] == tagFilter }
 
-// WithoutTags is the packet without its filters of tags.
+// WithoutTags is the packet without its filters of tags: the very packet to which With put them.
 func (q Query) WithoutTags(packet []byte) []byte {
 	var kept [][]byte
 	for _, filter := range q.Filters {
@@ -81,11 +76,7 @@ func (q Query) WithoutTags(packet []byte) []byte {
 // With is the packet with these filters.
 func (q Query) With(packet []byte, filters [][]byte) []byte {
 	e := &encoder{append([]byte(nil), packet[:q.from]...)}
-	if len(filters) == 0 {
-		e.null()
-	} else {
-		e.array(len(filters))
-	}
+	e.array(len(filters))
 	for _, filter := range filters {
 		e.raw(string(filter))
 	}

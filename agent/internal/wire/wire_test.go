@@ -13,16 +13,12 @@ import (
 
 // What Serf's own agents sent, taken off the wire.
 const (
-	joinPacket  = "0182a54c54696d6501a44e6f6465a567616d6d61"
-	leavePacket = "0083a54c54696d6502a44e6f6465a462657461a55072756e65c2"
-	prunePacket = "0083a54c54696d6505a44e6f6465a462657461a55072756e65c3"
 	queryPacket = "048ba441646472a47f000101a746696c7465727393a60092a178a179b40182a445787072a3776562a3546167a4726f6c65af0182a445787072a162a3546167a161a5466c61677301a24944ce2f3cc807a54c54696d6501a44e616d65a46c6f6164a75061796c6f6164c0a4506f7274cd1f0aab52656c6179466163746f7200aa536f757263654e6f6465a5616c706861a754696d656f7574ce11e1a300"
 	plainPacket = "048ba441646472a47f000101a746696c74657273c0a5466c61677301a24944ce130af890a54c54696d6502a44e616d65a46c6f6164a75061796c6f6164a3706179a4506f7274cd1f0aab52656c6179466163746f7203aa536f757263654e6f6465a5616c706861a754696d656f7574ce3b9aca00"
 	relayPacket = "0982a8446573744164647283a24950a47f000101a4506f7274cd1f0aa45a6f6e65a0a8446573744e616d65a5616c7068610585a5466c61677301a446726f6da5616c706861a24944ce130af890a54c54696d6502a75061796c6f6164c0"
 	keyAsked    = "0781a34b6579da0020b19e7fa4ded89f425da562d476d10541e89391c751bea65cd5ef861fb3ef0357"
 	keyAnswered = "0884a44b657973c0a74d657373616765da00294b657972696e6720697320656d7074792028656e6372797074696f6e206e6f7420656e61626c656429aa5072696d6172794b6579a0a6526573756c74c2"
 	memberOf    = "068ba441646472a47f000102ab44656c656761746543757205ab44656c65676174654d617805ab44656c65676174654d696e02a44e616d65a462657461a4506f7274cd1f0aab50726f746f636f6c43757202ab50726f746f636f6c4d617805ab50726f746f636f6c4d696e01a653746174757301a45461677380"
-	statePacket = "0286aa4576656e744c54696d6501a64576656e747392c0c0a54c54696d6503ab4c6566744d656d6265727391a462657461aa51756572794c54696d6501ac5374617475734c54696d657382a5616c70686100a46265746102"
 	tagsData    = "ff82a4726f6c65a3776562a26463a178"
 )
 
@@ -33,39 +29,6 @@ func unhex(t *testing.T, text string) []byte {
 		t.Fatal(err)
 	}
 	return data
-}
-
-func TestIntents(t *testing.T) {
-	for text, want := range map[string]Intent{
-		joinPacket: {1, "gamma", false, false}, leavePacket: {2, "beta", true, false}, prunePacket: {5, "beta", true, true},
-	} {
-		packet := unhex(t, text)
-		found, err := Decoder{}.ReadIntent(packet)
-		if err != nil || found != want {
-			t.Errorf("%+v %v", found, err)
-		}
-		if written := (Decoder{}).WriteIntent(want); !bytes.Equal(written, packet) {
-			t.Errorf("%x", written)
-		}
-	}
-	for _, packet := range []string{"", "\x00", "\x02\x80", "\x00\x80", "\x00\x81\xa4Node\xdb\xff\xff\xff\xff", "\x00\xdf\xff\xff\xff\xff", "\x01\x81\xa4Node\xa1x\x00",
-		"\x01\x82\xa4Node\xa1x\xa5LTime\xff", "\x01\x82\xa4Node\xa1x\xa1y" + strings.Repeat("\x91", 20) + "\xc0", "\x01\x01", "\x01\x81\x01\x01", "\x01\x82\xa4Node\xa1x\xa1y\xc1"} {
-		if found, err := (Decoder{}).ReadIntent([]byte(packet)); err == nil {
-			t.Errorf("%q: %+v", packet, found)
-		}
-	}
-}
-
-func TestStates(t *testing.T) {
-	found, err := Decoder{}.ReadStates(unhex(t, statePacket))
-	want := States{3, map[string]uint64{"alpha": 0, "beta": 2}, []string{"beta"}}
-	if err != nil || !reflect.DeepEqual(found, want) {
-		t.Errorf("%+v %v", found, err)
-	}
-	found, err = Decoder{}.ReadStates(Decoder{}.ClockState(300))
-	if err != nil || found.Time != 301 || len(found.Status)+len(found.Left) != 0 {
-		t.Errorf("%+v %v", found, err)
-	}
 }
 
 func TestTags(t *testing.T) {
@@ -100,7 +63,7 @@ func TestTags(t *testing.T) {
 func TestFilters(t *testing.T) {
 	packet := unhex(t, queryPacket)
 	q, err := ReadQuery(packet)
-	if err != nil || len(q.Filters) != 3 || !q.HasTags() || q.Time != 1 {
+	if err != nil || len(q.Filters) != 3 || !q.HasTags() {
 		t.Fatal(q, err)
 	}
 	want := [][]byte{WriteNodeFilter([]string{"x", "y"}), WriteTagFilter(TagFilter{"role", "web"}), WriteTagFilter(TagFilter{"a", "b"})}
@@ -115,10 +78,16 @@ func TestFilters(t *testing.T) {
 		t.Errorf("%q %v", less.Filters, err)
 	}
 	packet = unhex(t, plainPacket)
-	if q, err = ReadQuery(packet); err != nil || len(q.Filters) != 0 || !bytes.Equal(q.WithoutTags(packet), packet) {
+	if q, err = ReadQuery(packet); err != nil || len(q.Filters) != 0 {
 		t.Error(q, err)
 	}
-	if more, err := ReadQuery(q.With(packet, want)); err != nil || !reflect.DeepEqual(more.Filters, want) {
+	packet = bytes.Replace(packet, []byte("Filters\xc0"), []byte("Filters\x90"), 1)
+	full := q.With(packet, want)
+	if more, err := ReadQuery(full); err != nil || !reflect.DeepEqual(more.Filters, want) {
+		t.Error(more, err)
+	}
+	full = q.With(packet, want[1:])
+	if more, err := ReadQuery(full); err != nil || !bytes.Equal(more.WithoutTags(full), packet) {
 		t.Error(more, err)
 	}
 	for _, packet := range []string{"", "\x03\x80", "\x04\x81\xa7Filters\xdd\xff\xff\xff\xff", "\x04\x81\xa7Filters\xdc\x00\x81" + strings.Repeat("\xa0", 129), "\x04\x81\xa7Filters\x91\x01"} {
@@ -225,15 +194,13 @@ func TestCountsAreNotBelieved(t *testing.T) {
 
 // Whatever comes, nothing is read beyond the bytes, and nothing panics.
 func TestCutAndTurned(t *testing.T) {
-	for _, text := range []string{joinPacket, prunePacket, queryPacket, relayPacket, keyAsked, keyAnswered, memberOf, statePacket, tagsData} {
+	for _, text := range []string{queryPacket, relayPacket, keyAsked, keyAnswered, memberOf, tagsData} {
 		whole := unhex(t, text)
 		for i := range whole {
 			for _, value := range []byte{whole[i], 0x00, 0x7f, 0x80, 0x8f, 0x9f, 0xa0, 0xbf, 0xc0, 0xc1, 0xc6, 0xcf, 0xd3, 0xdb, 0xdd, 0xdf, 0xff} {
 				turned := append([]byte(nil), whole...)
 				turned[i] = value
 				for _, packet := range [][]byte{turned, turned[:i]} {
-					_, _ = Decoder{}.ReadIntent(packet)
-					_, _ = Decoder{}.ReadStates(packet)
 					if q, err := ReadQuery(packet); err == nil {
 						q.WithoutTags(packet)
 						Passes(q.Filters, nil)

@@ -35,7 +35,15 @@ type Agent struct {
 	unread []burstCall
 	// how often the file was flushed
 	flushes atomic.Uint64
+	// where texts are read to, before each gets a copy of its own
+	room []byte
 }
+
+// How many bytes are read at once: of an event's name, and of all that is read.
+const (
+	nameRoom = 128
+	allRoom  = 2048
+)
 
 var nothing [1]byte
 
@@ -59,7 +67,7 @@ func Open(name, path string, settings Settings) (*Agent, error) {
 		store.Close()
 		return nil, err
 	}
-	agent := &Agent{store: store, handle: (*C.struct_serf_agent)(C.calloc(1, C.sizeof_struct_serf_agent))}
+	agent := &Agent{store: store, room: make([]byte, allRoom), handle: (*C.struct_serf_agent)(C.calloc(1, C.sizeof_struct_serf_agent))}
 	runtime.SetFinalizer(agent, (*Agent).free)
 	set := C.struct_serf_agent_settings{
 		event_buffer: C.uint64_t(settings.EventBuffer),
@@ -127,30 +135,32 @@ func (a *Agent) gave() (C.struct_serf_agent_gave, error) {
 	return gave, err
 }
 
+// event gives an event that the last call handed out. Its texts mostly fit into the room that there is.
 func (a *Agent) event(index int) (*Event, error) {
 	var about C.struct_serf_agent_event
-	var name, payload []byte
-	// first the lengths, and then the texts
-	for i := 0; i < 2; i++ {
-		name, payload = make([]byte, about.name_len), make([]byte, about.payload_len)
+	name, payload := a.room[:nameRoom], a.room[nameRoom:]
+	for {
 		if err := refused(C.serf_agent_event(a.handle, C.size_t(index), &about, ptr(name), size(name), ptr(payload), size(payload))); err != nil {
 			return nil, err
 		}
+		length, rest := int(about.name_len), int(about.payload_len)
+		if length <= len(name) && rest <= len(payload) {
+			texts := append(append(make([]byte, 0, length+rest), name[:length]...), payload[:rest]...)
+			return &Event{uint64(about.time), texts[:length:length], texts[length:], bool(about.coalesce)}, nil
+		}
+		name, payload = make([]byte, length), make([]byte, rest)
 	}
-	return &Event{uint64(about.time), name, payload, bool(about.coalesce)}, nil
 }
 
 // packet gives the message of the last call, or this node's own ack; nil where there is none.
 func (a *Agent) packet(isAck bool) ([]byte, error) {
 	var length C.size_t
-	var packet []byte
-	for i := 0; i < 2; i++ {
-		packet = make([]byte, length)
+	for room := a.room; ; room = make([]byte, length) {
 		var err error
 		if isAck {
-			err = refused(C.serf_agent_ack(a.handle, &length, ptr(packet), size(packet)))
+			err = refused(C.serf_agent_ack(a.handle, &length, ptr(room), size(room)))
 		} else {
-			err = refused(C.serf_agent_packet(a.handle, &length, ptr(packet), size(packet)))
+			err = refused(C.serf_agent_packet(a.handle, &length, ptr(room), size(room)))
 		}
 		if err == Nothing {
 			return nil, nil
@@ -158,8 +168,10 @@ func (a *Agent) packet(isAck bool) ([]byte, error) {
 		if err != nil {
 			return nil, err
 		}
+		if int(length) <= len(room) {
+			return append(make([]byte, 0, length), room[:length]...), nil
+		}
 	}
-	return packet, nil
 }
 
 func (a *Agent) handed(number C.uint64_t) (*Handed, error) {
@@ -224,7 +236,9 @@ func (a *Agent) received(packet []byte) (*Received, error) {
 			return nil, err
 		}
 	}
-	found.Ack, err = a.packet(true)
+	if found.Query != nil {
+		found.Ack, err = a.packet(true)
+	}
 	return found, err
 }
 
@@ -382,7 +396,12 @@ func (a *Agent) asked() (*Asked, error) {
 	if asked.Query, err = a.handed(gave.handed); err != nil {
 		return nil, err
 	}
-	asked.Ack, err = a.packet(true)
+	if asked.Ack, err = a.packet(true); err != nil {
+		return nil, err
+	}
+	var time C.uint64_t
+	err = refused(C.serf_agent_asked_time(a.handle, &time))
+	asked.Time = uint64(time)
 	return asked, err
 }
 
@@ -394,6 +413,28 @@ func (a *Agent) Respond(now, number uint64, payload []byte) ([]byte, error) {
 		return nil, err
 	}
 	return a.packet(false)
+}
+
+// ObserveMember observes the time of a member's word or status: the member clock is later than it from then on.
+func (a *Agent) ObserveMember(time uint64) error {
+	a.mu.Lock()
+	defer a.mu.Unlock()
+	return a.settled(C.serf_agent_observe_member(a.handle, C.uint64_t(time)))
+}
+
+// NextMemberTime is the time for a word of this node's own, as an Intent: its line is on the disk, so no later life takes it
+// again.
+func (a *Agent) NextMemberTime() (uint64, error) {
+	a.mu.Lock()
+	defer a.mu.Unlock()
+	var found C.struct_serf_agent_clocks
+	if err := refused(C.serf_agent_clocks(a.handle, &found)); err != nil {
+		return 0, err
+	}
+	if err := refused(C.serf_agent_observe_member(a.handle, found.member)); err != nil {
+		return 0, err
+	}
+	return uint64(found.member), a.settled(C.serf_agent_save_member_clock(a.handle))
 }
 
 // SaveMemberClock notes the member clock, so that the next life goes on from there.

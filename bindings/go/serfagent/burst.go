@@ -93,6 +93,8 @@ func (a *Agent) Burst(burst *Burst) ([]Outcome, error) {
 		return nil, err
 	}
 	outcomes, err := a.outcomes()
+	// (what nobody has read is kept beyond this call, when the burst may be another)
+	a.unread = append([]burstCall(nil), a.unread...)
 	if err != nil {
 		return outcomes, err
 	}
@@ -115,7 +117,7 @@ func (a *Agent) UnreadOutcomes() (int, error) {
 	return int(total), err
 }
 
-// makeAll makes calls up to the first that has no memory.
+// makeAll makes calls up to the first that has no memory. Those that it makes wait to be read.
 func (a *Agent) makeAll(calls []burstCall) error {
 	a.staleFilters = false
 	for i := range calls {
@@ -123,7 +125,7 @@ func (a *Agent) makeAll(calls []burstCall) error {
 		if code == C.SERF_AGENT_OUT_OF_MEMORY || code == C.SERF_AGENT_EMPTY {
 			return Code(code)
 		}
-		a.unread = append(a.unread, calls[i])
+		a.unread = calls[:i+1]
 	}
 	return nil
 }
@@ -157,9 +159,9 @@ func (a *Agent) outcomes() ([]Outcome, error) {
 		if err := refused(C.serf_agent_next(a.handle, &answered)); err != nil {
 			return found, err
 		}
-		call := a.unread[0]
+		call := &a.unread[0]
 		a.unread = a.unread[1:]
-		outcome, err := a.outcome(&call, refused(answered))
+		outcome, err := a.outcome(call, refused(answered))
 		if err != nil {
 			return found, err
 		}

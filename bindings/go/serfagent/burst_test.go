@@ -1,6 +1,7 @@
 package serfagent
 
 import (
+	"bytes"
 	"os"
 	"path/filepath"
 	"testing"
@@ -60,6 +61,34 @@ func TestABurstIsItsCallsInOrder(t *testing.T) {
 	}
 	if text := textOf(t, path); text != "event-clock: 1\nevent-clock: 2\n" {
 		t.Errorf("%q", text)
+	}
+}
+
+// Texts that fit into the room to which they are read, that just don't, and that are as long as may be.
+func TestTextsOfEveryLength(t *testing.T) {
+	settings := DefaultSettings()
+	settings.EventLimit = 9216
+	agent, err := Open("long", filepath.Join(t.TempDir(), "snapshot"), settings)
+	if err != nil {
+		t.Fatal(err)
+	}
+	defer agent.Close()
+	other, _ := opened(t, "other")
+	for _, lengths := range [][2]int{
+		{0, 0}, {1, 0}, {nameRoom - 1, 1}, {nameRoom, allRoom - nameRoom}, {nameRoom + 1, 0}, {3, allRoom - nameRoom + 1}, {400, 8700}, {9100, 0}, {0, 9100},
+	} {
+		name, payload := bytes.Repeat([]byte("n"), lengths[0]), bytes.Repeat([]byte("p"), lengths[1])
+		event, packet, err := agent.Fire(name, payload, false)
+		if err != nil || !bytes.Equal(event.Name, name) || !bytes.Equal(event.Payload, payload) {
+			t.Fatal(lengths, err)
+		}
+		received, err := other.Receive(0, packet)
+		if err != nil || received.Event == nil || !bytes.Equal(received.Event.Name, name) || !bytes.Equal(received.Event.Payload, payload) {
+			t.Fatal(lengths, received, err)
+		}
+		if event.Payload == nil || cap(event.Name) != len(event.Name) {
+			t.Error("a text's end is another's")
+		}
 	}
 }
 

@@ -36,7 +36,17 @@ type PacketFault struct {
 // PacketFaultOf says why a packet is no message, and false where it is one. It needs no agent.
 func PacketFaultOf(packet []byte) (PacketFault, bool) {
 	var found C.struct_serf_agent_packet_fault
-	if C.serf_agent_packet_fault(ptr(packet), size(packet), &found) != C.SERF_AGENT_OK {
+	return faultOf(C.serf_agent_packet_fault(ptr(packet), size(packet), &found), &found)
+}
+
+// IntentFaultOf says why IntentOf refuses a packet as NoMessage, and false where it doesn't. It needs no agent.
+func IntentFaultOf(packet []byte) (PacketFault, bool) {
+	var found C.struct_serf_agent_packet_fault
+	return faultOf(C.serf_agent_intent_fault(ptr(packet), size(packet), &found), &found)
+}
+
+func faultOf(code C.uint32_t, found *C.struct_serf_agent_packet_fault) (PacketFault, bool) {
+	if code != C.SERF_AGENT_OK {
 		return PacketFault{}, false
 	}
 	return PacketFault{FaultKind(found.kind), int(found.offset), uint8(found.byte)}, true

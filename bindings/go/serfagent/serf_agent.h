@@ -41,11 +41,13 @@ enum serf_agent_code {
     SERF_AGENT_SINK_FAULT = 7,       /* the agent's sink failed; not with this library's own sink */
     SERF_AGENT_STOPPED = 8,          /* the agent's sink failed before; not with this library's own sink */
     SERF_AGENT_TOO_LARGE = 9,        /* fire, query, respond: the event, query or response is too large */
-    SERF_AGENT_EXHAUSTED = 10,       /* fire, query: the clock stands at 2^64 - 1 */
-    SERF_AGENT_NO_MESSAGE = 11,      /* receive, merge: the packet is no message; serf_agent_packet_fault says why */
+    SERF_AGENT_EXHAUSTED = 10,       /* fire, query: the clock stands at 2^64 - 1; observe_member, join_packet and
+                                        leave_packet: that is given, which is no time */
+    SERF_AGENT_NO_MESSAGE = 11,      /* receive, merge: the packet is no message; serf_agent_packet_fault says why. intent: it
+                                        is no message or a faulty intent; serf_agent_intent_fault says why */
     SERF_AGENT_RESPONDERS_FULL = 12, /* receive: the query has as many answers as it takes */
     SERF_AGENT_NOT_PUSH_PULL = 13,   /* merge: a message of another kind */
-    SERF_AGENT_TOO_LONG = 14,        /* local_state: a text or a list is longer than 4,294,967,295 */
+    SERF_AGENT_TOO_LONG = 14,        /* local_state, join_packet, leave_packet: a text or a list is longer than 4,294,967,295 */
     SERF_AGENT_NO_TIME = 15,         /* query: the timeout is 0 or below */
     SERF_AGENT_PAST_DEADLINE = 16,   /* respond: the moment is after the query's deadline */
     SERF_AGENT_NOT_HANDED = 17       /* respond, handed: no query of this number is handed out and not yet answered */
@@ -186,6 +188,28 @@ struct serf_agent_packet_fault {
     uint8_t byte;  /* UNKNOWN_TYPE and UNSUPPORTED: the byte; else 0 */
 };
 
+/* What an intent says, a node's word that it joins or the word that a node leaves, beside the node's name. */
+struct serf_agent_intent {
+    uint64_t time; /* by the member clock of the node that said it */
+    size_t node_len;
+    bool leave; /* the node leaves; else it joins */
+    bool prune; /* of a leave: the members are to forget the node at once */
+};
+
+/* How many members a push/pull names. */
+struct serf_agent_members {
+    uint64_t member_clock; /* the sender's */
+    size_t members;
+    size_t names_len; /* how long their names are together */
+};
+
+/* A member that a push/pull names. */
+struct serf_agent_member {
+    uint64_t status_time; /* by the member clock, of its status; 0 of one that is named among those that left */
+    size_t name_len;
+    bool left; /* it is named among those that left; else with its status time */
+};
+
 /* A query of this agent's own that close_due closed. */
 struct serf_agent_closed {
     uint64_t time;
@@ -255,6 +279,10 @@ uint32_t serf_agent_respond(struct serf_agent *handle, uint64_t now, uint64_t nu
 /* Closes the open queries whose deadline is before a moment, and says how many they were; serf_agent_closed and the getters
    behind it tell of each until the next call. Want of memory closes none. */
 uint32_t serf_agent_close_due(struct serf_agent *handle, uint64_t now, size_t *closed);
+/* Observes the time of a member's word or status: the member clock is later than it from then on. SERF_AGENT_EXHAUSTED where
+   it is 2^64 - 1, which is none. What the last call gave stays. For a word of its own node a host takes the member clock
+   (clocks), observes it, and saves it; once that is written the time is its word's, and no later life takes it again. */
+uint32_t serf_agent_observe_member(struct serf_agent *handle, uint64_t time);
 /* Notes the member clock, so that a restart goes on from there. */
 uint32_t serf_agent_save_member_clock(struct serf_agent *handle);
 /* Makes the text that replaces the file's: one line of each clock. */
@@ -301,6 +329,26 @@ uint32_t serf_agent_answer(const uint8_t *packet, size_t packet_len, struct serf
 /* Why a packet is no message. It needs no handle and takes no memory. Where the packet is a message, also one of a type
    that isn't read, it answers SERF_AGENT_NOTHING and leaves the fault as it was. */
 uint32_t serf_agent_packet_fault(const uint8_t *packet, size_t packet_len, struct serf_agent_packet_fault *fault);
+/* What a packet says that is an intent, and as much of the node's name as fits: SERF_AGENT_NOTHING where it is another
+   message, whose bytes nobody looks at, and SERF_AGENT_NO_MESSAGE where it is no message, or a faulty intent. It needs no
+   handle and takes no memory. */
+uint32_t serf_agent_intent(const uint8_t *packet, size_t packet_len, struct serf_agent_intent *intent, uint8_t *node,
+                           size_t node_room);
+/* Why serf_agent_intent says SERF_AGENT_NO_MESSAGE; else it answers SERF_AGENT_NOTHING and leaves the fault as it was. */
+uint32_t serf_agent_intent_fault(const uint8_t *packet, size_t packet_len, struct serf_agent_packet_fault *fault);
+/* The packet of an intent: its length, and as much of it as fits. SERF_AGENT_EXHAUSTED where the time is 2^64 - 1, which is
+   none, SERF_AGENT_TOO_LONG where the name is longer than 4,294,967,295 bytes, and SERF_AGENT_OUT_OF_MEMORY. It needs no
+   handle. */
+uint32_t serf_agent_join_packet(uint64_t time, const uint8_t *node, size_t node_len, size_t *len, uint8_t *to, size_t room);
+uint32_t serf_agent_leave_packet(uint64_t time, const uint8_t *node, size_t node_len, bool prune, size_t *len, uint8_t *to,
+                                 size_t room);
+/* What a push/pull's packet says of members: how many it names; as many of them as fit, those with a status time first and
+   then those that left, each in the packet's order; and as much of their names as fits, one behind the other in the same
+   order. SERF_AGENT_NOTHING where the packet is no push/pull, and SERF_AGENT_OUT_OF_MEMORY. It needs no handle. */
+uint32_t serf_agent_state_members(const uint8_t *packet, size_t packet_len, struct serf_agent_members *all,
+                                  struct serf_agent_member *members, size_t members_room, uint8_t *names, size_t names_room);
+/* The time of the query that the last call fired (query). */
+uint32_t serf_agent_asked_time(struct serf_agent *handle, uint64_t *time);
 /* The packet that the last call gave to send (fire, query, local_state, respond): its length, and as much of it as fits. */
 uint32_t serf_agent_packet(struct serf_agent *handle, size_t *len, uint8_t *to, size_t room);
 /* The ack to send to the query's address and port, of a query that is handed out here (receive, query). */

@@ -93,11 +93,13 @@ type QueryParams struct {
 	Filters              [][]byte
 }
 
-// Asked is a query's packet to send, and what this node is handed out and sends as its own ack.
+// Asked is a query's packet to send, and what this node is handed out and sends as its own ack; and the query's time, which
+// stands in each Answer to it.
 type Asked struct {
 	Packet []byte
 	Query  *Handed
 	Ack    []byte
+	Time   uint64
 }
 
 // Clocks of an agent, and the least times that it takes.

@@ -41,7 +41,7 @@ func TestManyPacketsHaveFewFlushes(t *testing.T) {
 	t.Parallel()
 	packets, payloads := firedElsewhere(t, 640)
 	agent, ran := open(t), &heard{}
-	d := start(t, proved{agent}, Handlers{Event: func(event *serfagent.Event) { ran.add(string(event.Payload)) }})
+	d := start(t, &proved{Agent: agent}, Handlers{Event: func(event *serfagent.Event) { ran.add(string(event.Payload)) }})
 	d.order.Lock()
 	for _, packet := range packets {
 		d.NotifyMsg(packet)
@@ -54,7 +54,7 @@ func TestManyPacketsHaveFewFlushes(t *testing.T) {
 	}
 	// (the first burst has what had come by then, and the last few may have no new event)
 	stats := d.Stats()
-	if stats.Taken != 1280 || stats.Bursts > 22 || stats.Flushes > stats.Bursts || stats.Flushes < 10 {
+	if stats.Taken != 1280 || stats.Bursts > 5 || stats.Flushes > stats.Bursts || stats.Flushes < 2 {
 		t.Errorf("%+v", stats)
 	}
 	if stats.Packets+stats.States+stats.Handlers != 0 || stats.Dropped != 0 || stats.Broadcasts == 0 {
@@ -110,6 +110,7 @@ func TestAMillionPacketsBehindAStuckHandler(t *testing.T) {
 	}})
 	t.Cleanup(func() { close(stuck) })
 	packet := make([]byte, 512)
+	packet[0] = 3
 	flood := func(count int) {
 		for i := 0; i < count; i++ {
 			d.NotifyMsg(packet)
@@ -196,7 +197,7 @@ func TestInternalQueriesAreKeptBack(t *testing.T) {
 		if wants {
 			handlers.Internal = func(query *serfagent.Handed) { said.add("internal " + string(query.Name)) }
 		}
-		d := start(t, proved{open(t)}, handlers)
+		d := start(t, &proved{Agent: open(t)}, handlers)
 		var wanted []string
 		for _, name := range []string{"_serf_list-keys", "load", "_serf_ping", "_serf"} {
 			if err := d.Query(name, nil, time.Second, false); err != nil {
@@ -270,7 +271,7 @@ func TestALeaveIsSaid(t *testing.T) {
 	agent := open(t)
 	for at := byte(1); at <= 2; at++ {
 		before := len(said.all())
-		d := startWith(t, configOf("leaving", &lines{}), proved{agent}, Handlers{})
+		d := startWith(t, configOf("leaving", &lines{}), &proved{Agent: agent}, Handlers{})
 		if _, err := d.List().Join([]string{other.LocalNode().Address()}); err != nil {
 			t.Fatal(err)
 		}

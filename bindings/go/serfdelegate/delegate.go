@@ -1,20 +1,22 @@
 // Package serfdelegate lets a proved agent join a Serf cluster: it is a delegate for HashiCorp's memberlist.
 //
-// Packets are taken by one goroutine, as many as wait behind one flush (Burst at most). Handlers run on another goroutine, one
-// after another in the order in which the agent handed out. Each runs behind the flush of its line, so it runs once at most,
-// and perhaps not at all where the process ends.
+// Packets and firings are taken in bursts: those that wait already, behind one flush (Burst at most). Handlers run on another
+// goroutine, one after another in the order in which the agent handed out. Each runs behind the flush of its line, so it runs
+// once at most, and perhaps not at all where the process ends.
 //
 // What memberlist calls takes no lock that is held while the file is flushed: packets and states wait in queues, and the state
 // that is sent is the agent's last where the agent is busy.
+//
+// Stock agents of Serf show the node alive with its tags, left behind a Leave, and failed where it just ends. Members shows
+// this node's own view of the others.
 //
 // A handler may call every method but Close, which waits for the handlers.
 package serfdelegate
 
 import (
 	"errors"
-	"math/rand"
-	"net"
-	"strings"
+	"fmt"
+	"runtime/debug"
 	"sync"
 	"sync/atomic"
 	"time"
@@ -29,6 +31,8 @@ var (
 	ErrBusy = errors.New("serfdelegate: too many handlers wait")
 	// ErrShutdown: the delegate was shut down, and nothing was fired.
 	ErrShutdown = errors.New("serfdelegate: it was shut down")
+	// ErrBurst: the options ask for a burst of less than nothing.
+	ErrBurst = errors.New("serfdelegate: a burst can't be below 0")
 )
 
 // stateWait is how long memberlist may wait for a state. One that isn't made by then is the last that was made.
@@ -38,30 +42,56 @@ const stateWait = 10 * time.Millisecond
 type Handlers struct {
 	Event func(*serfagent.Event)
 	Query func(*serfagent.Handed)
-	// Internal gets the queries that Serf's agents ask among themselves, of keys too: those whose names begin with _serf_. Query
-	// doesn't get them. Where it is nil they are acked, where an ack is asked for, and nobody answers them.
+	// Internal gets the queries that Serf's agents ask among themselves: those whose names begin with _serf_. Query doesn't
+	// get them. Where it is nil they are acked, where an ack is asked for; who has a name is answered (_serf_conflict), and that
+	// this node changes no keys; nothing else is.
 	Internal func(*serfagent.Handed)
 	// Answer gets each ack and each response that was counted of a query of this node.
 	Answer func(kind serfagent.Kind, answer *serfagent.Answer)
 	// Closed gets each query of this node whose time is over, with its answers.
 	Closed func(*serfagent.Closed)
-	// Fault gets what went wrong with the file or the network. After a fault of the file the agent is closed, and nothing more
-	// is taken. Packets and states that were dropped are counted, and told once a second at most.
+	// Fault gets what went wrong with the file, the network or a handler. After a fault of the file the agent is closed, and
+	// nothing more is taken. Packets and states that were dropped are counted, and told once a second at most.
+	//
+	// A handler that panics is told as a PanicError, and the next handlers run. Where Fault is nil the panic ends the process,
+	// as it does where Fault panics itself on that.
 	Fault func(error)
+}
+
+// PanicError is the fault of a handler that panicked: with what, and where. Its event isn't handed out again.
+type PanicError struct {
+	Value interface{}
+	Stack []byte
+}
+
+func (p *PanicError) Error() string {
+	return fmt.Sprintf("serfdelegate: a handler panicked: %v", p.Value)
+}
+
+// Options are what a delegate may be told beside its handlers. The zero value is a node without tags.
+type Options struct {
+	// Tags are this node's, which all members see. ErrTags is their bound.
+	Tags map[string]string
+	// Burst is how many packets and firings are taken behind one flush at most; 0 is the constant of that name. With 1 each
+	// has a flush of its own.
+	Burst int
 }
 
 // Delegate is a memberlist.Delegate.
 type Delegate struct {
 	agent    agent
 	handlers Handlers
+	burst    int
 	list     atomic.Pointer[memberlist.Memberlist]
-	queue    *memberlist.TransmitLimitedQueue
+	table    *table
 	began    time.Time
 	work     *works
 	ended    chan struct{}
 
-	// What came of the network; how much of it, or for it, was dropped, and how much of that was told; bursts and their packets.
+	// What came of the network, and the firings; how much of it, or for it, was dropped, and how much of that was told;
+	// bursts, and the calls in them.
 	packets, states *queue
+	firings         firings
 	dropped, told   atomic.Uint64
 	bursts, taken   atomic.Uint64
 	// isDeaf: the agent is closed, and nothing is taken any more.
@@ -71,8 +101,20 @@ type Delegate struct {
 	// agent's order. memberlist never takes it.
 	order  sync.Mutex
 	isOver bool
-	// gossiping is held while a packet is queued for broadcast.
-	gossiping sync.Mutex
+
+	// Broadcasts that wait: the words of members, and all else. gossiping is held while one is queued.
+	words, queue *memberlist.TransmitLimitedQueue
+	gossiping    sync.Mutex
+
+	// The words of members that came; where others have it wrong that this node left; the queries of agents among themselves.
+	heard    *queue
+	wronged  chan struct{}
+	internal chan *serfagent.Handed
+	// saying is held over a word of this node, and its flush.
+	saying sync.Mutex
+
+	tagging sync.Mutex
+	meta    []byte
 
 	// Who wants a state asks here.
 	asked chan chan<- []byte
@@ -84,23 +126,45 @@ type Delegate struct {
 
 var _ memberlist.Delegate = &Delegate{}
 
-// Create makes a member of this configuration whose delegate is an agent. It joins nobody yet.
+// Create makes a member of this configuration whose delegate is an agent. It joins nobody yet. The configuration's own
+// delegate of events is called as ever.
 func Create(config *memberlist.Config, agent *serfagent.Agent, handlers Handlers) (*Delegate, error) {
-	return create(config, proved{agent}, handlers)
+	return create(config, &proved{Agent: agent}, handlers, Options{})
 }
 
-func create(config *memberlist.Config, agent agent, handlers Handlers) (*Delegate, error) {
-	d := &Delegate{
-		agent: agent, handlers: handlers, began: time.Now(), work: newWorks(), ended: make(chan struct{}),
-		packets: newQueue(), states: newQueue(), asked: make(chan chan<- []byte),
-	}
-	state, err := agent.LocalState(nil, nil)
+// CreateWith is Create with options.
+func CreateWith(config *memberlist.Config, agent *serfagent.Agent, handlers Handlers, options Options) (*Delegate, error) {
+	return create(config, &proved{Agent: agent}, handlers, options)
+}
+
+func create(config *memberlist.Config, agent agent, handlers Handlers, options Options) (*Delegate, error) {
+	meta, err := encodeTags(options.Tags)
 	if err != nil {
 		return nil, err
 	}
-	d.state = state
-	d.queue = &memberlist.TransmitLimitedQueue{RetransmitMult: config.RetransmitMult, NumNodes: d.members}
-	config.Delegate = d
+	if options.Burst < 0 {
+		return nil, ErrBurst
+	}
+	if options.Burst == 0 {
+		options.Burst = Burst
+	}
+	d := &Delegate{
+		agent: agent, handlers: handlers, burst: options.Burst, table: newTable(config.Name), meta: meta, began: time.Now(),
+		work: newWorks(), ended: make(chan struct{}), packets: newQueue(), states: newQueue(), heard: newQueue(),
+		wronged: make(chan struct{}, 1), internal: make(chan *serfagent.Handed, internalWaiting), asked: make(chan chan<- []byte),
+	}
+	if d.state, err = agent.LocalState(nil, nil); err != nil {
+		return nil, err
+	}
+	for _, queue := range []**memberlist.TransmitLimitedQueue{&d.words, &d.queue} {
+		*queue = &memberlist.TransmitLimitedQueue{RetransmitMult: config.RetransmitMult, NumNodes: d.size}
+	}
+	host := config.Events
+	if before, is := host.(watcher); is {
+		// (the configuration made another delegate)
+		host = before.host
+	}
+	config.Delegate, config.Events = d, watcher{d.table, host}
 	// Serf's own numbers
 	config.DelegateProtocolMin, config.DelegateProtocolVersion, config.DelegateProtocolMax = 2, 4, 5
 	list, err := memberlist.Create(config)
@@ -110,7 +174,8 @@ func create(config *memberlist.Config, agent agent, handlers Handlers) (*Delegat
 	d.list.Store(list)
 	go d.take()
 	go d.makeStates()
-	go d.work.run()
+	go d.keepMembers()
+	go d.work.run(d.runHandler)
 	return d, nil
 }
 
@@ -131,7 +196,8 @@ func (d *Delegate) Shutdown() error {
 	return err
 }
 
-func (d *Delegate) members() int {
+// size is how many members are there.
+func (d *Delegate) size() int {
 	list := d.List()
 	if list == nil {
 		return 1
@@ -146,6 +212,18 @@ func (d *Delegate) fault(err error) {
 	if err != nil && d.handlers.Fault != nil {
 		d.work.add(func() { d.handlers.Fault(err) })
 	}
+}
+
+// runHandler runs a handler, and tells of its panic.
+func (d *Delegate) runHandler(work func()) {
+	if d.handlers.Fault != nil {
+		defer func() {
+			if value := recover(); value != nil {
+				d.handlers.Fault(&PanicError{value, debug.Stack()})
+			}
+		}()
+	}
+	work()
 }
 
 // inOrder merges the states that wait, as far as there is room for what they bring, and makes a call, which queues what it
@@ -163,119 +241,39 @@ func (d *Delegate) inOrder(call func() error) error {
 		}
 		events, err := d.agent.Merge(state.data, state.isJoin)
 		// (some may have entered before the memory was out)
-		d.hand(events...)
+		for _, event := range events {
+			d.work.add(d.handEvent(event, nil)...)
+		}
 		if isClosed(err) {
 			return err
 		}
 		d.fault(err)
+		d.takeMembers(state.data)
 	}
 	return call()
 }
 
-func (d *Delegate) hand(events ...*serfagent.Event) {
-	for _, event := range events {
-		if event := event; event != nil && d.handlers.Event != nil {
-			d.work.add(func() { d.handlers.Event(event) })
-		}
-	}
-}
-
-// internalPrefix begins the names of the queries that Serf's agents ask among themselves.
-const internalPrefix = "_serf_"
-
-func (d *Delegate) handQuery(query *serfagent.Handed) {
-	if query == nil {
-		return
-	}
-	handle := d.handlers.Query
-	if strings.HasPrefix(string(query.Name), internalPrefix) {
-		handle = d.handlers.Internal
-	}
-	if handle != nil {
-		d.work.add(func() { handle(query) })
-	}
-}
-
-// sendAck sends this node's own ack of a query that was handed out, where one is asked for.
-func (d *Delegate) sendAck(query *serfagent.Handed, ack []byte) {
-	if query != nil && ack != nil {
-		d.fault(d.send(query, ack))
-	}
-}
-
-// send sends an answer to where a query says.
-func (d *Delegate) send(query *serfagent.Handed, packet []byte) error {
-	to := net.UDPAddr{IP: query.Addr, Port: int(query.Port)}
-	return d.List().SendToAddress(memberlist.Address{Addr: to.String(), Name: string(query.Source)}, packet)
-}
-
 // gossip queues a packet for broadcast. Where too many wait, those that were sent most often are dropped.
-func (d *Delegate) gossip(packet memberlist.Broadcast) {
+func (d *Delegate) gossip(queue *memberlist.TransmitLimitedQueue, packet memberlist.Broadcast) {
 	d.gossiping.Lock()
 	defer d.gossiping.Unlock()
-	d.queue.QueueBroadcast(packet)
-	if over := d.queue.NumQueued() - Waiting; over > 0 {
-		d.queue.Prune(Waiting)
+	queue.QueueBroadcast(packet)
+	if over := queue.NumQueued() - Waiting; over > 0 {
+		queue.Prune(Waiting)
 		d.dropped.Add(uint64(over))
 	}
 }
 
-// Fire fires an event in the whole cluster: its time. It comes behind the states that memberlist brought before.
-func (d *Delegate) Fire(name string, payload []byte, coalesce bool) (uint64, error) {
-	var event *serfagent.Event
-	var packet []byte
-	err := d.inOrder(func() (err error) {
-		if d.work.isFull() {
-			return ErrBusy
-		}
-		event, packet, err = d.agent.Fire([]byte(name), payload, coalesce)
-		d.hand(event)
-		return err
-	})
-	if err != nil {
-		return 0, err
-	}
-	d.gossip(broadcast(packet))
-	return event.Time, nil
-}
-
-// Query asks the whole cluster. Answers come to the handler Answer until the timeout is over.
-func (d *Delegate) Query(name string, payload []byte, timeout time.Duration, wantAck bool) error {
-	own := d.List().LocalNode()
-	params := serfagent.QueryParams{Timeout: int64(timeout), Addr: own.Addr, Port: own.Port, WantAck: wantAck}
-	var asked *serfagent.Asked
-	err := d.inOrder(func() (err error) {
-		if d.work.isFull() {
-			return ErrBusy
-		}
-		if asked, err = d.agent.Query(d.now(), rand.Uint32(), []byte(name), payload, params); err == nil {
-			d.handQuery(asked.Query)
-		}
-		return err
-	})
-	if err != nil {
-		return err
-	}
-	d.sendAck(asked.Query, asked.Ack)
-	d.gossip(broadcast(asked.Packet))
-	return nil
-}
-
-// Respond answers a query that was handed out.
-func (d *Delegate) Respond(query *serfagent.Handed, payload []byte) error {
-	packet, err := d.agent.Respond(d.now(), query.Number, payload)
-	if err != nil {
-		return err
-	}
-	return d.send(query, packet)
-}
-
-// NodeMeta is empty: tags are no part of the agent.
-func (d *Delegate) NodeMeta(int) []byte { return nil }
-
 // NotifyMsg takes a copy of the packet, and doesn't wait for the file.
 func (d *Delegate) NotifyMsg(packet []byte) {
-	if len(packet) > 0 && !d.isDeaf.Load() && !d.packets.add(packet, false) {
+	if len(packet) == 0 || d.isDeaf.Load() {
+		return
+	}
+	queue := d.packets
+	if packet[0] == leaveType || packet[0] == joinType {
+		queue = d.heard
+	}
+	if !queue.add(packet, false) {
 		d.dropped.Add(1)
 	}
 }
@@ -288,9 +286,13 @@ func (d *Delegate) MergeRemoteState(state []byte, isJoin bool) {
 	}
 }
 
-// GetBroadcasts gives what is to be gossiped.
+// GetBroadcasts gives what is to be gossiped: the words of members first, since they are few.
 func (d *Delegate) GetBroadcasts(overhead, limit int) [][]byte {
-	return d.queue.GetBroadcasts(overhead, limit)
+	all := d.words.GetBroadcasts(overhead, limit)
+	for _, packet := range all {
+		limit -= overhead + len(packet)
+	}
+	return append(all, d.queue.GetBroadcasts(overhead, limit)...)
 }
 
 // LocalState is the agent's whole state; where the agent is busy for longer than a moment, as it was when it was last made.
@@ -319,7 +321,7 @@ func (d *Delegate) makeStates() {
 		case <-d.ended:
 			return
 		case answer := <-d.asked:
-			state, err := d.agent.LocalState(nil, nil)
+			state, err := d.agent.LocalState(d.table.say())
 			d.made.Lock()
 			switch {
 			case err == nil:

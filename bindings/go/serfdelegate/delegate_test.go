@@ -162,7 +162,7 @@ func TestABroadcastIsUnique(t *testing.T) {
 func TestAnAgentThatIsClosedIsToldOnce(t *testing.T) {
 	t.Parallel()
 	agent, told := open(t), &heard{}
-	d := start(t, proved{agent}, Handlers{Fault: told.fault})
+	d := start(t, &proved{Agent: agent}, Handlers{Fault: told.fault})
 	agent.Close()
 	if len(d.LocalState(false)) == 0 {
 		t.Error("no state, where one was made before")
@@ -172,6 +172,7 @@ func TestAnAgentThatIsClosedIsToldOnce(t *testing.T) {
 		d.NotifyMsg([]byte("\x03\x80"))
 		d.MergeRemoteState([]byte("\x02\x80"), false)
 	}
+	eventually(t, "the fault", func() bool { return len(told.faults()) > 0 })
 	time.Sleep(1500 * time.Millisecond)
 	if faults := told.faults(); len(faults) != 1 || faults[0] != serfagent.Empty {
 		t.Error(faults)
@@ -194,6 +195,7 @@ func TestAFileThatFailedIsToldWithItsCause(t *testing.T) {
 				d.MergeRemoteState([]byte("state"), false)
 			}
 		}
+		eventually(t, "the fault", func() bool { return len(told.faults()) > 0 })
 		time.Sleep(1500 * time.Millisecond)
 		if faults := told.faults(); len(faults) != 1 || !errors.Is(faults[0], serfagent.ErrFull) {
 			t.Error(name, faults)
@@ -231,6 +233,7 @@ func TestAFiringComesBehindTheStatesBefore(t *testing.T) {
 // slow is an agent whose calls are as long as a disk's flush, and which notes what it hands out.
 type slow struct {
 	*serfagent.Agent
+	all  proved
 	mu   sync.Mutex
 	said heard
 }
@@ -242,13 +245,6 @@ func (s *slow) did(format string, words ...interface{}) {
 	time.Sleep(2 * time.Millisecond)
 }
 
-func (s *slow) Fire(name, payload []byte, coalesce bool) (*serfagent.Event, []byte, error) {
-	s.mu.Lock()
-	event, packet, err := s.Agent.Fire(name, payload, coalesce)
-	s.did("event %d", event.Time)
-	return event, packet, err
-}
-
 func (s *slow) Query(now uint64, id uint32, name, payload []byte, params serfagent.QueryParams) (*serfagent.Asked, error) {
 	s.mu.Lock()
 	asked, err := s.Agent.Query(now, id, name, payload, params)
@@ -256,14 +252,17 @@ func (s *slow) Query(now uint64, id uint32, name, payload []byte, params serfage
 	return asked, err
 }
 
-func (s *slow) ReceiveAll(now uint64, packets [][]byte) ([]serfagent.Outcome, error) {
+func (s *slow) TakeAll(now uint64, packets [][]byte, firings []*firing) ([]serfagent.Outcome, error) {
 	s.mu.Lock()
-	outcomes, err := proved{s.Agent}.ReceiveAll(now, packets)
-	last := len(outcomes) - 1
-	for _, outcome := range outcomes[:last] {
-		s.said.add(fmt.Sprintf("query %d", outcome.Received.Query.Time))
+	outcomes, err := s.all.TakeAll(now, packets, firings)
+	for _, outcome := range outcomes {
+		if outcome.Fired != nil {
+			s.said.add(fmt.Sprintf("event %d", outcome.Fired.Event.Time))
+		} else {
+			s.said.add(fmt.Sprintf("query %d", outcome.Received.Query.Time))
+		}
 	}
-	s.did("query %d", outcomes[last].Received.Query.Time)
+	s.did("made")
 	return outcomes, err
 }
 
@@ -273,7 +272,7 @@ func (s *slow) CloseDue(now uint64) ([]*serfagent.Closed, error) {
 	for _, closed := range all {
 		s.said.add(fmt.Sprintf("closed %d", closed.Time))
 	}
-	s.did("closed all")
+	s.did("made")
 	return all, err
 }
 
@@ -302,7 +301,8 @@ func askedElsewhere(t *testing.T, count int) (packets [][]byte) {
 func TestHandlersRunInTheAgentsOrder(t *testing.T) {
 	t.Parallel()
 	packets := askedElsewhere(t, 100)
-	agent, ran := &slow{Agent: open(t)}, &heard{}
+	own := open(t)
+	agent, ran := &slow{Agent: own, all: proved{Agent: own}}, &heard{}
 	d := start(t, agent, Handlers{
 		Event:  func(event *serfagent.Event) { ran.add(fmt.Sprintf("event %d", event.Time)) },
 		Query:  func(query *serfagent.Handed) { ran.add(fmt.Sprintf("query %d", query.Time)) },
@@ -332,7 +332,7 @@ func TestHandlersRunInTheAgentsOrder(t *testing.T) {
 		return err == nil && open == 0
 	})
 	d.Shutdown()
-	wanted := without(agent.said.all(), "closed all")
+	wanted := without(agent.said.all(), "made")
 	eventually(t, "all handlers ran", func() bool { return len(ran.all()) == len(wanted) })
 	text := strings.Join(wanted, "\n")
 	if !reflect.DeepEqual(ran.all(), wanted) || !strings.Contains(text, "closed ") || strings.Count(text, "event ") < 100 {
@@ -378,12 +378,16 @@ func TestMemberlistNeverWaitsForTheDisk(t *testing.T) {
 func TestAStateIsTheAgentsOwn(t *testing.T) {
 	t.Parallel()
 	agent := open(t)
-	d := start(t, proved{agent}, Handlers{})
+	d := start(t, &proved{Agent: agent}, Handlers{})
 	if _, _, err := agent.Fire([]byte("x"), nil, false); err != nil {
 		t.Fatal(err)
 	}
-	wanted, err := agent.LocalState(nil, nil)
+	own := []serfagent.Status{{Name: t.Name()}}
+	wanted, err := agent.LocalState(own, nil)
 	if err != nil || !reflect.DeepEqual(d.LocalState(true), wanted) {
 		t.Errorf("%v: it is not the agent's state", err)
+	}
+	if said, err := serfagent.MembersOf(wanted); err != nil || !reflect.DeepEqual(said.Statuses, own) {
+		t.Error(said, err)
 	}
 }

@@ -62,6 +62,58 @@ func Example() {
 	// <nil> <nil>
 }
 
+// A member says its tags, changes them, and leaves: this is what another one shows of it.
+func ExampleCreateWith() {
+	folder, err := os.MkdirTemp("", "serfdelegate")
+	if err != nil {
+		log.Fatal(err)
+	}
+	defer os.RemoveAll(folder)
+	alpha, alphas := member("alpha", filepath.Join(folder, "alpha.snapshot"), serfdelegate.Handlers{})
+	betas, err := serfagent.Open("beta", filepath.Join(folder, "beta.snapshot"), serfagent.DefaultSettings())
+	if err != nil {
+		log.Fatal(err)
+	}
+	config := memberlist.DefaultLocalConfig()
+	config.Name, config.BindAddr, config.BindPort, config.AdvertisePort = "beta", "127.0.0.1", 0, 0
+	config.LogOutput = io.Discard
+	beta, err := serfdelegate.CreateWith(config, betas, serfdelegate.Handlers{}, serfdelegate.Options{
+		Tags: map[string]string{"role": "web"},
+	})
+	if err != nil {
+		log.Fatal(err)
+	}
+	// shown waits until alpha shows beta so, as gossip takes its time
+	shown := func(status serfdelegate.Status, role string) {
+		for {
+			for _, one := range alpha.Members() {
+				if one.Name == "beta" && one.Status == status && one.Tags["role"] == role {
+					fmt.Println(one.Name, one.Status, one.Tags)
+					return
+				}
+			}
+			time.Sleep(10 * time.Millisecond)
+		}
+	}
+	ctx, cancel := context.WithTimeout(context.Background(), 20*time.Second)
+	defer cancel()
+	fmt.Println(beta.Join(ctx, []string{alpha.List().LocalNode().Address()}))
+	shown(serfdelegate.Alive, "web")
+	fmt.Println(beta.SetTags(ctx, map[string]string{"role": "db"}))
+	shown(serfdelegate.Alive, "db")
+	fmt.Println(beta.Leave(ctx), beta.Close(ctx), betas.Close())
+	shown(serfdelegate.Left, "db")
+	fmt.Println(alpha.Close(ctx), alphas.Close())
+	// Output:
+	// 1 <nil>
+	// beta alive map[role:web]
+	// <nil>
+	// beta alive map[role:db]
+	// <nil> <nil> <nil>
+	// beta left map[role:db]
+	// <nil> <nil>
+}
+
 // A query is answered by its handler, and its answers are counted by who asked.
 func ExampleDelegate_Respond() {
 	folder, err := os.MkdirTemp("", "serfdelegate")

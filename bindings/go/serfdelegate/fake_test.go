@@ -16,12 +16,12 @@ type fake struct {
 	mu    sync.Mutex
 	time  uint64
 	calls []string
-	// How many packets each burst had.
-	bursts []int
-	// What ReceiveAll and Merge answer, where it isn't nil.
+	// How many packets, and how many firings, each burst had.
+	bursts, fired []int
+	// What TakeAll and Merge answer, where it isn't nil.
 	receive error
 	merge   error
-	// Where it isn't nil, ReceiveAll holds the agent until it is closed, as one does that waits for a disk.
+	// Where it isn't nil, TakeAll holds the agent until it is closed, as one does that waits for a disk.
 	flush chan struct{}
 }
 
@@ -46,13 +46,13 @@ func (f *fake) isBusy() bool {
 	return true
 }
 
-func (f *fake) ReceiveAll(_ uint64, packets [][]byte) (outcomes []serfagent.Outcome, err error) {
+func (f *fake) TakeAll(_ uint64, packets [][]byte, firings []*firing) (outcomes []serfagent.Outcome, err error) {
 	f.mu.Lock()
 	defer f.mu.Unlock()
 	if f.flush != nil {
 		<-f.flush
 	}
-	f.bursts = append(f.bursts, len(packets))
+	f.bursts, f.fired = append(f.bursts, len(packets)), append(f.fired, len(firings))
 	for _, packet := range packets {
 		if string(packet) == "no message" {
 			outcomes = append(outcomes, serfagent.Outcome{Err: serfagent.NoMessage})
@@ -64,6 +64,10 @@ func (f *fake) ReceiveAll(_ uint64, packets [][]byte) (outcomes []serfagent.Outc
 		}
 		event.Payload = packet
 		outcomes = append(outcomes, serfagent.Outcome{Received: &serfagent.Received{Kind: serfagent.NewEvent, Event: event}})
+	}
+	for _, one := range firings {
+		fired := serfagent.Fired{Event: f.called("fire"), Packet: one.name}
+		outcomes = append(outcomes, serfagent.Outcome{Fired: &fired})
 	}
 	return outcomes, nil
 }
@@ -81,12 +85,6 @@ func (f *fake) LocalState([]serfagent.Status, []string) ([]byte, error) {
 	return []byte("state"), nil
 }
 
-func (f *fake) Fire(name, _ []byte, _ bool) (*serfagent.Event, []byte, error) {
-	f.mu.Lock()
-	defer f.mu.Unlock()
-	return f.called("fire"), name, nil
-}
-
 func (f *fake) Query(_ uint64, id uint32, _, _ []byte, _ serfagent.QueryParams) (*serfagent.Asked, error) {
 	f.mu.Lock()
 	defer f.mu.Unlock()
@@ -96,13 +94,13 @@ func (f *fake) Query(_ uint64, id uint32, _, _ []byte, _ serfagent.QueryParams) 
 
 func (f *fake) Respond(uint64, uint64, []byte) ([]byte, error) { return nil, serfagent.NotHanded }
 
-func (f *fake) Clocks() (serfagent.Clocks, error) { return serfagent.Clocks{Member: 7}, nil }
+func (f *fake) ObserveMember(uint64) error { return nil }
 
-func (f *fake) SaveMemberClock() error {
+func (f *fake) NextMemberTime() (uint64, error) {
 	f.mu.Lock()
 	defer f.mu.Unlock()
-	f.called("save")
-	return nil
+	f.called("member")
+	return f.time, nil
 }
 
 func (f *fake) Flushes() uint64 { return 0 }
@@ -125,7 +123,7 @@ func configOf(name string, log io.Writer) *memberlist.Config {
 
 func startWith(t *testing.T, config *memberlist.Config, agent agent, handlers Handlers) *Delegate {
 	t.Helper()
-	d, err := create(config, agent, handlers)
+	d, err := create(config, agent, handlers, Options{})
 	if err != nil {
 		t.Fatal(err)
 	}
@@ -136,7 +134,13 @@ func startWith(t *testing.T, config *memberlist.Config, agent agent, handlers Ha
 // open opens an agent on a file.
 func open(t *testing.T) *serfagent.Agent {
 	t.Helper()
-	agent, err := serfagent.Open("test", t.TempDir()+"/test.snapshot", serfagent.DefaultSettings())
+	return openAs(t, "test")
+}
+
+// openAs opens an agent of this name.
+func openAs(t *testing.T, name string) *serfagent.Agent {
+	t.Helper()
+	agent, err := serfagent.Open(name, t.TempDir()+"/test.snapshot", serfagent.DefaultSettings())
 	if err != nil {
 		t.Fatal(err)
 	}
@@ -166,7 +170,7 @@ func soon(t *testing.T, what string, done func()) {
 	}()
 	select {
 	case <-over:
-	case <-time.After(2 * time.Second):
+	case <-time.After(10 * time.Second):
 		t.Fatalf("it waits: %s", what)
 	}
 }

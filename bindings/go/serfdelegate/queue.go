@@ -58,14 +58,27 @@ func (q *queue) next() (piece, bool) {
 
 // first takes the first packets, so many at most.
 func (q *queue) first(count int) (packets [][]byte) {
-	for len(packets) < count {
-		packet, is := q.next()
-		if !is {
-			break
-		}
-		packets = append(packets, packet.data)
+	q.mu.Lock()
+	defer q.mu.Unlock()
+	if count > len(q.pieces) {
+		count = len(q.pieces)
 	}
+	packets = make([][]byte, count)
+	for i := range packets {
+		packets[i] = q.pieces[i].data
+		q.bytes -= len(packets[i])
+		q.pieces[i] = piece{}
+	}
+	q.pieces = q.pieces[count:]
+	q.tell()
 	return packets
+}
+
+// again tells once more that pieces wait, where they do: for who was told, and took none.
+func (q *queue) again() {
+	q.mu.Lock()
+	defer q.mu.Unlock()
+	q.tell()
 }
 
 // size is how many wait.
@@ -100,10 +113,13 @@ func newWorks() *works {
 	return w
 }
 
-func (w *works) add(work func()) {
+func (w *works) add(all ...func()) {
+	if len(all) == 0 {
+		return
+	}
 	w.mu.Lock()
 	defer w.mu.Unlock()
-	w.waiting = append(w.waiting, work)
+	w.waiting = append(w.waiting, all...)
 	w.changed.Broadcast()
 }
 
@@ -151,14 +167,14 @@ func (w *works) next() (func(), bool) {
 	return first, true
 }
 
-// run runs them until the end, and then those that wait still.
-func (w *works) run() {
+// run runs them until the end, and then those that wait still, each by this.
+func (w *works) run(one func(work func())) {
 	defer close(w.ran)
 	for {
 		work, more := w.next()
 		if !more {
 			return
 		}
-		work()
+		one(work)
 	}
 }

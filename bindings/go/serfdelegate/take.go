@@ -3,45 +3,52 @@ package serfdelegate
 import (
 	"errors"
 	"fmt"
+	"strings"
 	"time"
 
 	"kitchenrue.example/serfagent"
 )
 
-// Burst is how many packets are taken behind one flush at most. A kill between that flush and the handlers costs at most the
-// handlers of so many packets.
-const Burst = 64
+// Burst is how many packets and firings are taken behind one flush at most, where Options say nothing else. A burst has what
+// waits already, so a node with little to do flushes each event at once. A kill between the flush and the handlers costs at
+// most the handlers of one burst, and of those that wait already.
+const Burst = 512
 
 // unreadWait is how long is waited for memory, before the outcomes of packets that were taken are asked for again.
 const unreadWait = 10 * time.Millisecond
 
 // agent is what the delegate needs of the proved agent.
 type agent interface {
-	// ReceiveAll takes packets behind one flush: an outcome for each, in order. Where memory is wanting, those beside
-	// OutOfMemory are of the packets before, and the others were not taken.
-	ReceiveAll(now uint64, packets [][]byte) ([]serfagent.Outcome, error)
+	// TakeAll takes packets, and then fires events, behind one flush: an outcome for each, in order. Where memory is wanting,
+	// those beside OutOfMemory are of the calls before, and the others were not made.
+	TakeAll(now uint64, packets [][]byte, firings []*firing) ([]serfagent.Outcome, error)
 	Merge(packet []byte, isJoin bool) ([]*serfagent.Event, error)
 	LocalState(statuses []serfagent.Status, left []string) ([]byte, error)
-	Fire(name, payload []byte, coalesce bool) (*serfagent.Event, []byte, error)
 	Query(now uint64, id uint32, name, payload []byte, params serfagent.QueryParams) (*serfagent.Asked, error)
 	Respond(now, number uint64, payload []byte) ([]byte, error)
 	CloseDue(now uint64) ([]*serfagent.Closed, error)
-	Clocks() (serfagent.Clocks, error)
-	SaveMemberClock() error
+	ObserveMember(time uint64) error
+	NextMemberTime() (uint64, error)
 	Flushes() uint64
 }
 
-// proved is the proved agent.
-type proved struct{ *serfagent.Agent }
+// proved is the proved agent, and the burst that is made of it: one at a time.
+type proved struct {
+	*serfagent.Agent
+	burst serfagent.Burst
+}
 
-// ReceiveAll makes one burst of the packets. What was taken is read, however long memory for it is wanting: its lines are on
-// the disk, so no later life hands it out.
-func (p proved) ReceiveAll(now uint64, packets [][]byte) ([]serfagent.Outcome, error) {
-	var burst serfagent.Burst
+// TakeAll makes one burst of the calls. What was taken is read, however long memory for it is wanting: its lines are on the
+// disk, so no later life hands it out.
+func (p *proved) TakeAll(now uint64, packets [][]byte, firings []*firing) ([]serfagent.Outcome, error) {
+	p.burst.Reset()
 	for _, packet := range packets {
-		burst.Receive(now, packet)
+		p.burst.Receive(now, packet)
 	}
-	outcomes, fault := p.Burst(&burst)
+	for _, one := range firings {
+		p.burst.Fire(one.name, one.payload, one.coalesce)
+	}
+	outcomes, fault := p.Burst(&p.burst)
 	for fault == serfagent.OutOfMemory {
 		unread, err := p.UnreadOutcomes()
 		if err != nil || unread == 0 {
@@ -60,10 +67,10 @@ func (p proved) ReceiveAll(now uint64, packets [][]byte) ([]serfagent.Outcome, e
 // isClosed says whether this error means that the agent is closed: its file failed, or somebody closed it.
 func isClosed(err error) bool {
 	var code serfagent.Code
-	if errors.Is(err, serfagent.ErrUnread) {
+	if err == nil || errors.Is(err, serfagent.ErrUnread) || errors.Is(err, ErrBusy) || errors.Is(err, ErrShutdown) {
 		return false
 	}
-	return err != nil && (!errors.As(err, &code) || code == serfagent.Empty)
+	return !errors.As(err, &code) || code == serfagent.Empty
 }
 
 // take takes the packets in order, merges states, and closes the queries whose time is over, while there is room for what
@@ -77,7 +84,7 @@ func (d *Delegate) take() {
 		case <-d.ended:
 			return
 		case <-d.packets.came:
-			err = d.takePackets()
+			err = d.takeBurst(nil)
 		case <-d.states.came:
 			err = d.inOrder(func() error { return nil })
 		case <-second.C:
@@ -95,53 +102,132 @@ func (d *Delegate) take() {
 	}
 }
 
-// takePackets takes the packets that wait, up to a burst, and lets what they bring go on behind their flush.
-func (d *Delegate) takePackets() error {
-	packets := d.packets.first(Burst)
-	if len(packets) == 0 {
-		return nil
-	}
-	var outcomes []serfagent.Outcome
-	err := d.inOrder(func() (err error) {
-		outcomes, err = d.agent.ReceiveAll(d.now(), packets)
-		for _, outcome := range outcomes {
-			d.handOutcome(outcome)
+// taken is what is taken behind one flush: packets, and then firings. given are the packets as the agent gets them.
+type taken struct {
+	packets, given [][]byte
+	firings        []*firing
+	outcomes       []serfagent.Outcome
+}
+
+// takeBurst takes what waits, up to a burst, behind one flush: for a firing the firings before the packets, and nothing where it
+// was fired meanwhile. The error says that nothing more can be taken, or that nothing came of packets for want of memory.
+func (d *Delegate) takeBurst(own *firing) error {
+	var all taken
+	err := d.inOrder(func() error {
+		if own != nil && own.isDone.Load() {
+			return nil
 		}
-		return err
+		return d.makeBurst(&all, own != nil)
 	})
-	d.bursts.Add(1)
-	d.taken.Add(uint64(len(outcomes)))
-	if err != nil && err != ErrShutdown && !isClosed(err) {
-		d.dropped.Add(uint64(len(packets) - len(outcomes)))
-	}
-	for i, outcome := range outcomes {
-		received := outcome.Received
-		if received == nil {
-			continue
+	for i, packet := range all.packets {
+		if i >= len(all.outcomes) {
+			break
 		}
-		d.sendAck(received.Query, received.Ack)
-		if received.Rebroadcast {
-			d.gossip(broadcast(packets[i]))
+		if received := all.outcomes[i].Received; received != nil {
+			d.sendAck(received.Query, received.Ack)
+			if received.Rebroadcast {
+				d.gossip(d.queue, broadcast(packet))
+			}
 		}
 	}
 	return err
 }
 
-// handOutcome queues the handlers of what came of a packet.
-func (d *Delegate) handOutcome(outcome serfagent.Outcome) {
+// makeBurst makes a burst of what waits, and queues the handlers of what came of it.
+func (d *Delegate) makeBurst(all *taken, isForFiring bool) error {
+	if d.work.isFull() {
+		for _, one := range d.firings.first(Waiting) {
+			one.done(nil, ErrBusy)
+		}
+		d.packets.again()
+		return nil
+	}
+	if isForFiring {
+		all.firings = d.firings.first(d.burst)
+		all.packets = d.packets.first(d.burst - len(all.firings))
+	} else {
+		all.packets = d.packets.first(d.burst)
+		all.firings = d.firings.first(d.burst - len(all.packets))
+	}
+	if len(all.packets)+len(all.firings) == 0 {
+		return nil
+	}
+	for _, packet := range all.packets {
+		all.given = append(all.given, d.given(packet))
+	}
+	outcomes, err := d.agent.TakeAll(d.now(), all.given, all.firings)
+	all.outcomes = outcomes
+	d.bursts.Add(1)
+	d.taken.Add(uint64(len(outcomes)))
+	d.handAll(all, err)
+	return err
+}
+
+// handAll queues the handlers of what came of a burst, and says of each firing what came of it.
+func (d *Delegate) handAll(all *taken, fault error) {
+	outcomes, works := all.outcomes, make([]func(), 0, len(all.outcomes))
+	if lost := len(all.packets) - len(outcomes); lost > 0 && !isClosed(fault) {
+		d.dropped.Add(uint64(lost))
+	}
+	for i := range outcomes {
+		if i < len(all.packets) {
+			works = d.handReceived(outcomes[i], works)
+		}
+	}
+	for i, one := range all.firings {
+		at := len(all.packets) + i
+		if at >= len(outcomes) {
+			one.done(nil, fault)
+			continue
+		}
+		if fired := outcomes[at].Fired; fired != nil {
+			works = d.handEvent(fired.Event, works)
+			d.gossip(d.queue, broadcast(fired.Packet))
+		}
+		one.done(outcomes[at].Fired, outcomes[at].Err)
+	}
+	d.work.add(works...)
+}
+
+// handReceived adds the handlers of what came of a packet.
+func (d *Delegate) handReceived(outcome serfagent.Outcome, works []func()) []func() {
 	received := outcome.Received
 	if received == nil {
 		// (the network brings packets that are no messages)
-		if outcome.Err != serfagent.NoMessage {
-			d.fault(outcome.Err)
+		if outcome.Err != serfagent.NoMessage && d.handlers.Fault != nil {
+			works = append(works, func() { d.handlers.Fault(outcome.Err) })
 		}
-		return
+		return works
 	}
-	d.hand(received.Event)
-	d.handQuery(received.Query)
+	works = d.handEvent(received.Event, works)
+	works = d.handQuery(received.Query, works)
 	if received.Answer != nil && d.handlers.Answer != nil {
-		d.work.add(func() { d.handlers.Answer(received.Kind, received.Answer) })
+		works = append(works, func() { d.handlers.Answer(received.Kind, received.Answer) })
 	}
+	return works
+}
+
+func (d *Delegate) handEvent(event *serfagent.Event, works []func()) []func() {
+	if event == nil || d.handlers.Event == nil {
+		return works
+	}
+	return append(works, func() { d.handlers.Event(event) })
+}
+
+func (d *Delegate) handQuery(query *serfagent.Handed, works []func()) []func() {
+	if query == nil {
+		return works
+	}
+	handle := d.handlers.Query
+	if strings.HasPrefix(string(query.Name), internalPrefix) {
+		if handle = d.handlers.Internal; handle == nil {
+			d.handInternal(query)
+		}
+	}
+	if handle == nil {
+		return works
+	}
+	return append(works, func() { handle(query) })
 }
 
 func (d *Delegate) closeDue() error {

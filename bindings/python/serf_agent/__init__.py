@@ -3,7 +3,9 @@
 from .agent import Agent, Answer, Asked, Clocks, Closed, Event, Fired, Forked, Handed, Received, Settings
 from .burst import Burst
 from .fault import PacketFault, packet_fault
+from .intents import intent, intent_fault, Join, Leave
 from .library import AgentError, Code, DEFAULT_SNAPSHOT_LIMIT, Fault, Kind, Library, NotLoaded, Reason
+from .members import Members, state_members
 from .store import Broken, Full, Locked, MissingFolder, NotAFile, ReadOnly, Store, StoreError
 
 __version__ = "0.1.0"
@@ -25,9 +27,12 @@ __all__ = [
     "Forked",
     "Full",
     "Handed",
+    "Join",
     "Kind",
+    "Leave",
     "Library",
     "Locked",
+    "Members",
     "MissingFolder",
     "NotAFile",
     "NotLoaded",
@@ -38,5 +43,8 @@ __all__ = [
     "Settings",
     "Store",
     "StoreError",
+    "intent",
+    "intent_fault",
     "packet_fault",
+    "state_members",
 ]

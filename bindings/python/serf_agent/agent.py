@@ -91,11 +91,15 @@ class Fired:
 
 @dataclass(frozen=True)
 class Asked:
-    """The packet of a query to send, and what this node is handed out and sends as its own ack."""
+    """The packet of a query to send, and what this node is handed out and sends as its own ack; and the query's time.
+
+    An ``Answer`` to it has this time and the query's ID.
+    """
 
     packet: bytes
     query: Optional[Handed]
     ack: Optional[bytes]
+    time: int
 
 
 @dataclass(frozen=True)
@@ -321,7 +325,9 @@ class Agent:
     def _asked(self) -> "Asked":
         """What a query gave."""
         handed = self._gave().handed
-        return Asked(self._packet(), self._handed(handed) if handed else None, self._packet("ack"))
+        time = ctypes.c_uint64()
+        self._call("asked_time", time)
+        return Asked(self._packet(), self._handed(handed) if handed else None, self._packet("ack"), time.value)
 
     # Calls.
 
@@ -428,6 +434,19 @@ class Agent:
             closed = ctypes.c_size_t()
             self._do("close_due", self._moment(now), closed)
             return [self._closed(index) for index in range(closed.value)]
+
+    def observe_member(self, time: int) -> None:
+        """Observes the time of a member's word or status: the member clock is later than it from then on."""
+        with self._alone():
+            self._do("observe_member", integer("time", time))
+
+    def next_member_time(self) -> int:
+        """The time for a word of this node's own, as a ``Join``: its line is on the disk, so no later life takes it again."""
+        with self._alone():
+            time = self.clocks().member
+            self.observe_member(time)
+            self.save_member_clock()
+            return time
 
     def save_member_clock(self) -> None:
         """Notes the member clock, so that the next life goes on from there."""

@@ -1,7 +1,7 @@
 """Why a packet is no message."""
 
 from dataclasses import dataclass
-from typing import Optional, Union
+from typing import Callable, Optional, Union
 
 from .library import Code, CPacketFault, Fault, Library
 
@@ -36,8 +36,13 @@ class PacketFault:
         return WORDS[self.kind].format(offset=self.offset, byte=self.byte)
 
 
+def read_fault(getter: Callable[..., int], packet: Union[bytes, bytearray, memoryview]) -> Optional[PacketFault]:
+    """The fault that a getter of the library finds in a packet, or None."""
+    found = CPacketFault()
+    code = getter(bytes(packet), len(packet), found)
+    return PacketFault(Fault(found.kind), found.offset, found.byte) if code == Code.OK else None
+
+
 def packet_fault(packet: Union[bytes, bytearray, memoryview], library: Optional[Library] = None) -> Optional[PacketFault]:
     """Why a packet is no message: ``PacketFault``, or None where it is one. It needs no agent."""
-    found = CPacketFault()
-    code = (library or Library()).packet_fault(bytes(packet), len(packet), found)
-    return PacketFault(Fault(found.kind), found.offset, found.byte) if code == Code.OK else None
+    return read_fault((library or Library()).packet_fault, packet)

@@ -149,6 +149,18 @@ class CPacketFault(Structure):
     _fields_ = [("offset", c_size_t), ("kind", c_uint32), ("byte", c_uint8)]
 
 
+class CIntent(Structure):
+    _fields_ = [("time", c_uint64), ("node_len", c_size_t), ("leave", c_bool), ("prune", c_bool)]
+
+
+class CMembers(Structure):
+    _fields_ = [("member_clock", c_uint64), ("members", c_size_t), ("names_len", c_size_t)]
+
+
+class CMember(Structure):
+    _fields_ = [("status_time", c_uint64), ("name_len", c_size_t), ("left", c_bool)]
+
+
 class CClosed(Structure):
     _fields_ = [("time", c_uint64), ("deadline", c_uint64), ("acks", c_size_t), ("responses", c_size_t), ("id", c_uint32)]
 
@@ -172,6 +184,9 @@ STRUCTS = {
     "serf_agent_handed": CHanded,
     "serf_agent_answer": CAnswer,
     "serf_agent_packet_fault": CPacketFault,
+    "serf_agent_intent": CIntent,
+    "serf_agent_members": CMembers,
+    "serf_agent_member": CMember,
     "serf_agent_closed": CClosed,
     "serf_agent_response": CResponse,
     "serf_agent_clocks": CClocks,
@@ -198,6 +213,7 @@ FUNCTIONS = {
     "add_filter": [HANDLE, *TEXT],
     "respond": [HANDLE, c_uint64, c_uint64, *TEXT],
     "close_due": [HANDLE, c_uint64, POINTER(c_size_t)],
+    "observe_member": [HANDLE, c_uint64],
     "save_member_clock": [HANDLE],
     "compact": [HANDLE],
     "burst_receive": [HANDLE, c_uint64, *TEXT],
@@ -210,6 +226,12 @@ FUNCTIONS = {
     "event": [HANDLE, c_size_t, POINTER(CEvent), *TEXT, *TEXT],
     "answer": [*TEXT, POINTER(CAnswer), *TEXT, *TEXT],
     "packet_fault": [*TEXT, POINTER(CPacketFault)],
+    "intent": [*TEXT, POINTER(CIntent), *TEXT],
+    "intent_fault": [*TEXT, POINTER(CPacketFault)],
+    "join_packet": [c_uint64, *TEXT, POINTER(c_size_t), *TEXT],
+    "leave_packet": [c_uint64, *TEXT, c_bool, POINTER(c_size_t), *TEXT],
+    "state_members": [*TEXT, POINTER(CMembers), POINTER(CMember), c_size_t, *TEXT],
+    "asked_time": [HANDLE, POINTER(c_uint64)],
     "packet": [HANDLE, POINTER(c_size_t), *TEXT],
     "ack": [HANDLE, POINTER(c_size_t), *TEXT],
     "handed": [HANDLE, c_uint64, POINTER(CHanded), *TEXT, *TEXT, *TEXT, *TEXT],

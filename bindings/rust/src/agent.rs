@@ -330,7 +330,10 @@ impl Agent {
     /// What a query gave.
     fn asked(&mut self) -> Result<Asked, Error> {
         let number = self.gave()?.handed;
-        Ok(Asked { packet: self.own_packet()?, handed: self.handed(number)?, ack: self.packet(OWN_ACK)? })
+        let mut time = 0;
+        // SAFETY: `time` is of the type that the library writes.
+        answered(unsafe { raw::serf_agent_asked_time(&mut *self.handle, &mut time) })?;
+        Ok(Asked { time, packet: self.own_packet()?, handed: self.handed(number)?, ack: self.packet(OWN_ACK)? })
     }
 
     /// Answers a query that was handed out: the packet to send to its address and port.
@@ -338,6 +341,21 @@ impl Agent {
         // SAFETY: the pointer comes with its length.
         self.settled(|handle| unsafe { raw::serf_agent_respond(handle, now, number, payload.as_ptr(), payload.len()) })?;
         self.own_packet()
+    }
+
+    /// Observes the time of a member's word or status: the member clock is later than it from then on.
+    pub fn observe_member(&mut self, time: u64) -> Result<(), Error> {
+        // SAFETY: the handle is the agent's own.
+        self.settled(|handle| unsafe { raw::serf_agent_observe_member(handle, time) })
+    }
+
+    /// The time for a word of this node's own, as an [`crate::Intent`]: its line is on the disk, so no later life takes it
+    /// again.
+    pub fn next_member_time(&mut self) -> Result<u64, Error> {
+        let time = self.clocks()?.member;
+        self.observe_member(time)?;
+        self.save_member_clock()?;
+        Ok(time)
     }
 
     /// Notes the member clock, so that the next life goes on from there.

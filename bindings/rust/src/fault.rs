@@ -57,11 +57,23 @@ impl std::fmt::Display for PacketFault {
 
 impl std::error::Error for PacketFault {}
 
+/// A getter of a packet's fault.
+type Getter = unsafe extern "C" fn(*const u8, usize, *mut raw::PacketFault) -> u32;
+
 /// Why a packet is no message, or `None` where it is one. It needs no agent.
 pub fn packet_fault(packet: &[u8]) -> Option<PacketFault> {
+    fault_of(packet, raw::serf_agent_packet_fault)
+}
+
+/// Why [`crate::Intent::of_packet`] refuses a packet, or `None` where it doesn't. It needs no agent.
+pub fn intent_fault(packet: &[u8]) -> Option<PacketFault> {
+    fault_of(packet, raw::serf_agent_intent_fault)
+}
+
+fn fault_of(packet: &[u8], getter: Getter) -> Option<PacketFault> {
     let mut found = raw::PacketFault::default();
     // SAFETY: the pointer comes with its length, and `found` is of the type that the library writes.
-    answered(unsafe { raw::serf_agent_packet_fault(packet.as_ptr(), packet.len(), &mut found) }).ok()?;
+    answered(unsafe { getter(packet.as_ptr(), packet.len(), &mut found) }).ok()?;
     let raw::PacketFault { offset, kind, byte } = found;
     Some(match kind {
         1 => PacketFault::Empty,

@@ -30,6 +30,8 @@
 mod agent;
 mod error;
 mod fault;
+mod intent;
+mod members;
 mod outcome;
 mod raw;
 mod settings;
@@ -37,7 +39,9 @@ mod store;
 
 pub use agent::{Agent, Call, CallOutcome, Closed, Outcomes, DEFAULT_SNAPSHOT_LIMIT};
 pub use error::{Code, Error};
-pub use fault::{packet_fault, PacketFault};
+pub use fault::{intent_fault, packet_fault, PacketFault};
+pub use intent::Intent;
+pub use members::Members;
 pub use outcome::{Answer, Asked, Clocks, Event, Fired, Handed, Outcome, Reason, Received};
 pub use settings::{QueryParams, Settings};
 pub use store::{Store, StoreError};

@@ -139,6 +139,8 @@ pub struct Fired {
 /// The packet of a query to send, and what this node is handed out and sends as its own ack.
 #[derive(Clone, Debug, PartialEq, Eq)]
 pub struct Asked {
+    /// Its time, which stands in each [`Answer`] to it.
+    pub time: u64,
     /// The packet to send.
     pub packet: Vec<u8>,
     /// The query as it is handed out here, where its filters let this node pass.

@@ -94,6 +94,31 @@ pub struct PacketFault {
 
 #[repr(C)]
 #[derive(Default)]
+pub struct Intent {
+    pub time: u64,
+    pub node_len: usize,
+    pub leave: bool,
+    pub prune: bool,
+}
+
+#[repr(C)]
+#[derive(Default)]
+pub struct Members {
+    pub member_clock: u64,
+    pub members: usize,
+    pub names_len: usize,
+}
+
+#[repr(C)]
+#[derive(Clone, Copy, Default)]
+pub struct Member {
+    pub status_time: u64,
+    pub name_len: usize,
+    pub left: bool,
+}
+
+#[repr(C)]
+#[derive(Default)]
 pub struct Closed {
     pub time: u64,
     pub deadline: u64,
@@ -159,6 +184,7 @@ extern "C" {
     pub fn serf_agent_add_filter(handle: *mut Handle, filter: *const u8, filter_len: usize) -> u32;
     pub fn serf_agent_respond(handle: *mut Handle, now: u64, number: u64, payload: *const u8, payload_len: usize) -> u32;
     pub fn serf_agent_close_due(handle: *mut Handle, now: u64, closed: *mut usize) -> u32;
+    pub fn serf_agent_observe_member(handle: *mut Handle, time: u64) -> u32;
     pub fn serf_agent_save_member_clock(handle: *mut Handle) -> u32;
     pub fn serf_agent_compact(handle: *mut Handle) -> u32;
     pub fn serf_agent_burst_receive(handle: *mut Handle, now: u64, packet: *const u8, packet_len: usize) -> u32;
@@ -205,6 +231,35 @@ extern "C" {
         payload_room: usize,
     ) -> u32;
     pub fn serf_agent_packet_fault(packet: *const u8, packet_len: usize, fault: *mut PacketFault) -> u32;
+    pub fn serf_agent_intent(packet: *const u8, packet_len: usize, intent: *mut Intent, node: *mut u8, node_room: usize) -> u32;
+    pub fn serf_agent_intent_fault(packet: *const u8, packet_len: usize, fault: *mut PacketFault) -> u32;
+    pub fn serf_agent_join_packet(
+        time: u64,
+        node: *const u8,
+        node_len: usize,
+        len: *mut usize,
+        to: *mut u8,
+        room: usize,
+    ) -> u32;
+    pub fn serf_agent_leave_packet(
+        time: u64,
+        node: *const u8,
+        node_len: usize,
+        prune: bool,
+        len: *mut usize,
+        to: *mut u8,
+        room: usize,
+    ) -> u32;
+    pub fn serf_agent_state_members(
+        packet: *const u8,
+        packet_len: usize,
+        all: *mut Members,
+        members: *mut Member,
+        members_room: usize,
+        names: *mut u8,
+        names_room: usize,
+    ) -> u32;
+    pub fn serf_agent_asked_time(handle: *mut Handle, time: *mut u64) -> u32;
     pub fn serf_agent_packet(handle: *mut Handle, len: *mut usize, to: *mut u8, room: usize) -> u32;
     pub fn serf_agent_ack(handle: *mut Handle, len: *mut usize, to: *mut u8, room: usize) -> u32;
     pub fn serf_agent_handed(

@@ -14,6 +14,14 @@ MAX_EVENT = 9216
 MAX_QUERY = 1024
 MAX_RESPONSE = 1024
 
+
+def limit_of(limit, name):
+    """A limit, or one byte less or more where the switch of that name says so."""
+    if wrong(f"{name}_one_less"):
+        return limit - 1
+    return limit + 1 if wrong(f"{name}_one_more") else limit
+
+
 # Flags of a query: it asks for acks, and isn't to be sent on. Flag 1 of a response says that it is an ack.
 ACK = 1
 NO_BROADCAST = 2
@@ -97,11 +105,7 @@ class Agent:
         return Reply("restarted", *self.clocks())
 
     def fail(self, call, count):
-        disk = self.snapshot.disk
-        if call.startswith("replace"):
-            disk.keeps_new = call == "replace-new"
-            call = "replace"
-        disk.plan[call] = count
+        self.snapshot.disk.plan_failure(call, count)
         return Reply("broken")
 
     def look(self):
@@ -132,6 +136,8 @@ class Agent:
         sizes = [len(name) + len(payload)]
         if not wrong("limit_of_texts_alone"):
             sizes.append(len(packet))
+        if time >= GREATEST and wrong("exhausted_before_too_large"):
+            raise Refusal("Exhausted")
         if max(sizes) > limit and not wrong("fires_without_limit"):
             raise Refusal("TooLarge")
         if time >= GREATEST:
@@ -146,6 +152,8 @@ class Agent:
     def keep_event(self, time, name, payload, enters=True):
         """Takes an event: its line first, then its entry and the clock."""
         clock = self.events.observed(time)
+        if wrong("failed_line_moves_clock"):
+            self.events.clock = clock
         if not wrong("no_line_for_events"):
             self.snapshot.note("event-clock", clock if wrong("line_of_the_clock") else time)
         if enters:
@@ -154,7 +162,7 @@ class Agent:
 
     def judge_event(self, time, name, payload, clock):
         """Why an event isn't taken, or None."""
-        most = MAX_EVENT - 1 if wrong("size_limit_one_less") else MAX_EVENT
+        most = limit_of(MAX_EVENT, "size_limit")
         if len(name) + len(payload) > most and not wrong("no_size_limit_on_receipt"):
             return "Oversize"
         key = self.event_key(name, payload)
@@ -170,7 +178,7 @@ class Agent:
         reason = self.judge_event(time, name, payload, clock)
         if reason is None:
             self.keep_event(time, name, payload)
-        elif not wrong("ignored_moves_no_clock"):
+        elif not wrong("ignored_moves_no_clock") and not wrong(f"{reason}_moves_no_clock"):
             self.events.clock = clock
         return reason
 
@@ -191,12 +199,21 @@ class Agent:
     def state(self):
         self.running()
         clock = self.events.clock - 1 if wrong("state_of_next_clock") else self.events.clock
-        slots = [None if held is None else Slot(held[0], [Texts(*texts) for _, texts in held[1]]) for held in self.events.slots]
+        slots = [None if held is None else Slot(held[0], [Texts(*texts) for _, texts in held[1]]) for held in self.slots_of_state()]
         if wrong("state_without_events"):
             slots = [None for _ in slots]
         reply = Reply("state")
         reply.packets.append(messages.encode_state(PushPull(self.member, [], [], clock, slots, self.queries.clock)))
         return reply
+
+    def slots_of_state(self):
+        """The slots that a state carries."""
+        slots, window = self.events.slots, self.events
+        if wrong("state_in_order_of_times"):
+            slots = sorted(slots, key=lambda held: (held is None, held and held[0]))
+        if wrong("state_without_old_slots"):
+            slots = [held if held and held[0] + window.size >= window.clock else None for held in slots]
+        return slots
 
     def merge(self, packet, join):
         self.running()
@@ -205,17 +222,26 @@ class Agent:
             raise Refusal("NotPushPull")
         return self.merged(state, join, Reply("merged"))
 
-    def merged(self, state, join, reply):
+    def merge_clocks(self, state):
         if not wrong("merge_moves_no_clock"):
-            self.member = max(self.member, state.LTime)
+            self.member = max(self.member, state.LTime + wrong("member_clock_is_witnessed"))
             self.events.observe_before(state.EventLTime)
             if not wrong("merge_moves_no_query_clock"):
                 self.queries.observe_before(state.QueryLTime)
+
+    def merged(self, state, join, reply):
+        if not wrong("merge_moves_clocks_at_its_end"):
+            self.merge_clocks(state)
+        before = self.events.minimum
         self.lift_minimum(state, join)
         try:
             self.merge_slots(state.Events, reply)
+            if wrong("merge_moves_clocks_at_its_end"):
+                self.merge_clocks(state)
         except SinkFault:
             reply.answer = "refused SinkFault"
+            if wrong("refused_join_lifts_nothing"):
+                self.events.minimum = before
             if wrong("merge_forgets_what_it_handed_out"):
                 reply.events = []
         return reply
@@ -229,6 +255,8 @@ class Agent:
         self.events.minimum = least if wrong("join_sets_minimum") else max(self.events.minimum, least)
 
     def merge_slots(self, slots, reply):
+        if wrong("merge_in_order_of_times"):
+            slots = sorted(slots, key=lambda held: held.LTime)
         for held in slots:
             events = held.Events[:1] if wrong("merge_takes_first_of_slot") else held.Events
             for event in events:
@@ -258,15 +286,22 @@ class Agent:
         time = self.queries.clock
         query = Query(time, query_id, b"", 0, self.config.name, filters, flags, 0, timeout, name, payload)
         packet = messages.encode_query(query)
-        most = 512 if wrong("query_limit_512") else MAX_QUERY
+        most = 512 if wrong("query_limit_512") else limit_of(MAX_QUERY, "query_limit")
+        if timeout == 0 and wrong("zero_timeout_before_too_large"):
+            raise Refusal("ZeroTimeout")
         if len(packet) > most and not wrong("query_of_any_size"):
             raise Refusal("TooLarge")
         if timeout == 0 and not wrong("zero_timeout_accepted"):
             raise Refusal("ZeroTimeout")
         if time >= GREATEST:
             raise Refusal("Exhausted")
+        opened = OpenQuery(query_id, min(now + timeout, GREATEST), bool(flags & ACK))
+        if wrong("failed_query_is_open"):
+            self.open[time] = opened
         self.keep_query(time, query_id)
-        self.open[time] = OpenQuery(query_id, min(now + timeout, GREATEST), bool(flags & ACK))
+        self.open[time] = opened
+        if wrong("own_ack_counts") and flags & ACK:
+            opened.acks.add(self.config.name)
         reply = Reply("queried", time)
         reply.packets.append(packet)
         if not wrong("own_query_not_handed_out"):
@@ -288,10 +323,13 @@ class Agent:
         if not messages.passes(query.Filters, self.config.name):
             return
         ack_id = (query.ID + 1) % (1 << 32) if wrong("ack_to_another_id") else query.ID
-        if (query.Flags & ACK or wrong("ack_always")) and not wrong("ack_never"):
+        asks = query.Flags == ACK if wrong("ack_for_its_flag_alone") else query.Flags & ACK
+        if (asks or wrong("ack_always")) and not wrong("ack_never"):
             ack = messages.encode_response(Response(query.LTime, ack_id, self.config.name, ACK, b""))
             reply.packets.insert(0 if wrong("ack_before_the_query") else len(reply.packets), ack)
         deadline = min(now + max(query.Timeout, 0), GREATEST)
+        if query.Timeout < 0 and wrong("negative_timeout_never_ends"):
+            deadline = GREATEST
         self.handed.append(HandedQuery(query.LTime, query.ID, deadline))
         number = len(self.handed) - 1
         reply.handed.append(f"handed {number} {query.LTime} {query.ID} {hexed(query.Name)} {hexed(query.Payload)}")
@@ -300,7 +338,8 @@ class Agent:
         clock = self.queries.observed(query.LTime)
         reason = self.queries.judge(query.LTime, self.query_key(query.ID), clock)
         if reason is not None:
-            self.move_query_clock(clock)
+            if not wrong("ignored_query_moves_no_clock"):
+                self.move_query_clock(clock)
             return Reply("ignored", reason)
         passes = messages.passes(query.Filters, self.config.name)
         if passes or not wrong("excluded_query_not_kept"):
@@ -315,13 +354,15 @@ class Agent:
     # Answers
 
     def respond(self, number, now, payload):
+        if wrong("stopped_refuses_respond"):
+            self.running()
         if number >= len(self.handed) or self.handed[number] is None:
             raise Refusal("NoQuery")
         query = self.handed[number]
         packet = messages.encode_response(Response(query.time, query.id, self.config.name, 0, payload))
         if is_past(now, query.deadline):
             raise Refusal("PastDeadline")
-        if len(packet) > MAX_RESPONSE and not wrong("response_of_any_size"):
+        if len(packet) > limit_of(MAX_RESPONSE, "response_limit") and not wrong("response_of_any_size"):
             raise Refusal("TooLarge")
         if not wrong("respond_twice"):
             self.handed[number] = None
@@ -365,6 +406,8 @@ class Agent:
         return reply
 
     def close(self, now):
+        if wrong("stopped_refuses_close"):
+            self.running()
         last = now + 1 if wrong("close_at_deadline") else now
         due = [] if wrong("closes_nothing") else [time for time, query in self.open.items() if query.deadline < last]
         for time in due:
@@ -380,9 +423,11 @@ class Agent:
             raise Refusal(f"Wire {fault}") from None
 
     def deliver(self, packet, now):
-        if not wrong("stopped_takes_packets"):
+        if not self.is_taken_stopped(packet):
             self.running()
         message = self.message(packet)
+        if wrong("stopped_reads_first"):
+            self.running()
         if isinstance(message, UserEvent):
             return self.receive_event(message, packet)
         if isinstance(message, Query):
@@ -394,6 +439,12 @@ class Agent:
                 return self.merged(message, False, Reply("push-pull"))
             return Reply("push-pull")
         return Reply("foreign", message.type)
+
+    def is_taken_stopped(self, packet):
+        """Whether a packet is read though the disk failed."""
+        if wrong("stopped_takes_packets") or wrong("stopped_reads_first"):
+            return True
+        return wrong("stopped_takes_foreign") and packet[:1] and packet[0] in messages.FOREIGN
 
 
 def is_past(now, deadline):

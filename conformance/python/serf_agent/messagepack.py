@@ -5,11 +5,19 @@ from .switches import wrong
 # How many arrays and maps may stand inside one another.
 DEEPEST = 8
 
+# How many they are where that is wrong.
+OTHER_DEPTHS = {"any_depth": 1 << 64, "seven_levels": 7, "nine_levels": 9}
+
 SIGNED = {0xD0: 1, 0xD1: 2, 0xD2: 4, 0xD3: 8}
 UNSIGNED = {0xCC: 1, 0xCD: 2, 0xCE: 4, 0xCF: 8}
 RAW = {0xC4: 1, 0xC5: 2, 0xC6: 4, 0xD9: 1, 0xDA: 2, 0xDB: 4}
+BIN = (0xC4, 0xC5, 0xC6)
 ARRAYS = {0xDC: 2, 0xDD: 4}
 MAPS = {0xDE: 2, 0xDF: 4}
+
+# What no message has, and how many bytes stand behind each where it is passed over.
+FRACTIONS = {0xCA: 4, 0xCB: 8}
+EXTENSIONS = {0xD4: 2, 0xD5: 3, 0xD6: 5, 0xD7: 9, 0xD8: 17}
 
 
 class Fault(Exception):
@@ -19,10 +27,10 @@ class Fault(Exception):
 class Value:
     """A value and the place of its first byte: `kind` is nil, bool, int, raw, array or map."""
 
-    __slots__ = ("kind", "place", "of")
+    __slots__ = ("kind", "place", "of", "is_bin")
 
-    def __init__(self, kind, place, of):
-        self.kind, self.place, self.of = kind, place, of
+    def __init__(self, kind, place, of, is_bin=False):
+        self.kind, self.place, self.of, self.is_bin = kind, place, of, is_bin
 
 
 class Reader:
@@ -33,20 +41,27 @@ class Reader:
 
     def number(self, first, width, signed=False):
         if self.place + width > len(self.data):
-            raise Fault(f"Truncated {first}")
+            raise self.truncated(first)
         found = int.from_bytes(self.data[self.place : self.place + width], "big", signed=signed)
         self.place += width
         return found
 
-    def raw(self, first, length):
+    def truncated(self, first):
+        return Fault(f"Truncated {len(self.data) if wrong('truncated_at_the_end') else first}")
+
+    def unsupported(self, first, byte):
+        return Fault(f"Unsupported {byte} {self.place if wrong('unsupported_behind_its_byte') else first}")
+
+    def raw(self, first, length, is_bin=False):
         if self.place + length > len(self.data):
-            raise Fault(f"Truncated {first}")
+            raise self.truncated(first)
         found = self.data[self.place : self.place + length]
         self.place += length
-        return Value("raw", first, found)
+        return Value("raw", first, found, is_bin)
 
     def deeper(self, first, depth):
-        if depth >= DEEPEST and not wrong("any_depth"):
+        deepest = next((count for name, count in OTHER_DEPTHS.items() if wrong(name)), DEEPEST)
+        if depth >= deepest:
             raise Fault(f"TooDeep {first}")
         return depth + 1
 
@@ -83,19 +98,42 @@ class Reader:
             return Value("nil", first, None)
         if byte in (0xC2, 0xC3):
             return Value("bool", first, byte == 0xC3)
-        if byte in (0xC4, 0xC5, 0xC6) and wrong("no_bin"):
-            raise Fault(f"Unsupported {byte} {first}")
+        if is_left_out(byte):
+            raise self.unsupported(first, byte)
         if byte in UNSIGNED:
-            return Value("int", first, self.number(first, UNSIGNED[byte]))
+            return self.shortest(first, byte, self.number(first, UNSIGNED[byte]))
         if byte in SIGNED:
-            return Value("int", first, self.number(first, SIGNED[byte], signed=True))
+            return self.shortest(first, byte, self.number(first, SIGNED[byte], signed=not wrong("no_sign")))
         if byte in RAW:
-            return self.raw(first, self.number(first, RAW[byte]))
+            length = self.number(first, RAW[byte])
+            if length < 32 and wrong("wide_lengths_refused"):
+                raise self.unsupported(first, byte)
+            return self.raw(first, length, byte in BIN)
         if byte in ARRAYS:
             return self.array(first, self.number(first, ARRAYS[byte]), depth)
         if byte in MAPS:
             return self.map(first, self.number(first, MAPS[byte]), depth)
-        raise Fault(f"Unsupported {byte} {first}")
+        return self.strange(first, byte)
+
+    def shortest(self, first, byte, found):
+        """A number, in whatever form it stands."""
+        if wrong("wide_numbers_refused") and pack_int(found)[0] != byte:
+            raise self.unsupported(first, byte)
+        return Value("int", first, found)
+
+    def strange(self, first, byte):
+        """What no message has."""
+        widths = {**(FRACTIONS if wrong("fractions_passed_over") else {}), **(EXTENSIONS if wrong("extensions_passed_over") else {})}
+        if byte not in widths:
+            raise self.unsupported(first, byte)
+        self.number(first, widths[byte])
+        return Value("strange", first, None)
+
+
+def is_left_out(byte):
+    """Whether a form is one that isn't read, where that is wrong."""
+    forms = {"no_bin": BIN, "no_short_texts": (0xD9,), "no_signed_forms": SIGNED, "no_wide_lists": (0xDD, 0xDF)}
+    return any(byte in those and wrong(name) for name, those in forms.items())
 
 
 def whole(data, place):
@@ -103,7 +141,7 @@ def whole(data, place):
     reader = Reader(data, place)
     found = reader.value()
     if reader.place < len(data) and not wrong("trailing_bytes_accepted"):
-        raise Fault(f"Trailing {reader.place}")
+        raise Fault(f"Trailing {len(data) - 1 if wrong('trailing_at_the_last_byte') else reader.place}")
     return found
 
 

@@ -29,9 +29,15 @@ def kind_of(value, kind, zero):
     return value.of
 
 
-def number(low, high):
+def number(low, high, wider=None):
+    """Reads a number within bounds; `wider` is the switch that lifts the upper one."""
+
     def read(value):
         found = kind_of(value, "int", 0)
+        if wrong("numbers_wrap") and low == 0:
+            return found % (high + 1)
+        if wider and wrong(wider) and found > high:
+            return found
         if not low <= found <= high:
             raise Fault(f"OutOfRange {value.place}")
         return found
@@ -61,28 +67,60 @@ def texts(value):
     return [text(item) for item in kind_of(value, "array", [])]
 
 
+def clock(value):
+    """A clock of a state, which is no time."""
+    return time(value) if wrong("greatest_clock_refused") else unsigned_64(value)
+
+
+def answer_time(value):
+    return time(value) if wrong("greatest_answer_refused") else unsigned_64(value)
+
+
 def key_of(key):
-    if key.kind != "raw":
+    if key.kind == "nil" and wrong("nil_is_a_key"):
+        return b""
+    if key.kind != "raw" or key.is_bin and wrong("bin_keys_refused"):
         raise Fault(f"BadKey {key.place}")
-    return key.of
+    return b"" if key.is_bin and wrong("bin_keys_unknown") else key.of
+
+
+def status_time(value):
+    if value.kind == "nil" and wrong("nil_status_time_refused"):
+        raise Fault(f"WrongKind {value.place}")
+    return clock(value)
 
 
 def status_times(value):
-    return [(key_of(key), unsigned_64(item)) for key, item in kind_of(value, "map", [])]
+    found = {}
+    for key, item in kind_of(value, "map", []):
+        name = key_of(key)
+        if name in found and wrong("node_twice_refused"):
+            raise Fault(f"Twice {key.place}")
+        found[name] = status_time(item)
+    return list(found.items())
 
 
 def fields_of(message, readers, pairs):
     """A message of the pairs of a map, the first fault in reading order else."""
-    found = {}
+    found, unknown = {}, set()
     for key, value in pairs:
+        if key.kind != "raw" and wrong("bad_keys_passed_over"):
+            continue
         name = key_of(key).decode("latin-1")
         if wrong("keys_without_case"):
             name = {known.lower(): known for known in readers}.get(name.lower(), name)
         if name not in readers:
+            if wrong("unknown_keys_refused") or name in unknown and wrong("unknown_twice_refused"):
+                raise Fault(f"BadKey {key.place}")
+            unknown.add(name)
+            continue
+        if name in found and wrong("first_key_wins"):
             continue
         if name in found and not wrong("last_key_wins"):
-            raise Fault(f"Twice {key.place}")
+            raise Fault(f"Twice {value.place if wrong('twice_at_its_value') else key.place}")
         found[name] = readers[name][0](value)
+    if "LTime" in readers and "LTime" not in found and wrong("time_has_to_be_there"):
+        raise Fault("NotAMap")
     return message(*(found[name] if name in found else readers[name][1] for name in message._fields))
 
 
@@ -103,31 +141,31 @@ SLOT = {"LTime": (time, 0), "Events": (list_of(event_in_slot), [])}
 EVENT_FIELDS = {"LTime": (time, 0), "Name": (text, b""), "Payload": (text, b""), "CC": (truth, False)}
 QUERY_FIELDS = {
     "LTime": (time, 0),
-    "ID": (number(0, (1 << 32) - 1), 0),
+    "ID": (number(0, (1 << 32) - 1, "ids_of_any_size"), 0),
     "Addr": (text, b""),
-    "Port": (number(0, (1 << 16) - 1), 0),
+    "Port": (number(0, (1 << 16) - 1, "ports_of_any_size"), 0),
     "SourceNode": (text, b""),
     "Filters": (texts, []),
     "Flags": (number(0, (1 << 32) - 1), 0),
-    "RelayFactor": (number(0, (1 << 8) - 1), 0),
+    "RelayFactor": (number(0, (1 << 8) - 1, "relays_of_any_size"), 0),
     "Timeout": (number(-(1 << 63), (1 << 63) - 1), 0),
     "Name": (text, b""),
     "Payload": (text, b""),
 }
 RESPONSE_FIELDS = {
-    "LTime": (unsigned_64, 0),
+    "LTime": (answer_time, 0),
     "ID": (number(0, (1 << 32) - 1), 0),
     "From": (text, b""),
     "Flags": (number(0, (1 << 32) - 1), 0),
     "Payload": (text, b""),
 }
 STATE_FIELDS = {
-    "LTime": (unsigned_64, 0),
+    "LTime": (clock, 0),
     "StatusLTimes": (status_times, []),
     "LeftMembers": (texts, []),
-    "EventLTime": (unsigned_64, 0),
+    "EventLTime": (clock, 0),
     "Events": (list_of(slot), []),
-    "QueryLTime": (unsigned_64, 0),
+    "QueryLTime": (clock, 0),
 }
 KINDS = {PUSH_PULL: (PushPull, STATE_FIELDS), USER_EVENT: (UserEvent, EVENT_FIELDS), QUERY: (Query, QUERY_FIELDS), RESPONSE: (Response, RESPONSE_FIELDS)}
 
@@ -137,16 +175,29 @@ def decode(packet):
     if not packet:
         raise Fault("Empty")
     kind = packet[0]
-    if kind in FOREIGN:
+    if is_foreign(kind):
+        if len(packet) == 1 and wrong("foreign_needs_a_body"):
+            raise Fault("Truncated 1")
         return Foreign(kind)
     if kind not in KINDS:
-        if wrong("unknown_type_is_foreign"):
-            return Foreign(kind)
         raise Fault(f"UnknownType {kind}")
-    value = pack.whole(packet, 1)
+    if wrong("no_map_before_all_else") and packet[1:] and packet[1] & 0xF0 != 0x80 and packet[1] not in pack.MAPS:
+        raise Fault("NotAMap")
+    value = pack.whole(packet[1:], 0) if wrong("places_behind_the_type") else pack.whole(packet, 1)
+    if value.kind != "map" and wrong("no_map_is_empty"):
+        return fields_of(*KINDS[kind], [])
     if value.kind != "map":
         raise Fault("NotAMap")
     return fields_of(*KINDS[kind], value.of)
+
+
+def is_foreign(kind):
+    """Whether a type byte is one of Serf's other messages."""
+    if kind == 9 and wrong("type_nine_is_unknown"):
+        return False
+    if kind == 10 and wrong("type_ten_is_foreign"):
+        return True
+    return kind in FOREIGN or kind not in KINDS and wrong("unknown_type_is_foreign")
 
 
 # Canonical packets
@@ -227,14 +278,20 @@ def filter_passes(one, name):
     if one[0] != 0:
         return wrong("tag_filter_passes")
     try:
-        value = pack.whole(one, 1)
+        value = pack.Reader(one, 1).value() if wrong("bytes_behind_a_filter") else pack.whole(one, 1)
     except Fault:
-        return False
+        return wrong("unreadable_filter_passes")
     if value.kind != "array" or any(item.kind not in ("raw", "nil") for item in value.of):
+        return wrong("unreadable_filter_passes")
+    if wrong("no_bin_in_filters") and any(item.is_bin for item in value.of):
+        return False
+    if wrong("no_nil_in_filters") and any(item.kind == "nil" for item in value.of):
         return False
     if not value.of and wrong("no_names_is_every_name"):
         return True
     names = [item.of or b"" for item in value.of]
+    if wrong("filters_without_case"):
+        return name.lower() in [each.lower() for each in names]
     if wrong("name_filter_by_front"):
         return any(name.startswith(each) for each in names)
     return name in names

@@ -22,6 +22,8 @@ def value_of(line, kind):
         digits = digits.strip()
     if not digits or not all(48 <= byte <= 57 for byte in digits):
         return None
+    if wrong("leading_zeros_refused") and len(digits) > 1 and digits.startswith(b"0"):
+        return None
     value = int(digits)
     return value if value <= GREATEST_VALUE else None
 
@@ -49,6 +51,13 @@ class Disk:
         self.plan = {"append": 0, "flush": 0, "replace": 0}
         self.keeps_new = False
 
+    def plan_failure(self, call, count):
+        """The count-th call from now is to fail; two names stand for one call, that of a replacement."""
+        if call.startswith("replace"):
+            self.keeps_new = call == "replace-new"
+            call = "replace"
+        self.plan[call] = self.plan[call] + count if wrong("plans_add_up") else count
+
     def fails(self, call):
         left = self.plan[call]
         self.plan[call] = max(left - 1, 0)
@@ -56,6 +65,8 @@ class Disk:
 
     def append(self, line):
         if self.fails("append"):
+            if wrong("half_a_line_is_kept"):
+                self.durable += line[: len(line) // 2]
             raise SinkFault
         self.written += line
 
@@ -93,12 +104,12 @@ class Snapshot:
 
     def note(self, kind, value):
         """Writes the line of a kind where its value rises, and flushes it."""
-        if value <= self.values[kind]:
+        if value <= self.values[kind] and not wrong("each_line_is_written"):
             return
         if wrong("no_query_lines") and kind == "query-clock":
             return
         self.guarded(lambda: self.keep(kind, value))
-        self.values[kind] = value
+        self.values[kind] = max(value, self.values[kind])
 
     def keep(self, kind, value):
         self.disk.append(f"{kind}: {value}\n".encode())
@@ -109,5 +120,9 @@ class Snapshot:
         kinds = [kind for kind in KINDS if self.values[kind]]
         if wrong("compaction_drops_query_line"):
             kinds = [kind for kind in kinds if kind != "query-clock"]
+        if wrong("compaction_in_another_order"):
+            kinds.reverse()
         text = b"".join(f"{kind}: {self.values[kind]}\n".encode() for kind in kinds)
+        if not text and wrong("nothing_to_compact"):
+            return
         self.guarded(lambda: self.disk.replace(b"" if wrong("compaction_writes_nothing") else text))

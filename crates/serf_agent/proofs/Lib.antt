@@ -2,6 +2,7 @@ pub mod OpenQueries
 pub mod ConfigLaws
 pub mod LifeLaws
 pub mod LineLaws
+pub mod MemberClockLaws
 pub mod MergeLaws
 pub mod NoteLaws
 pub mod SendLaws

@@ -19,7 +19,7 @@ use Rattle.serf_agent.specs.Calls.{MayEnd, answers, ended}
 use Rattle.serf_agent.specs.Config.{is_sound}
 use Rattle.serf_agent.specs.Events.{admission, drawn, event_observed, fire_fault, fired_as, is_too_large, received_as}
 use Rattle.serf_agent.specs.Handed.{Handed}
-use Rattle.serf_agent.specs.Ideal.{IdealAgent, Past}
+use Rattle.serf_agent.specs.Ideal.{IdealAgent, Past, with_config}
 use Rattle.serf_agent.specs.Lives.{Act, Fires, Asks, Gets, Hears, Takes, Saves, Compacts, Closes, Opens, HasFlushed, HandsOutOnce, HandsOutQueriesOnce, FiresLater, AsksLater, DurableHasFlushed, Lived, MayAct, MayLive, acted, after, asked_entries, event_entry, events_out, fired_entries, first_life, got_entries, lived, queries_out, query_entries}
 use Rattle.serf_agent.specs.Queries.{all_pass, answer_ignore_reason, asked_at, counts_where, handed_query, is_ack, is_full, is_no_timeout, is_too_large_query, query_admission, query_at, query_fault, query_fired_as, query_observed, query_received_as, response_received_as, response_received_at}
 use Rattle.serf_agent.specs.Receive.{receive_message, receive_read}
@@ -27,7 +27,7 @@ use Rattle.serf_agent.specs.Restart.{IsInText, unopened}
 use Rattle.serf_agent.specs.Sound.{IsSound}
 use Rattle.serf_agent.specs.States.{handed_by}
 use Rattle.serf_agent.proofs.LineLaws.{compacts_so, saves_so}
-use Rattle.serf_agent.proofs.SoundLaws.{admission-new, query_admission-new, sound-closed, sound-compact, sound-counted, sound-event_entered, sound-event_observed, sound-joined, sound-note_failed, sound-query_asked, sound-query_entered, sound-query_observed, sound-restarted, sound-saved, sound-unopened, text-unopened}
+use Rattle.serf_agent.proofs.SoundLaws.{admission-new, query_admission-new, sound-closed, sound-compact, sound-counted, sound-event_entered, sound-event_observed, sound-joined, sound-note_failed, sound-query_asked, sound-query_entered, sound-query_observed, sound-restarted, sound-saved, sound-unopened, sound-with_config, text-unopened}
 use Rattle.serf_agent.proofs.StepLaws.{small-short}
 use Rattle.serf_agent.proofs.TrackLaws.{later-fresh}
 
@@ -259,7 +259,9 @@ moves laws i (Takes e w) s may = moves-received laws.snapshots i e.time e.key fa
 moves laws i (Saves w) s may = moves-saved laws.snapshots i w s may
 moves laws i (Compacts w) s may = moves-compacted laws.snapshots i w s may
 moves laws i (Closes now) s may = still i _ (sound-closed now i s) refl refl
-moves laws i (Opens text d) s may = still i _ (sound-restarted laws.snapshots i text d s (text-of-flushed i text s may) (laws.times kinds.Member text)) refl refl
+moves laws i (Opens config text d) s may =
+    let said = text-of-flushed i text s may.0 in
+    still i _ (sound-restarted laws.snapshots (with_config config i) text d (sound-with_config config i s may.1) (record { events = said.events; queries = said.queries }) (laws.times kinds.Member text)) refl refl
 
 -- ---- lives
 

@@ -42,9 +42,9 @@ pub use Rattle.serf_wire.specs.Canonical.{is_long, list_bytes}
 unfoldable pub use Rattle.serf_wire.specs.Canonical.{canonical, has_long}
 pub use Rattle.serf_wire.specs.Decoded.{decoded}
 pub use Rattle.serf_wire.specs.Lists.{events_left, slot_of_view, slots_left, status_of, texts_left}
-pub use Rattle.serf_wire.specs.Message.{Message, PushPull, Query, QueryResponse, foreign, message_of, push_pull, query, query_response, response_of}
-pub use Rattle.serf_wire.specs.Message.{user_event, user_event_of}
-pub use Rattle.serf_wire.specs.Parts.{query_of, slot_content}
+pub use Rattle.serf_wire.specs.Message.{Message, PushPull, Query, QueryResponse, UserEvent, foreign, message_of, push_pull, query, query_response, response_of}
+pub use Rattle.serf_wire.specs.Message.{query_of, user_event, user_event_of}
+pub use Rattle.serf_wire.specs.Parts.{slot_content}
 pub use Rattle.serf_wire.specs.Ranges.{InRange}
 pub use Rattle.serf_wire.specs.Slots.{SlotContent}
 pub use Rattle.serf_wire.specs.declared.encode.EncodeFault.{EncodeFault}

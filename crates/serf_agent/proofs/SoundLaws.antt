@@ -8,7 +8,7 @@ use Rattle.serf_agent.specs.declared.config.Config.{Config}
 use Rattle.serf_agent.specs.declared.open_query.OpenQuery.{OpenQuery}
 use Rattle.serf_agent.specs.Events.{admission, event_observed, event_entered, texts_len}
 use Rattle.serf_agent.specs.Queries.{query_admission, query_observed, query_entered, query_asked, opened_query, is_due, asked_at, with_asked_at, close_due, counted, is_ack, answer_ignore_reason, ack_ignore_reason, response_ignore_reason, has_acked, has_responded}
-use Rattle.serf_agent.specs.Ideal.{IdealAgent, with_snapshot, with_asked}
+use Rattle.serf_agent.specs.Ideal.{IdealAgent, with_config, with_snapshot, with_asked}
 use Rattle.serf_agent.specs.Restart.{restarted, IsInText, unopened}
 use Rattle.serf_agent.specs.Sound.{IsSound, IsOpenQuerySound}
 use Rattle.serf_agent.specs.States.{joined}
@@ -208,6 +208,20 @@ sound-compact snapshots w i s may = by w may
     by (Failed durable) may = record { config = s.config; member_clock = s.member_clock; events = s.events; queries = s.queries; short = s.short; snapshot = snapshots.compaction_failed i.snapshot durable s.snapshot may.0; asked_below = s.asked_below; asked_distinct = s.asked_distinct; asked_sound = s.asked_sound }
 
 -- ---- a new life
+
+-- an agent stays sound with other settings that an agent can have
+pub sound-with_config : (config : Config) (i : IdealAgent) → IsSound i → is_sound config ≡ true → IsSound (with_config config i)
+sound-with_config config i s fits = record {
+  config = fits;
+  member_clock = s.member_clock;
+  events = s.events;
+  queries = s.queries;
+  short = s.short;
+  snapshot = s.snapshot;
+  asked_below = s.asked_below;
+  asked_distinct = s.asked_distinct;
+  asked_sound = s.asked_sound;
+}
 
 pub sound-restarted : SnapshotLaws → (i : IdealAgent) (text : List ℕ) (d : Device) → IsSound i → IsInText i text → (opened text d).member_clock < 2 ^ 64 - 1 → IsSound (restarted (opened text d) i)
 sound-restarted snapshots i text d s within small = record {

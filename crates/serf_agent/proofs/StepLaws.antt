@@ -1,5 +1,5 @@
 -- How a call of the ideal agent ends, by how the real one's ended.
-use Rattle.serf_agent.proofs.Names.{◌≡◌, ℕ, ◌-◌, ◌^◌, ◌<◌, ◌≤◌, nat_lt, nat_le, not, cond, length, Bool, false, List, Option, Some, None, Result, Ok, Err, refl, sym, subst, arith, EventBody, ClockKind, clock_line, Device, Kept, Failed, noted, written, WireFault, decoded, Message, Query, QueryResponse, or_parts, ltb-false, lt-leb}
+use Rattle.serf_agent.proofs.Names.{◌≡◌, ℕ, ◌-◌, ◌^◌, ◌<◌, ◌≤◌, nat_lt, nat_le, not, cond, length, Bool, false, List, Option, Some, None, Result, Ok, Err, refl, sym, subst, arith, EventBody, ClockKind, clock_line, Device, Kept, Failed, noted, written, WireFault, decoded, Message, Query, QueryResponse, UserEvent, or_parts, ltb-false, lt-leb}
 use Rattle.serf_wire.specs.Decoded.{event_in}
 use Rattle.serf_wire.specs.Message.{user_event, query, query_response, push_pull, foreign}
 use Rattle.serf_snap.specs.declared.kind.ClockKind.TheVariants as kinds
@@ -126,13 +126,13 @@ steps-receive i now packet read result old new runs is steps =
     subst (λ (b : Bool). Steps i (cond b (answers i (Err Stopped)) (receive_read i now (decoded packet))) result old new) (sym runs) by_decoded
 
 -- an answer that gives this user event is of it
-pub event_decoded : (read : Result Message WireFault) (m : Message) → Some m ≡ event_in read → read ≡ Ok m
-event_decoded (Ok (user_event e)) m is = cc
-event_decoded (Ok (query q)) m is = absurd (cc is)
-event_decoded (Ok (query_response r)) m is = absurd (cc is)
-event_decoded (Ok (push_pull state)) m is = absurd (cc is)
-event_decoded (Ok (foreign kind)) m is = absurd (cc is)
-event_decoded (Err fault) m is = absurd (cc is)
+pub event_decoded : (read : Result Message WireFault) (u : UserEvent) → Some u ≡ event_in read → read ≡ Ok (user_event u)
+event_decoded (Ok (user_event e)) u is = cc
+event_decoded (Ok (query q)) u is = absurd (cc is)
+event_decoded (Ok (query_response r)) u is = absurd (cc is)
+event_decoded (Ok (push_pull state)) u is = absurd (cc is)
+event_decoded (Ok (foreign kind)) u is = absurd (cc is)
+event_decoded (Err fault) u is = absurd (cc is)
 
 -- ---- a query that is fired
 

@@ -17,18 +17,17 @@ pub concrete-eq : (new : ConcreteState) (config : Config) (member_clock : ℕ) (
     → new ≡ record { config = config; member_clock = member_clock; events = events; queries = queries; snapshot = snapshot; asked = asked }
 concrete-eq new config member_clock events queries snapshot asked h1 h2 h3 h4 h5 h6 = λ k. record { config = h1 k; member_clock = h2 k; events = h3 k; queries = h4 k; snapshot = h5 k; asked = h6 k }
 
--- an agent that has entered nothing in this life is the view of one that was restarted
-pub first-view : (i : IdealAgent) (config : Config) (text : List ℕ) (d : Device) → IsSound i → i.config ≡ config → first_concrete config (opened text d) ≡ view_of (restarted (opened text d) i)
-first-view i config text d sound is =
+-- an agent that has entered nothing in this life is the view of one that was restarted with its settings
+pub first-view : (i : IdealAgent) (text : List ℕ) (d : Device) → IsSound i → first_concrete i.config (opened text d) ≡ view_of (restarted (opened text d) i)
+first-view i text d sound =
     let s = opened text d in
     let events = sym (of_life-none i.life i.events.history sound.events.lives) in
     let queries = sym (of_life-none i.life i.queries.history sound.queries.lives) in
-    let same = sym is in
     λ k. record {
-      config = same k;
+      config = i.config;
       member_clock = s.member_clock + 1;
-      events = record { clock = s.event_clock + 1; minimum = s.event_clock + 1; slots = slots_of (same k).event_buffer (events k) };
-      queries = record { clock = s.query_clock + 1; minimum = s.query_clock + 1; slots = slots_of (same k).query_buffer (queries k) };
+      events = record { clock = s.event_clock + 1; minimum = s.event_clock + 1; slots = slots_of i.config.event_buffer (events k) };
+      queries = record { clock = s.query_clock + 1; minimum = s.query_clock + 1; slots = slots_of i.config.query_buffer (queries k) };
       snapshot = s;
       asked = [];
     }

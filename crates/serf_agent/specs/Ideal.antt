@@ -30,7 +30,10 @@ pub record IdealAgent : Type 0 where
   pub snapshot : SnapshotView
   pub asked : List (ℕ × OpenQuery)
 
--- the agent with another snapshot, with other events, with other queries, and with other open queries
+-- the agent with other settings, with another snapshot, with other events, with other queries, and with other open queries
+abbrev pub with_config : Config → IdealAgent → IdealAgent
+with_config config i = record { config = config; life = i.life; member_clock = i.member_clock; events = i.events; queries = i.queries; snapshot = i.snapshot; asked = i.asked }
+
 abbrev pub with_snapshot : SnapshotView → IdealAgent → IdealAgent
 with_snapshot s i = record { config = i.config; life = i.life; member_clock = i.member_clock; events = i.events; queries = i.queries; snapshot = s; asked = i.asked }
 

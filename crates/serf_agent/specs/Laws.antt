@@ -12,7 +12,7 @@ use Rattle.serf_agent.specs.Calls.{MayNote}
 use Rattle.serf_agent.specs.Config.{is_sound, longest_texts}
 use Rattle.serf_agent.specs.declared.config.Config.{Config}
 use Rattle.serf_agent.specs.Events.{admission, event_entered, event_observed, texts_len}
-use Rattle.serf_agent.specs.Ideal.{IdealAgent, with_snapshot}
+use Rattle.serf_agent.specs.Ideal.{IdealAgent, with_config, with_snapshot}
 use Rattle.serf_agent.specs.Queries.{longest_query, longest_response, query_admission, query_asked, query_entered, query_observed}
 use Rattle.serf_agent.specs.Restart.{IsInText, restarted, unopened}
 use Rattle.serf_agent.specs.Sound.{IsSound}
@@ -46,4 +46,5 @@ pub record StaysSound : Type 0 where
   pub saves : (t : ℕ) (i : IdealAgent) → IsSound i → i.snapshot.stopped ≡ false → t < greatest_clock → IsSound (with_snapshot (noted kinds.Member t i.snapshot Kept) i)
   pub compacts : (w : Writing) (i : IdealAgent) → IsSound i → MayReplace i.snapshot w → IsSound (with_snapshot (compacted i.snapshot w) i)
   pub restarts : (i : IdealAgent) (text : List ℕ) (d : Device) → IsSound i → IsInText i text → (opened text d).member_clock < greatest_clock → IsSound (restarted (opened text d) i)
+  pub sets : (config : Config) (i : IdealAgent) → IsSound i → is_sound config ≡ true → IsSound (with_config config i)
   pub begins : (config : Config) (text : List ℕ) (d : Device) → is_sound config ≡ true → (opened text d).member_clock < greatest_clock → IsSound (unopened config (opened text d))

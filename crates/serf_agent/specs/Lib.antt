@@ -1,5 +1,6 @@
 pub mod Config
 pub mod Handed
+pub mod Faults
 pub mod Ideal
 pub mod Tracks
 pub mod Calls
@@ -17,7 +18,7 @@ pub mod Lives
 pub mod Reasons
 pub mod Inside
 pub mod Judgements
-pub mod Lent
+pub mod MemberClock
 pub mod Merging
 pub mod Defaults
 pub mod LentQueries

@@ -25,14 +25,14 @@ use Rattle.serf_agent.specs.Calls.{MayEnd, ended}
 use Rattle.serf_agent.specs.Config.{is_sound}
 use Rattle.serf_agent.specs.Events.{fire}
 use Rattle.serf_agent.specs.Handed.{Handed}
-use Rattle.serf_agent.specs.Ideal.{IdealAgent}
+use Rattle.serf_agent.specs.Ideal.{IdealAgent, with_config}
 use Rattle.serf_agent.specs.Queries.{close_due, fire_query}
 use Rattle.serf_agent.specs.Receive.{receive}
 use Rattle.serf_agent.specs.Restart.{restarted, unopened}
 use Rattle.serf_agent.specs.States.{compact, handed_by, joined, receive_one, save}
 
 -- What is asked of an agent, and what its sink does with the line or the new text. A push/pull is heard of, and then its
--- events are taken one by one. A life begins with an opening, on a text that a device keeps.
+-- events are taken one by one. A life begins with an opening, with settings of its own, on a text that a device keeps.
 pub data Act : Type 0 where
   Fires : EventBody → Bool → Writing → Act
   Asks : ℕ → ℕ → List ℕ → List ℕ → QueryParams → Writing → Act
@@ -42,7 +42,7 @@ pub data Act : Type 0 where
   Saves : Writing → Act
   Compacts : Writing → Act
   Closes : ℕ → Act
-  Opens : List ℕ → Device → Act
+  Opens : Config → List ℕ → Device → Act
 
 -- what the agent is after it
 abbrev pub after : IdealAgent → Act → IdealAgent
@@ -54,7 +54,7 @@ after i (Takes e w) = (ended i (receive_one i e) w).agent
 after i (Saves w) = (ended i (save i) w).agent
 after i (Compacts w) = (ended i (compact i) w).agent
 after i (Closes now) = (close_due i now).agent
-after i (Opens text d) = restarted (opened text d) i
+after i (Opens config text d) = restarted (opened text d) (with_config config i)
 
 -- A text has what was flushed: of events and of queries the last line that is durable, or a later one. Whatever stands
 -- behind the flushed lines, a torn one too, changes nothing of that.
@@ -64,7 +64,7 @@ pub record HasFlushed (i : IdealAgent) (text : List ℕ) : Type 0 where
 
 -- What may come to pass: the sink does what a sink may do; a push/pull tells clocks that a packet can spell, and its events
 -- are taken by an agent that isn't stopped, at times that are times; and a new life opens on a text that has what was
--- flushed.
+-- flushed, with settings that an agent can have, whatever they were before.
 abbrev pub MayAct : IdealAgent → Act → Type 0
 MayAct i (Fires what coalesce w) = MayEnd i (fire i what coalesce) w
 MayAct i (Asks now id name payload params w) = MayEnd i (fire_query i now id name payload params) w
@@ -74,7 +74,7 @@ MayAct i (Takes e w) = (i.snapshot.stopped ≡ false) × (e.time < greatest_cloc
 MayAct i (Saves w) = MayEnd i (save i) w
 MayAct i (Compacts w) = MayEnd i (compact i) w
 MayAct i (Closes now) = Unit {0}
-MayAct i (Opens text d) = HasFlushed i text
+MayAct i (Opens config text d) = HasFlushed i text × (is_sound config ≡ true)
 
 -- What is handed out
 
@@ -129,7 +129,7 @@ abbrev pub MayLive : IdealAgent → List Act → Type 0
 MayLive i [] = Unit {0}
 MayLive i (a ∷ rest) = MayAct i a × MayLive (after i a) rest
 
--- the first life of an agent of these settings, on any text: it has handed out nothing
+-- the first life of an agent, with these settings, on any text: it has handed out nothing
 abbrev pub first_life : Config → List ℕ → Device → Lived
 first_life config text d = record { agent = restarted (opened text d) (unopened config (opened text d)); events = []; queries = [] }
 

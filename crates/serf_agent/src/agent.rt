@@ -7,7 +7,7 @@ ghost use Rattle.serf_snap.specs.Clocks.{is_whole, seal_line};
 ghost use Rattle.serf_snap.specs.Notes.{HasTriedNote, note_decremented, note_fails, opened, opened_device};
 ghost use Rattle.serf_window.specs.Window.{slots_of};
 ghost use Rattle.serf_agent.specs.Config.{is_sound};
-ghost use Rattle.serf_agent.specs.Ideal.{IdealAgent};
+ghost use Rattle.serf_agent.specs.Ideal.{IdealAgent, with_config};
 ghost use Rattle.serf_agent.specs.Inside.{first_concrete, concrete_of};
 ghost use Rattle.serf_agent.specs.Restart.{IsInText, restarted, unopened};
 ghost use Rattle.serf_agent.specs.Sound.{IsSound};
@@ -19,7 +19,7 @@ use crate::laws::sound_snapshots;
 use crate::outcome::{NotOpened, OpenFault};
 use crate::track::{EventTrack, QueryTrack};
 use serf_lamport::Clock;
-use serf_snap::{OpenFault as SnapshotFault, Sink, Snapshot};
+use serf_snap::{Sink, Snapshot};
 use std::alloc::Global;
 use std::marker::Model;
 
@@ -73,22 +73,10 @@ fn new_tracks(alloc: Global, config: &Config) -> (EventTrack, QueryTrack)
     (events, queries)
 }
 
-/// A snapshot that isn't opened, as an agent that isn't.
-fn fault_of(fault: SnapshotFault) -> OpenFault
-    ensures memory { result ≡ OpenFault.OutOfMemory → fault ≡ SnapshotFault.OutOfMemory }
-    ensures sink { result ≡ OpenFault.SinkFault → fault ≡ SnapshotFault.SinkFault }
-    ensures config { result ≢ OpenFault.BadConfig }
-{
-    match fault {
-        SnapshotFault::OutOfMemory => OpenFault::OutOfMemory,
-        SnapshotFault::SinkFault => OpenFault::SinkFault,
-    }
-}
-
 impl<S: Sink> Agent<S> {
     /// An agent over a sink that keeps this text: the first agent of a node where the text is empty, else the node's
-    /// agent in a new life. It goes on from the text as the agent would whose lines the text has: its clocks, and the
-    /// least times that it takes, are above all that was handed out before.
+    /// agent in a new life, whose settings may be others than before. It goes on from the text as the agent would whose
+    /// lines the text has: its clocks, and the least times that it takes, are above all that was handed out before.
     ///
     /// `BadConfig` where the settings are out of bounds; and only where the last line of the text is torn, `OutOfMemory`, or
     /// `SinkFault` where the sink failed as that line was ended. Each hands back the settings and the sink, and the first two
@@ -97,11 +85,11 @@ impl<S: Sink> Agent<S> {
     pub fn open(alloc: Global, config: Config, text: &[u8], sink: S) -> Result<Self, NotOpened<S>>
         requires { HasText text.now (S.device sink) }
 
-        // For each agent whose times the text has, it is that agent in its next life.
-        ensures restarted { (i : IdealAgent) → IsSound i → i.config ≡ config → IsInText i text.now
-            → IfOk result (λ a.
-            (a.concrete ≡ view_of (restarted (opened text.now (S.device sink)) i))
-            × IsSound (restarted (opened text.now (S.device sink)) i)) }
+        // For each agent whose times the text has, whatever its settings were, it is that agent in its next life.
+        ensures restarted { (i : IdealAgent) → IsSound i → IsInText i text.now
+            → IfOk result (λ a. let next = with_config config i in
+            (a.concrete ≡ view_of (restarted (opened text.now (S.device sink)) next))
+            × IsSound (restarted (opened text.now (S.device sink)) next)) }
         ensures device { IfOk result (λ a. a.device ≡ opened_device text.now (S.device sink)) }
         ensures ok { OnOk result (is_sound config ≡ true) }
         ensures opens { is_sound config ≡ true → is_whole text.now ≡ true → IsOk result }
@@ -144,8 +132,8 @@ impl<S: Sink> Agent<S> {
         let (events, queries) = new_tracks(alloc, &config);
         match Snapshot::open(alloc, text, sink) {
             Ok(snapshot) => Ok(Agent::behind(alloc, config, events, queries, snapshot)),
-            Err((sink, fault)) => {
-                let fault = fault_of(fault);
+            Err((sink, sealed)) => {
+                let fault = OpenFault::from(sealed);
                 Err(NotOpened {
                     config,
                     sink,

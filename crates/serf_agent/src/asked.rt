@@ -1,14 +1,14 @@
 //! The queries that an agent fired and that still take answers, by time.
 
 ghost use Rattle.std.specs.Prelude.{◌≡◌, ◌<◌, ℕ, List, [], ◌∷◌, ◌++◌, false, OnOk, OnErr, IfOk, IfNone, IfSome, IsOk, All, filter, nat_lt, not, length, map, nat_eq, option_copied, slice_get};
+ghost use Rattle.serf_wire.specs.Message.{response_said};
 ghost use Rattle.serf_agent.specs.Inside.{IsTaken};
-ghost use Rattle.serf_agent.specs.Lent.{response_in};
 ghost use Rattle.serf_agent.specs.Queries.{asked_at, counted, is_due, with_asked_at};
 
-use crate::answer::Answer;
 use crate::open_query::OpenQuery;
 use indexmap::IndexMap;
 use indexmap::map::Iter;
+use serf_wire::QueryResponse;
 use std::alloc::{AllocError, Global};
 use std::marker::Model;
 
@@ -88,9 +88,9 @@ impl Asked {
     }
 
     /// Counts an answer to the query of its time, or changes nothing where there is no memory for it.
-    pub(crate) fn count(&mut self, alloc: Global, answer: &Answer) -> Result<(), AllocError>
+    pub(crate) fn count(&mut self, alloc: Global, answer: &QueryResponse) -> Result<(), AllocError>
         ensures ok { OnOk result (IfSome (asked_at answer.now.time self.old) (λ q. self.new
-            ≡ with_asked_at answer.now.time (counted (response_in answer.now) q) self.old)) }
+            ≡ with_asked_at answer.now.time (counted (response_said answer.now) q) self.old)) }
         ensures err { OnErr result (self.new ≡ self.old) }
     {
         match self.queries.get_mut(&answer.time) {

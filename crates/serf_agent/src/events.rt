@@ -16,16 +16,16 @@ ghost use Rattle.serf_agent.specs.Devices.{FailsLine, device_noted};
 ghost use Rattle.serf_agent.specs.Events.{admission, drawn, event_entered, event_out, event_packet, fire, is_too_large, receive_event};
 ghost use Rattle.serf_agent.specs.Ideal.{IdealAgent, with_snapshot};
 ghost use Rattle.serf_agent.specs.Sound.{IsSound};
-ghost use Rattle.serf_agent.specs.Steps.{Steps};
+ghost use Rattle.serf_agent.specs.Steps.{NotesLine, Steps};
 ghost use Rattle.serf_agent.specs.View.{concrete_with, view_of};
 
 use crate::agent::Agent;
 use crate::config::LONGEST_TEXTS;
 use crate::laws::sound_snapshots;
-use crate::outcome::{EventOut, FireFault, Fired, LineFault, Outcome, Reason, ReceiveFault};
+use crate::outcome::{EventOut, FireFault, Fired, Outcome, Reason, ReceiveFault};
 use serf_lamport::Time;
 use serf_snap::{ClockKind, NoteFault, Sink};
-use serf_wire::{Bytes, EncodeFault, EventView, encode_user_event, user_event_len};
+use serf_wire::{Bytes, EncodeFault, EventView, UserEvent, encode_user_event, user_event_len};
 use std::alloc::{AllocError, Global};
 
 /// A copy of an event, to hand out.
@@ -58,7 +58,13 @@ fn packet_of(
     ensures { IfOk result (λ packet. packet
         ≡ event_packet time (event_of name.now payload.now) coalesce) }
 {
-    match encode_user_event(alloc, time, name, payload, coalesce) {
+    let event = UserEvent {
+        time,
+        name,
+        payload,
+        coalesce,
+    };
+    match encode_user_event(alloc, &event) {
         Ok(packet) => Ok(Bytes::from_vec(packet)),
         Err(EncodeFault::TooLong) => unreachable!(),
         Err(EncodeFault::OutOfMemory) => Err(AllocError),
@@ -70,8 +76,13 @@ fn is_too_large(limit: u64, time: Time, name: &[u8], payload: &[u8], coalesce: b
     ensures { result ≡ is_too_large limit time (event_of name.now payload.now) coalesce }
 {
     let limit = limit as u128;
-    name.len() as u128 + payload.len() as u128 > limit
-        || user_event_len(time, name, payload, coalesce) > limit
+    let event = UserEvent {
+        time,
+        name,
+        payload,
+        coalesce,
+    };
+    name.len() as u128 + payload.len() as u128 > limit || user_event_len(&event) > limit
 }
 
 impl<S: Sink> Agent<S> {
@@ -122,14 +133,9 @@ impl<S: Sink> Agent<S> {
         let Some(time) = self.events.next_time() else {
             return Err(FireFault::Exhausted);
         };
-        let Ok(packet) = packet_of(alloc, time, name, payload, coalesce) else {
-            return Err(FireFault::OutOfMemory);
-        };
-        match self.take_in(alloc, time, name, payload, coalesce) {
-            Ok(handed) => Ok(Fired { packet, handed }),
-            Err(LineFault::OutOfMemory) => Err(FireFault::OutOfMemory),
-            Err(LineFault::SinkFault) => Err(FireFault::SinkFault),
-        }
+        let packet = packet_of(alloc, time, name, payload, coalesce)?;
+        let handed = self.take_in(alloc, time, name, payload, coalesce)?;
+        Ok(Fired { packet, handed })
     }
 
     /// Why an event is ignored, if it is. Takes no memory.
@@ -177,11 +183,10 @@ impl<S: Sink> Agent<S> {
                 self.events.observe(time);
                 Ok(Outcome::Ignored(reason))
             }
-            None => match self.take_in(alloc, time, name, payload, coalesce) {
-                Ok(handed) => Ok(Outcome::Event(handed)),
-                Err(LineFault::OutOfMemory) => Err(ReceiveFault::OutOfMemory),
-                Err(LineFault::SinkFault) => Err(ReceiveFault::SinkFault),
-            },
+            None => {
+                let event = self.take_in(alloc, time, name, payload, coalesce)?;
+                Ok(Outcome::Event(event))
+            }
         }
     }
 
@@ -193,7 +198,7 @@ impl<S: Sink> Agent<S> {
         name: &[u8],
         payload: &[u8],
         coalesce: bool,
-    ) -> Result<EventOut, LineFault>
+    ) -> Result<EventOut, NoteFault>
         requires runs { self.old.concrete.snapshot.stopped ≡ false }
         requires not_later { time_in self.old.concrete.events.slots time ≤ time }
         requires not_full { count_in self.old.concrete.events.slots time
@@ -204,31 +209,11 @@ impl<S: Sink> Agent<S> {
         ensures entered { OnOk result ((i : IdealAgent) → self.old.concrete ≡ view_of i
             → self.new.concrete ≡ view_of (with_snapshot (noted kinds.Event time i.snapshot Kept)
             (event_entered time (event_of name.now payload.now) i))) }
-        ensures allowed { OnOk result (MayNote kinds.Event time self.old.concrete.snapshot Kept) }
-        ensures device { OnOk result (self.new.device
-            ≡ device_noted kinds.Event time self.old.concrete.snapshot self.old.device) }
-        ensures runs { OnOk result (self.new.concrete.snapshot.stopped ≡ false) }
-        ensures calm { OnOk result (self.new.device.failures ≡ self.old.device.failures) }
-
-        ensures failed { IsErrOf result LineFault.SinkFault
-            → self.new.concrete ≡ concrete_with (written kinds.Event time self.old.concrete.snapshot
-            (Failed self.new.concrete.snapshot.durable)) self.old.concrete }
-        ensures fault_allowed { IsErrOf result LineFault.SinkFault
-            → MayNote kinds.Event time self.old.concrete.snapshot
-            (Failed self.new.concrete.snapshot.durable) }
-        ensures fault_device { IsErrOf result LineFault.SinkFault
-            → FailsLine self.old.device self.new.device (clock_line kinds.Event time) }
-        ensures cause { IsErrOf result LineFault.SinkFault
-            → HasFailed self.old.device.failures self.new.device.failures }
-        ensures memory { IsErrOf result LineFault.OutOfMemory → self.new ≡ self.old }
+        ensures line { NotesLine kinds.Event time self.old self.new result }
     {
-        let Ok(handed) = handed_out(alloc, time, name, payload, coalesce) else {
-            return Err(LineFault::OutOfMemory);
-        };
-        match self.enter_event(alloc, time, name, payload) {
-            Ok(()) => Ok(handed),
-            Err(fault) => Err(fault),
-        }
+        let handed = handed_out(alloc, time, name, payload, coalesce)?;
+        self.enter_event(alloc, time, name, payload)?;
+        Ok(handed)
     }
 
     /// Takes an event into the buffer, once its line is durable.
@@ -238,7 +223,7 @@ impl<S: Sink> Agent<S> {
         time: Time,
         name: &[u8],
         payload: &[u8],
-    ) -> Result<(), LineFault>
+    ) -> Result<(), NoteFault>
         requires runs { self.old.concrete.snapshot.stopped ≡ false }
         requires not_later { time_in self.old.concrete.events.slots time ≤ time }
         requires not_full { count_in self.old.concrete.events.slots time
@@ -247,34 +232,11 @@ impl<S: Sink> Agent<S> {
         ensures entered { OnOk result ((i : IdealAgent) → self.old.concrete ≡ view_of i
             → self.new.concrete ≡ view_of (with_snapshot (noted kinds.Event time i.snapshot Kept)
             (event_entered time (event_of name.now payload.now) i))) }
-        ensures allowed { OnOk result (MayNote kinds.Event time self.old.concrete.snapshot Kept) }
-        ensures device { OnOk result (self.new.device
-            ≡ device_noted kinds.Event time self.old.concrete.snapshot self.old.device) }
-        ensures runs { OnOk result (self.new.concrete.snapshot.stopped ≡ false) }
-        ensures calm { OnOk result (self.new.device.failures ≡ self.old.device.failures) }
-
-        ensures failed { IsErrOf result LineFault.SinkFault
-            → self.new.concrete ≡ concrete_with (written kinds.Event time self.old.concrete.snapshot
-            (Failed self.new.concrete.snapshot.durable)) self.old.concrete }
-        ensures fault_allowed { IsErrOf result LineFault.SinkFault
-            → MayNote kinds.Event time self.old.concrete.snapshot
-            (Failed self.new.concrete.snapshot.durable) }
-        ensures fault_device { IsErrOf result LineFault.SinkFault
-            → FailsLine self.old.device self.new.device (clock_line kinds.Event time) }
-        ensures cause { IsErrOf result LineFault.SinkFault
-            → HasFailed self.old.device.failures self.new.device.failures }
-        ensures memory { IsErrOf result LineFault.OutOfMemory → self.new ≡ self.old }
+        ensures line { NotesLine kinds.Event time self.old self.new result }
     {
         let event = EventView { name, payload };
-        let Ok(entry) = self.events.prepare(alloc, time, &event) else {
-            return Err(LineFault::OutOfMemory);
-        };
-        match self.snapshot.note(alloc, ClockKind::Event, time) {
-            Ok(()) => {}
-            Err(NoteFault::SinkFault) => return Err(LineFault::SinkFault),
-            Err(NoteFault::OutOfMemory) => return Err(LineFault::OutOfMemory),
-            Err(NoteFault::Stopped) => unreachable!(),
-        }
+        let entry = self.events.prepare(alloc, time, &event)?;
+        self.snapshot.note(alloc, ClockKind::Event, time)?;
         self.events.enter(time, entry);
         Ok(())
     }

@@ -1,14 +1,14 @@
 //! A query that is handed out, and its answer.
 
-ghost use Rattle.std.specs.Prelude.{◌≡◌, ◌≢◌, ◌≤◌, length, if◌then◌else◌, Some, None, IfOk, IfErr};
-ghost use Rattle.serf_wire.specs.Parts.{query_of};
+ghost use Rattle.std.specs.Prelude.{◌≡◌, ◌≢◌, ◌≤◌, [], length, if◌then◌else◌, Some, None, IfOk, IfErr};
+ghost use Rattle.serf_wire.specs.Message.{query_response, query_with, response_of, response_said};
 ghost use Rattle.serf_agent.specs.Config.{longest_name};
 ghost use Rattle.serf_agent.specs.Queries.{ack_packet, deadline_of, handed_query, longest_response, respond_fault, response_packet};
 
 use crate::flags::ACK;
 use crate::outcome::{Reply, RespondFault};
 use serf_lamport::Time;
-use serf_wire::{Bytes, EncodeFault, QueryParts, encode_response, response_len};
+use serf_wire::{Bytes, EncodeFault, Query, QueryResponse, encode_response, response_len};
 use std::alloc::{AllocError, Global};
 use std::marker::Model;
 
@@ -70,11 +70,18 @@ pub(crate) fn deadline_of(now: u64, timeout: i64) -> u64
 }
 
 /// A node's ack of a query.
-pub(crate) fn ack_of(alloc: Global, query: &QueryParts, node: &[u8]) -> Result<Bytes, AllocError>
+pub(crate) fn ack_of<F>(alloc: Global, query: &Query<F>, node: &[u8]) -> Result<Bytes, AllocError>
     requires { length node.now ≤ longest_name }
-    ensures { IfOk result (λ ack. ack ≡ ack_packet node.now (query_of query.now)) }
+    ensures { IfOk result (λ ack. ack ≡ ack_packet node.now (query_with [] query.now)) }
 {
-    match encode_response(alloc, query.time.get(), query.id, node, ACK, b"") {
+    let ack = QueryResponse {
+        time: query.time.get(),
+        id: query.id,
+        from: node,
+        flags: ACK,
+        payload: b"",
+    };
+    match encode_response(alloc, &ack) {
         Ok(packet) => Ok(Bytes::from_vec(packet)),
         Err(EncodeFault::TooLong) => unreachable!(),
         Err(EncodeFault::OutOfMemory) => Err(AllocError),
@@ -83,13 +90,14 @@ pub(crate) fn ack_of(alloc: Global, query: &QueryParts, node: &[u8]) -> Result<B
 
 impl HandedQuery {
     /// What a node hands out of a query.
-    pub(crate) fn of(
+    pub(crate) fn of<F>(
         alloc: Global,
-        query: &QueryParts,
+        query: &Query<F>,
         now: u64,
         node: &[u8],
     ) -> Result<HandedQuery, AllocError>
-        ensures { IfOk result (λ handed. handed ≡ handed_query node.now now (query_of query.now)) }
+        ensures { IfOk result (λ handed.
+            handed ≡ handed_query node.now now (query_with [] query.now)) }
     {
         let name = Bytes::copy_of(alloc, query.name)?;
         let payload = Bytes::copy_of(alloc, query.payload)?;
@@ -183,12 +191,26 @@ impl HandedQuery {
         self.parts.node.as_slice()
     }
 
+    /// The response of this payload.
+    fn response<'a>(&'a self, payload: &'a [u8]) -> QueryResponse<'a>
+        ensures { query_response (response_said result)
+            ≡ response_of self.now.time self.now.id self.now.node 0 payload.now }
+    {
+        QueryResponse {
+            time: self.parts.time.get(),
+            id: self.parts.id,
+            from: self.parts.node.as_slice(),
+            flags: 0,
+            payload,
+        }
+    }
+
     /// The packet of a response that fits.
     fn packet_of(&self, alloc: Global, payload: &[u8]) -> Result<Bytes, AllocError>
         requires { length (response_packet self.now payload.now) ≤ longest_response }
         ensures { IfOk result (λ packet. packet ≡ response_packet self.now payload.now) }
     {
-        match encode_response(alloc, self.time().get(), self.id(), self.node(), 0, payload) {
+        match encode_response(alloc, &self.response(payload)) {
             Ok(packet) => Ok(Bytes::from_vec(packet)),
             Err(EncodeFault::TooLong) => unreachable!(),
             Err(EncodeFault::OutOfMemory) => Err(AllocError),
@@ -222,8 +244,7 @@ impl HandedQuery {
         if self.parts.deadline < now {
             return Err((self, RespondFault::PastDeadline));
         }
-        let node = self.parts.node.as_slice();
-        if response_len(self.parts.time.get(), self.parts.id, node, 0, payload) > LONGEST_RESPONSE {
+        if response_len(&self.response(payload)) > LONGEST_RESPONSE {
             return Err((self, RespondFault::TooLarge));
         }
         match self.packet_of(alloc, payload) {

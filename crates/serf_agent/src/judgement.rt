@@ -1,6 +1,7 @@
 //! What an agent would make of what comes, told before it is acted on. Nothing changes, and no memory is taken.
 
-ghost use Rattle.std.specs.Prelude.{◌≡◌, List, ℕ};
+ghost use Rattle.std.specs.Prelude.{◌≡◌};
+ghost use Rattle.serf_wire.specs.Message.{response_said};
 ghost use Rattle.serf_window.specs.Texts.{event_of};
 ghost use Rattle.serf_agent.specs.Events.{admission};
 ghost use Rattle.serf_agent.specs.Ideal.{IdealAgent};
@@ -10,10 +11,10 @@ ghost use Rattle.serf_agent.specs.Sound.{IsSound};
 ghost use Rattle.serf_agent.specs.View.{view_of};
 
 use crate::agent::Agent;
-use crate::answer::Answer;
 use crate::outcome::Reason;
 use serf_lamport::Time;
 use serf_snap::Sink;
+use serf_wire::QueryResponse;
 
 impl<S: Sink> Agent<S> {
     /// Why a user event that comes now would be ignored; `None` where it is new. A stopped agent takes nothing, and is
@@ -34,29 +35,13 @@ impl<S: Sink> Agent<S> {
         self.query_admission(time, id)
     }
 
-    /// Why an ack (flag 1) or a response of this node that comes at this moment would be ignored, whatever its payload
-    /// is; `None` where it would be counted, or refused for the number of names that are counted already.
-    pub fn judge_answer(
-        &self,
-        now: u64,
-        time: u64,
-        id: u32,
-        from: &[u8],
-        flags: u32,
-    ) -> Option<Reason>
-        ensures { (payload : List ℕ) → result ≡ answer_reason now
-            (record { time = time; id = id; from = from.now; flags = flags; payload = payload })
-            (asked_at time self.now.concrete.asked) }
+    /// Why an ack or a response that comes at this moment would be ignored; `None` where it would be counted, or refused for the number of names that are counted already.
+    pub fn judge_answer(&self, now: u64, answer: &QueryResponse) -> Option<Reason>
+        ensures { result ≡ answer_reason now (response_said answer.now)
+            (asked_at answer.now.time self.now.concrete.asked) }
     {
-        let answer = Answer {
-            time,
-            id,
-            from,
-            flags,
-            payload: &[],
-        };
-        match self.asked.get(time) {
-            Some(query) => query.ignore_reason(now, &answer),
+        match self.asked.get(answer.time) {
+            Some(query) => query.ignore_reason(now, answer),
             None => Some(Reason::NotOpen),
         }
     }

@@ -14,7 +14,7 @@
 //! - the least times never fall ([`Agent::merge_remote_state`]), and a new life begins above all that was noted
 //!   ([`Agent::open`]);
 //! - a sink that failed stops the agent, which fires and takes nothing until it is opened anew;
-//! - a call that wants memory in vain changes nothing, but that a merge keeps what it took before, and may be made again.
+//! - a call that finds no memory changes nothing, and may be made again. Only a merge keeps the events that it took before.
 //!
 //! There is no clock of its own and no network: the moment, in nanoseconds, and the packets are given.
 #![tactic(auto)]
@@ -25,15 +25,16 @@ mod asked;
 mod config;
 mod defaults;
 mod events;
+mod faults;
 mod flags;
 mod handed;
 mod judgement;
 mod laws;
 mod lent_queries;
 mod lists;
+mod member_clock;
 mod open_query;
 mod outcome;
-mod push_pull;
 mod queries;
 mod query_firing;
 mod reading;
@@ -43,7 +44,7 @@ mod states;
 mod track;
 
 pub use agent::Agent;
-pub use answer::Answer;
+pub use answer::{answer_in, is_ack};
 pub use config::{Config, LONGEST_NAME, LONGEST_TEXTS, MAX_RESPONDERS};
 pub use defaults::{
     DEFAULT_EVENT_LIMIT, DEFAULT_PER_TIME, DEFAULT_RESPONDERS, DEFAULT_SLOTS,
@@ -58,4 +59,3 @@ pub use outcome::{
     EventOut, FireFault, Fired, FiredQuery, MergeFault, NotOpened, OpenFault, Outcome,
     PushPullFault, QueryFault, QueryParams, Reason, ReceiveFault, Reply, RespondFault,
 };
-pub use push_pull::PushPull;

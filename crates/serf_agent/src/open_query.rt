@@ -3,14 +3,13 @@
 ghost use Rattle.std.specs.Prelude.{◌≡◌, OnOk, OnErr};
 ghost use Rattle.std.specs.List.{list_any};
 ghost use Rattle.std.specs.Str.{bytes_eq};
-ghost use Rattle.serf_agent.specs.Lent.{response_in};
+ghost use Rattle.serf_wire.specs.Message.{response_said};
 ghost use Rattle.serf_agent.specs.Queries.{ack_ignore_reason, answer_ignore_reason, response_ignore_reason, counted, is_full};
 
-use crate::answer::Answer;
-use crate::flags::{ACK, has_flag};
+use crate::answer::is_ack;
 use crate::lists::{BytesList, Response, Responses};
 use crate::outcome::Reason;
-use serf_wire::Bytes;
+use serf_wire::{Bytes, QueryResponse};
 use std::alloc::{AllocError, Global};
 use std::mem;
 
@@ -45,8 +44,8 @@ fn has_responded(responses: &[Response], name: &[u8]) -> bool
 
 impl OpenQuery {
     /// Why an answer is ignored, if it is.
-    pub(crate) fn ignore_reason(&self, now: u64, answer: &Answer) -> Option<Reason>
-        ensures { result ≡ answer_ignore_reason now (response_in answer.now) self.now }
+    pub(crate) fn ignore_reason(&self, now: u64, answer: &QueryResponse) -> Option<Reason>
+        ensures { result ≡ answer_ignore_reason now (response_said answer.now) self.now }
     {
         if self.id != answer.id {
             return Some(Reason::OtherId);
@@ -54,7 +53,7 @@ impl OpenQuery {
         if self.deadline < now {
             return Some(Reason::Closed);
         }
-        if has_flag(ACK, answer.flags) {
+        if is_ack(answer) {
             self.ack_ignore_reason(answer.from)
         } else {
             self.response_ignore_reason(answer.from)
@@ -85,10 +84,10 @@ impl OpenQuery {
     }
 
     /// Whether as many names are counted already as the settings allow.
-    pub(crate) fn is_full(&self, responders: u64, answer: &Answer) -> bool
-        ensures { result ≡ is_full responders (response_in answer.now) self.now }
+    pub(crate) fn is_full(&self, responders: u64, answer: &QueryResponse) -> bool
+        ensures { result ≡ is_full responders (response_said answer.now) self.now }
     {
-        if has_flag(ACK, answer.flags) {
+        if is_ack(answer) {
             self.acks.as_slice().len() as u64 >= responders
         } else {
             self.responses.as_slice().len() as u64 >= responders
@@ -96,12 +95,12 @@ impl OpenQuery {
     }
 
     /// Counts an answer, or changes nothing where there is no memory for it.
-    pub(crate) fn count(&mut self, alloc: Global, answer: &Answer) -> Result<(), AllocError>
-        ensures ok { OnOk result (self.new ≡ counted (response_in answer.now) self.old) }
+    pub(crate) fn count(&mut self, alloc: Global, answer: &QueryResponse) -> Result<(), AllocError>
+        ensures ok { OnOk result (self.new ≡ counted (response_said answer.now) self.old) }
         ensures err { OnErr result (self.new ≡ self.old) }
     {
         let from = Bytes::copy_of(alloc, answer.from)?;
-        if has_flag(ACK, answer.flags) {
+        if is_ack(answer) {
             return self.acks.push(from);
         }
         let payload = Bytes::copy_of(alloc, answer.payload)?;

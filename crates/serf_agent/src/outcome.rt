@@ -65,9 +65,9 @@ pub enum Outcome {
         /// Whether the packet is to be sent on unchanged.
         rebroadcast: bool,
     },
-    /// An ack was counted. [`Answer::of_packet`](crate::Answer::of_packet) says to which query, and from whom.
+    /// An ack was counted. [`answer_in`](crate::answer_in) says to which query, and from whom.
     Ack,
-    /// A response was counted. [`Answer::of_packet`](crate::Answer::of_packet) says to which query, from whom, and with
+    /// A response was counted. [`answer_in`](crate::answer_in) says to which query, from whom, and with
     /// which payload.
     Response,
     /// Nothing came of it, for this reason.
@@ -225,11 +225,4 @@ pub enum RespondFault {
     TooLarge,
     #[error("out of memory")]
     OutOfMemory,
-}
-
-/// Why a line isn't durable.
-#[derive(Clone, Copy, Debug, PartialEq, Eq)]
-pub(crate) enum LineFault {
-    OutOfMemory,
-    SinkFault,
 }

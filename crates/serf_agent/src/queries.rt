@@ -3,8 +3,7 @@
 ghost use Rattle.std.specs.Prelude.{◌≡◌, ◌≢◌, ◌<◌, ◌≤◌, false, true, if◌then◌else◌, None, Some, [], filter, length, not, Ok, Err, OnOk, OnErr, IfOk, IsOk, IsErrOf};
 ghost use Rattle.serf_lamport.specs.Clock.{greatest_clock};
 ghost use Rattle.serf_wire.specs.Lists.{texts_left};
-ghost use Rattle.serf_wire.specs.Message.{query};
-ghost use Rattle.serf_wire.specs.Parts.{query_of};
+ghost use Rattle.serf_wire.specs.Message.{query_said, query_with, response_said};
 ghost use Rattle.serf_window.specs.Window.{count_in, time_in};
 ghost use Rattle.serf_snap.specs.declared.kind.ClockKind.TheVariants as kinds;
 ghost use Rattle.serf_snap.specs.Device.{HasFailed};
@@ -15,23 +14,22 @@ ghost use Rattle.serf_agent.specs.Calls.{AsksSink, MayNote};
 ghost use Rattle.serf_agent.specs.Config.{longest_name};
 ghost use Rattle.serf_agent.specs.Devices.{FailsLine, device_noted};
 ghost use Rattle.serf_agent.specs.Ideal.{IdealAgent, with_snapshot};
-ghost use Rattle.serf_agent.specs.Lent.{query_in, response_in};
 ghost use Rattle.serf_agent.specs.Queries.{ack_packet, all_pass, close_due, counted_as, handed_query, has_flag, is_ack, is_due, query_admission, query_entered, receive_query, receive_response};
 ghost use Rattle.serf_agent.specs.Receive.{TakesMemory};
 ghost use Rattle.serf_agent.specs.Sound.{IsSound};
-ghost use Rattle.serf_agent.specs.Steps.{Steps};
+ghost use Rattle.serf_agent.specs.Steps.{NotesLine, Steps};
 ghost use Rattle.serf_agent.specs.View.{concrete_with, view_of};
 
 use crate::agent::Agent;
-use crate::answer::Answer;
+use crate::answer::is_ack;
 use crate::flags::{ACK, NO_BROADCAST, has_flag};
 use crate::handed::{HandedQuery, ack_of};
 use crate::laws::sound_snapshots;
 use crate::open_query::OpenQuery;
-use crate::outcome::{LineFault, Outcome, Reason, ReceiveFault};
+use crate::outcome::{Outcome, Reason, ReceiveFault};
 use serf_lamport::Time;
 use serf_snap::{ClockKind, NoteFault, Sink};
-use serf_wire::{Bytes, QueryParts, Texts, passes};
+use serf_wire::{Bytes, Query, QueryResponse, Texts, passes};
 use std::alloc::{AllocError, Global};
 
 /// Whether every filter of a packet lets a node pass.
@@ -54,18 +52,18 @@ pub(crate) struct Passed {
 }
 
 /// Makes what a node hands out and sends of a query.
-pub(crate) fn pass(
+pub(crate) fn pass<F>(
     alloc: Global,
-    query: &QueryParts,
+    query: &Query<F>,
     now: u64,
     node: &[u8],
     passed: bool,
 ) -> Result<Passed, AllocError>
     requires { length node.now ≤ longest_name }
     ensures handed { IfOk result (λ p. p.handed
-        ≡ (if passed then Some (handed_query node.now now (query_of query.now)) else None)) }
+        ≡ (if passed then Some (handed_query node.now now (query_with [] query.now)) else None)) }
     ensures ack { IfOk result (λ p. p.ack ≡ (if passed then (if has_flag 1 query.now.flags
-        then Some (ack_packet node.now (query_of query.now)) else None) else None)) }
+        then Some (ack_packet node.now (query_with [] query.now)) else None) else None)) }
 {
     if !passed {
         return Ok(Passed {
@@ -88,10 +86,10 @@ pub(crate) fn pass(
 }
 
 /// What is answered to an answer that was counted.
-fn outcome_of(answer: &Answer) -> Outcome
-    ensures { result ≡ counted_as (is_ack (response_in answer.now)) }
+fn outcome_of(answer: &QueryResponse) -> Outcome
+    ensures { result ≡ counted_as (is_ack (response_said answer.now)) }
 {
-    if has_flag(ACK, answer.flags) {
+    if is_ack(answer) {
         Outcome::Ack
     } else {
         Outcome::Response
@@ -99,22 +97,21 @@ fn outcome_of(answer: &Answer) -> Outcome
 }
 
 impl<S: Sink> Agent<S> {
-    /// Takes a query that comes. Its filters stand beside it.
+    /// Takes a query that comes.
     pub(crate) fn receive_query(
         &mut self,
         alloc: Global,
         now: u64,
-        query: &QueryParts,
-        filters: Texts,
+        query: &Query,
     ) -> Result<Outcome, ReceiveFault>
         requires { self.old.concrete.snapshot.stopped ≡ false }
         ensures step { (i : IdealAgent) → IsSound i → self.old.concrete ≡ view_of i
             → result ≢ Err ReceiveFault.OutOfMemory
-            → Steps i (receive_query i now (query_in query.now (texts_left filters.entry)))
+            → Steps i (receive_query i now (query_said query.now))
             result self.old.device self.new }
         ensures only_new { (i : IdealAgent) → IsSound i → self.old.concrete ≡ view_of i
             → IsErrOf result ReceiveFault.OutOfMemory
-            → AsksSink (receive_query i now (query_in query.now (texts_left filters.entry))) }
+            → AsksSink (receive_query i now (query_said query.now)) }
         ensures memory { IsErrOf result ReceiveFault.OutOfMemory → self.new ≡ self.old }
         ensures refused { OnErr result (result ≢ Err ReceiveFault.SinkFault → self.new ≡ self.old) }
         ensures cause { IsErrOf result ReceiveFault.SinkFault
@@ -128,16 +125,13 @@ impl<S: Sink> Agent<S> {
                 Ok(Outcome::Ignored(reason))
             }
             None => {
-                let passed = lent_filters_pass(filters, self.config.name.as_slice());
-                match self.take_in_query(alloc, now, query, passed) {
-                    Ok(Passed { handed, ack }) => Ok(Outcome::Query {
-                        handed,
-                        ack,
-                        rebroadcast: !has_flag(NO_BROADCAST, query.flags),
-                    }),
-                    Err(LineFault::OutOfMemory) => Err(ReceiveFault::OutOfMemory),
-                    Err(LineFault::SinkFault) => Err(ReceiveFault::SinkFault),
-                }
+                let passed = lent_filters_pass(query.filters, self.config.name.as_slice());
+                let Passed { handed, ack } = self.take_in_query(alloc, now, query, passed)?;
+                Ok(Outcome::Query {
+                    handed,
+                    ack,
+                    rebroadcast: !has_flag(NO_BROADCAST, query.flags),
+                })
             }
         }
     }
@@ -159,9 +153,9 @@ impl<S: Sink> Agent<S> {
         &mut self,
         alloc: Global,
         now: u64,
-        query: &QueryParts,
+        query: &Query,
         passed: bool,
-    ) -> Result<Passed, LineFault>
+    ) -> Result<Passed, NoteFault>
         requires runs { self.old.concrete.snapshot.stopped ≡ false }
         requires not_later { time_in self.old.concrete.queries.slots query.now.time
             ≤ query.now.time }
@@ -169,44 +163,24 @@ impl<S: Sink> Agent<S> {
             < self.old.concrete.config.per_time }
 
         ensures handed { IfOk result (λ p. p.handed ≡ (if passed then Some
-            (handed_query self.old.concrete.config.name now (query_of query.now)) else None)) }
+            (handed_query self.old.concrete.config.name now (query_said query.now)) else None)) }
         ensures ack { IfOk result (λ p. p.ack ≡ (if passed then (if has_flag 1 query.now.flags
-            then Some (ack_packet self.old.concrete.config.name (query_of query.now)) else None)
+            then Some (ack_packet self.old.concrete.config.name (query_said query.now)) else None)
             else None)) }
         ensures entered { OnOk result ((i : IdealAgent) → self.old.concrete ≡ view_of i
             → self.new.concrete
             ≡ view_of (with_snapshot (noted kinds.Query query.now.time i.snapshot Kept)
             (query_entered query.now.time query.now.id i))) }
-        ensures allowed { OnOk result
-            (MayNote kinds.Query query.now.time self.old.concrete.snapshot Kept) }
-        ensures device { OnOk result (self.new.device
-            ≡ device_noted kinds.Query query.now.time self.old.concrete.snapshot self.old.device) }
-
-        ensures failed { IsErrOf result LineFault.SinkFault
-            → self.new.concrete
-            ≡ concrete_with (written kinds.Query query.now.time self.old.concrete.snapshot
-            (Failed self.new.concrete.snapshot.durable)) self.old.concrete }
-        ensures fault_allowed { IsErrOf result LineFault.SinkFault
-            → MayNote kinds.Query query.now.time self.old.concrete.snapshot
-            (Failed self.new.concrete.snapshot.durable) }
-        ensures fault_device { IsErrOf result LineFault.SinkFault
-            → FailsLine self.old.device self.new.device (clock_line kinds.Query query.now.time) }
-        ensures cause { IsErrOf result LineFault.SinkFault
-            → HasFailed self.old.device.failures self.new.device.failures }
-        ensures memory { IsErrOf result LineFault.OutOfMemory → self.new ≡ self.old }
+        ensures line { NotesLine kinds.Query query.now.time self.old self.new result }
     {
         let node = self.config.name.as_slice();
-        let Ok(passes) = pass(alloc, query, now, node, passed) else {
-            return Err(LineFault::OutOfMemory);
-        };
-        match self.enter_query(alloc, query.time, query.id) {
-            Ok(()) => Ok(passes),
-            Err(fault) => Err(fault),
-        }
+        let passes = pass(alloc, query, now, node, passed)?;
+        self.enter_query(alloc, query.time, query.id)?;
+        Ok(passes)
     }
 
     /// Takes a query into the buffer, once its line is durable.
-    fn enter_query(&mut self, alloc: Global, time: Time, id: u32) -> Result<(), LineFault>
+    fn enter_query(&mut self, alloc: Global, time: Time, id: u32) -> Result<(), NoteFault>
         requires runs { self.old.concrete.snapshot.stopped ≡ false }
         requires not_later { time_in self.old.concrete.queries.slots time ≤ time }
         requires not_full { count_in self.old.concrete.queries.slots time
@@ -215,31 +189,10 @@ impl<S: Sink> Agent<S> {
         ensures entered { OnOk result ((i : IdealAgent) → self.old.concrete ≡ view_of i
             → self.new.concrete ≡ view_of
             (with_snapshot (noted kinds.Query time i.snapshot Kept) (query_entered time id i))) }
-        ensures allowed { OnOk result (MayNote kinds.Query time self.old.concrete.snapshot Kept) }
-        ensures device { OnOk result (self.new.device
-            ≡ device_noted kinds.Query time self.old.concrete.snapshot self.old.device) }
-
-        ensures failed { IsErrOf result LineFault.SinkFault
-            → self.new.concrete ≡ concrete_with (written kinds.Query time self.old.concrete.snapshot
-            (Failed self.new.concrete.snapshot.durable)) self.old.concrete }
-        ensures fault_allowed { IsErrOf result LineFault.SinkFault
-            → MayNote kinds.Query time self.old.concrete.snapshot
-            (Failed self.new.concrete.snapshot.durable) }
-        ensures fault_device { IsErrOf result LineFault.SinkFault
-            → FailsLine self.old.device self.new.device (clock_line kinds.Query time) }
-        ensures cause { IsErrOf result LineFault.SinkFault
-            → HasFailed self.old.device.failures self.new.device.failures }
-        ensures memory { IsErrOf result LineFault.OutOfMemory → self.new ≡ self.old }
+        ensures line { NotesLine kinds.Query time self.old self.new result }
     {
-        let Ok(entry) = self.queries.prepare(alloc, time, &id) else {
-            return Err(LineFault::OutOfMemory);
-        };
-        match self.snapshot.note(alloc, ClockKind::Query, time) {
-            Ok(()) => {}
-            Err(NoteFault::SinkFault) => return Err(LineFault::SinkFault),
-            Err(NoteFault::OutOfMemory) => return Err(LineFault::OutOfMemory),
-            Err(NoteFault::Stopped) => unreachable!(),
-        }
+        let entry = self.queries.prepare(alloc, time, &id)?;
+        self.snapshot.note(alloc, ClockKind::Query, time)?;
         self.queries.enter(time, entry);
         Ok(())
     }
@@ -249,24 +202,24 @@ impl<S: Sink> Agent<S> {
         &mut self,
         alloc: Global,
         now: u64,
-        answer: &Answer,
+        answer: &QueryResponse,
     ) -> Result<Outcome, ReceiveFault>
         ensures step { (i : IdealAgent) → IsSound i → self.old.concrete ≡ view_of i
             → result ≢ Err ReceiveFault.OutOfMemory
-            → Steps i (receive_response i now (response_in answer.now))
+            → Steps i (receive_response i now (response_said answer.now))
             result self.old.device self.new }
         ensures only_counted { (i : IdealAgent) → IsSound i → self.old.concrete ≡ view_of i
             → IsErrOf result ReceiveFault.OutOfMemory
-            → TakesMemory (receive_response i now (response_in answer.now)) }
+            → TakesMemory (receive_response i now (response_said answer.now)) }
         ensures memory { IsErrOf result ReceiveFault.OutOfMemory → self.new ≡ self.old }
         ensures refused { OnErr result (result ≢ Err ReceiveFault.SinkFault → self.new ≡ self.old) }
         ensures no_fault { result ≢ Err ReceiveFault.SinkFault }
         ensures ack { result ≡ Ok Outcome.Ack
-            → (is_ack (response_in answer.now) ≡ true)
-            × Counts (response_in answer.now) self.old.concrete.asked self.new.concrete.asked }
+            → (is_ack (response_said answer.now) ≡ true)
+            × Counts (response_said answer.now) self.old.concrete.asked self.new.concrete.asked }
         ensures response { result ≡ Ok Outcome.Response
-            → (is_ack (response_in answer.now) ≡ false)
-            × Counts (response_in answer.now) self.old.concrete.asked self.new.concrete.asked }
+            → (is_ack (response_said answer.now) ≡ false)
+            × Counts (response_said answer.now) self.old.concrete.asked self.new.concrete.asked }
     {
         let Some(query) = self.asked.get(answer.time) else {
             return Ok(Outcome::Ignored(Reason::NotOpen));
@@ -278,9 +231,7 @@ impl<S: Sink> Agent<S> {
         if query.is_full(self.config.responders, answer) {
             return Err(ReceiveFault::RespondersFull);
         }
-        let Ok(()) = self.asked.count(alloc, answer) else {
-            return Err(ReceiveFault::OutOfMemory);
-        };
+        self.asked.count(alloc, answer)?;
         Ok(outcome_of(answer))
     }
 

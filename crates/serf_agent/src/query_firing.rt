@@ -2,8 +2,7 @@
 
 ghost use Rattle.std.specs.Prelude.{◌≡◌, ◌≢◌, ◌<◌, ◌≤◌, false, [], ◌∷◌, ◌++◌, Some, All, length, Err, OnOk, OnErr, IfOk, IsErrOf};
 ghost use Rattle.serf_wire.specs.Canonical.{canonical};
-ghost use Rattle.serf_wire.specs.Message.{query};
-ghost use Rattle.serf_wire.specs.Parts.{query_of};
+ghost use Rattle.serf_wire.specs.Message.{query, query_of};
 ghost use Rattle.serf_window.specs.Window.{count_in, time_in};
 ghost use Rattle.serf_snap.specs.declared.kind.ClockKind.TheVariants as kinds;
 ghost use Rattle.serf_snap.specs.Device.{HasFailed};
@@ -15,7 +14,7 @@ ghost use Rattle.serf_agent.specs.Devices.{FailsLine, device_noted};
 ghost use Rattle.serf_agent.specs.Ideal.{IdealAgent, with_asked, with_snapshot};
 ghost use Rattle.serf_agent.specs.Queries.{all_pass, fire_query, fired_query, has_flag, is_no_timeout, is_too_large_query, longest_query, opened_query, query_asked, query_at, query_entered};
 ghost use Rattle.serf_agent.specs.Sound.{IsSound};
-ghost use Rattle.serf_agent.specs.Steps.{Steps};
+ghost use Rattle.serf_agent.specs.Steps.{NotesLine, Steps};
 ghost use Rattle.serf_agent.specs.View.{concrete_with, view_of};
 
 use crate::agent::Agent;
@@ -25,11 +24,11 @@ use crate::handed::deadline_of;
 use crate::laws::sound_snapshots;
 use crate::lists::{BytesList, Responses};
 use crate::open_query::OpenQuery;
-use crate::outcome::{FiredQuery, LineFault, QueryFault, QueryParams};
+use crate::outcome::{FiredQuery, QueryFault, QueryParams};
 use crate::queries::{Passed, pass};
 use serf_lamport::Time;
 use serf_snap::{ClockKind, NoteFault, Sink, Snapshot};
-use serf_wire::{Bytes, EncodeFault, QueryParts, encode_query, passes, query_len};
+use serf_wire::{Bytes, EncodeFault, Query, encode_query, passes, query_len};
 use std::alloc::{AllocError, Global};
 
 /// The greatest length of a query's packet.
@@ -43,7 +42,7 @@ fn filters_pass(filters: &[Bytes], node: &[u8]) -> bool
 }
 
 /// The packet of a query that is small enough to be fired.
-fn packet_of(alloc: Global, parts: &QueryParts) -> Result<Bytes, AllocError>
+fn packet_of(alloc: Global, parts: &Query<&[Bytes]>) -> Result<Bytes, AllocError>
     requires { length (canonical (query (query_of parts.now))) ≤ longest_query }
     ensures { IfOk result (λ packet. packet ≡ canonical (query (query_of parts.now))) }
 {
@@ -57,7 +56,7 @@ fn packet_of(alloc: Global, parts: &QueryParts) -> Result<Bytes, AllocError>
 /// What a node answers that fires a query: the packet that is to be sent, and what it hands out and sends itself.
 fn fired_of(
     alloc: Global,
-    parts: &QueryParts,
+    parts: &Query<&[Bytes]>,
     now: u64,
     node: &[u8],
 ) -> Result<FiredQuery, AllocError>
@@ -77,7 +76,7 @@ fn fired_of(
 }
 
 /// A query that takes answers from now on, and has none.
-fn opened(alloc: Global, query: &QueryParts, now: u64) -> OpenQuery
+fn opened(alloc: Global, query: &Query<&[Bytes]>, now: u64) -> OpenQuery
     ensures { result ≡ opened_query now (query_of query.now) }
 {
     OpenQuery {
@@ -96,7 +95,7 @@ fn note_asked<S: Sink>(
     alloc: Global,
     time: Time,
     query: OpenQuery,
-) -> Result<(), LineFault>
+) -> Result<(), NoteFault>
     requires later { All (λ q. q.0 < time) asked.old }
     requires runs { snapshot.old.snapshot.stopped ≡ false }
     ensures ok { OnOk result ((asked.new ≡ asked.old ++ (time, query) ∷ [])
@@ -104,36 +103,32 @@ fn note_asked<S: Sink>(
     ensures ok_allowed { OnOk result (snapshot.old.snapshot.query_clock < time
         → MayWrite snapshot.old.snapshot (clock_line kinds.Query time) Kept) }
     ensures asked { OnErr result (asked.new ≡ asked.old) }
-    ensures fault { IsErrOf result LineFault.SinkFault
+    ensures fault { IsErrOf result NoteFault.SinkFault
         → snapshot.new.snapshot
         ≡ written kinds.Query time snapshot.old.snapshot (Failed snapshot.new.snapshot.durable) }
-    ensures fault_allowed { IsErrOf result LineFault.SinkFault
+    ensures fault_allowed { IsErrOf result NoteFault.SinkFault
         → MayWrite snapshot.old.snapshot (clock_line kinds.Query time)
         (Failed snapshot.new.snapshot.durable) }
-    ensures fault_above { IsErrOf result LineFault.SinkFault
+    ensures fault_above { IsErrOf result NoteFault.SinkFault
         → snapshot.old.snapshot.query_clock < time }
-    ensures fault_cause { IsErrOf result LineFault.SinkFault
+    ensures fault_cause { IsErrOf result NoteFault.SinkFault
         → HasFailed snapshot.old.device.failures snapshot.new.device.failures }
     ensures device { OnOk result (snapshot.new.device
         ≡ device_noted kinds.Query time snapshot.old.snapshot snapshot.old.device) }
-    ensures fault_device { IsErrOf result LineFault.SinkFault
+    ensures fault_device { IsErrOf result NoteFault.SinkFault
         → FailsLine snapshot.old.device snapshot.new.device (clock_line kinds.Query time) }
-    ensures memory { IsErrOf result LineFault.OutOfMemory → snapshot.new ≡ snapshot.old }
+    ensures memory { IsErrOf result NoteFault.OutOfMemory → snapshot.new ≡ snapshot.old }
+    ensures stopped { result ≢ Err NoteFault.Stopped }
+    ensures runs { OnOk result (snapshot.new.snapshot.stopped ≡ false) }
+    ensures calm { OnOk result (snapshot.new.device.failures ≡ snapshot.old.device.failures) }
 {
-    if asked.push(time.get(), query).is_err() {
-        return Err(LineFault::OutOfMemory);
-    }
+    asked.push(time.get(), query)?;
     match snapshot.note(alloc, ClockKind::Query, time) {
         Ok(()) => Ok(()),
-        Err(NoteFault::SinkFault) => {
+        Err(fault) => {
             asked.pop();
-            Err(LineFault::SinkFault)
+            Err(fault)
         }
-        Err(NoteFault::OutOfMemory) => {
-            asked.pop();
-            Err(LineFault::OutOfMemory)
-        }
-        Err(NoteFault::Stopped) => unreachable!(),
     }
 }
 
@@ -153,10 +148,10 @@ impl QueryParams {
         id: u32,
         name: &'a [u8],
         payload: &'a [u8],
-    ) -> QueryParts<'a>
+    ) -> Query<'a, &'a [Bytes]>
         ensures { query_of result ≡ query_at time node.now id name.now payload.now self.now }
     {
-        QueryParts {
+        Query {
             time,
             id,
             addr: self.addr.as_slice(),
@@ -235,11 +230,7 @@ impl<S: Sink> Agent<S> {
         let Some(time) = self.queries.next_time() else {
             return Err(QueryFault::Exhausted);
         };
-        match self.ask(alloc, now, time, id, name, payload, params) {
-            Ok(fired) => Ok(fired),
-            Err(LineFault::OutOfMemory) => Err(QueryFault::OutOfMemory),
-            Err(LineFault::SinkFault) => Err(QueryFault::SinkFault),
-        }
+        Ok(self.ask(alloc, now, time, id, name, payload, params)?)
     }
 
     /// Fires a query of this agent's own at the query clock's time, once its line is durable.
@@ -252,7 +243,7 @@ impl<S: Sink> Agent<S> {
         name: &[u8],
         payload: &[u8],
         params: &QueryParams,
-    ) -> Result<FiredQuery, LineFault>
+    ) -> Result<FiredQuery, NoteFault>
         requires runs { self.old.concrete.snapshot.stopped ≡ false }
         requires at { time ≡ self.old.concrete.queries.clock }
         requires not_later { time_in self.old.concrete.queries.slots time ≤ time }
@@ -267,36 +258,18 @@ impl<S: Sink> Agent<S> {
             → self.new.concrete
             ≡ view_of (with_snapshot (noted kinds.Query time i.snapshot Kept) (query_asked now
             (query_at time self.old.concrete.config.name id name.now payload.now params.now) i))) }
-        ensures allowed { OnOk result (MayNote kinds.Query time self.old.concrete.snapshot Kept) }
-        ensures device { OnOk result (self.new.device
-            ≡ device_noted kinds.Query time self.old.concrete.snapshot self.old.device) }
-
-        ensures failed { IsErrOf result LineFault.SinkFault
-            → self.new.concrete ≡ concrete_with (written kinds.Query time self.old.concrete.snapshot
-            (Failed self.new.concrete.snapshot.durable)) self.old.concrete }
-        ensures fault_allowed { IsErrOf result LineFault.SinkFault
-            → MayNote kinds.Query time self.old.concrete.snapshot
-            (Failed self.new.concrete.snapshot.durable) }
-        ensures fault_device { IsErrOf result LineFault.SinkFault
-            → FailsLine self.old.device self.new.device (clock_line kinds.Query time) }
-        ensures cause { IsErrOf result LineFault.SinkFault
-            → HasFailed self.old.device.failures self.new.device.failures }
-        ensures memory { IsErrOf result LineFault.OutOfMemory → self.new ≡ self.old }
+        ensures line { NotesLine kinds.Query time self.old self.new result }
     {
         let node = self.config.name.as_slice();
         let query = params.parts(time, node, id, name, payload);
-        let Ok(fired) = fired_of(alloc, &query, now, node) else {
-            return Err(LineFault::OutOfMemory);
-        };
+        let fired = fired_of(alloc, &query, now, node)?;
         let open = opened(alloc, &query, now);
-        match self.enter_asked(alloc, time, open) {
-            Ok(()) => Ok(fired),
-            Err(fault) => Err(fault),
-        }
+        self.enter_asked(alloc, time, open)?;
+        Ok(fired)
     }
 
     /// Takes a query of this agent's own into the buffer, open for answers, once its line is durable.
-    fn enter_asked(&mut self, alloc: Global, time: Time, query: OpenQuery) -> Result<(), LineFault>
+    fn enter_asked(&mut self, alloc: Global, time: Time, query: OpenQuery) -> Result<(), NoteFault>
         requires runs { self.old.concrete.snapshot.stopped ≡ false }
         requires at { time ≡ self.old.concrete.queries.clock }
         requires not_later { time_in self.old.concrete.queries.slots time ≤ time }
@@ -306,26 +279,10 @@ impl<S: Sink> Agent<S> {
         ensures entered { OnOk result ((i : IdealAgent) → self.old.concrete ≡ view_of i
             → self.new.concrete ≡ view_of (with_snapshot (noted kinds.Query time i.snapshot Kept)
             (with_asked (i.asked ++ (time, query) ∷ []) (query_entered time query.id i)))) }
-        ensures allowed { OnOk result (MayNote kinds.Query time self.old.concrete.snapshot Kept) }
-        ensures device { OnOk result (self.new.device
-            ≡ device_noted kinds.Query time self.old.concrete.snapshot self.old.device) }
-
-        ensures failed { IsErrOf result LineFault.SinkFault
-            → self.new.concrete ≡ concrete_with (written kinds.Query time self.old.concrete.snapshot
-            (Failed self.new.concrete.snapshot.durable)) self.old.concrete }
-        ensures fault_allowed { IsErrOf result LineFault.SinkFault
-            → MayNote kinds.Query time self.old.concrete.snapshot
-            (Failed self.new.concrete.snapshot.durable) }
-        ensures fault_device { IsErrOf result LineFault.SinkFault
-            → FailsLine self.old.device self.new.device (clock_line kinds.Query time) }
-        ensures cause { IsErrOf result LineFault.SinkFault
-            → HasFailed self.old.device.failures self.new.device.failures }
-        ensures memory { IsErrOf result LineFault.OutOfMemory → self.new ≡ self.old }
+        ensures line { NotesLine kinds.Query time self.old self.new result }
     {
         let id = query.id;
-        let Ok(entry) = self.queries.prepare(alloc, time, &id) else {
-            return Err(LineFault::OutOfMemory);
-        };
+        let entry = self.queries.prepare(alloc, time, &id)?;
         note_asked(&mut self.asked, &mut self.snapshot, alloc, time, query)?;
         self.queries.enter(time, entry);
         Ok(())

@@ -11,10 +11,9 @@ ghost use Rattle.serf_agent.specs.Steps.{Steps};
 ghost use Rattle.serf_agent.specs.View.{view_of};
 
 use crate::agent::Agent;
-use crate::answer::Answer;
 use crate::outcome::{Outcome, ReceiveFault};
 use serf_snap::Sink;
-use serf_wire::{Message, QueryParts, decode, decode_user_event};
+use serf_wire::{Message, decode, decode_user_event};
 use std::alloc::Global;
 
 impl<S: Sink> Agent<S> {
@@ -44,7 +43,7 @@ impl<S: Sink> Agent<S> {
         ensures cause { IsErrOf result ReceiveFault.SinkFault
             → HasFailed self.old.device.failures self.new.device.failures }
 
-        // What was counted is just the answer that the packet is, which `Answer::of_packet` lends.
+        // What was counted is just the answer that the packet is, which [`answer_in`](crate::answer_in) lends.
         ensures ack { result ≡ Ok Outcome.Ack
             → CountsAnswer true (answer_in packet.now)
             self.old.concrete.asked self.new.concrete.asked }
@@ -122,59 +121,14 @@ impl<S: Sink> Agent<S> {
             → CountsAnswer false (answer_of (message_of message.now))
             self.old.concrete.asked self.new.concrete.asked }
     {
-        match *message {
-            Message::UserEvent {
-                time,
-                name,
-                payload,
-                coalesce,
-            } => self.receive_event(alloc, time, name, payload, coalesce),
-            Message::Query {
-                time,
-                id,
-                addr,
-                port,
-                source,
-                filters,
-                flags,
-                relay_factor,
-                timeout,
-                name,
-                payload,
-            } => {
-                let query = QueryParts {
-                    time,
-                    id,
-                    addr,
-                    port,
-                    source,
-                    filters: &[],
-                    flags,
-                    relay_factor,
-                    timeout,
-                    name,
-                    payload,
-                };
-                self.receive_query(alloc, now, &query, filters)
+        match message {
+            Message::UserEvent(event) => {
+                self.receive_event(alloc, event.time, event.name, event.payload, event.coalesce)
             }
-            Message::QueryResponse {
-                time,
-                id,
-                from,
-                flags,
-                payload,
-            } => {
-                let answer = Answer {
-                    time,
-                    id,
-                    from,
-                    flags,
-                    payload,
-                };
-                self.receive_response(alloc, now, &answer)
-            }
-            Message::PushPull { .. } => Ok(Outcome::PushPull),
-            Message::Foreign(kind) => Ok(Outcome::Foreign(kind)),
+            Message::Query(query) => self.receive_query(alloc, now, query),
+            Message::QueryResponse(answer) => self.receive_response(alloc, now, answer),
+            Message::PushPull(_) => Ok(Outcome::PushPull),
+            Message::Foreign(kind) => Ok(Outcome::Foreign(*kind)),
         }
     }
 }

@@ -5,7 +5,7 @@ ghost use Rattle.serf_lamport.specs.Clock.{greatest_clock};
 ghost use Rattle.serf_wire.specs.declared.texts.EventBody.{EventBody};
 ghost use Rattle.serf_wire.specs.Decoded.{decoded};
 ghost use Rattle.serf_wire.specs.Lists.{event_of_view, events_left, slot_of_view, slots_left, status_of};
-ghost use Rattle.serf_wire.specs.Message.{PushPull as State, message_of, push_pull};
+ghost use Rattle.serf_wire.specs.Message.{PushPull as State, message_of, push_pull, push_pull_said};
 ghost use Rattle.serf_window.specs.Window.{TimedEntry, count_in, time_in};
 ghost use Rattle.serf_snap.specs.Clocks.{clock_line};
 ghost use Rattle.serf_snap.specs.declared.kind.ClockKind.TheVariants as kinds;
@@ -16,7 +16,6 @@ ghost use Rattle.serf_agent.specs.declared.outcome.MergeFault.{MergeFault as Fau
 ghost use Rattle.serf_agent.specs.Devices.{FailsLine, FailsText, device_noted};
 ghost use Rattle.serf_agent.specs.Events.{admission};
 ghost use Rattle.serf_agent.specs.Ideal.{IdealAgent};
-ghost use Rattle.serf_agent.specs.Lent.{push_pull_in};
 ghost use Rattle.serf_agent.specs.Merging.{Received};
 ghost use Rattle.serf_agent.specs.Sound.{IsSound};
 ghost use Rattle.serf_agent.specs.States.{Merges, at_time, compact, events_of, events_of_slot, fault_in, joined, merge_refusal, save, send_state};
@@ -25,40 +24,25 @@ ghost use Rattle.serf_agent.specs.View.{view_of};
 
 use crate::agent::Agent;
 use crate::laws::sound_snapshots;
-use crate::outcome::{EventOut, LineFault, MergeFault, PushPullFault};
-use crate::push_pull::PushPull;
+use crate::outcome::{EventOut, MergeFault, PushPullFault};
 use serf_lamport::Time;
 use serf_snap::{ClockKind, NoteFault, ReplaceSink, Sink};
 use serf_wire::{
-    Bytes, EncodeFault, EventView, EventViews, Message, PushPullParts, SlotView, SlotViews,
-    StatusTime, decode, encode_push_pull,
+    Bytes, EncodeFault, EventView, EventViews, Message, PushPull, PushPullParts, SlotView,
+    SlotViews, StatusTime, decode, encode_push_pull,
 };
 use std::alloc::Global;
 
 /// The push/pull that a message is.
 fn push_pull_of<'a>(message: &Message<'a>) -> Option<PushPull<'a>>
-    ensures some { IfSome result (λ p. message_of message.now ≡ push_pull (push_pull_in p)) }
+    ensures some { IfSome result (λ p. message_of message.now ≡ push_pull (push_pull_said p)) }
     ensures none { result ≡ None → (m : State) → message_of message.now ≢ push_pull m }
 {
     match *message {
-        Message::PushPull {
-            member_clock,
-            status,
-            left,
-            event_clock,
-            slots,
-            query_clock,
-        } => Some(PushPull {
-            member_clock,
-            status,
-            left,
-            event_clock,
-            slots,
-            query_clock,
-        }),
-        Message::UserEvent { .. }
-        | Message::Query { .. }
-        | Message::QueryResponse { .. }
+        Message::PushPull(state) => Some(state),
+        Message::UserEvent(_)
+        | Message::Query(_)
+        | Message::QueryResponse(_)
         | Message::Foreign(_) => None,
     }
 }
@@ -148,8 +132,8 @@ impl<S: Sink> Agent<S> {
     /// events too.
     fn join(&mut self, state: &PushPull, is_join: bool)
         ensures joined { (i : IdealAgent) → IsSound i → self.old.concrete ≡ view_of i
-            → (self.new.concrete ≡ view_of (joined (push_pull_in state.now) is_join i))
-            × IsSound (joined (push_pull_in state.now) is_join i) }
+            → (self.new.concrete ≡ view_of (joined (push_pull_said state.now) is_join i))
+            × IsSound (joined (push_pull_said state.now) is_join i) }
         ensures snapshot { (self.new.concrete.snapshot ≡ self.old.concrete.snapshot)
             × (self.new.device ≡ self.old.device) }
     {
@@ -187,7 +171,7 @@ impl<S: Sink> Agent<S> {
             → i.snapshot.stopped ≡ false → decoded packet.now ≡ Ok (push_pull m)
             → Merges i m is_join out.old.items out.new.items self.old.device self.new
             (fault_in result) }
-        ensures lent { IfOk result (λ p. decoded packet.now ≡ Ok (push_pull (push_pull_in p))) }
+        ensures lent { IfOk result (λ p. decoded packet.now ≡ Ok (push_pull (push_pull_said p))) }
         ensures cause { IsErrOf result MergeFault.SinkFault
             → HasFailed self.old.device.failures self.new.device.failures }
     {
@@ -216,7 +200,7 @@ impl<S: Sink> Agent<S> {
             → message_of message.now ≡ push_pull m
             → Merges i m is_join out.old.items out.new.items self.old.device self.new
             (fault_in result) }
-        ensures lent { IfOk result (λ p. message_of message.now ≡ push_pull (push_pull_in p)) }
+        ensures lent { IfOk result (λ p. message_of message.now ≡ push_pull (push_pull_said p)) }
         ensures cause { IsErrOf result MergeFault.SinkFault
             → HasFailed self.old.device.failures self.new.device.failures }
     {
@@ -350,17 +334,10 @@ impl<S: Sink> Agent<S> {
             → HasFailed self.old.device.failures self.new.device.failures }
     {
         sound_snapshots();
-        if out.reserve(1).is_err() {
-            return Err(MergeFault::OutOfMemory);
-        }
-        match self.take_in(alloc, time, event.name, event.payload, false) {
-            Ok(handed) => {
-                add(out, handed);
-                Ok(())
-            }
-            Err(LineFault::OutOfMemory) => Err(MergeFault::OutOfMemory),
-            Err(LineFault::SinkFault) => Err(MergeFault::SinkFault),
-        }
+        out.reserve(1)?;
+        let handed = self.take_in(alloc, time, event.name, event.payload, false)?;
+        add(out, handed);
+        Ok(())
     }
 }
 

@@ -14,3 +14,7 @@ pub mod Held
 pub mod Answers
 pub mod Faults
 pub mod Bursts
+pub mod AskedTime
+pub mod Observing
+pub mod Told
+pub mod Intents

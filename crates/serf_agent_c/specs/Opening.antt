@@ -4,7 +4,7 @@ use Rattle.serf_snap.specs.Device.{fresh_device}
 use Rattle.serf_snap.specs.Notes.{opened, opened_device}
 use Rattle.serf_agent.specs.declared.config.Config.{Config}
 use Rattle.serf_agent.specs.Config.{is_sound}
-use Rattle.serf_agent.specs.Ideal.{IdealAgent}
+use Rattle.serf_agent.specs.Ideal.{IdealAgent, with_config}
 use Rattle.serf_agent.specs.Restart.{IsInText, restarted, unopened}
 use Rattle.serf_agent.specs.Sound.{IsSound}
 use Rattle.serf_agent.specs.View.{view_of}
@@ -17,10 +17,6 @@ use Rattle.serf_agent_c.specs.Codes.{number_of}
 abbrev pub config_of : List ℕ → Settings → Config
 config_of name s =
     record { name = name; event_buffer = s.event_buffer; query_buffer = s.query_buffer; event_limit = s.event_limit; responders = s.responders; per_time = s.per_time; ignore_old = s.ignore_old }
-
--- an agent with these settings
-abbrev pub with_config : Config → IdealAgent → IdealAgent
-with_config config i = record { config = config; life = i.life; member_clock = i.member_clock; events = i.events; queries = i.queries; snapshot = i.snapshot; asked = i.asked }
 
 -- an agent in its next life, with these settings
 abbrev pub next_life : Config → List ℕ → IdealAgent → IdealAgent

@@ -2,9 +2,9 @@
 use Rattle.std.specs.Prelude.{ℕ, Bool, ◌==◌, List, [], ◌++◌, take, drop, length, Option, Some, None}
 use Rattle.serf_snap.specs.Device.{Device, durable_of}
 
--- memory of the host's after a copy: as many of the bytes as fit, and what stood behind them
-abbrev pub copied : List ℕ → List ℕ → List ℕ
-copied bytes old = take (length old) bytes ++ drop (length bytes) old
+-- memory of the host's after a copy: as many of the bytes, or of other items, as fit, and what stood behind them
+abbrev pub copied : {A : Type 0} → List A → List A → List A
+copied items old = take (length old) items ++ drop (length items) old
 
 -- what is durable on a sink in memory
 abbrev pub bytes_in : Option (List ℕ) → List ℕ

@@ -1,26 +1,27 @@
 //! What C reads of an ack's or a response's packet.
 
-ghost use Rattle.std.specs.Prelude.{◌≡◌};
+ghost use Rattle.std.specs.Prelude.{◌≢◌, ◌≡◌};
 ghost use Rattle.serf_agent.specs.Answers.{answer_in};
-ghost use Rattle.serf_agent.specs.Lent.{response_in};
+ghost use Rattle.serf_wire.specs.Message.{response_said};
 ghost use Rattle.serf_agent_c.specs.Answers.{ReadsAnswer, answer_head};
 ghost use Rattle.serf_agent_c.specs.Texts.{copied};
 
 use crate::code::Code;
 use crate::copies::copy_into;
 use crate::heads::AnswerHead;
-use serf_agent::Answer;
+use serf_agent::{answer_in, is_ack};
+use serf_wire::QueryResponse;
 
 /// What C reads of an answer, beside its texts.
-fn head_of_answer(answer: &Answer<'_>) -> AnswerHead
-    ensures { result ≡ answer_head (response_in answer.now) }
+fn head_of_answer(answer: &QueryResponse) -> AnswerHead
+    ensures { result ≡ answer_head (response_said answer.now) }
 {
     AnswerHead {
         time: answer.time,
         from_len: answer.from.len(),
         payload_len: answer.payload.len(),
         id: answer.id,
-        is_ack: answer.is_ack(),
+        is_ack: is_ack(answer),
     }
 }
 
@@ -31,11 +32,13 @@ pub(crate) fn read_answer(
     from: &mut [u8],
     payload: &mut [u8],
 ) -> Code
-    ensures { ReadsAnswer (answer_in packet.now)
+    ensures reads { ReadsAnswer (answer_in packet.now)
         (λ r. (answer.new ≡ answer_head r) × (from.new ≡ copied r.from from.old)
         × (payload.new ≡ copied r.payload payload.old)) result }
+    ensures same { result ≢ Code.Done → (answer.new ≡ answer.old) × (from.new ≡ from.old)
+        × (payload.new ≡ payload.old) }
 {
-    let Some(said) = Answer::of_packet(packet) else {
+    let Some(said) = answer_in(packet) else {
         return Code::Nothing;
     };
     *answer = head_of_answer(&said);

@@ -1,6 +1,6 @@
 //! What C reads of the queries that the last call closed, and whether the host's file is worth a compaction.
 
-ghost use Rattle.std.specs.Prelude.{◌≡◌, false, length, option_copied, slice_get, true};
+ghost use Rattle.std.specs.Prelude.{◌≢◌, ◌≡◌, false, length, option_copied, slice_get, true};
 ghost use Rattle.serf_agent_c.specs.Closings.{TellsCompaction, ack_of, closed_head, response_head, response_of};
 ghost use Rattle.serf_agent_c.specs.Gaves.{closed_in};
 ghost use Rattle.serf_agent_c.specs.Reads.{ReadsAs};
@@ -60,8 +60,9 @@ impl Gave {
 impl Session {
     /// A query that the last call closed.
     pub(crate) fn read_closed(&self, index: usize, head: &mut ClosedHead) -> Code
-        ensures { ReadsAs (is_ready self.now) (slice_get (closed_in self.now.gave) index)
+        ensures reads { ReadsAs (is_ready self.now) (slice_get (closed_in self.now.gave) index)
             (λ q. head.new ≡ closed_head q) result }
+        ensures same { result ≢ Code.Done → (head.new ≡ head.old) }
     {
         if !self.is_ready() {
             return Code::Unwritten;
@@ -81,9 +82,10 @@ impl Session {
         len: &mut usize,
         to: &mut [u8],
     ) -> Code
-        ensures { ReadsAs (is_ready self.now)
+        ensures reads { ReadsAs (is_ready self.now)
             (ack_of number (slice_get (closed_in self.now.gave) index))
             (λ name. (len.new ≡ length name) × (to.new ≡ copied name to.old)) result }
+        ensures same { result ≢ Code.Done → (len.new ≡ len.old) × (to.new ≡ to.old) }
     {
         if !self.is_ready() {
             return Code::Unwritten;
@@ -105,10 +107,12 @@ impl Session {
         from: &mut [u8],
         payload: &mut [u8],
     ) -> Code
-        ensures { ReadsAs (is_ready self.now)
+        ensures reads { ReadsAs (is_ready self.now)
             (response_of number (slice_get (closed_in self.now.gave) index))
             (λ r. (head.new ≡ response_head r) × (from.new ≡ copied r.from from.old)
             × (payload.new ≡ copied r.payload payload.old)) result }
+        ensures same { result ≢ Code.Done → (head.new ≡ head.old) × (from.new ≡ from.old)
+            × (payload.new ≡ payload.old) }
     {
         if !self.is_ready() {
             return Code::Unwritten;
@@ -128,6 +132,7 @@ impl Session {
         ensures tells { is_ready self.now ≡ true
             → (result ≡ Code.Done)
             × TellsCompaction limit self.now.agent.concrete.snapshot should.new }
+        ensures same { result ≢ Code.Done → (should.new ≡ should.old) }
     {
         if !self.is_ready() {
             return Code::Unwritten;

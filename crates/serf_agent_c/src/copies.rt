@@ -1,10 +1,10 @@
-//! Bytes that are copied into the host's memory.
+//! Bytes, and other items, that are copied into the host's memory.
 
 ghost use Rattle.std.specs.Prelude.{◌≡◌};
 ghost use Rattle.serf_agent_c.specs.Texts.{copied};
 
-/// Copies as many bytes as fit.
-pub(crate) fn copy_into(to: &mut [u8], from: &[u8])
+/// Copies as many items as fit.
+pub(crate) fn copy_into<T: Copy>(to: &mut [T], from: &[T])
     ensures { to.new ≡ copied from.now to.old }
 {
     let n = to.len().min(from.len());

@@ -59,7 +59,7 @@ fn fault_byte(fault: WireFault) -> u8
 }
 
 /// What C reads of a fault.
-fn head_of_fault(fault: WireFault) -> FaultHead
+pub(crate) fn head_of_fault(fault: WireFault) -> FaultHead
     ensures { result ≡ fault_head fault }
 {
     FaultHead {

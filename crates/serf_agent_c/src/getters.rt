@@ -1,6 +1,6 @@
 //! The getters: what C reads through a handle, which they leave as it was.
 
-ghost use Rattle.std.specs.Prelude.{◌-◌, ◌^◌, min, true, ◌≡◌, ◌+◌, if◌then◌else◌, Some, false, length, slice_get};
+ghost use Rattle.std.specs.Prelude.{◌≢◌, ◌-◌, ◌^◌, min, true, ◌≡◌, ◌+◌, if◌then◌else◌, Some, false, length, slice_get};
 ghost use Rattle.std.specs.Option.{is_some};
 ghost use Rattle.serf_wire.specs.Decoded.{decoded};
 ghost use Rattle.serf_agent.specs.Answers.{answer_in};
@@ -56,9 +56,12 @@ pub extern "C" fn serf_agent_event(
     name: &mut [u8],
     payload: &mut [u8],
 ) -> u32
-    ensures { Shows (λ s code. ReadsAs (is_ready s) (slice_get (events_in s.gave) index)
+    ensures reads { Shows (λ s code. ReadsAs (is_ready s) (slice_get (events_in s.gave) index)
         (λ o. (event.new ≡ event_head o) × (name.new ≡ copied o.name name.old)
         × (payload.new ≡ copied o.payload payload.old)) code)
+        handle.old handle.new result }
+    ensures same { Shows (λ s code. code ≢ Code.Done → (event.new ≡ event.old)
+        × (name.new ≡ name.old) × (payload.new ≡ payload.old))
         handle.old handle.new result }
 {
     let Some(session) = handle.take(alloc) else {
@@ -79,7 +82,9 @@ pub extern "C" fn serf_agent_answer(
 ) -> u32
     ensures { (code : Code) × (result ≡ number_of code)
         × ReadsAnswer (answer_in packet.now) (λ r. (answer.new ≡ answer_head r)
-        × (from.new ≡ copied r.from from.old) × (payload.new ≡ copied r.payload payload.old)) code }
+        × (from.new ≡ copied r.from from.old) × (payload.new ≡ copied r.payload payload.old)) code
+        × (code ≢ Code.Done
+        → (answer.new ≡ answer.old) × (from.new ≡ from.old) × (payload.new ≡ payload.old)) }
 {
     read_answer(packet, answer, from, payload).number()
 }
@@ -102,8 +107,11 @@ pub extern "C" fn serf_agent_packet(
     len: &mut usize,
     to: &mut [u8],
 ) -> u32
-    ensures { Shows (λ s code. ReadsAs (is_ready s) (packet_in s.gave) (λ p. (len.new ≡ length p)
-        × (to.new ≡ copied p to.old)) code) handle.old handle.new result }
+    ensures reads { Shows (λ s code. ReadsAs (is_ready s) (packet_in s.gave)
+        (λ p. (len.new ≡ length p) × (to.new ≡ copied p to.old)) code)
+        handle.old handle.new result }
+    ensures same { Shows (λ s code. code ≢ Code.Done → (len.new ≡ len.old) × (to.new ≡ to.old))
+        handle.old handle.new result }
 {
     let Some(session) = handle.take(alloc) else {
         return Code::Empty.number();
@@ -121,8 +129,11 @@ pub extern "C" fn serf_agent_ack(
     len: &mut usize,
     to: &mut [u8],
 ) -> u32
-    ensures { Shows (λ s code. ReadsAs (is_ready s) (ack_in s.gave) (λ p. (len.new ≡ length p)
-        × (to.new ≡ copied p to.old)) code) handle.old handle.new result }
+    ensures reads { Shows (λ s code. ReadsAs (is_ready s) (ack_in s.gave)
+        (λ p. (len.new ≡ length p) × (to.new ≡ copied p to.old)) code)
+        handle.old handle.new result }
+    ensures same { Shows (λ s code. code ≢ Code.Done → (len.new ≡ len.old) × (to.new ≡ to.old))
+        handle.old handle.new result }
 {
     let Some(session) = handle.take(alloc) else {
         return Code::Empty.number();
@@ -144,10 +155,14 @@ pub extern "C" fn serf_agent_handed(
     source: &mut [u8],
     addr: &mut [u8],
 ) -> u32
-    ensures { Shows (λ s code. ReadsQuery (is_ready s) (waiting_at number (settled s))
+    ensures reads { Shows (λ s code. ReadsQuery (is_ready s) (waiting_at number (settled s))
         (λ q. (handed.new ≡ handed_head q) × (name.new ≡ copied q.name name.old)
         × (payload.new ≡ copied q.payload payload.old) × (source.new ≡ copied q.source source.old)
         × (addr.new ≡ copied q.addr addr.old)) code)
+        handle.old handle.new result }
+    ensures same { Shows (λ s code. code ≢ Code.Done → (handed.new ≡ handed.old)
+        × (name.new ≡ name.old) × (payload.new ≡ payload.old) × (source.new ≡ source.old)
+        × (addr.new ≡ addr.old))
         handle.old handle.new result }
 {
     let Some(session) = handle.take(alloc) else {
@@ -165,8 +180,10 @@ pub extern "C" fn serf_agent_clocks(
     handle: &mut Handle,
     clocks: &mut ClocksHead,
 ) -> u32
-    ensures { Shows (λ s code. ReadsAs (is_ready s) (Some (clocks_head s.agent.concrete))
+    ensures reads { Shows (λ s code. ReadsAs (is_ready s) (Some (clocks_head s.agent.concrete))
         (λ head. clocks.new ≡ head) code) handle.old handle.new result }
+    ensures same { Shows (λ s code. code ≢ Code.Done → (clocks.new ≡ clocks.old))
+        handle.old handle.new result }
 {
     let Some(session) = handle.take(alloc) else {
         return Code::Empty.number();
@@ -183,8 +200,10 @@ pub extern "C" fn serf_agent_next_deadline(
     handle: &mut Handle,
     deadline: &mut u64,
 ) -> u32
-    ensures { Shows (λ s code. (is_ready s ≡ false → code ≡ Code.Unwritten)
+    ensures reads { Shows (λ s code. (is_ready s ≡ false → code ≡ Code.Unwritten)
         × (is_ready s ≡ true → TellsDeadline s.agent.concrete deadline.new code))
+        handle.old handle.new result }
+    ensures same { Shows (λ s code. code ≢ Code.Done → (deadline.new ≡ deadline.old))
         handle.old handle.new result }
 {
     let Some(session) = handle.take(alloc) else {
@@ -202,8 +221,10 @@ pub extern "C" fn serf_agent_open_queries(
     handle: &mut Handle,
     total: &mut usize,
 ) -> u32
-    ensures { Shows (λ s code. ReadsAs (is_ready s)
+    ensures reads { Shows (λ s code. ReadsAs (is_ready s)
         (Some (min (length s.agent.concrete.asked) (2 ^ 64 - 1))) (λ n. total.new ≡ n) code)
+        handle.old handle.new result }
+    ensures same { Shows (λ s code. code ≢ Code.Done → (total.new ≡ total.old))
         handle.old handle.new result }
 {
     let Some(session) = handle.take(alloc) else {
@@ -222,8 +243,10 @@ pub extern "C" fn serf_agent_closed(
     index: usize,
     closed: &mut ClosedHead,
 ) -> u32
-    ensures { Shows (λ s code. ReadsAs (is_ready s) (slice_get (closed_in s.gave) index)
+    ensures reads { Shows (λ s code. ReadsAs (is_ready s) (slice_get (closed_in s.gave) index)
         (λ q. closed.new ≡ closed_head q) code)
+        handle.old handle.new result }
+    ensures same { Shows (λ s code. code ≢ Code.Done → (closed.new ≡ closed.old))
         handle.old handle.new result }
 {
     let Some(session) = handle.take(alloc) else {
@@ -244,9 +267,11 @@ pub extern "C" fn serf_agent_closed_ack(
     len: &mut usize,
     to: &mut [u8],
 ) -> u32
-    ensures { Shows
+    ensures reads { Shows
         (λ s code. ReadsAs (is_ready s) (ack_of number (slice_get (closed_in s.gave) index))
         (λ name. (len.new ≡ length name) × (to.new ≡ copied name to.old)) code)
+        handle.old handle.new result }
+    ensures same { Shows (λ s code. code ≢ Code.Done → (len.new ≡ len.old) × (to.new ≡ to.old))
         handle.old handle.new result }
 {
     let Some(session) = handle.take(alloc) else {
@@ -268,10 +293,13 @@ pub extern "C" fn serf_agent_closed_response(
     from: &mut [u8],
     payload: &mut [u8],
 ) -> u32
-    ensures { Shows
+    ensures reads { Shows
         (λ s code. ReadsAs (is_ready s) (response_of number (slice_get (closed_in s.gave) index))
         (λ r. (response.new ≡ response_head r) × (from.new ≡ copied r.from from.old)
         × (payload.new ≡ copied r.payload payload.old)) code)
+        handle.old handle.new result }
+    ensures same { Shows (λ s code. code ≢ Code.Done → (response.new ≡ response.old)
+        × (from.new ≡ from.old) × (payload.new ≡ payload.old))
         handle.old handle.new result }
 {
     let Some(session) = handle.take(alloc) else {
@@ -290,8 +318,11 @@ pub extern "C" fn serf_agent_should_compact(
     limit: u64,
     should: &mut bool,
 ) -> u32
-    ensures { Shows (λ s code. (is_ready s ≡ false → code ≡ Code.Unwritten) × (is_ready s ≡ true
-        → (code ≡ Code.Done) × TellsCompaction limit s.agent.concrete.snapshot should.new))
+    ensures reads { Shows (λ s code. (is_ready s ≡ false → code ≡ Code.Unwritten)
+        × (is_ready s ≡ true → (code ≡ Code.Done)
+        × TellsCompaction limit s.agent.concrete.snapshot should.new))
+        handle.old handle.new result }
+    ensures same { Shows (λ s code. code ≢ Code.Done → (should.new ≡ should.old))
         handle.old handle.new result }
 {
     let Some(session) = handle.take(alloc) else {

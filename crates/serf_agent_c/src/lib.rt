@@ -29,6 +29,7 @@ ghost use Rattle.serf_agent_c.specs.Texts.{copied, lacking, text_of};
 
 mod answered;
 mod answers;
+mod asked;
 mod asking;
 mod burst_calls;
 mod bursts;
@@ -41,13 +42,17 @@ mod gave;
 mod getters;
 mod handle;
 mod heads;
+mod intents;
 mod lookups;
 mod members;
 mod merging;
+mod observing;
 mod opening;
 mod reading;
 mod session;
+mod told;
 
+pub use asked::serf_agent_asked_time;
 pub use burst_calls::{
     serf_agent_burst_filter, serf_agent_burst_fire, serf_agent_burst_query,
     serf_agent_burst_receive, serf_agent_next, serf_agent_outcomes,
@@ -65,8 +70,14 @@ pub use heads::{
     AnswerHead, BytesHead, ClocksHead, ClosedHead, EventHead, FaultHead, GaveHead, HandedHead,
     Params, ResponseHead, Settings,
 };
+pub use intents::{
+    IntentHead, serf_agent_intent, serf_agent_intent_fault, serf_agent_join_packet,
+    serf_agent_leave_packet,
+};
+pub use observing::serf_agent_observe_member;
 use session::Session;
 use std::alloc::Global;
+pub use told::{MemberHead, MembersHead, serf_agent_state_members};
 
 /// Opens an agent over the text of the host's file, into an empty handle.
 #[unsafe(no_mangle)]

@@ -1,6 +1,6 @@
 //! What C looks up: the queries that were handed out, and the agent's own that still take answers.
 
-ghost use Rattle.std.specs.Prelude.{◌≡◌, ◌-◌, ◌^◌, min, true, false, Some, length, option_copied};
+ghost use Rattle.std.specs.Prelude.{◌≢◌, ◌≡◌, ◌-◌, ◌^◌, min, true, false, Some, length, option_copied};
 ghost use Rattle.serf_agent.specs.LentQueries.{queries_left};
 ghost use Rattle.serf_agent_c.specs.Asking.{waiting_at};
 ghost use Rattle.serf_agent_c.specs.Reads.{ReadsAs, ReadsQuery, TellsDeadline, handed_head};
@@ -73,11 +73,13 @@ impl Session {
         source: &mut [u8],
         addr: &mut [u8],
     ) -> Code
-        ensures { ReadsQuery (is_ready self.now) (waiting_at number (settled self.now))
+        ensures reads { ReadsQuery (is_ready self.now) (waiting_at number (settled self.now))
             (λ q. (head.new ≡ handed_head q) × (name.new ≡ copied q.name name.old)
             × (payload.new ≡ copied q.payload payload.old)
             × (source.new ≡ copied q.source source.old)
             × (addr.new ≡ copied q.addr addr.old)) result }
+        ensures same { result ≢ Code.Done → (head.new ≡ head.old) × (name.new ≡ name.old)
+            × (payload.new ≡ payload.old) × (source.new ≡ source.old) × (addr.new ≡ addr.old) }
     {
         if !self.is_ready() {
             return Code::Unwritten;
@@ -98,6 +100,7 @@ impl Session {
         ensures waits { is_ready self.now ≡ false → result ≡ Code.Unwritten }
         ensures tells { is_ready self.now ≡ true
             → TellsDeadline self.now.agent.concrete deadline.new result }
+        ensures same { result ≢ Code.Done → (deadline.new ≡ deadline.old) }
     {
         if !self.is_ready() {
             return Code::Unwritten;
@@ -113,9 +116,10 @@ impl Session {
 
     /// How many queries of the agent's own still take answers.
     pub(crate) fn read_open_queries(&self, total: &mut usize) -> Code
-        ensures { ReadsAs (is_ready self.now)
+        ensures reads { ReadsAs (is_ready self.now)
             (Some (min (length self.now.agent.concrete.asked) (2 ^ 64 - 1)))
             (λ n. total.new ≡ n) result }
+        ensures same { result ≢ Code.Done → (total.new ≡ total.old) }
     {
         if !self.is_ready() {
             return Code::Unwritten;

@@ -1,6 +1,6 @@
 //! What C reads of a session.
 
-ghost use Rattle.std.specs.Prelude.{Some, ◌≡◌, ◌+◌, if◌then◌else◌, length, slice_get, option_copied};
+ghost use Rattle.std.specs.Prelude.{◌≢◌, Some, ◌≡◌, ◌+◌, if◌then◌else◌, length, slice_get, option_copied};
 ghost use Rattle.std.specs.Option.{is_some};
 ghost use Rattle.serf_agent_c.specs.Gaves.{ack_in, events_in, handed_in, packet_in};
 ghost use Rattle.serf_agent_c.specs.Reads.{ReadsAs, clocks_head, event_head, foreign_of, handed_head, kind_of, outcome_kind, reason_number, reason_of, rebroadcast_of};
@@ -164,9 +164,11 @@ impl Session {
         name: &mut [u8],
         payload: &mut [u8],
     ) -> Code
-        ensures { ReadsAs (is_ready self.now) (slice_get (events_in self.now.gave) index)
+        ensures reads { ReadsAs (is_ready self.now) (slice_get (events_in self.now.gave) index)
             (λ o. (event.new ≡ event_head o) × (name.new ≡ copied o.name name.old)
             × (payload.new ≡ copied o.payload payload.old)) result }
+        ensures same { result ≢ Code.Done → (event.new ≡ event.old) × (name.new ≡ name.old)
+            × (payload.new ≡ payload.old) }
     {
         if !self.is_ready() {
             return Code::Unwritten;
@@ -182,8 +184,9 @@ impl Session {
 
     /// The packet that the last call gave to send.
     pub(crate) fn read_packet(&self, len: &mut usize, to: &mut [u8]) -> Code
-        ensures { ReadsAs (is_ready self.now) (packet_in self.now.gave)
+        ensures reads { ReadsAs (is_ready self.now) (packet_in self.now.gave)
             (λ p. (len.new ≡ length p) × (to.new ≡ copied p to.old)) result }
+        ensures same { result ≢ Code.Done → (len.new ≡ len.old) × (to.new ≡ to.old) }
     {
         if !self.is_ready() {
             return Code::Unwritten;
@@ -197,8 +200,9 @@ impl Session {
 
     /// The ack that the last call gave to send.
     pub(crate) fn read_ack(&self, len: &mut usize, to: &mut [u8]) -> Code
-        ensures { ReadsAs (is_ready self.now) (ack_in self.now.gave)
+        ensures reads { ReadsAs (is_ready self.now) (ack_in self.now.gave)
             (λ p. (len.new ≡ length p) × (to.new ≡ copied p to.old)) result }
+        ensures same { result ≢ Code.Done → (len.new ≡ len.old) × (to.new ≡ to.old) }
     {
         if !self.is_ready() {
             return Code::Unwritten;
@@ -212,8 +216,9 @@ impl Session {
 
     /// The agent's clocks.
     pub(crate) fn read_clocks(&self, clocks: &mut ClocksHead) -> Code
-        ensures { ReadsAs (is_ready self.now) (Some (clocks_head self.now.agent.concrete))
+        ensures reads { ReadsAs (is_ready self.now) (Some (clocks_head self.now.agent.concrete))
             (λ head. clocks.new ≡ head) result }
+        ensures same { result ≢ Code.Done → (clocks.new ≡ clocks.old) }
     {
         if !self.is_ready() {
             return Code::Unwritten;

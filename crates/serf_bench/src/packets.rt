@@ -5,8 +5,9 @@ use crate::texts::{NAME, packet_of, time_of};
 use crate::windows::{SLOTS, full_window};
 use serf_window::EventWindow;
 use serf_wire::{
-    Bytes, EncodeFault, EventViews, Message, PushPullParts, QueryParts, SlotView, SlotViews,
-    StatusTimes, Texts, decode, encode_push_pull, encode_query, encode_response, encode_user_event,
+    Bytes, EncodeFault, EventViews, Message, PushPullParts, Query, QueryResponse, SlotView,
+    SlotViews, StatusTimes, Texts, UserEvent, decode, encode_push_pull, encode_query,
+    encode_response, encode_user_event,
 };
 use std::alloc::Global;
 use std::io;
@@ -22,17 +23,12 @@ const CALLS: u64 = 16_384;
 /// What a message says of time and texts, so that no decode is left out by the compiler.
 fn weight(message: &Message) -> u64 {
     match message {
-        Message::UserEvent {
-            time,
-            name,
-            payload,
-            ..
-        } => time
-            .get()
-            .wrapping_add((name.len() as u64).wrapping_add(payload.len() as u64)),
-        Message::Query { time, name, .. } => time.get().wrapping_add(name.len() as u64),
-        Message::QueryResponse { time, from, .. } => time.wrapping_add(from.len() as u64),
-        Message::PushPull { event_clock, .. } => *event_clock,
+        Message::UserEvent(event) => event.time.get().wrapping_add(
+            (event.name.len() as u64).wrapping_add(event.payload.len() as u64),
+        ),
+        Message::Query(query) => query.time.get().wrapping_add(query.name.len() as u64),
+        Message::QueryResponse(answer) => answer.time.wrapping_add(answer.from.len() as u64),
+        Message::PushPull(state) => state.event_clock,
         Message::Foreign(kind) => u64::from(*kind),
     }
 }
@@ -73,13 +69,10 @@ fn count_slots(slots: SlotViews) -> u64 {
 
 /// The bytes of the texts of all lists of a message, which are walked.
 fn walk(message: &Message) -> u64 {
-    match *message {
-        Message::PushPull {
-            status,
-            left,
-            slots,
-            ..
-        } => count_status(status).wrapping_add(count_texts(left).wrapping_add(count_slots(slots))),
+    match message {
+        Message::PushPull(state) => count_status(state.status).wrapping_add(count_texts(
+            state.left,
+        ).wrapping_add(count_slots(state.slots))),
         _ => 0,
     }
 }
@@ -127,8 +120,8 @@ struct Parts {
     window: EventWindow,
 }
 
-fn query_of<'a>(number: u64, parts: &'a Parts) -> QueryParts<'a> {
-    QueryParts {
+fn query_of<'a>(number: u64, parts: &'a Parts) -> Query<'a, &'a [Bytes]> {
+    Query {
         time: time_of(number),
         id: 7,
         addr: b"",
@@ -154,9 +147,28 @@ fn state_of<'a>(number: u64, parts: &'a Parts) -> PushPullParts<'a> {
     }
 }
 
+fn event_of(number: u64) -> UserEvent<'static> {
+    UserEvent {
+        time: time_of(number),
+        name: NAME,
+        payload: b"v1",
+        coalesce: false,
+    }
+}
+
+fn response_of(number: u64) -> QueryResponse<'static> {
+    QueryResponse {
+        time: number,
+        id: 7,
+        from: b"b",
+        flags: 0,
+        payload: b"ok",
+    }
+}
+
 /// A user event's packet whose first key, `LTime`, is a bin of five bytes.
 fn encode_with_bin_key(alloc: Global, number: u64) -> Result<Vec<u8>, EncodeFault> {
-    let packet = encode_user_event(alloc, time_of(number), NAME, b"v1", false)?;
+    let packet = encode_user_event(alloc, &event_of(number))?;
     let mut spelled = Vec::from_slice(alloc, &[3, 0x84, 0xc4, 5])?;
     if let Some((_head, rest)) = packet.as_slice().split_at_checked(3) {
         spelled.extend_from_slice(rest)?;
@@ -167,10 +179,10 @@ fn encode_with_bin_key(alloc: Global, number: u64) -> Result<Vec<u8>, EncodeFaul
 /// The packet of the message of this number, from 1 on.
 fn encode(alloc: Global, kind: Kind, number: u64, parts: &Parts) -> Result<Vec<u8>, EncodeFault> {
     match kind {
-        Kind::Event => encode_user_event(alloc, time_of(number), NAME, b"v1", false),
+        Kind::Event => encode_user_event(alloc, &event_of(number)),
         Kind::EventWithBinKey => encode_with_bin_key(alloc, number),
         Kind::Query => encode_query(alloc, &query_of(number, parts)),
-        Kind::Response => encode_response(alloc, number, 7, b"b", 0, b"ok"),
+        Kind::Response => encode_response(alloc, &response_of(number)),
         Kind::State => encode_push_pull(alloc, &state_of(number, parts)),
     }
 }

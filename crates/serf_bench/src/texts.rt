@@ -1,7 +1,7 @@
 //! The texts that are told apart: times, payloads, and packets of events.
 
 use serf_lamport::Time;
-use serf_wire::{EncodeFault, encode_user_event};
+use serf_wire::{EncodeFault, UserEvent, encode_user_event};
 use std::alloc::{AllocError, Global};
 use std::io;
 
@@ -40,8 +40,13 @@ pub fn event_packets(alloc: Global, first: u64, last: u64, count: u64) -> io::Re
     for time in first..last {
         for number in 0..count {
             let payload = payload_of(alloc, number)?;
-            let encoded = encode_user_event(alloc, time_of(time), NAME, payload.as_slice(), false);
-            packets.push(packet_of(encoded)?)?;
+            let event = UserEvent {
+                time: time_of(time),
+                name: NAME,
+                payload: payload.as_slice(),
+                coalesce: false,
+            };
+            packets.push(packet_of(encode_user_event(alloc, &event))?)?;
         }
     }
     Ok(packets)

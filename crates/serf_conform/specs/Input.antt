@@ -25,6 +25,12 @@ ReadsReply None new text = Unit {0}
 ReadsReply (Some input) None text = ⊥
 ReadsReply (Some input) (Some rest) text = first_reply input ≡ Some (record { text = text; rest = rest })
 
+-- a reader gave the first reply of its known bytes, or has none
+abbrev pub Hears : Option Cut → Option (List ℕ) → Option (List ℕ) → Type 0
+Hears cut None new = cut ≡ None
+Hears cut (Some text) None = ⊥
+Hears cut (Some text) (Some rest) = cut ≡ Some (record { text = text; rest = rest })
+
 -- What is left of the known bytes, behind this text of a reply, is cut where the whole is.
 abbrev pub IsCutAlike : Option (List ℕ) → Option (List ℕ) → Bool → List ℕ → Type 0
 IsCutAlike None now begins text = Unit {0}

@@ -1,11 +1,13 @@
 -- What an agent is thought of, by what it writes.
-use Rattle.std.specs.Prelude.{◌≡◌, ℕ, ◌+◌, ◌++◌, ◌&&◌, Bool, not, if◌then◌else◌, List, [], ◌∷◌, length, take, drop, Option, Some, None}
+use Rattle.std.specs.Prelude.{◌≡◌, ◌<◌, ◌≤◌, ◌-◌, ◌^◌, ℕ, ◌+◌, ◌++◌, ◌&&◌, Bool, true, false, not, if◌then◌else◌, List, [], ◌∷◌, length, take, drop, Option, Some, None}
 use Rattle.std.specs.Io.KnownBytes.{Appends}
 use Rattle.serf_agent.specs.declared.config.Config.{Config}
+use Rattle.serf_model.specs.declared.action.Act.TheVariants as acts
 use Rattle.serf_model.specs.declared.action.Action.{Action}
 use Rattle.serf_model.specs.declared.action.Action.TheVariants as actions
 use Rattle.serf_model.specs.declared.line.Line.{Line}
 use Rattle.serf_model.specs.Trace.{Turn, actor_of, is_agent, packet_given}
+use Rattle.serf_model.specs.Alone.{AgentCall, call_by}
 use Rattle.serf_model.specs.Common.{is_common}
 use Rattle.serf_conform.specs.CallText.{call_line, open_line}
 use Rattle.serf_conform.specs.Input.{Cut, first_reply}
@@ -14,9 +16,12 @@ use Rattle.serf_conform.specs.declared.judging.Judgement.{Judgement}
 use Rattle.serf_conform.specs.declared.judging.Judgement.TheVariants as judgements
 use Rattle.serf_conform.specs.declared.asking.Asked.{Asked}
 use Rattle.serf_conform.specs.declared.asking.Asked.TheVariants as asks
+use Rattle.serf_conform.specs.declared.look.Look.{Look}
+use Rattle.serf_conform.specs.declared.tally.Tally.{Tally}
 use Rattle.serf_conform.specs.declared.verdict.End.{End}
 use Rattle.serf_conform.specs.declared.verdict.End.TheVariants as ends
 use Rattle.serf_conform.specs.declared.verdict.Verdict.{Verdict}
+use Rattle.serf_conform.specs.Look.{is_looked_behind, look_after, look_judged, look_line}
 use Rattle.serf_conform.specs.Wanted.{judged, opening, wanted_of}
 
 -- One call
@@ -39,6 +44,14 @@ asked_in given wanted (Some cut) = record { asked = asked_by (judged given wante
 abbrev pub asked_of : List ℕ → Said → List ℕ → AskedOf
 asked_of given wanted input = asked_in given wanted (first_reply input)
 
+-- a look, where this is wanted
+abbrev pub looked_in : Bool → Look → Option Cut → AskedOf
+looked_in serf look None = record { asked = asks.Ended; rest = [] }
+looked_in serf look (Some cut) = record { asked = asked_by (look_judged serf look (reply_of cut.text)) cut.text; rest = cut.rest }
+
+abbrev pub looked_of : Bool → Look → List ℕ → AskedOf
+looked_of serf look input = looked_in serf look (first_reply input)
+
 -- where the agent has not ended, the reader has the rest left
 abbrev pub RestIs : Asked → Option (List ℕ) → List ℕ → Type 0
 RestIs asks.Skipped new rest = new ≡ Some rest
@@ -47,6 +60,10 @@ RestIs asks.OwnRule new rest = new ≡ Some rest
 RestIs asks.Unsupported new rest = new ≡ Some rest
 RestIs (asks.Differs text) new rest = new ≡ Some rest
 RestIs asks.Ended new rest = Unit {0}
+RestIs asks.Looked new rest = new ≡ Some rest
+RestIs asks.Unlooked new rest = new ≡ Some rest
+RestIs (asks.LookDiffers look text) new rest = new ≡ Some rest
+RestIs (asks.LookEnded look) new rest = Unit {0}
 
 pub record IsAsked (s : AskedOf) (asked : Asked) (new : Option (List ℕ)) : Type 0 where
   pub asked_is : asked ≡ s.asked
@@ -56,8 +73,8 @@ pub record IsAsked (s : AskedOf) (asked : Asked) (new : Option (List ℕ)) : Typ
 
 -- the packet that a call gives, or none in a call that needs none; None where it names no packet
 abbrev pub given_of : Action → Option (List ℕ) → Option (List ℕ)
-given_of (actions.Deliver to packet now) given = given
-given_of (actions.Merge to packet join) given = given
+given_of (actions.Of agent (acts.Deliver packet now)) given = given
+given_of (actions.Of agent (acts.Merge packet join)) given = given
 given_of _ given = Some []
 
 -- the packet of a turn that is a call of this agent
@@ -77,14 +94,61 @@ pub record Taken : Type 0 where
 abbrev pub with_line : List ℕ → AskedOf → Taken
 with_line line s = record { asked = s.asked; written = line; rest = s.rest }
 
-abbrev pub taken_by : Bool → Option (List ℕ) → Turn → List ℕ → Taken
-taken_by serf None t input = record { asked = asks.Skipped; written = []; rest = input }
-taken_by serf (Some given) t input =
-    if serf && not (is_common t) then record { asked = asks.OwnRule; written = []; rest = input }
-    else with_line (call_line t.action given) (asked_of given (wanted_of t.line given t.packets) input)
+-- a call that agrees, with what came of the look behind it
+abbrev pub with_looked : Look → Asked → Asked
+with_looked look asks.Agrees = asks.Looked
+with_looked look asks.Unsupported = asks.Unlooked
+with_looked look (asks.Differs text) = asks.LookDiffers look text
+with_looked look asks.Ended = asks.LookEnded look
+with_looked look asked = asked
 
-abbrev pub taken_of : Bool → ℕ → Turn → List ℕ → Taken
-taken_of serf a t input = taken_by serf (given_for a t) t input
+-- a reply was read, and agrees
+abbrev pub agrees : Asked → Bool
+agrees asks.Agrees = true
+agrees _ = false
+
+abbrev pub look_if : Bool → Bool → Look → Taken → Taken
+look_if false serf look s = s
+look_if true serf look s =
+    let l = looked_of serf look s.rest in
+    record { asked = with_looked look l.asked; written = s.written ++ look_line; rest = l.rest }
+
+-- a call, and the look behind it where one is due and the call agrees
+abbrev pub then_looked : Bool → Option Look → Taken → Taken
+then_looked serf None s = s
+then_looked serf (Some look) s = look_if (agrees s.asked) serf look s
+
+abbrev pub taken_by : Bool → Option Look → Option (List ℕ) → Turn → List ℕ → Taken
+taken_by serf due None t input = record { asked = asks.Skipped; written = []; rest = input }
+taken_by serf due (Some given) t input =
+    if serf && not (is_common t) then record { asked = asks.OwnRule; written = []; rest = input }
+    else then_looked serf due (with_line (call_line t.action given) (asked_of given (wanted_of t.line given t.packets) input))
+
+abbrev pub taken_of : Bool → ℕ → Option Look → Turn → List ℕ → Taken
+taken_of serf a due t input = taken_by serf due (given_for a t) t input
+
+-- the opening, and the look behind it
+abbrev pub opened_of : Bool → Config → List ℕ → Taken
+opened_of serf config input = then_looked serf (Some (look_after config [])) (with_line (open_line config []) (asked_of [] opening input))
+
+-- the calls that the model's agent got, with that of a turn, which gives this packet
+abbrev pub made_with : Option (List ℕ) → Turn → List AgentCall → List AgentCall
+made_with None t made = made
+made_with (Some given) t made = made ++ call_by t.action (Some given)
+
+abbrev pub made_after : ℕ → Turn → List AgentCall → List AgentCall
+made_after a t made = made_with (given_for a t) t made
+
+-- the look that is due behind a turn
+abbrev pub due_if : Bool → Look → Option Look
+due_if due look = if due then Some look else None
+
+abbrev pub due_by : Option (List ℕ) → Turn → Look → Option Look
+due_by None t look = None
+due_by (Some given) t look = due_if (is_looked_behind t.line.answer) look
+
+abbrev pub due_of : ℕ → Config → List AgentCall → Turn → Option Look
+due_of a config made t = due_by (given_for a t) t (look_after config made)
 
 pub record IsTaken (s : Taken) (asked : Asked) (new : Option (List ℕ)) (held : Option (List ℕ)) (holds : Option (List ℕ)) : Type 0 where
   pub asked_is : asked ≡ s.asked
@@ -99,30 +163,88 @@ pub record Session : Type 0 where
   pub written : List ℕ
   pub rest : List ℕ
 
-abbrev pub ends_at : ℕ → ℕ → End → List ℕ → List ℕ → Session
-ends_at action calls end written rest = record { verdict = record { calls = calls; action = action; end = end }; written = written; rest = rest }
+-- the counts behind a call, where it agrees
+abbrev pub one_more : Tally → Tally
+one_more n = record { calls = n.calls + 1; looks = n.looks; unsupported = n.unsupported }
 
--- It goes on with the calls that agree, what was written, and what the agent writes from there on.
-abbrev pub after_asked : Asked → ℕ → ℕ → List ℕ → List ℕ → (ℕ → List ℕ → List ℕ → Session) → Session
-after_asked asks.Skipped action calls written rest next = next calls written rest
-after_asked asks.Agrees action calls written rest next = next (calls + 1) written rest
-after_asked asks.OwnRule action calls written rest next = ends_at action calls ends.OwnRule written rest
-after_asked asks.Unsupported action calls written rest next = ends_at action calls ends.Unsupported written rest
-after_asked (asks.Differs text) action calls written rest next = ends_at action calls (ends.Differs text) written rest
-after_asked asks.Ended action calls written rest next = ends_at action calls ends.Ended written rest
+-- and behind a look
+abbrev pub look_agrees : Tally → Tally
+look_agrees n = record { calls = n.calls; looks = n.looks + 1; unsupported = n.unsupported }
 
--- the turns that are left, from the one of this action on
-abbrev pub session_from : Bool → ℕ → ℕ → ℕ → List ℕ → List Turn → List ℕ → Session
-session_from serf a action calls written [] input = ends_at action calls ends.AllAgree written input
-session_from serf a action calls written (t ∷ ts) input =
-    let s = taken_of serf a t input in
-    after_asked s.asked action calls (written ++ s.written) s.rest (λ c w rest. session_from serf a (action + 1) c w ts rest)
+abbrev pub look_unsupported : Tally → Tally
+look_unsupported n = record { calls = n.calls; looks = n.looks; unsupported = n.unsupported + 1 }
+
+abbrev pub counted : Asked → Tally → Tally
+counted asks.Skipped n = n
+counted asks.Agrees n = one_more n
+counted asks.OwnRule n = n
+counted asks.Unsupported n = n
+counted (asks.Differs text) n = n
+counted asks.Ended n = n
+counted asks.Looked n = look_agrees (one_more n)
+counted asks.Unlooked n = look_unsupported (one_more n)
+counted (asks.LookDiffers look text) n = one_more n
+counted (asks.LookEnded look) n = one_more n
+
+-- no count is the greatest of 64 bits
+pub record HasRoom (n : Tally) : Type 0 where
+  pub calls : n.calls < 2 ^ 64 - 1
+  pub looks : n.looks < 2 ^ 64 - 1
+  pub unsupported : n.unsupported < 2 ^ 64 - 1
+
+-- no count is above this
+pub record IsFew (n : Tally) (most : ℕ) : Type 0 where
+  pub calls : n.calls ≤ most
+  pub looks : n.looks ≤ most
+  pub unsupported : n.unsupported ≤ most
+
+abbrev pub no_calls : Tally
+no_calls = record { calls = 0; looks = 0; unsupported = 0 }
+
+-- a verdict at an action, and the look that was wanted, where it ended at one
+abbrev pub verdict_at : ℕ → Tally → Option Look → End → Verdict
+verdict_at action n look end = record { calls = n.calls; looks = n.looks; unsupported_looks = n.unsupported; action = action; look = look; end = end }
+
+abbrev pub ends_at : ℕ → Tally → Option Look → End → List ℕ → List ℕ → Session
+ends_at action n look end written rest = record { verdict = verdict_at action n look end; written = written; rest = rest }
+
+-- It goes on with what agrees, what was written, and what the agent writes from there on.
+abbrev pub after_asked : Asked → ℕ → Tally → List ℕ → List ℕ → (Tally → List ℕ → List ℕ → Session) → Session
+after_asked asks.Skipped action n written rest next = next (counted asks.Skipped n) written rest
+after_asked asks.Agrees action n written rest next = next (counted asks.Agrees n) written rest
+after_asked asks.OwnRule action n written rest next = ends_at action n None ends.OwnRule written rest
+after_asked asks.Unsupported action n written rest next = ends_at action n None ends.Unsupported written rest
+after_asked (asks.Differs text) action n written rest next = ends_at action n None (ends.Differs text) written rest
+after_asked asks.Ended action n written rest next = ends_at action n None ends.Ended written rest
+after_asked asks.Looked action n written rest next = next (counted asks.Looked n) written rest
+after_asked asks.Unlooked action n written rest next = next (counted asks.Unlooked n) written rest
+after_asked (asks.LookDiffers look text) action n written rest next = ends_at action (one_more n) (Some look) (ends.Differs text) written rest
+after_asked (asks.LookEnded look) action n written rest next = ends_at action (one_more n) (Some look) ends.Ended written rest
+
+-- the look behind the last call
+abbrev pub last_of : Asked → ℕ → Tally → Look → Verdict
+last_of asks.Agrees action n look = verdict_at action (look_agrees n) None ends.AllAgree
+last_of asks.Unsupported action n look = verdict_at action (look_unsupported n) None ends.AllAgree
+last_of (asks.Differs text) action n look = verdict_at action n (Some look) (ends.Differs text)
+last_of asks.Ended action n look = verdict_at action n (Some look) ends.Ended
+last_of (asks.LookEnded other) action n look = verdict_at action n (Some look) ends.Ended
+last_of asked action n look = verdict_at action n None ends.AllAgree
+
+-- The turns that are left, from the one of this action on, where the model's agent got these calls.
+abbrev pub session_from : Bool → ℕ → Config → List AgentCall → ℕ → Tally → List ℕ → List Turn → List ℕ → Session
+session_from serf a config made action n written [] input =
+    let look = look_after config made in
+    let l = looked_of serf look input in
+    record { verdict = last_of l.asked action n look; written = written ++ look_line; rest = l.rest }
+session_from serf a config made action n written (t ∷ ts) input =
+    let s = taken_of serf a (due_of a config (made_after a t made) t) t input in
+    after_asked s.asked action n (written ++ s.written) s.rest (λ m w rest. session_from serf a config (made_after a t made) (action + 1) m w ts rest)
 
 -- An agent is opened, which counts as action 0, and is then held against the turns of agent a; actions count from 1.
 abbrev pub session : Bool → ℕ → Config → List Turn → List ℕ → Session
 session serf a config turns input =
-    let s = asked_of [] opening input in
-    after_asked s.asked 0 0 (open_line config []) s.rest (λ c w rest. session_from serf a 1 c w turns rest)
+    let s = opened_of serf config input in
+    after_asked s.asked 0 no_calls s.written s.rest (λ n w rest. session_from serf a config [] 1 n w turns rest)
 
 -- where the agent has not ended, the reader has the rest left
 abbrev pub IsLeft : End → Option (List ℕ) → List ℕ → Type 0
@@ -145,19 +267,14 @@ IsAlong (Some input) None held holds whole from = ⊥
 IsAlong (Some input) (Some rest) held holds whole from = (w : List ℕ) × Appends held holds w × (from w rest ≡ whole input)
 
 -- the verdict where this came of a call, or None where it goes on
-abbrev pub ending_of : Asked → ℕ → ℕ → Option Verdict
-ending_of asks.Skipped action calls = None
-ending_of asks.Agrees action calls = None
-ending_of asks.OwnRule action calls = Some (record { calls = calls; action = action; end = ends.OwnRule })
-ending_of asks.Unsupported action calls = Some (record { calls = calls; action = action; end = ends.Unsupported })
-ending_of (asks.Differs text) action calls = Some (record { calls = calls; action = action; end = ends.Differs text })
-ending_of asks.Ended action calls = Some (record { calls = calls; action = action; end = ends.Ended })
-
--- 1 where a reply agrees
-abbrev pub agreeing_in : Asked → ℕ
-agreeing_in asks.Agrees = 1
-agreeing_in asks.Skipped = 0
-agreeing_in asks.OwnRule = 0
-agreeing_in asks.Unsupported = 0
-agreeing_in (asks.Differs text) = 0
-agreeing_in asks.Ended = 0
+abbrev pub ending_of : Asked → ℕ → Tally → Option Verdict
+ending_of asks.Skipped action n = None
+ending_of asks.Agrees action n = None
+ending_of asks.OwnRule action n = Some (verdict_at action n None ends.OwnRule)
+ending_of asks.Unsupported action n = Some (verdict_at action n None ends.Unsupported)
+ending_of (asks.Differs text) action n = Some (verdict_at action n None (ends.Differs text))
+ending_of asks.Ended action n = Some (verdict_at action n None ends.Ended)
+ending_of asks.Looked action n = None
+ending_of asks.Unlooked action n = None
+ending_of (asks.LookDiffers look text) action n = Some (verdict_at action (one_more n) (Some look) (ends.Differs text))
+ending_of (asks.LookEnded look) action n = Some (verdict_at action (one_more n) (Some look) ends.Ended)

@@ -1,22 +1,26 @@
 //! One call of an agent, and one turn.
 
-ghost use Rattle.std.specs.Prelude.{◌≡◌, ◌+◌, ◌≤◌, IfOk, IfSome, OnOk, Some, length};
+ghost use Rattle.std.specs.Prelude.{◌≡◌, ◌+◌, ◌-◌, ◌^◌, ◌<◌, ◌≤◌, ℕ, List, Option, IfOk, IfSome, OnOk, Some, length};
 ghost use Rattle.std.specs.Io.KnownBytes.{Appends};
-ghost use Rattle.std.specs.Option.{option_copied};
+ghost use Rattle.std.specs.Option.{option_copied, option_map};
 ghost use Rattle.serf_model.specs.Trace.{actor_of, is_agent, packet_given};
 ghost use Rattle.serf_conform.specs.CallText.{call_line};
+ghost use Rattle.serf_conform.specs.Input.{Hears, first_reply};
+ghost use Rattle.serf_conform.specs.Look.{look_line as line_of_look};
 ghost use Rattle.serf_conform.specs.Reply.{said_in};
 ghost use Rattle.serf_conform.specs.Rules.{is_serf};
-ghost use Rattle.serf_conform.specs.Session.{IsAsked, IsTaken, asked_of, given_of, taken_of, turn_at};
+ghost use Rattle.serf_conform.specs.Session.{IsAsked, IsTaken, Taken, asked_by, asked_of, given_of, look_agrees, look_unsupported, looked_of, one_more, taken_of, then_looked, turn_at, with_line, with_looked};
 ghost use Rattle.serf_conform.specs.Wanted.{wanted_of};
 
 use crate::call::put_call;
 use crate::input::{ReadFault, read_reply_text};
 use crate::judging::{Judgement, judge};
+use crate::look::{Look, judge_look, look_line};
 use crate::replies::wanted;
 use crate::reply::Reply;
+use crate::tally::Tally;
 use crate::verdict::{ConformFault, Rules};
-use serf_model::{Action, Line, is_common_turn};
+use serf_model::{Act, Action, Line, is_common_turn};
 use serf_text::write_output;
 use serf_wire::Bytes;
 use std::alloc::{AllocError, Global};
@@ -33,24 +37,102 @@ pub(crate) enum Asked {
     Unsupported,
     Differs(Bytes),
     Ended,
+    /// It agrees, and so does the look behind it.
+    Looked,
+    /// It agrees, and the look behind it is unsupported.
+    Unlooked,
+    /// It agrees, and the look behind it, of which this is wanted, does not.
+    LookDiffers(Look, Bytes),
+    /// It agrees, and the agent ended at the look behind it, of which this is wanted.
+    LookEnded(Look),
+}
+
+/// The counts behind a call that agrees.
+fn one_more(tally: Tally) -> Tally
+    requires { tally.calls < 2 ^ 64 - 1 }
+    ensures { result ≡ one_more tally }
+{
+    Tally {
+        calls: tally.calls + 1,
+        looks: tally.looks,
+        unsupported: tally.unsupported,
+    }
+}
+
+/// The counts behind a look that agrees.
+pub(crate) fn look_agrees(tally: Tally) -> Tally
+    requires { tally.looks < 2 ^ 64 - 1 }
+    ensures { result ≡ look_agrees tally }
+{
+    Tally {
+        calls: tally.calls,
+        looks: tally.looks + 1,
+        unsupported: tally.unsupported,
+    }
+}
+
+/// The counts behind a look that is unsupported.
+pub(crate) fn look_unsupported(tally: Tally) -> Tally
+    requires { tally.unsupported < 2 ^ 64 - 1 }
+    ensures { result ≡ look_unsupported tally }
+{
+    Tally {
+        calls: tally.calls,
+        looks: tally.looks,
+        unsupported: tally.unsupported + 1,
+    }
 }
 
 impl Asked {
     ghost use Rattle.std.specs.Prelude.{◌≡◌};
-    ghost use Rattle.serf_conform.specs.Session.{agreeing_in};
+    ghost use Rattle.serf_conform.specs.Session.{HasRoom, agrees, counted};
 
-    /// 1 where the call was made and its reply agrees, else 0.
-    pub(crate) fn agreeing(&self) -> u64
-        ensures { result ≡ agreeing_in self.now }
+    /// Whether a reply was read, and agrees.
+    fn agrees(&self) -> bool
+        ensures { result ≡ agrees self.now }
+    {
+        matches!(self, Asked::Agrees)
+    }
+
+    /// The counts behind it.
+    pub(crate) fn counted(&self, tally: Tally) -> Tally
+        requires { HasRoom tally }
+        ensures { result ≡ counted self.now tally }
     {
         match self {
-            Asked::Agrees => 1,
-            Asked::Skipped => 0,
-            Asked::OwnRule => 0,
-            Asked::Unsupported => 0,
-            Asked::Differs(_) => 0,
-            Asked::Ended => 0,
+            Asked::Agrees | Asked::LookDiffers(..) | Asked::LookEnded(_) => one_more(tally),
+            Asked::Looked => look_agrees(one_more(tally)),
+            Asked::Unlooked => look_unsupported(one_more(tally)),
+            Asked::Skipped
+            | Asked::OwnRule
+            | Asked::Unsupported
+            | Asked::Differs(_)
+            | Asked::Ended => tally,
         }
+    }
+}
+
+/// The next reply, or `None` where the agent has ended.
+fn heard<R: Read>(alloc: Global, reader: &mut R) -> Result<Option<Vec<u8>>, ConformFault>
+    ensures { IfOk result (λ text. IfSome (R.remaining reader.old) (λ input. Hears
+        (first_reply input) (option_map (λ t. t.items) text) (R.remaining reader.new))) }
+{
+    match read_reply_text(alloc, reader) {
+        Ok(text) => Ok(Some(text)),
+        Err(ReadFault::Ended) => Ok(None),
+        Err(ReadFault::ReadFault) => Err(ConformFault::ReadFault),
+        Err(ReadFault::TooLong) => Err(ConformFault::ReplyTooLong),
+        Err(ReadFault::OutOfMemory) => Err(ConformFault::OutOfMemory),
+    }
+}
+
+fn asked_by(judgement: Judgement, text: Vec<u8>) -> Asked
+    ensures { result ≡ asked_by judgement text.items }
+{
+    match judgement {
+        Judgement::Agrees => Asked::Agrees,
+        Judgement::Differs => Asked::Differs(Bytes::from_vec(text)),
+        Judgement::Unsupported => Asked::Unsupported,
     }
 }
 
@@ -71,19 +153,75 @@ pub(crate) fn ask<R: Read, W: Write>(
     if write_output(writer, line).is_err() {
         return Err(ConformFault::WriteFault);
     }
-    let text = match read_reply_text(alloc, reader) {
-        Ok(text) => text,
-        Err(ReadFault::Ended) => return Ok(Asked::Ended),
-        Err(ReadFault::ReadFault) => return Err(ConformFault::ReadFault),
-        Err(ReadFault::TooLong) => return Err(ConformFault::ReplyTooLong),
-        Err(ReadFault::OutOfMemory) => return Err(ConformFault::OutOfMemory),
+    let Some(text) = heard(alloc, reader)? else {
+        return Ok(Asked::Ended);
     };
     match judge(alloc, given, wanted, &text) {
-        Ok(Judgement::Agrees) => Ok(Asked::Agrees),
-        Ok(Judgement::Differs) => Ok(Asked::Differs(Bytes::from_vec(text))),
-        Ok(Judgement::Unsupported) => Ok(Asked::Unsupported),
+        Ok(judgement) => Ok(asked_by(judgement, text)),
         Err(_) => Err(ConformFault::OutOfMemory),
     }
+}
+
+/// Writes `look`, reads its reply, and judges it.
+pub(crate) fn ask_look<R: Read, W: Write>(
+    alloc: Global,
+    reader: &mut R,
+    writer: &mut W,
+    rules: Rules,
+    look: &Look,
+) -> Result<Asked, ConformFault>
+    ensures written { OnOk result
+        (Appends (W.contents writer.old) (W.contents writer.new) line_of_look) }
+    ensures asked { IfOk result (λ asked. IfSome (R.remaining reader.old) (λ input.
+        IsAsked (looked_of (is_serf rules) look.now input) asked (R.remaining reader.new))) }
+{
+    if write_output(writer, look_line()).is_err() {
+        return Err(ConformFault::WriteFault);
+    }
+    let Some(text) = heard(alloc, reader)? else {
+        return Ok(Asked::Ended);
+    };
+    match judge_look(alloc, rules, look, &text) {
+        Ok(judgement) => Ok(asked_by(judgement, text)),
+        Err(_) => Err(ConformFault::OutOfMemory),
+    }
+}
+
+/// A call that agrees, with what came of the look behind it.
+fn with_looked(look: Look, looked: Asked) -> Asked
+    ensures { result ≡ with_looked look looked }
+{
+    match looked {
+        Asked::Agrees => Asked::Looked,
+        Asked::Unsupported => Asked::Unlooked,
+        Asked::Differs(text) => Asked::LookDiffers(look, text),
+        Asked::Ended => Asked::LookEnded(look),
+        other => other,
+    }
+}
+
+/// Looks behind a call, where that is due and the call agrees.
+pub(crate) fn then_look<R: Read, W: Write>(
+    alloc: Global,
+    reader: &mut R,
+    writer: &mut W,
+    rules: Rules,
+    due: Option<Look>,
+    asked: Asked,
+) -> Result<Asked, ConformFault>
+    ensures { (s : Taken) (held : Option (List ℕ))
+        → IsTaken s asked (R.remaining reader.old) held (W.contents writer.old)
+        → IfOk result (λ came. IsTaken (then_looked (is_serf rules) due s) came
+        (R.remaining reader.new) held (W.contents writer.new)) }
+{
+    let Some(look) = due else {
+        return Ok(asked);
+    };
+    if !asked.agrees() {
+        return Ok(asked);
+    }
+    let looked = ask_look(alloc, reader, writer, rules, &look)?;
+    Ok(with_looked(look, looked))
 }
 
 /// Whether an action is one of this agent. Takes no memory.
@@ -102,7 +240,10 @@ pub fn given_packet<'a>(action: &Action, sent: &'a [Bytes]) -> Option<&'a [u8]>
     ensures { option_copied result ≡ given_of action.now (packet_given sent.now action.now) }
 {
     match action {
-        Action::Deliver { .. } | Action::Merge { .. } => action.given(sent),
+        Action::Of {
+            act: Act::Deliver { .. } | Act::Merge { .. },
+            ..
+        } => action.given(sent),
         _ => Some(&[]),
     }
 }
@@ -140,21 +281,43 @@ fn make_call<R: Read, W: Write>(
     ask(alloc, reader, writer, &text, given, &reply)
 }
 
-/// Makes the call of a turn, where it is one of this agent that rests on these rules, and judges its reply. Before the
-/// turn these packets were sent, and by it those.
+/// Makes a call of an agent, which is given this packet, judges its reply, and looks behind it where that is due.
+fn call_and_look<R: Read, W: Write>(
+    alloc: Global,
+    reader: &mut R,
+    writer: &mut W,
+    rules: Rules,
+    due: Option<Look>,
+    action: &Action,
+    line: &Line,
+    given: &[u8],
+    packets: &[Bytes],
+) -> Result<Asked, ConformFault>
+    ensures { IfOk result (λ came. IfSome (R.remaining reader.old) (λ input. IsTaken
+        (then_looked (is_serf rules) due (with_line (call_line action.now given.now)
+        (asked_of given.now (wanted_of line.now given.now packets.now) input)))
+        came (R.remaining reader.new) (W.contents writer.old) (W.contents writer.new))) }
+{
+    let asked = make_call(alloc, reader, writer, action, line, given, packets)?;
+    then_look(alloc, reader, writer, rules, due, asked)
+}
+
+/// Makes the call of a turn, where it is one of this agent that rests on these rules, judges its reply, and looks behind
+/// it where that is due. Before the turn these packets were sent, and by it those.
 pub(crate) fn take_turn<R: Read, W: Write>(
     alloc: Global,
     reader: &mut R,
     writer: &mut W,
     rules: Rules,
     agent: u64,
+    due: Option<Look>,
     action: &Action,
     line: &Line,
     before: &[Bytes],
     packets: &[Bytes],
 ) -> Result<Asked, ConformFault>
     ensures { IfOk result (λ asked.
-        IfSome (R.remaining reader.old) (λ input. IsTaken (taken_of (is_serf rules) agent
+        IfSome (R.remaining reader.old) (λ input. IsTaken (taken_of (is_serf rules) agent due
         (record {
           action = action.now;
           line = line.now;
@@ -172,7 +335,9 @@ pub(crate) fn take_turn<R: Read, W: Write>(
     if rules.is_serf() && !is_common_turn(action, line) {
         return Ok(Asked::OwnRule);
     }
-    make_call(alloc, reader, writer, action, line, given, packets)
+    call_and_look(
+        alloc, reader, writer, rules, due, action, line, given, packets,
+    )
 }
 
 /// The same, of the turn whose packets follow so many of all that were sent; `OtherTrace` where there are fewer.
@@ -182,13 +347,14 @@ pub(crate) fn next_turn<R: Read, W: Write>(
     writer: &mut W,
     rules: Rules,
     agent: u64,
+    due: Option<Look>,
     action: &Action,
     line: &Line,
     sent: &[Bytes],
     count: usize,
 ) -> Result<Asked, ConformFault>
     ensures taken { IfOk result (λ asked. IfSome (R.remaining reader.old) (λ input. IsTaken
-        (taken_of (is_serf rules) agent (turn_at count sent.now action.now line.now) input)
+        (taken_of (is_serf rules) agent due (turn_at count sent.now action.now line.now) input)
         asked (R.remaining reader.new) (W.contents writer.old) (W.contents writer.new))) }
     ensures fits { OnOk result (count + length line.now.sent ≤ length sent.now) }
 {
@@ -199,6 +365,6 @@ pub(crate) fn next_turn<R: Read, W: Write>(
     let before = &sent[..count];
     let packets = &sent[count..count + own];
     take_turn(
-        alloc, reader, writer, rules, agent, action, line, before, packets,
+        alloc, reader, writer, rules, agent, due, action, line, before, packets,
     )
 }

@@ -19,7 +19,8 @@ pub enum Judgement {
     Unsupported,
 }
 
-fn is_refused(reply: &Reply) -> bool
+/// Whether a reply says that the agent has no such call.
+pub(crate) fn is_refused(reply: &Reply) -> bool
     ensures { result ≡ is_unsupported (said_in reply.now) }
 {
     reply.answer.as_slice() == b"unsupported".as_slice() && reply.lines.is_empty()

@@ -15,7 +15,7 @@ use crate::reply::Reply;
 use crate::reply_line::ReplyLine;
 use crate::reply_text::put_reply_line;
 use serf_text::{put_members, put_message, put_number_line, put_slot};
-use serf_wire::{Message, SlotView, SlotViews, StatusTimes, Texts, decode};
+use serf_wire::{Message, PushPull, SlotView, SlotViews, decode};
 use std::alloc::{AllocError, Global};
 
 /// Appends a slot without its number, or nothing where it is empty.
@@ -40,23 +40,15 @@ fn put_held_slots(out: &mut Vec<u8>, slots: SlotViews) -> Result<(), AllocError>
 
 /// Appends the fields of a state without its empty slots.
 #[tactic(auto, unfolding(crate::specs::Meaning::state_lines))]
-fn put_state(
-    out: &mut Vec<u8>,
-    member_clock: u64,
-    status: StatusTimes,
-    left: Texts,
-    event_clock: u64,
-    slots: SlotViews,
-    query_clock: u64,
-) -> Result<(), AllocError>
-    ensures { OnOk result (out.new.items ≡ out.old.items
-        ++ state_lines member_clock (status_left status.entry) (texts_left left.entry)
-        event_clock (slots_left slots.entry) query_clock) }
+fn put_state(out: &mut Vec<u8>, state: &PushPull) -> Result<(), AllocError>
+    ensures { OnOk result (out.new.items ≡ out.old.items ++ state_lines state.now.member_clock
+        (status_left state.now.status) (texts_left state.now.left)
+        state.now.event_clock (slots_left state.now.slots) state.now.query_clock) }
 {
-    put_members(out, member_clock, status, left)?;
-    put_number_line(out, b"EventLTime", event_clock)?;
-    put_held_slots(out, slots)?;
-    put_number_line(out, b"QueryLTime", query_clock)
+    put_members(out, state)?;
+    put_number_line(out, b"EventLTime", state.event_clock)?;
+    put_held_slots(out, state.slots)?;
+    put_number_line(out, b"QueryLTime", state.query_clock)
 }
 
 /// Appends what a message says, where empty slots of a state don't count.
@@ -64,25 +56,10 @@ fn put_meaning(out: &mut Vec<u8>, message: &Message) -> Result<(), AllocError>
     ensures { OnOk result (out.new.items ≡ out.old.items ++ meaning_text (message_of message.now)) }
 {
     match message {
-        Message::PushPull {
-            member_clock,
-            status,
-            left,
-            event_clock,
-            slots,
-            query_clock,
-        } => put_state(
-            out,
-            *member_clock,
-            *status,
-            *left,
-            *event_clock,
-            *slots,
-            *query_clock,
-        ),
-        Message::UserEvent { .. } => put_message(out, message),
-        Message::Query { .. } => put_message(out, message),
-        Message::QueryResponse { .. } => put_message(out, message),
+        Message::PushPull(state) => put_state(out, state),
+        Message::UserEvent(_) => put_message(out, message),
+        Message::Query(_) => put_message(out, message),
+        Message::QueryResponse(_) => put_message(out, message),
         Message::Foreign(_) => put_message(out, message),
     }
 }

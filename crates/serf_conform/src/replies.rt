@@ -29,13 +29,13 @@ fn add_ack(alloc: Global, lines: &mut Vec<ReplyLine>, given: &[u8]) -> Result<()
     ensures { OnOk result (lines.new.items ≡ lines.old.items ++ ack_of (decoded given.now)) }
 {
     match decode(given) {
-        Ok(Message::QueryResponse { time, id, from, .. }) => {
-            let from = Bytes::copy_of(alloc, from)?;
+        Ok(Message::QueryResponse(answer)) => {
+            let from = Bytes::copy_of(alloc, answer.from)?;
             add(
                 lines,
                 ReplyLine::CountedAck {
-                    time,
-                    id: u64::from(id),
+                    time: answer.time,
+                    id: u64::from(answer.id),
                     from,
                 },
             )
@@ -49,22 +49,14 @@ fn add_response(alloc: Global, lines: &mut Vec<ReplyLine>, given: &[u8]) -> Resu
     ensures { OnOk result (lines.new.items ≡ lines.old.items ++ response_of (decoded given.now)) }
 {
     match decode(given) {
-        Ok(
-            Message::QueryResponse {
-                time,
-                id,
-                from,
-                payload,
-                ..
-            },
-        ) => {
-            let from = Bytes::copy_of(alloc, from)?;
-            let payload = Bytes::copy_of(alloc, payload)?;
+        Ok(Message::QueryResponse(answer)) => {
+            let from = Bytes::copy_of(alloc, answer.from)?;
+            let payload = Bytes::copy_of(alloc, answer.payload)?;
             add(
                 lines,
                 ReplyLine::CountedResponse {
-                    time,
-                    id: u64::from(id),
+                    time: answer.time,
+                    id: u64::from(answer.id),
                     from,
                     payload,
                 },

@@ -2,19 +2,26 @@
 
 ghost use Rattle.std.specs.Prelude.{◌≡◌, ℕ, List, [], Option, IfOk, IfSome, OnOk};
 ghost use Rattle.std.specs.Io.KnownBytes.{Appends};
+ghost use Rattle.serf_agent.specs.declared.config.Config.{Config as ConfigOf};
+ghost use Rattle.serf_model.specs.Alone.{AgentCall};
 ghost use Rattle.serf_model.specs.Trace.{outcome_of, turns_from, turns_of};
 ghost use Rattle.serf_conform.specs.CallText.{open_line};
+ghost use Rattle.serf_conform.specs.Lone.{IsLone};
 ghost use Rattle.serf_conform.specs.Rules.{is_serf};
-ghost use Rattle.serf_conform.specs.Session.{Concludes, IsAlong, IsAsked, asked_of, ending_of, session, session_from};
+ghost use Rattle.serf_conform.specs.Session.{Concludes, HasRoom, IsAsked, IsFew, IsTaken, asked_of, ending_of, last_of, opened_of, session, session_from, verdict_at};
 ghost use Rattle.serf_conform.specs.Wanted.{opening as opening_of};
 
-use crate::asking::{Asked, ask, next_turn};
+use crate::asking::{Asked, ask, ask_look, look_agrees, look_unsupported, next_turn, then_look};
 use crate::call::put_open;
+use crate::lone::{follow_turn, look_at, open_lone};
+use crate::look::Look;
 use crate::replies::opening;
+use crate::tally::Tally;
 use crate::verdict::{ConformFault, End, Rules, Verdict};
 use serf_agent::Config;
 use serf_model::{Action, Line, Trace};
 use serf_wire::Bytes;
+use serf_world::World;
 use std::alloc::{AllocError, Global};
 use std::io::{Read, Write};
 
@@ -27,7 +34,7 @@ fn open_text(alloc: Global, config: &Config) -> Result<Vec<u8>, AllocError>
 }
 
 /// Opens an agent of these settings on an empty snapshot.
-fn open<R: Read, W: Write>(
+fn ask_open<R: Read, W: Write>(
     alloc: Global,
     reader: &mut R,
     writer: &mut W,
@@ -47,19 +54,92 @@ fn open<R: Read, W: Write>(
     ask(alloc, reader, writer, &text, &[], &reply)
 }
 
-/// The verdict where this came of the call of an action, behind so many that agree; `None` where it goes on.
-fn ending(asked: Asked, action: u64, calls: u64) -> Option<Verdict>
-    ensures { result ≡ ending_of asked action calls }
+/// Opens an agent of these settings on an empty snapshot, and looks at it. The model's agent has done nothing.
+fn open<R: Read, W: Write>(
+    alloc: Global,
+    reader: &mut R,
+    writer: &mut W,
+    rules: Rules,
+    config: &Config,
+    lone: &World,
+) -> Result<Asked, ConformFault>
+    requires { IsLone config.now [] lone.now }
+    ensures { IfOk result (λ asked. IfSome (R.remaining reader.old) (λ input.
+        IsTaken (opened_of (is_serf rules) config.now input) asked (R.remaining reader.new)
+        (W.contents writer.old) (W.contents writer.new))) }
 {
-    let end = match asked {
-        Asked::Skipped => return None,
-        Asked::Agrees => return None,
-        Asked::OwnRule => End::OwnRule,
-        Asked::Unsupported => End::Unsupported,
-        Asked::Differs(text) => End::Differs(text),
-        Asked::Ended => End::Ended,
+    let look = look_at(alloc, lone)?;
+    let asked = ask_open(alloc, reader, writer, config)?;
+    then_look(alloc, reader, writer, rules, Some(look), asked)
+}
+
+/// A verdict at an action, with the look that was wanted, where it ended at one.
+fn verdict_at(action: u64, tally: Tally, look: Option<Look>, end: End) -> Verdict
+    ensures { result ≡ verdict_at action tally look end }
+{
+    Verdict {
+        calls: tally.calls,
+        looks: tally.looks,
+        unsupported_looks: tally.unsupported,
+        action,
+        look,
+        end,
+    }
+}
+
+/// The verdict where this came of the call of an action, behind so many that agree; `None` where it goes on.
+fn ending(asked: Asked, action: u64, tally: Tally) -> Option<Verdict>
+    requires { HasRoom tally }
+    ensures { result ≡ ending_of asked action tally }
+{
+    let more = asked.counted(tally);
+    let (look, end) = match asked {
+        Asked::Skipped | Asked::Agrees | Asked::Looked | Asked::Unlooked => return None,
+        Asked::OwnRule => (None, End::OwnRule),
+        Asked::Unsupported => (None, End::Unsupported),
+        Asked::Differs(text) => (None, End::Differs(text)),
+        Asked::Ended => (None, End::Ended),
+        Asked::LookDiffers(look, text) => (Some(look), End::Differs(text)),
+        Asked::LookEnded(look) => (Some(look), End::Ended),
     };
-    Some(Verdict { calls, action, end })
+    Some(verdict_at(action, more, look, end))
+}
+
+/// The verdict where this came of the look behind the last call.
+fn last_ending(looked: Asked, action: u64, tally: Tally, look: Look) -> Verdict
+    requires { HasRoom tally }
+    ensures { result ≡ last_of looked action tally look }
+{
+    match looked {
+        Asked::Agrees => verdict_at(action, look_agrees(tally), None, End::AllAgree),
+        Asked::Unsupported => verdict_at(action, look_unsupported(tally), None, End::AllAgree),
+        Asked::Differs(text) => verdict_at(action, tally, Some(look), End::Differs(text)),
+        Asked::Ended | Asked::LookEnded(_) => { verdict_at(action, tally, Some(look), End::Ended) }
+        _ => verdict_at(action, tally, None, End::AllAgree),
+    }
+}
+
+/// Looks behind the last call.
+fn look_last<R: Read, W: Write>(
+    alloc: Global,
+    reader: &mut R,
+    writer: &mut W,
+    rules: Rules,
+    lone: &World,
+    action: u64,
+    tally: Tally,
+) -> Result<Verdict, ConformFault>
+    requires { HasRoom tally }
+    ensures { (agent : ℕ) (config : ConfigOf) (made : List AgentCall) (w : List ℕ)
+        (held : Option (List ℕ)) → IsLone config made lone.now
+        → Appends held (W.contents writer.old) w
+        → IfOk result (λ verdict. IfSome (R.remaining reader.old) (λ input. Concludes (session_from
+        (is_serf rules) agent config made action tally w [] input)
+        verdict (R.remaining reader.new) held (W.contents writer.new))) }
+{
+    let look = look_at(alloc, lone)?;
+    let looked = ask_look(alloc, reader, writer, rules, &look)?;
+    Ok(last_ending(looked, action, tally, look))
 }
 
 /// Holds an agent that was opened against the turns from here on.
@@ -69,40 +149,39 @@ fn hold_on<R: Read, W: Write>(
     writer: &mut W,
     rules: Rules,
     agent: u64,
+    lone: &mut World,
+    tally: Tally,
     actions: &[Action],
     lines: &[Line],
     sent: &[Bytes],
 ) -> Result<Verdict, ConformFault>
-    ensures { (w : List ℕ) (held : Option (List ℕ)) → Appends held (W.contents writer.old) w
+    requires { IsFew tally 1 }
+    ensures { (config : ConfigOf) (w : List ℕ) (held : Option (List ℕ))
+        → IsLone config [] lone.old → Appends held (W.contents writer.old) w
         → IfOk result (λ verdict. IfSome (R.remaining reader.old) (λ input. Concludes (session_from
-        (is_serf rules) agent 1 1 w (turns_from 0 sent.now actions.now lines.now) input)
-        verdict (R.remaining reader.new) held (W.contents writer.new))) }
+        (is_serf rules) agent config [] 1 tally w (turns_from 0 sent.now actions.now lines.now)
+        input) verdict (R.remaining reader.new) held (W.contents writer.new))) }
 {
     let mut actions = actions;
     let mut lines = lines;
     let mut number: u64 = 1;
-    let mut calls: u64 = 1;
+    let mut tally = tally;
     let mut count: usize = 0;
     'turns: loop {
         match actions {
-            [] => {
-                return Ok(Verdict {
-                    calls,
-                    action: number,
-                    end: End::AllAgree,
-                });
-            }
+            [] => return look_last(alloc, reader, writer, rules, lone, number, tally),
             [action, actions_left @ ..] => match lines {
                 [] => return Err(ConformFault::OtherTrace),
                 [line, lines_left @ ..] => {
+                    let due = follow_turn(alloc, lone, agent, action, line, sent, count)?;
                     let asked = next_turn(
-                        alloc, reader, writer, rules, agent, action, line, sent, count,
+                        alloc, reader, writer, rules, agent, due, action, line, sent, count,
                     )?;
-                    let agreeing = asked.agreeing();
-                    if let Some(verdict) = ending(asked, number, calls) {
+                    let more = asked.counted(tally);
+                    if let Some(verdict) = ending(asked, number, tally) {
                         return Ok(verdict);
                     }
-                    calls += agreeing;
+                    tally = more;
                     number += 1;
                     count += line.sent.as_slice().len();
                     actions = actions_left;
@@ -116,9 +195,16 @@ fn hold_on<R: Read, W: Write>(
 /// Holds an agent against the reference: opens it on an empty snapshot, makes the calls that agent number `agent` got in
 /// the trace of these actions, and compares each reply by its meaning ([`crate::line_means`]).
 ///
+/// It looks at the agent behind the opening, behind each call that is refused, restarts it or compacts its snapshot, and
+/// behind the last call: what it has is to be what the model's agent has behind the same calls ([`judge_look`]). A look
+/// that is unsupported is counted, and changes nothing else.
+///
 /// A call is written only once the reply to the one before is read and agrees. A delivery or a merge that names no
 /// packet is no call. Where the agent has not ended, just the replies to the calls were read, so that the next `hold` on
-/// these devices opens it anew. After a fault the agent may have got a part of a call.
+/// these devices opens it anew. `NoAgent` where the settings are out of bounds. After a fault the agent may have got a
+/// part of a call.
+///
+/// [`judge_look`]: crate::judge_look
 pub fn hold<R: Read, W: Write>(
     alloc: Global,
     reader: &mut R,
@@ -134,8 +220,15 @@ pub fn hold<R: Read, W: Write>(
         (is_serf rules) agent config.now (turns_of actions.now (outcome_of trace.now)) input)
         verdict (R.remaining reader.new) (W.contents writer.old) (W.contents writer.new))) }
 {
-    let asked = open(alloc, reader, writer, config)?;
-    if let Some(verdict) = ending(asked, 0, 0) {
+    let mut lone = open_lone(alloc, config)?;
+    let asked = open(alloc, reader, writer, rules, config, &lone)?;
+    let none = Tally {
+        calls: 0,
+        looks: 0,
+        unsupported: 0,
+    };
+    let tally = asked.counted(none);
+    if let Some(verdict) = ending(asked, 0, none) {
         return Ok(verdict);
     }
     hold_on(
@@ -144,6 +237,8 @@ pub fn hold<R: Read, W: Write>(
         writer,
         rules,
         agent,
+        &mut lone,
+        tally,
         actions,
         trace.lines.as_slice(),
         trace.sent.as_slice(),

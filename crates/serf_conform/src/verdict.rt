@@ -1,5 +1,6 @@
 //! What an agent is thought of.
 
+use crate::look::Look;
 use serf_wire::Bytes;
 use thiserror::Error;
 
@@ -47,8 +48,14 @@ pub enum End {
 pub struct Verdict {
     /// How many calls agree. That the agent was opened is one.
     pub calls: u64,
+    /// How many looks agree.
+    pub looks: u64,
+    /// How many looks are unsupported.
+    pub unsupported_looks: u64,
     /// The action at which it ended, counted from 1; 0 is the opening, and one more than there are is behind the last.
     pub action: u64,
+    /// The look that was wanted behind that action, where it ended at one: the action itself agrees.
+    pub look: Option<Look>,
     pub end: End,
 }
 

@@ -1,3 +1,4 @@
 pub mod EscapeLemmas
 pub mod ClockLemmas
 pub mod CodedLemmas
+pub mod HeadLemmas

@@ -1,11 +1,14 @@
 -- What is written beside an action.
-use Rattle.std.specs.Prelude.{ℕ, ◌++◌, nat_lt, if◌then◌else◌, List, [], length, take, codes, decimal, Option, Some, None, Result, Ok, Err}
+use Rattle.std.specs.Prelude.{ℕ, ◌==◌, ◌++◌, ◌-◌, nat_lt, if◌then◌else◌, List, [], length, take, codes, decimal, Option, Some, None, Result, Ok, Err, slice_get}
 use Rattle.serf_wire.specs.declared.fault.WireFault.{WireFault}
 use Rattle.serf_wire.specs.Decoded.{decoded}
 use Rattle.serf_wire.specs.Message.{Message, user_event, query, query_response, push_pull, foreign}
+use Rattle.serf_model.specs.declared.action.Act.{Act}
+use Rattle.serf_model.specs.declared.action.Act.TheVariants as acts
 use Rattle.serf_model.specs.declared.action.Action.{Action}
 use Rattle.serf_model.specs.declared.action.Action.TheVariants as actions
 use Rattle.serf_model.specs.declared.line.Answer.{Answer}
+use Rattle.serf_model.specs.declared.line.EventLine.{EventLine}
 use Rattle.serf_schedule.specs.Show.{answer_text}
 
 -- a text of at most 12 bytes, or the first 8 of a longer one and its length
@@ -37,14 +40,54 @@ given_words None = []
 given_words (Some packet) = packet_words packet
 
 -- what is done, where this packet is given
-abbrev pub action_words : Action → Option (List ℕ) → List ℕ
-action_words (actions.Fire agent name payload coalesce) given = texts name payload
-action_words (actions.Query agent now id name payload params) given = codes "query " ++ texts name payload
-action_words (actions.Inject bytes) given = packet_words bytes
-action_words (actions.Deliver to packet now) given = given_words given
-action_words (actions.Merge to packet join) given = given_words given
-action_words _ given = []
 
--- these words, and what came of it
-abbrev pub label_of : List ℕ → Answer → List ℕ
-label_of words answer = take 72 (words ++ answer_text answer)
+abbrev pub act_words : Act → Option (List ℕ) → List ℕ
+act_words (acts.Fire name payload coalesce) given = texts name payload
+act_words (acts.Query q) given = codes "query " ++ texts q.name q.payload
+act_words (acts.Deliver packet now) given = given_words given
+act_words (acts.Merge packet join) given = given_words given
+act_words _ given = []
+
+abbrev pub action_words : Action → Option (List ℕ) → List ℕ
+action_words (actions.Inject bytes) given = packet_words bytes
+action_words (actions.Of agent act) given = act_words act given
+
+-- What a merge handed out
+
+-- an event
+unfoldable pub event_words : EventLine → List ℕ
+event_words e = texts e.name e.payload ++ codes "@" ++ decimal e.time
+
+-- the same behind these bytes, where there is one
+abbrev pub event_behind : List ℕ → Option EventLine → List ℕ
+event_behind sign None = []
+event_behind sign (Some e) = sign ++ event_words e
+
+-- the first two, behind a colon and a comma
+abbrev pub first_two : List EventLine → List ℕ
+first_two events = event_behind (codes ": ") (slice_get events 0) ++ event_behind (codes ", ") (slice_get events 1)
+
+-- how many more there are
+abbrev pub count_words : ℕ → List ℕ
+count_words n = if n == 0 then [] else codes ", +" ++ decimal n
+
+-- Labels
+
+-- an agent's event clock
+abbrev pub clock_words : Option ℕ → List ℕ
+clock_words None = []
+clock_words (Some clock) = codes ", clock " ++ decimal clock
+
+-- a text of at most so many bytes; of a longer one its front, with two full stops at the end
+unfoldable pub cut_to : ℕ → List ℕ → List ℕ
+cut_to n text = if nat_lt n (length text) then take (n - 2) text ++ codes ".." else text
+
+-- these words at the front, as far as 72 bytes have room, and those whole at the end
+unfoldable pub joined : List ℕ → List ℕ → List ℕ
+joined front end = cut_to (72 - length end) front ++ end
+
+-- These words, what came of it, and the first two of the events that a merge handed out; and at the end how many more there
+-- are, and the agent's event clock, where the action changed it.
+unfoldable pub label_of : List ℕ → Answer → List EventLine → Option ℕ → List ℕ
+label_of words answer events clock =
+    joined (words ++ answer_text answer ++ first_two events) (count_words (length events - 2) ++ clock_words clock)

@@ -44,13 +44,9 @@ participant_line lane = between (codes "participant a") lane.agent (codes " as "
 
 -- What
 
-abbrev pub clock_words : Option ℕ → List ℕ
-clock_words None = codes "\n"
-clock_words (Some clock) = between (codes ", clock ") clock (codes "\n")
-
--- the end of an action's line: its number, its label, and the event clock where it is another one
+-- the end of an action's line: its number and its label
 unfoldable pub words_of : Row → List ℕ
-words_of row = between (codes ": ") row.action (codes " ") ++ coded row.label ++ clock_words row.event_clock
+words_of row = between (codes ": ") row.action (codes " ") ++ coded row.label ++ codes "\n"
 
 -- a line with a head, a dotted line with a head, and a line with a cross
 abbrev pub arrow_word : Tone → List ℕ

@@ -1,7 +1,7 @@
--- The text of an SVG file. A lane is 1,000 units wide and an action's line 100 units high, so that each place is a
--- number with two or three digits behind it.
-use Rattle.std.specs.Prelude.{ℕ, ◌==◌, ◌+◌, ◌-◌, ◌++◌, ◌^◌, min, Bool, if◌then◌else◌, List, [], ◌∷◌, length, codes, decimal, position, Option, Some, None}
-use Rattle.std.specs.List.{flat_map}
+-- The text of an SVG file. A lane is 1,000 units wide and a line 100 units high, so that each place is a number with two or
+-- three digits behind it.
+use Rattle.std.specs.Prelude.{ℕ, ◌==◌, ◌+◌, ◌-◌, ◌*◌, ◌/◌, ◌++◌, ◌^◌, min, Bool, if◌then◌else◌, List, [], ◌∷◌, length, map, codes, decimal, position, Option, Some, None}
+use Rattle.std.specs.List.{flat_map, range_with_len}
 use Rattle.serf_draw.specs.declared.picture.Arrow.{Arrow}
 use Rattle.serf_draw.specs.declared.picture.Arrow.TheVariants.{NoPacket, Unsent, From}
 use Rattle.serf_draw.specs.declared.picture.Lane.{Lane}
@@ -10,7 +10,7 @@ use Rattle.serf_draw.specs.declared.picture.Row.{Row}
 use Rattle.serf_draw.specs.declared.picture.Sender.{Sender}
 use Rattle.serf_draw.specs.declared.picture.Tone.{Tone}
 use Rattle.serf_draw.specs.declared.picture.Tone.TheVariants.{Taken, Ignored, Refused}
-use Rattle.serf_draw.specs.declared.style.TheConstants.{OPENING, STYLE}
+use Rattle.serf_draw.specs.declared.style.TheConstants.{LEGEND, OPENING, STYLE}
 use Rattle.serf_draw.specs.Escape.{escape}
 use Rattle.serf_draw.specs.Label.{short}
 
@@ -34,6 +34,16 @@ text_element opening text = opening ++ escape text ++ codes "</text>\n"
 unfoldable pub class_text : List ℕ → Tone → List ℕ → List ℕ
 class_text before tone behind = before ++ tone_word tone ++ behind
 
+-- Lines
+
+-- the line above a row that has so many above it: one for each of these, and one more for each 40 of them, which has the names
+abbrev pub line_above : ℕ → ℕ
+line_above n = min (n + n / 40) (2 ^ 64 - 1)
+
+-- its own line
+abbrev pub line_of : ℕ → ℕ
+line_of n = min (line_above n + 1) (2 ^ 64 - 1)
+
 -- Places
 
 -- where an agent's lane stands among these
@@ -49,40 +59,60 @@ abbrev pub agent_thousands : List Lane → Option ℕ → List ℕ
 agent_thousands lanes None = codes "-"
 agent_thousands lanes (Some a) = thousands (lane_place lanes a)
 
--- The middle of an agent's lane on the line of an action; left of all lanes where it has none.
+-- The middle of an agent's lane on the line below so many rows; left of all lanes where it has none.
 unfoldable pub place_text : List Lane → Option ℕ → ℕ → List ℕ
-place_text lanes agent action = agent_thousands lanes agent ++ codes "500 " ++ decimal action ++ codes "50"
+place_text lanes agent above = agent_thousands lanes agent ++ codes "500 " ++ decimal (line_of above) ++ codes "50"
 
 -- the same between two texts
 unfoldable pub placed_text : List ℕ → List Lane → Option ℕ → ℕ → List ℕ → List ℕ
-placed_text before lanes agent action behind = before ++ place_text lanes agent action ++ behind
+placed_text before lanes agent above behind = before ++ place_text lanes agent above ++ behind
+
+-- where all labels begin: 260 units right of the last lane
+abbrev pub label_place : List Lane → List ℕ
+label_place lanes = if length lanes == 0 then codes "-240" else between [] (length lanes - 1) (codes "760")
 
 -- Lanes
 
--- a lane's name above it, escaped
+-- a lane's name on a line, escaped
 unfoldable pub name_text : ℕ → ℕ → Lane → List ℕ
-name_text top i lane =
-    between (codes "<text class='h' x='") i (codes "500' y='") ++ between [] top (codes "65'>") ++ text_element [] (short lane.name)
+name_text line i lane =
+    between (codes "<text class='h' x='") i (codes "500' y='") ++ between [] line (codes "65'>") ++ text_element [] (short lane.name)
 
--- its line
-unfoldable pub lane_line : ℕ → ℕ → ℕ → List ℕ
-lane_line top bottom i = between (codes "<path class='l' d='M") i (codes "500 ") ++ between [] top (codes "90V") ++ between [] bottom (codes "99'/>\n")
+-- the names of all lanes on a line
+abbrev pub names_text : ℕ → ℕ → List Lane → List ℕ
+names_text line i [] = []
+names_text line i (lane ∷ lanes) = name_text line i lane ++ names_text line (i + 1) lanes
 
-abbrev pub lanes_text : ℕ → ℕ → ℕ → List Lane → List ℕ
-lanes_text top bottom i [] = []
-lanes_text top bottom i (lane ∷ lanes) = lane_line top bottom i ++ name_text top i lane ++ lanes_text top bottom (i + 1) lanes
+-- the lines that have the names, of so many rows: the first, and one behind each 40 of them
+abbrev pub head_lines : ℕ → List ℕ
+head_lines rows = map (λ k. line_above (40 * k)) (range_with_len 0 ((rows - 1) / 40 + 1))
+
+abbrev pub heads_text : ℕ → List Lane → List ℕ
+heads_text rows lanes = flat_map (λ line. names_text line 0 lanes) (head_lines rows)
+
+-- a lane's line
+unfoldable pub lane_line : ℕ → ℕ → List ℕ
+lane_line last i = between (codes "<path class='l' d='M") i (codes "500 90V") ++ between [] last (codes "99'/>\n")
+
+abbrev pub lanes_text : ℕ → ℕ → List Lane → List ℕ
+lanes_text last i [] = []
+lanes_text last i (lane ∷ lanes) = lane_line last i ++ lanes_text last (i + 1) lanes
+
+-- a thin line from where the agent acts to the label
+unfoldable pub guide_text : List Lane → Row → List ℕ
+guide_text lanes row = placed_text (codes "<path class='w' d='M") lanes row.agent row.above (codes "H") ++ label_place lanes ++ codes "'/>\n"
 
 -- Arrows
 
 -- from where an agent acted to where the row's agent acts
 unfoldable pub arrow_line : List Lane → Row → Option ℕ → ℕ → List ℕ
-arrow_line lanes row agent action =
-    class_text (codes "<path class='") row.tone (codes "' d='M") ++ place_text lanes agent action ++ codes "L" ++ place_text lanes row.agent row.action ++ codes "'/>\n"
+arrow_line lanes row agent above =
+    class_text (codes "<path class='") row.tone (codes "' d='M") ++ place_text lanes agent above ++ codes "L" ++ place_text lanes row.agent row.above ++ codes "'/>\n"
 
 abbrev pub arrow_of_text : List Lane → Row → Arrow → List ℕ
 arrow_of_text lanes row NoPacket = []
-arrow_of_text lanes row Unsent = arrow_line lanes row None row.action
-arrow_of_text lanes row (From sender) = arrow_line lanes row sender.agent sender.action
+arrow_of_text lanes row Unsent = arrow_line lanes row None row.above
+arrow_of_text lanes row (From sender) = arrow_line lanes row sender.agent sender.above
 
 -- one arrow for each packet that is given, from its sender's place
 abbrev pub arrow_text : List Lane → Row → List ℕ
@@ -90,55 +120,60 @@ arrow_text lanes row = arrow_of_text lanes row row.arrow
 
 -- a small cross right of where a packet was sent that nobody got
 unfoldable pub cross_text : List Lane → Sender → List ℕ
-cross_text lanes sender = placed_text (codes "<path class='x' transform='translate(") lanes sender.agent sender.action (codes ")' d='M14 0H27M27-11L49 11M27 11L49-11'/>\n")
+cross_text lanes sender = placed_text (codes "<path class='x' transform='translate(") lanes sender.agent sender.above (codes ")' d='M14 0H27M27-11L49 11M27 11L49-11'/>\n")
 
 -- Rows
 
 -- the action's number, at the left edge
-unfoldable pub number_text : ℕ → List ℕ
-number_text n = between (codes "<text class='n' x='-980' y='") n (codes "75'>") ++ between [] n (codes "</text>\n")
+unfoldable pub number_text : ℕ → ℕ → List ℕ
+number_text line n = between (codes "<text class='n' x='-980' y='") line (codes "75'>") ++ between [] n (codes "</text>\n")
 
 -- the group of what stands where the agent acts
 unfoldable pub dot_text : List Lane → Row → List ℕ
 dot_text lanes row =
-    class_text (codes "<g class='") row.tone (codes "'") ++ placed_text (codes " transform='translate(") lanes row.agent row.action (codes ")'>")
-
--- the row's label, escaped
-abbrev pub label_text : Row → List ℕ
-label_text row = text_element (codes "<text dx='60' dy='25'>") row.label
-
-abbrev pub clock_text : Option ℕ → List ℕ
-clock_text None = []
-clock_text (Some clock) = between (codes "<text class='c' dx='-60' dy='25'>clock ") clock (codes "</text>")
+    class_text (codes "<g class='") row.tone (codes "'") ++ placed_text (codes " transform='translate(") lanes row.agent row.above (codes ")'>")
 
 -- a dot, and behind it the lane's break where the agent was opened again
 abbrev pub mark_text : Bool → List ℕ
-mark_text restarts = if restarts then codes "<path class='g' d='M0-45V45'/><path class='b' d='M-50-45H50M-50 45H50'/><circle r='14'/>" else codes "<circle r='14'/>"
+mark_text restarts = if restarts then codes "<path class='g' d='M0-45V45'/><path class='b' d='M-50-45H50M-50 45H50'/><circle r='14'/></g>\n" else codes "<circle r='14'/></g>\n"
+
+-- the row's label, escaped, right of all lanes
+unfoldable pub label_text : List Lane → Row → List ℕ
+label_text lanes row = class_text (codes "<text class='") row.tone (codes "' x='") ++ label_place lanes
+    ++ between (codes "' y='") (line_of row.above) (codes "75'>") ++ text_element [] row.label
 
 unfoldable pub row_text : List Lane → Row → List ℕ
-row_text lanes row = number_text row.action ++ dot_text lanes row ++ mark_text row.restarts ++ label_text row ++ clock_text row.event_clock ++ codes "</g>\n"
+row_text lanes row = number_text (line_of row.above) row.action ++ dot_text lanes row ++ mark_text row.restarts ++ label_text lanes row
 
 -- The whole
 
--- the columns: one left of the lanes, and three right of them for the last one's labels
+-- the columns: one left of the lanes, and three right of them for the labels
 abbrev pub columns : List Lane → ℕ
 columns lanes = min (length lanes + 4) (2 ^ 64 - 1)
 
 -- the part of the plane that is shown, in units and then in picas (16 pixels): a line is a pica high, a lane ten wide
-unfoldable pub view_text : ℕ → ℕ → ℕ → List ℕ
-view_text top columns lines =
-    between [] top (codes "00 ") ++ between [] columns (codes "000 ") ++ between [] lines (codes "99'")
+unfoldable pub view_text : ℕ → ℕ → List ℕ
+view_text columns lines = between [] columns (codes "000 ") ++ between [] lines (codes "99'")
 
 unfoldable pub size_text : ℕ → ℕ → List ℕ
 size_text columns lines = between (codes " width='") columns (codes "0pc' height='") ++ between [] lines (codes ".99pc'>\n")
 
-abbrev pub paper_text : ℕ → List ℕ
-paper_text top = between (codes "<rect class='p' x='-1000' y='") top (codes "00' width='100%' height='100%'/>\n")
+unfoldable pub frame_text : ℕ → ℕ → List ℕ
+frame_text columns lines = OPENING.now ++ view_text columns lines ++ size_text columns lines ++ STYLE.now
 
-unfoldable pub frame_text : ℕ → ℕ → ℕ → List ℕ
-frame_text top columns lines = OPENING.now ++ view_text top columns lines ++ size_text columns lines ++ STYLE.now ++ paper_text top
+-- what the signs mean, on a line of its own
+abbrev pub legend_text : ℕ → List ℕ
+legend_text line = between (codes "<g transform='translate(-980 ") line (codes "50)'>") ++ LEGEND.now
 
--- The frame, the lanes, the arrows, the crosses, and above them the rows.
+-- what stands behind all else: the lanes with their names, and the lines to the labels
+unfoldable pub back_text : List Lane → List Row → List ℕ
+back_text lanes rows = lanes_text (line_above (length rows)) 0 lanes ++ heads_text (length rows) lanes ++ flat_map (guide_text lanes) rows
+
+-- above it the arrows, the crosses and the rows
+unfoldable pub front_text : List Lane → List Row → List Sender → List ℕ
+front_text lanes rows lost = flat_map (arrow_text lanes) rows ++ flat_map (cross_text lanes) lost ++ flat_map (row_text lanes) rows
+
+-- all of it in its frame, with a legend below
 unfoldable pub svg_of : Picture → List ℕ
-svg_of p = frame_text p.top (columns p.lanes.items) (p.bottom - p.top) ++ lanes_text p.top p.bottom 0 p.lanes.items
-    ++ flat_map (arrow_text p.lanes.items) p.rows.items ++ flat_map (cross_text p.lanes.items) p.lost.items ++ flat_map (row_text p.lanes.items) p.rows.items ++ codes "</svg>\n"
+svg_of p = frame_text (columns p.lanes.items) (line_of (length p.rows.items)) ++ back_text p.lanes.items p.rows.items
+    ++ front_text p.lanes.items p.rows.items p.lost.items ++ legend_text (line_of (length p.rows.items)) ++ codes "</svg>\n"

@@ -1,14 +1,16 @@
 //! The picture of a schedule's run.
 
-ghost use Rattle.std.specs.Prelude.{◌≡◌, ◌++◌, ◌∷◌, ◌+◌, [], false, filter, length, IfOk, OnOk};
+ghost use Rattle.std.specs.Prelude.{◌≡◌, ◌++◌, ◌∷◌, ◌+◌, [], false, filter, IfOk, OnOk, Ok};
 ghost use Rattle.serf_schedule.specs.Schedule.{parsed_of, schedule_of};
 ghost use Rattle.serf_draw.specs.Asked.{is_chosen};
-ghost use Rattle.serf_draw.specs.Drawing.{Drawing, Draws, IsDrawn, drawing_of, IsPicture, drawn, lost_in, row_with, shown_lanes, shown_rows};
+ghost use Rattle.serf_draw.specs.Drawing.{Drawing, Draws, IsDrawn, drawing_of, IsPicture, drawn, lost_in, row_with, shown_lanes, shown_row};
 
+use crate::asked::Asked;
 use crate::clock::{changed_clock, event_clock};
+use crate::fault::DrawFault;
 use crate::label::{first_words, label};
-use crate::picture::{Arrow, Asked, Lane, Packet, Picture, Row, Sender};
-use crate::row::{add_packets, arrow, is_restart, note_packet, tone};
+use crate::picture::{Arrow, Lane, Packet, Picture, Row, Sender};
+use crate::row::{add_packets, arrow, is_restart, merged_events, note_packet, tone};
 use serf_agent::Config;
 use serf_model::{Action, Line};
 use serf_schedule::{Schedule, ScheduleFault, parse_schedule};
@@ -16,40 +18,46 @@ use serf_wire::Bytes;
 use serf_world::{Roster, StepFault, World};
 use std::alloc::{AllocError, Global};
 
-/// The row of an action that began with these words, from its line.
+/// The row of an action that began with these words, from its line, where what it sends has this sender.
 fn row(
-    action: u64,
-    agent: Option<u64>,
+    alloc: Global,
+    asked: &Asked,
+    sender: Sender,
+    action: &Action,
     words: Vec<u8>,
     arrow: Arrow,
     event_clock: Option<u64>,
-    line: &Line,
+    line: Line,
 ) -> Result<Row, AllocError>
     ensures { IfOk result (λ row. row
-        ≡ row_with action agent words.items arrow event_clock line.now) }
+        ≡ row_with asked.now.event sender.action sender.above action.now words.items arrow
+        event_clock line) }
 {
+    let answer = line.answer;
+    let events = merged_events(alloc, asked, action, line.events)?;
     Ok(Row {
-        action,
-        agent,
-        tone: tone(line.answer),
-        label: label(words, line.answer)?,
+        action: sender.action,
+        above: sender.above,
+        agent: action.actor(),
+        tone: tone(answer),
+        label: label(alloc, words, answer, &events, event_clock)?,
         arrow,
         event_clock,
-        restarts: is_restart(line.answer),
+        restarts: is_restart(answer),
     })
 }
 
-/// Adds a row, where it is asked for.
-fn add_row(rows: &mut Vec<Row>, asked: &Asked, row: Row) -> Result<(), AllocError>
-    ensures { OnOk result (rows.new.items ≡ rows.old.items ++ shown_rows asked.now (row ∷ [])) }
+/// Adds a row, where it is drawn.
+fn add_row(rows: &mut Vec<Row>, is_shown: bool, row: Row) -> Result<(), AllocError>
+    ensures { OnOk result (rows.new.items ≡ rows.old.items ++ shown_row is_shown row) }
 {
-    if asked.shows(row.action, row.agent) {
+    if is_shown {
         rows.push(row)?;
     }
     Ok(())
 }
 
-/// Does an action, and adds its row.
+/// Does an action, and adds its row where it is drawn.
 fn draw_action(
     alloc: Global,
     world: &mut World,
@@ -60,14 +68,16 @@ fn draw_action(
     action: &Action,
 ) -> Result<(), AllocError>
     requires { world.old.poisoned ≡ false }
-    ensures drawn { (d : Drawing) → IsDrawn asked.now d world.old packets.old.items rows.old.items
-        → number ≡ length d.rows + 1
-        → OnOk result (IsDrawn asked.now (drawn d action.now)
+    ensures drawn { (d : Drawing) → IsDrawn d world.old packets.old.items rows.old.items
+        → number ≡ d.count + 1
+        → OnOk result (IsDrawn (drawn asked.now d action.now)
         world.new packets.new.items rows.new.items) }
     ensures unpoisoned { OnOk result (world.new.poisoned ≡ false) }
 {
     let agent = action.actor();
-    let words = first_words(alloc, action, action.given(world.sent()))?;
+    let given = action.given(world.sent());
+    let words = first_words(alloc, action, given)?;
+    let is_named = asked.names(action, given);
     let before = event_clock(world, agent);
     let arrow = arrow(packets, action);
     let line = match world.step(alloc, action) {
@@ -76,34 +86,35 @@ fn draw_action(
         Err(StepFault::Poisoned) => unreachable!(),
     };
     let clock = changed_clock(before, event_clock(world, agent));
+    let is_shown = asked.draws(number, action, is_named, &line);
     let sender = Sender {
         agent,
         action: number,
+        above: rows.len() as u64,
     };
     note_packet(packets, action);
-    add_packets(packets, sender, line.sent.as_slice())?;
-    let row = row(number, agent, words, arrow, clock, &line)?;
-    add_row(rows, asked, row)
+    add_packets(packets, sender, is_shown, line.sent.as_slice())?;
+    let row = row(alloc, asked, sender, action, words, arrow, clock, line)?;
+    add_row(rows, is_shown, row)
 }
 
-/// Adds who sent a packet, where nobody got it and the sender's action is asked for.
-fn add_lost(lost: &mut Vec<Sender>, asked: &Asked, packet: Packet) -> Result<(), AllocError>
-    ensures { OnOk result (lost.new.items ≡ lost.old.items ++ lost_in asked.now (packet ∷ [])) }
+/// Adds who sent a packet, where nobody got it and the sender's action is drawn.
+fn add_lost(lost: &mut Vec<Sender>, packet: Packet) -> Result<(), AllocError>
+    ensures { OnOk result (lost.new.items ≡ lost.old.items ++ lost_in (packet ∷ [])) }
 {
-    let sender = packet.sender;
-    if !packet.is_given && asked.shows(sender.action, sender.agent) {
-        lost.push(sender)?;
+    if !packet.is_given && packet.is_shown {
+        lost.push(packet.sender)?;
     }
     Ok(())
 }
 
 /// Who sent what nobody got, of these packets.
-fn lost_of(alloc: Global, asked: &Asked, packets: &[Packet]) -> Result<Vec<Sender>, AllocError>
-    ensures { IfOk result (λ lost. lost.items ≡ lost_in asked.now packets.now) }
+fn lost_of(alloc: Global, packets: &[Packet]) -> Result<Vec<Sender>, AllocError>
+    ensures { IfOk result (λ lost. lost.items ≡ lost_in packets.now) }
 {
     let mut lost = Vec::new(alloc);
     for packet in packets {
-        add_lost(&mut lost, asked, *packet)?;
+        add_lost(&mut lost, *packet)?;
     }
     Ok(lost)
 }
@@ -116,8 +127,8 @@ fn rows_of(
     asked: &Asked,
 ) -> Result<(Vec<Row>, Vec<Packet>), AllocError>
     ensures { IfOk result (λ made.
-        (made.0.items ≡ shown_rows asked.now (drawing_of agents actions.now).rows)
-        × (made.1.items ≡ (drawing_of agents actions.now).packets)) }
+        (made.0.items ≡ (drawing_of asked.now agents actions.now).rows)
+        × (made.1.items ≡ (drawing_of asked.now agents actions.now).packets)) }
 {
     let mut world = World::new(alloc, agents)?;
     let mut packets = Vec::new(alloc);
@@ -173,27 +184,34 @@ fn picture_of(alloc: Global, schedule: Schedule, asked: &Asked) -> Result<Pictur
     let Schedule { agents, actions } = schedule;
     let lanes = lanes_of(alloc, agents.as_slice(), asked)?;
     let (rows, packets) = rows_of(alloc, agents, actions.as_slice(), asked)?;
-    let lost = lost_of(alloc, asked, packets.as_slice())?;
-    let top = asked.from.saturating_sub(1);
-    let bottom = asked.to.min(actions.len() as u64).max(top);
-    Ok(Picture {
-        lanes,
-        rows,
-        lost,
-        top,
-        bottom,
-    })
+    let lost = lost_of(alloc, packets.as_slice())?;
+    Ok(Picture { lanes, rows, lost })
+}
+
+/// The picture of a schedule's run, where it has each agent that is named.
+fn picture_asked(alloc: Global, schedule: Schedule, asked: &Asked) -> Result<Picture, DrawFault>
+    ensures { Draws asked.now result (Ok (parsed_of schedule)) }
+{
+    let count = schedule.agents.as_slice().len() as u64;
+    if let Some(agent) = asked.missing_agent(count) {
+        return Err(DrawFault::NoAgent { agent, count });
+    }
+    match picture_of(alloc, schedule, asked) {
+        Ok(picture) => Ok(picture),
+        Err(_) => Err(DrawFault::OutOfMemory),
+    }
 }
 
 /// The picture of the run of the schedule that a text stands for, as far as it is asked for.
 ///
-/// `BadLine` comes exactly where a line is not sound, and says the first, as [`serf_replay::replay`] does.
-pub fn draw_picture(alloc: Global, text: &[u8], asked: &Asked) -> Result<Picture, ScheduleFault>
+/// `BadLine` comes exactly where a line is not sound, and says the first, as [`serf_replay::replay`] does. `NoAgent` comes
+/// exactly where an agent is named that the schedule doesn't have, and says the first.
+pub fn draw_picture(alloc: Global, text: &[u8], asked: &Asked) -> Result<Picture, DrawFault>
     ensures { Draws asked.now result (schedule_of text.now) }
 {
-    let schedule = parse_schedule(alloc, text)?;
-    match picture_of(alloc, schedule, asked) {
-        Ok(picture) => Ok(picture),
-        Err(_) => Err(ScheduleFault::OutOfMemory),
+    match parse_schedule(alloc, text) {
+        Ok(schedule) => picture_asked(alloc, schedule, asked),
+        Err(ScheduleFault::BadLine { line, cause }) => Err(DrawFault::BadLine { line, cause }),
+        Err(ScheduleFault::OutOfMemory) => Err(DrawFault::OutOfMemory),
     }
 }

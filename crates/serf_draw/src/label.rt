@@ -3,9 +3,9 @@
 ghost use Rattle.std.specs.Prelude.{◌≡◌, ◌++◌, IfOk, Ok, OnOk};
 ghost use Rattle.std.specs.Option.{option_copied};
 ghost use Rattle.serf_wire.specs.Message.{message_of};
-ghost use Rattle.serf_draw.specs.Label.{action_words, at_time, given_words, label_of, message_words, packet_words, short, texts};
+ghost use Rattle.serf_draw.specs.Label.{act_words, action_words, at_time, clock_words, count_words, cut_to, event_behind, event_words, first_two, given_words, joined as joined_words, label_of, message_words, packet_words, short, texts};
 
-use serf_model::{Action, Answer};
+use serf_model::{Act, Action, Answer, EventLine};
 use serf_schedule::put_answer;
 use serf_text::put_number;
 use serf_wire::{Bytes, Message, decode};
@@ -59,32 +59,22 @@ fn put_message_words(out: &mut Vec<u8>, message: &Message, length: usize) -> Res
         ++ message_words length (Ok (message_of message.now))) }
 {
     match message {
-        Message::UserEvent {
-            time,
-            name,
-            payload,
-            ..
-        } => {
-            put_texts(out, name, payload)?;
-            put_time(out, time.get())
+        Message::UserEvent(event) => {
+            put_texts(out, event.name, event.payload)?;
+            put_time(out, event.time.get())
         }
-        Message::Query {
-            time,
-            name,
-            payload,
-            ..
-        } => {
+        Message::Query(query) => {
             out.extend_from_slice(b"query ")?;
-            put_texts(out, name, payload)?;
-            put_time(out, time.get())
+            put_texts(out, query.name, query.payload)?;
+            put_time(out, query.time.get())
         }
-        Message::QueryResponse { time, .. } => {
+        Message::QueryResponse(answer) => {
             out.extend_from_slice(b"answer ")?;
-            put_time(out, *time)
+            put_time(out, answer.time)
         }
-        Message::PushPull { event_clock, .. } => {
+        Message::PushPull(state) => {
             out.extend_from_slice(b"state ")?;
-            put_time(out, *event_clock)
+            put_time(out, state.event_clock)
         }
         Message::Foreign(kind) => {
             out.extend_from_slice(b"type ")?;
@@ -117,6 +107,23 @@ fn put_given_words(out: &mut Vec<u8>, given: Option<&[u8]>) -> Result<(), AllocE
     }
 }
 
+/// Appends what an agent does, where this packet is given.
+fn put_act_words(out: &mut Vec<u8>, act: &Act, given: Option<&[u8]>) -> Result<(), AllocError>
+    ensures { OnOk result (out.new.items ≡ out.old.items
+        ++ act_words act.now (option_copied given.entry)) }
+{
+    match act {
+        Act::Fire { name, payload, .. } => put_texts(out, name.as_slice(), payload.as_slice()),
+        Act::Query(query) => {
+            let query = query.get();
+            out.extend_from_slice(b"query ")?;
+            put_texts(out, query.name.as_slice(), query.payload.as_slice())
+        }
+        Act::Deliver { .. } | Act::Merge { .. } => put_given_words(out, given),
+        _ => Ok(()),
+    }
+}
+
 /// Appends what is done, where this packet is given.
 fn put_action_words(
     out: &mut Vec<u8>,
@@ -127,15 +134,8 @@ fn put_action_words(
         ++ action_words action.now (option_copied given.entry)) }
 {
     match action {
-        Action::Fire { name, payload, .. } => put_texts(out, name.as_slice(), payload.as_slice()),
-        Action::Query { name, payload, .. } => {
-            out.extend_from_slice(b"query ")?;
-            put_texts(out, name.as_slice(), payload.as_slice())
-        }
         Action::Inject { bytes } => put_packet_words(out, bytes.as_slice()),
-        Action::Deliver { .. } => put_given_words(out, given),
-        Action::Merge { .. } => put_given_words(out, given),
-        _ => Ok(()),
+        Action::Of { act, .. } => put_act_words(out, act, given),
     }
 }
 
@@ -153,12 +153,105 @@ pub(crate) fn first_words(
     Ok(out)
 }
 
-/// The label that begins with these words.
-pub(crate) fn label(words: Vec<u8>, answer: Answer) -> Result<Bytes, AllocError>
-    ensures { IfOk result (λ label. label ≡ label_of words.items answer) }
+/// Appends an event that a merge handed out.
+#[tactic(auto, unfolding(crate::specs::Label::event_words))]
+fn put_event(out: &mut Vec<u8>, event: &EventLine) -> Result<(), AllocError>
+    ensures { OnOk result (out.new.items ≡ out.old.items ++ event_words event.now) }
 {
-    let mut words = words;
-    put_answer(&mut words, answer)?;
-    words.truncate(LABEL_BYTES);
-    Ok(Bytes::from_vec(words))
+    put_texts(out, event.name.as_slice(), event.payload.as_slice())?;
+    out.extend_from_slice(b"@")?;
+    put_number(out, event.time.get())
+}
+
+/// Appends an event behind these bytes, where there is one.
+fn put_event_behind(
+    out: &mut Vec<u8>,
+    sign: &[u8],
+    event: Option<&EventLine>,
+) -> Result<(), AllocError>
+    ensures { OnOk result (out.new.items ≡ out.old.items
+        ++ event_behind sign.now (option_copied event.entry)) }
+{
+    match event {
+        Some(event) => {
+            out.extend_from_slice(sign)?;
+            put_event(out, event)
+        }
+        None => Ok(()),
+    }
+}
+
+/// Appends the first two of these events, behind a colon and a comma.
+fn put_first_two(out: &mut Vec<u8>, events: &[EventLine]) -> Result<(), AllocError>
+    ensures { OnOk result (out.new.items ≡ out.old.items ++ first_two events.now) }
+{
+    put_event_behind(out, b": ", events.get(0))?;
+    put_event_behind(out, b", ", events.get(1))
+}
+
+/// Appends how many more events there are.
+fn put_count(out: &mut Vec<u8>, count: usize) -> Result<(), AllocError>
+    ensures { OnOk result (out.new.items ≡ out.old.items ++ count_words count) }
+{
+    if count == 0 {
+        return Ok(());
+    }
+    out.extend_from_slice(b", +")?;
+    put_number(out, count as u64)
+}
+
+/// Appends an agent's event clock.
+fn put_clock(out: &mut Vec<u8>, clock: Option<u64>) -> Result<(), AllocError>
+    ensures { OnOk result (out.new.items ≡ out.old.items ++ clock_words clock) }
+{
+    match clock {
+        Some(clock) => {
+            out.extend_from_slice(b", clock ")?;
+            put_number(out, clock)
+        }
+        None => Ok(()),
+    }
+}
+
+/// Cuts a text that is longer than this, and ends it with two full stops.
+#[tactic(auto, unfolding(crate::specs::Label::cut_to))]
+fn cut(text: &mut Vec<u8>, limit: usize) -> Result<(), AllocError>
+    ensures { OnOk result (text.new.items ≡ cut_to limit text.old.items) }
+{
+    if text.len() > limit {
+        text.truncate(limit.saturating_sub(2));
+        text.extend_from_slice(b"..")?;
+    }
+    Ok(())
+}
+
+/// A label of words at its front, as far as there is room, and words at its end.
+#[tactic(auto, unfolding(crate::specs::Label::joined))]
+fn joined(front: Vec<u8>, end: &[u8]) -> Result<Bytes, AllocError>
+    ensures { IfOk result (λ label. label ≡ joined_words front.items end.now) }
+{
+    let mut text = front;
+    cut(&mut text, LABEL_BYTES.saturating_sub(end.len()))?;
+    text.extend_from_slice(end)?;
+    Ok(Bytes::from_vec(text))
+}
+
+/// The label that begins with these words, where a merge handed out these events, and the agent's event clock is another one.
+#[tactic(auto, unfolding(crate::specs::Label::label_of))]
+pub(crate) fn label(
+    alloc: Global,
+    words: Vec<u8>,
+    answer: Answer,
+    events: &[EventLine],
+    clock: Option<u64>,
+) -> Result<Bytes, AllocError>
+    ensures { IfOk result (λ label. label ≡ label_of words.items answer events.now clock) }
+{
+    let mut front = words;
+    put_answer(&mut front, answer)?;
+    put_first_two(&mut front, events)?;
+    let mut end = Vec::new(alloc);
+    put_count(&mut end, events.len().saturating_sub(2))?;
+    put_clock(&mut end, clock)?;
+    joined(front, &end)
 }

@@ -2,9 +2,11 @@
 //! text of Mermaid.
 #![tactic(auto)]
 
+mod asked;
 mod clock;
 mod drawing;
 mod escape;
+mod fault;
 mod label;
 mod mermaid;
 mod picture;
@@ -12,8 +14,10 @@ mod row;
 mod style;
 mod svg;
 
+pub use asked::Asked;
 pub use drawing::draw_picture;
 pub use escape::{escape_laws, put_escaped};
+pub use fault::DrawFault;
 pub use mermaid::{coded_laws, mermaid_text};
-pub use picture::{Arrow, Asked, Lane, Packet, Picture, Row, Sender, Tone};
+pub use picture::{Arrow, Lane, Packet, Picture, Row, Sender, Tone};
 pub use svg::svg_text;

@@ -2,7 +2,7 @@
 
 ghost use Rattle.std.specs.Prelude.{◌≡◌, ◌++◌, ◌==◌, ℕ, List, IfOk, OnOk, true};
 ghost use Rattle.std.specs.List.{flat_map, list_all, list_any};
-ghost use Rattle.serf_draw.specs.Mermaid.{arrow_word as word_of, clock_words, coded, coded_byte, is_coded, is_plain as is_plain_byte, mermaid_of, message_line, note_line, participant, participant_line, row_line, words_of};
+ghost use Rattle.serf_draw.specs.Mermaid.{arrow_word as word_of, coded, coded_byte, is_coded, is_plain as is_plain_byte, mermaid_of, message_line, note_line, participant, participant_line, row_line, words_of};
 
 use crate::picture::{Arrow, Lane, Picture, Row, Tone};
 use crate::svg::{put_between, short_name};
@@ -93,22 +93,13 @@ fn put_participants(alloc: Global, out: &mut Vec<u8>, lanes: &[Lane]) -> Result<
     Ok(())
 }
 
-fn put_clock_words(out: &mut Vec<u8>, clock: Option<u64>) -> Result<(), AllocError>
-    ensures { OnOk result (out.new.items ≡ out.old.items ++ clock_words clock) }
-{
-    match clock {
-        Some(clock) => put_between(out, b", clock ", clock, b"\n"),
-        None => out.extend_from_slice(b"\n"),
-    }
-}
-
 #[tactic(auto, unfolding(crate::specs::Mermaid::words_of))]
 fn put_words(out: &mut Vec<u8>, row: &Row) -> Result<(), AllocError>
     ensures { OnOk result (out.new.items ≡ out.old.items ++ words_of row.now) }
 {
     put_between(out, b": ", row.action, b" ")?;
     put_coded(out, row.label.as_slice())?;
-    put_clock_words(out, row.event_clock)
+    out.extend_from_slice(b"\n")
 }
 
 fn arrow_word(tone: Tone) -> &'static [u8]

@@ -1,9 +1,5 @@
 //! What a picture shows.
 
-ghost use Rattle.std.specs.Prelude.{◌≡◌, ◌==◌};
-ghost use Rattle.std.specs.List.{list_any};
-ghost use Rattle.serf_draw.specs.Asked.{is_chosen, shows};
-
 use serf_wire::Bytes;
 
 /// How an action ended.
@@ -22,12 +18,15 @@ pub enum Tone {
 pub struct Sender {
     pub agent: Option<u64>,
     pub action: u64,
+    /// How many actions before it are drawn.
+    pub above: u64,
 }
 
-/// A packet that was sent: who sent it, and whether some action gave it to an agent.
+/// A packet that was sent: who sent it, whether the action that did is drawn, and whether some action gave it to an agent.
 #[derive(Clone, Copy, Debug, PartialEq, Eq)]
 pub struct Packet {
     pub sender: Sender,
+    pub is_shown: bool,
     pub is_given: bool,
 }
 
@@ -47,6 +46,8 @@ pub enum Arrow {
 pub struct Row {
     /// The action's number, counted from 1.
     pub action: u64,
+    /// How many rows are above it.
+    pub above: u64,
     /// The agent that acts; none where a packet is injected.
     pub agent: Option<u64>,
     pub tone: Tone,
@@ -66,56 +67,11 @@ pub struct Lane {
     pub name: Bytes,
 }
 
-/// Which part of a run is drawn: the actions from one number to another, and of them those of some agents, or of all
-/// where none is named.
-#[derive(Debug, Drop)]
-pub struct Asked {
-    pub agents: Vec<u64>,
-    pub from: u64,
-    pub to: u64,
-}
-
-/// Whether a number is among these.
-fn is_among(numbers: &[u64], number: u64) -> bool
-    ensures { result ≡ list_any (λ n. n == number) numbers.now }
-{
-    numbers.iter().any(|n| *n == number)
-}
-
-impl Asked {
-    /// Whether an agent has a lane. Takes no memory.
-    pub(crate) fn is_chosen(&self, agent: u64) -> bool
-        ensures { result ≡ is_chosen self.now.agents.items agent }
-    {
-        if self.agents.is_empty() {
-            return true;
-        }
-        is_among(self.agents.as_slice(), agent)
-    }
-
-    /// Whether an action of an agent, or of none, is drawn. Takes no memory.
-    pub(crate) fn shows(&self, action: u64, agent: Option<u64>) -> bool
-        ensures { result ≡ shows self.now.agents.items self.now.from self.now.to action agent }
-    {
-        if action < self.from || self.to < action {
-            return false;
-        }
-        match agent {
-            Some(agent) => self.is_chosen(agent),
-            None => self.agents.is_empty(),
-        }
-    }
-}
-
-/// A picture of a run: the lanes of its agents, the rows of its actions, and the packets that nobody got.
+/// A picture of a run: the lanes of its agents, the rows of its actions that are drawn, and the packets of these that nobody got.
 #[derive(Debug, Drop)]
 pub struct Picture {
     pub lanes: Vec<Lane>,
     pub rows: Vec<Row>,
     /// Who sent what no action gives to an agent, once for each such packet, in their order.
     pub lost: Vec<Sender>,
-    /// The number of the action before the first one of the range: the lanes' names stand on its line.
-    pub top: u64,
-    /// The number of the last action of the range, or `top` where there is none.
-    pub bottom: u64,
 }

@@ -1,11 +1,12 @@
 //! The row of an action.
 
-ghost use Rattle.std.specs.Prelude.{◌≡◌, ◌++◌, OnOk, false, replicate, length, slice_get};
-ghost use Rattle.serf_draw.specs.Drawing.{arrow_of, from_packet, given_by, packet_of, restarts, tone_of, with_given};
+ghost use Rattle.std.specs.Prelude.{◌≡◌, ◌++◌, IfOk, OnOk, false, replicate, length, slice_get};
+ghost use Rattle.serf_draw.specs.Drawing.{arrow_of, from_packet, given_by, merged_events as merged, packet_of, restarts, tone_of, with_given};
 
+use crate::asked::Asked;
 use crate::picture::{Arrow, Packet, Sender, Tone};
-use serf_model::{Action, Answer};
-use std::alloc::AllocError;
+use serf_model::{Act, Action, Answer, EventLine, EventLines};
+use std::alloc::{AllocError, Global};
 
 fn arrow_from(packets: &[Packet], packet: u64) -> Arrow
     ensures { result ≡ from_packet (slice_get packets.now packet) }
@@ -21,8 +22,10 @@ pub(crate) fn arrow(packets: &[Packet], action: &Action) -> Arrow
     ensures { result ≡ arrow_of packets.now action.now }
 {
     match action {
-        Action::Deliver { packet, .. } => arrow_from(packets, *packet),
-        Action::Merge { packet, .. } => arrow_from(packets, *packet),
+        Action::Of {
+            act: Act::Deliver { packet, .. } | Act::Merge { packet, .. },
+            ..
+        } => arrow_from(packets, *packet),
         _ => Arrow::NoPacket,
     }
 }
@@ -42,8 +45,10 @@ pub(crate) fn note_packet(packets: &mut Vec<Packet>, action: &Action)
     ensures { packets.new.items ≡ given_by packets.old.items action.now }
 {
     match action {
-        Action::Deliver { packet, .. } => note_given(packets, *packet),
-        Action::Merge { packet, .. } => note_given(packets, *packet),
+        Action::Of {
+            act: Act::Deliver { packet, .. } | Act::Merge { packet, .. },
+            ..
+        } => note_given(packets, *packet),
         _ => {}
     }
 }
@@ -67,18 +72,38 @@ pub(crate) fn is_restart(answer: Answer) -> bool
     }
 }
 
-/// Adds the packets of these numbers, which one action sent.
+/// The events of these that a merge handed out, of the name that is asked for.
+pub(crate) fn merged_events(
+    alloc: Global,
+    asked: &Asked,
+    action: &Action,
+    events: EventLines,
+) -> Result<Vec<EventLine>, AllocError>
+    ensures { IfOk result (λ those. those.items ≡ merged asked.now.event action.now events) }
+{
+    match action {
+        Action::Of {
+            act: Act::Merge { .. },
+            ..
+        } => asked.named(alloc, events),
+        _ => Ok(Vec::new(alloc)),
+    }
+}
+
+/// Adds the packets of these numbers, which one action sent that is drawn or not.
 pub(crate) fn add_packets(
     packets: &mut Vec<Packet>,
     sender: Sender,
+    is_shown: bool,
     numbers: &[u64],
 ) -> Result<(), AllocError>
     ensures { OnOk result (packets.new.items ≡ packets.old.items
-        ++ replicate (length numbers.now) (packet_of sender)) }
+        ++ replicate (length numbers.now) (packet_of sender is_shown)) }
 {
     for _number in numbers {
         packets.push(Packet {
             sender,
+            is_shown,
             is_given: false,
         })?;
     }

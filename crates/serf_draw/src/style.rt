@@ -1,29 +1,40 @@
 //! What each picture begins with.
 
-/// The first tag, up to the part of the plane that is shown, behind its left edge.
-pub const OPENING: &[u8] = b"<svg xmlns='http://www.w3.org/2000/svg' role='img' viewBox='-1000 ";
+/// The first tag, up to how wide and how high the part of the plane is that is shown.
+pub const OPENING: &[u8] = b"<svg xmlns='http://www.w3.org/2000/svg' role='img' viewBox='-1000 0 ";
 
-/// The title, the colours in light and dark, and the heads of the arrows.
+/// The title, the colours in light and dark, the heads of the arrows, and the paper. Each colour stands as it is in light before its
+/// variable, for viewers that know no variables.
 pub const STYLE: &[u8] = b"<title>A run of a cluster, from the top down</title>
 <style>
 svg{--ink:#1f2328;--paper:#ffffff;--lane:#afb8c1;--t:#1a7f37;--i:#6e7781;--r:#cf222e;font:75px ui-monospace,Menlo,Consolas,monospace}
 @media(prefers-color-scheme:dark){svg{--ink:#e6edf3;--paper:#0d1117;--lane:#484f58;--t:#3fb950;--i:#8b949e;--r:#ff7b72}}
-.p{fill:var(--paper)}
+.p{fill:#ffffff;fill:var(--paper)}
 path{fill:none;stroke-width:8}
-.l,.b{stroke:var(--lane)}
-.g{stroke:var(--paper);stroke-width:20}
-.t{stroke:var(--t)}.i{stroke:var(--i)}.r{stroke:var(--r)}
-.x{stroke:var(--i)}
-path.t{marker-end:url(#t)}path.i{marker-end:url(#i);stroke-dasharray:24 16}path.r{marker-end:url(#r)}
-.t circle,.t text,#t path{fill:var(--t)}.i circle,.i text,#i path{fill:var(--i)}.r circle,.r text,#r path{fill:var(--r)}
-text{fill:var(--ink);stroke:var(--paper);stroke-width:24;stroke-linejoin:round;paint-order:stroke;white-space:pre}
-g .c{fill:var(--ink);text-anchor:end}
-.h{font-weight:bold;text-anchor:middle}
-.n{fill:var(--i)}
+.l,.b{stroke:#afb8c1;stroke:var(--lane)}
+.w{stroke:#afb8c1;stroke:var(--lane);stroke-width:4;stroke-opacity:.5}
+.g{stroke:#ffffff;stroke:var(--paper);stroke-width:20}
+path.t{stroke:#1a7f37;stroke:var(--t);marker-end:url(#t)}
+path.i{stroke:#6e7781;stroke:var(--i);marker-end:url(#i);stroke-dasharray:24 16}
+path.r{stroke:#cf222e;stroke:var(--r);marker-end:url(#r)}
+.x{stroke:#6e7781;stroke:var(--i)}
+.t circle,text.t,#t path{fill:#1a7f37;fill:var(--t)}.i circle,text.i,.n,#i path{fill:#6e7781;fill:var(--i)}.r circle,text.r,#r path{fill:#cf222e;fill:var(--r)}
+text{white-space:pre}
+.h{fill:#1f2328;fill:var(--ink);stroke:#ffffff;stroke:var(--paper);stroke-width:24;stroke-linejoin:round;paint-order:stroke;font-weight:bold;text-anchor:middle}
 </style>
 <defs>
 <marker id='t' viewBox='0 0 10 10' refX='12' refY='5' markerWidth='6' markerHeight='6' orient='auto'><path d='M0 0L10 5L0 10z'/></marker>
 <marker id='i' viewBox='0 0 10 10' refX='12' refY='5' markerWidth='6' markerHeight='6' orient='auto'><path d='M0 0L10 5L0 10z'/></marker>
 <marker id='r' viewBox='0 0 10 10' refX='12' refY='5' markerWidth='6' markerHeight='6' orient='auto'><path d='M0 0L10 5L0 10z'/></marker>
 </defs>
+<rect class='p' x='-1000' y='0' width='100%' height='100%'/>
+";
+
+/// What the signs mean, and the end of its group.
+pub const LEGEND: &[u8] =
+    b"<path class='t' d='M0 0H150'/><text class='t' x='180' y='25'>taken</text>
+<path class='i' d='M480 0H630'/><text class='i' x='660' y='25'>ignored</text>
+<path class='r' d='M1050 0H1200'/><text class='r' x='1230' y='25'>refused</text>
+<path class='x' d='M1620 0H1640M1640-11L1662 11M1640 11L1662-11'/><text class='n' x='1690' y='25'>given to nobody</text>
+<path class='b' d='M2430-25H2530M2430 25H2530'/><text class='n' x='2560' y='25'>opened again</text></g>
 ";

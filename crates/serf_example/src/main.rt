@@ -8,8 +8,8 @@
 
 use anyhow::{Context, Result, bail};
 use serf_agent::{
-    Agent, Answer, BytesList, Config, DEFAULT_SNAPSHOT_LIMIT, EventOut, OpenQuery, Outcome,
-    QueryParams,
+    Agent, BytesList, Config, DEFAULT_SNAPSHOT_LIMIT, EventOut, OpenQuery, Outcome, QueryParams,
+    answer_in, is_ack,
 };
 use serf_store::{FileStore, SystemFile};
 use serf_wire::Bytes;
@@ -58,8 +58,8 @@ fn handle<R: Print>(rt: &R, agent: &str, event: &EventOut) -> Result<()> {
 
 /// Tells of an ack or a response that an agent counted.
 fn tell_answer<R: Print>(rt: &R, agent: &str, packet: &Bytes) -> Result<()> {
-    if let Some(answer) = Answer::of_packet(packet.as_slice()) {
-        let kind = if answer.is_ack() {
+    if let Some(answer) = answer_in(packet.as_slice()) {
+        let kind = if is_ack(&answer) {
             "an ack"
         } else {
             "a response"

@@ -10,40 +10,35 @@ use Rattle.serf_wire.specs.Message.{Message, UserEvent, foreign, push_pull, quer
 use Rattle.serf_window.specs.Texts.{event_of}
 use Rattle.serf_window.specs.Window.{TimedEntry}
 use Rattle.serf_agent.specs.declared.outcome.Reason.TheVariants.{Seen}
+use Rattle.serf_model.specs.declared.action.Act.TheVariants as acts
 use Rattle.serf_model.specs.declared.action.Action.{Action}
 use Rattle.serf_model.specs.declared.action.Action.TheVariants as actions
 use Rattle.serf_model.specs.declared.line.Answer.TheVariants as answers
 use Rattle.serf_model.specs.declared.line.Line.{Line}
-use Rattle.serf_model.specs.Cluster.{Cluster, IdealNode, Run, after, delivers, on_agent, step, step_by}
+use Rattle.serf_model.specs.Cluster.{Cluster, IdealNode, Run, after, delivers, on_agent, step}
 use Rattle.serf_model.specs.Promises.{SeenWasHanded}
-use Rattle.serf_model.specs.Trace.{Turn, actor_of, packet_given}
+use Rattle.serf_model.specs.Trace.{Turn, actor_of, given_by, packet_given}
 use Rattle.serf_explain.specs.HandOuts.{KnowsSeen, Note, is_note, notes_from}
 use Rattle.serf_explain.specs.Seen.{event_delivered, event_given, event_read}
 use Rattle.serf_explain.proofs.NoteLaws.{handed-noted}
 
 -- a turn is of the action that was done
-pub acts : (c : Cluster) (action : Action) → (step c action).turn.action ≡ action
-acts c action = by (actor_of action)
+pub turn-action : (c : Cluster) (action : Action) → (step c action).turn.action ≡ action
+turn-action c (actions.Inject bytes) = refl
+turn-action c (actions.Of a act) = by (slice_get c.nodes a)
   where
-    at : (a : ℕ) (m : Option IdealNode) → (on_agent c action a m).turn.action ≡ action
-    at a None = refl
-    at a (Some m) = refl
-
-    by : (o : Option ℕ) → (step_by c action o).turn.action ≡ action
+    by : (m : Option IdealNode) → (on_agent c a act m).turn.action ≡ actions.Of a act
     by None = refl
-    by (Some a) = at a (slice_get c.nodes a)
+    by (Some m) = refl
 
 -- and of the packet that the action gives
 gives : (c : Cluster) (action : Action) → (step c action).turn.given ≡ packet_given c.sent action
-gives c action = by (actor_of action)
+gives c (actions.Inject bytes) = refl
+gives c (actions.Of a act) = by (slice_get c.nodes a)
   where
-    at : (a : ℕ) (m : Option IdealNode) → (on_agent c action a m).turn.given ≡ packet_given c.sent action
-    at a None = refl
-    at a (Some m) = refl
-
-    by : (o : Option ℕ) → (step_by c action o).turn.given ≡ packet_given c.sent action
+    by : (m : Option IdealNode) → (on_agent c a act m).turn.given ≡ given_by c.sent act
     by None = refl
-    by (Some a) = at a (slice_get c.nodes a)
+    by (Some m) = refl
 
 -- a delivered event lies in a packet that the action gives
 record Gives (sent : List (List ℕ)) (action : Action) (a : ℕ) (e : TimedEntry EventBody) : Type 0 where
@@ -55,14 +50,14 @@ record Gives (sent : List (List ℕ)) (action : Action) (a : ℕ) (e : TimedEntr
   is : e ≡ record { time = event.time; key = event_of event.name event.payload }
 
 given-by : (sent : List (List ℕ)) (action : Action) (a : ℕ) (e : TimedEntry EventBody) → event_delivered sent action ≡ Some (a, e) → Gives sent action a e
-given-by sent (actions.Deliver to packet now) a e h = at (slice_get sent packet) refl h
+given-by sent (actions.Of agent (acts.Deliver packet now)) a e h = at (slice_get sent packet) refl h
   where
     pair : TimedEntry EventBody → ℕ × TimedEntry EventBody
-    pair e = (to, e)
+    pair e = (agent, e)
 
-    read : (bytes : List ℕ) (r : Result Message WireFault) → slice_get sent packet ≡ Some bytes → decoded bytes ≡ r → option_map pair (event_read r) ≡ Some (a, e) → Gives sent (actions.Deliver to packet now) a e
+    read : (bytes : List ℕ) (r : Result Message WireFault) → slice_get sent packet ≡ Some bytes → decoded bytes ≡ r → option_map pair (event_read r) ≡ Some (a, e) → Gives sent (actions.Of agent (acts.Deliver packet now)) a e
     read bytes (Ok (user_event u)) is spells k =
-        let both : (to, record { time = u.time; key = event_of u.name u.payload }) ≡ (a, e) = cc (k) in
+        let both : (agent, record { time = u.time; key = event_of u.name u.payload }) ≡ (a, e) = cc (k) in
         record {
           packet = bytes;
           event = u;
@@ -77,20 +72,10 @@ given-by sent (actions.Deliver to packet now) a e h = at (slice_get sent packet)
     read bytes (Ok (foreign n)) is spells k = absurd (cc (k))
     read bytes (Err fault) is spells k = absurd (cc (k))
 
-    at : (o : Option (List ℕ)) → slice_get sent packet ≡ o → option_map pair (event_given o) ≡ Some (a, e) → Gives sent (actions.Deliver to packet now) a e
+    at : (o : Option (List ℕ)) → slice_get sent packet ≡ o → option_map pair (event_given o) ≡ Some (a, e) → Gives sent (actions.Of agent (acts.Deliver packet now)) a e
     at None is k = absurd (cc (k))
     at (Some bytes) is k = read bytes (decoded bytes) is refl k
-given-by sent (actions.Fire agent name payload coalesce) a e h = absurd (cc (h))
-given-by sent (actions.Merge to packet join) a e h = absurd (cc (h))
-given-by sent (actions.State agent) a e h = absurd (cc (h))
-given-by sent (actions.Query agent now id name payload params) a e h = absurd (cc (h))
-given-by sent (actions.Respond agent k now payload) a e h = absurd (cc (h))
-given-by sent (actions.Restart agent tail) a e h = absurd (cc (h))
-given-by sent (actions.Break agent call n) a e h = absurd (cc (h))
-given-by sent (actions.Inject bytes) a e h = absurd (cc (h))
-given-by sent (actions.Close agent now) a e h = absurd (cc (h))
-given-by sent (actions.Save agent) a e h = absurd (cc (h))
-given-by sent (actions.Compact agent) a e h = absurd (cc (h))
+given-by sent _ a e h = absurd (cc h)
 
 -- a packet that was sent stays it
 pub still-sent : (xs ys : List (List ℕ)) (k : ℕ) (x : List ℕ) → slice_get xs k ≡ Some x → slice_get (xs ++ ys) k ≡ Some x
@@ -101,32 +86,22 @@ still-sent (y ∷ xs) ys (suc k) x h = still-sent xs ys k x h
 -- what is ignored as seen was sent before
 delivered-before : (c : Cluster) (more : List (List ℕ)) (action : Action) (a : ℕ) (e : TimedEntry EventBody) → (step c action).turn.line.answer ≡ answers.Ignored Seen
     → event_delivered (c.sent ++ more) action ≡ Some (a, e) → event_delivered c.sent action ≡ Some (a, e)
-delivered-before c more (actions.Deliver to packet now) a e says h = at (slice_get c.sent packet) refl h
+delivered-before c more (actions.Of agent (acts.Deliver packet now)) a e says h = at (slice_get c.sent packet) refl h
   where
     pair : TimedEntry EventBody → ℕ × TimedEntry EventBody
-    pair e = (to, e)
+    pair e = (agent, e)
 
-    no-packet : (m : Option IdealNode) → (on_agent c (actions.Deliver to packet now) to m).turn.line.answer ≡ answers.Ignored Seen → slice_get c.sent packet ≡ None → ⊥
+    no-packet : (m : Option IdealNode) → (on_agent c agent (acts.Deliver packet now) m).turn.line.answer ≡ answers.Ignored Seen → slice_get c.sent packet ≡ None → ⊥
     no-packet None says none = cc (says)
     no-packet (Some m) says none =
         let refused : (delivers m now None).done.answer ≡ answers.Ignored Seen = ap (λ (o : Option (List ℕ)). (delivers m now o).done.answer) (sym none) ∙ says in
         cc (refused)
 
     at : (o : Option (List ℕ)) → slice_get c.sent packet ≡ o → option_map pair (event_given (slice_get (c.sent ++ more) packet)) ≡ Some (a, e) → option_map pair (event_given (slice_get c.sent packet)) ≡ Some (a, e)
-    at None is k = absurd (no-packet (slice_get c.nodes to) says is)
+    at None is k = absurd (no-packet (slice_get c.nodes agent) says is)
     at (Some bytes) is k =
         ap (λ (o : Option (List ℕ)). option_map pair (event_given o)) (is ∙ sym (still-sent c.sent more packet bytes is)) ∙ k
-delivered-before c more (actions.Fire agent name payload coalesce) a e says h = h
-delivered-before c more (actions.Merge to packet join) a e says h = h
-delivered-before c more (actions.State agent) a e says h = h
-delivered-before c more (actions.Query agent now id name payload params) a e says h = h
-delivered-before c more (actions.Respond agent k now payload) a e says h = h
-delivered-before c more (actions.Restart agent tail) a e says h = h
-delivered-before c more (actions.Break agent call n) a e says h = h
-delivered-before c more (actions.Inject bytes) a e says h = h
-delivered-before c more (actions.Close agent now) a e says h = h
-delivered-before c more (actions.Save agent) a e says h = h
-delivered-before c more (actions.Compact agent) a e says h = h
+delivered-before c more _ a e says h = h
 
 -- what an action delivers is known, where it is ignored as seen, and the run keeps this promise
 pub knows-seen : (r : Run) (action : Action) (sent : List (List ℕ)) (line : Line) (notes : List Note) → SeenWasHanded (after r action).turns
@@ -137,7 +112,7 @@ knows-seen r action sent line notes held sends sent-is line-is notes-are says a 
     let turn : Turn = (step c action).turn in
     let seen : turn.line.answer ≡ answers.Ignored Seen = ap (λ (l : Line). l.answer) (sym line-is) ∙ says in
     let given = given-by c.sent action a e (delivered-before c turn.packets action a e seen (ap (λ (s : List (List ℕ)). event_delivered s action) (sym sends ∙ sent-is) ∙ h)) in
-    let handed = held r.turns turn [] refl a given.packet given.event (ap actor_of (acts c action) ∙ given.actor) seen (gives c action ∙ given.given) given.spells in
+    let handed = held r.turns turn [] refl a given.packet given.event (ap actor_of (turn-action c action) ∙ given.actor) seen (gives c action ∙ given.given) given.spells in
     subst (λ (x : TimedEntry EventBody). list_any (is_note a x.time x.key) notes ≡ true) (sym given.is)
     (ap (list_any (is_note a given.event.time (event_of given.event.name given.event.payload))) notes-are
     ∙ handed-noted a given.event.time (event_of given.event.name given.event.payload) 1 r.turns handed)

@@ -6,6 +6,7 @@ use Rattle.std.proofs.lemmas.List.Sums.{fold-append}
 use Rattle.std.specs.Option.{option_map}
 use Rattle.std.proofs.lemmas.List.{append-nil, length-map, map-append}
 use Rattle.std.proofs.lemmas.List.Elements.{All-nil, All-push}
+use Rattle.serf_model.specs.declared.action.Act.TheVariants as acts
 use Rattle.serf_model.specs.declared.action.Action.{Action}
 use Rattle.serf_model.specs.declared.line.Line.{Line}
 use Rattle.serf_agent.specs.declared.config.Config.{Config}
@@ -23,7 +24,7 @@ use Rattle.serf_explain.specs.Because.{AddsSuch, because_line}
 use Rattle.serf_explain.specs.Carried.{AreMerged, OfMerge, TellsMerge, TellsMerged}
 use Rattle.serf_explain.specs.Seen.{event_delivered, event_given}
 use Rattle.serf_explain.specs.HandOuts.{Note, OfNoted, note_of, notes_from}
-use Rattle.serf_explain.proofs.KnownLaws.{acts, still-sent}
+use Rattle.serf_explain.proofs.KnownLaws.{still-sent, turn-action}
 use Rattle.serf_explain.proofs.NoteLaws.{lines-push, of-seen}
 use Rattle.serf_wire.specs.declared.texts.EventBody.{EventBody}
 use Rattle.serf_window.specs.Window.{TimedEntry}
@@ -43,40 +44,20 @@ turns-push range sent n (x ∷ xs) e =
 
 -- an action's reasons are those of what it merges
 of-merge : (c : Cluster) (action : Action) (carried reasons : List (List ℕ)) → TellsMerge c action carried → TellsMerged carried reasons → OfMerge AreMerged c action reasons
-of-merge c (actions.Merge to packet join) carried reasons h tells = λ m bytes p at sent spells. tells (events_of p.slots) (joined p join m.agent) (h m bytes p at sent spells)
-of-merge c (actions.Fire agent name payload coalesce) carried reasons h tells = tt
-of-merge c (actions.Deliver to packet now) carried reasons h tells = tt
-of-merge c (actions.State agent) carried reasons h tells = tt
-of-merge c (actions.Query agent now id name payload params) carried reasons h tells = tt
-of-merge c (actions.Respond agent k now payload) carried reasons h tells = tt
-of-merge c (actions.Restart agent tail) carried reasons h tells = tt
-of-merge c (actions.Break agent call n) carried reasons h tells = tt
-of-merge c (actions.Inject bytes) carried reasons h tells = tt
-of-merge c (actions.Close agent now) carried reasons h tells = tt
-of-merge c (actions.Save agent) carried reasons h tells = tt
-of-merge c (actions.Compact agent) carried reasons h tells = tt
+of-merge c (actions.Of agent (acts.Merge packet join)) carried reasons h tells = λ m bytes p at sent spells. tells (events_of p.slots) (joined p join m.agent) (h m bytes p at sent spells)
+of-merge c _ carried reasons h tells = tt
 
 -- what was delivered stays it
 still-delivered : (sent more : List (List ℕ)) (action : Action) (a : ℕ) (e : TimedEntry EventBody) → event_delivered sent action ≡ Some (a, e) → event_delivered (sent ++ more) action ≡ Some (a, e)
-still-delivered sent more (actions.Deliver to packet now) a e h = by (slice_get sent packet) refl h
+still-delivered sent more (actions.Of agent (acts.Deliver packet now)) a e h = by (slice_get sent packet) refl h
   where
     pair : TimedEntry EventBody → ℕ × TimedEntry EventBody
-    pair e = (to, e)
+    pair e = (agent, e)
 
     by : (o : Option (List ℕ)) → slice_get sent packet ≡ o → option_map pair (event_given o) ≡ Some (a, e) → option_map pair (event_given (slice_get (sent ++ more) packet)) ≡ Some (a, e)
     by None is k = absurd (cc (k))
     by (Some bytes) is k = ap (λ (o : Option (List ℕ)). option_map pair (event_given o)) (still-sent sent more packet bytes is) ∙ k
-still-delivered sent more (actions.Fire agent name payload coalesce) a e h = h
-still-delivered sent more (actions.Merge to packet join) a e h = h
-still-delivered sent more (actions.State agent) a e h = h
-still-delivered sent more (actions.Query agent now id name payload params) a e h = h
-still-delivered sent more (actions.Respond agent k now payload) a e h = h
-still-delivered sent more (actions.Restart agent tail) a e h = h
-still-delivered sent more (actions.Break agent call n) a e h = h
-still-delivered sent more (actions.Inject bytes) a e h = h
-still-delivered sent more (actions.Close agent now) a e h = h
-still-delivered sent more (actions.Save agent) a e h = h
-still-delivered sent more (actions.Compact agent) a e h = h
+still-delivered sent more _ a e h = h
 
 -- one more turn that names what it has to
 names-push : (range : Range) (lines : List Line) (es : List Explained) (e : Explained) → NameHandOuts range lines es → NamesHandOut range (lines ++ map (λ (x : Explained). x.turn.line) es) e → NameHandOuts range lines (es ++ e ∷ [])
@@ -103,7 +84,7 @@ told-after range r clusters action w new line carried past noted text added n se
     let many : length h.explained ≡ length r.turns = sym (length-map h.explained (λ (e : Explained). e.turn)) ∙ ap (λ (ts : List Turn). length ts) h.whole.turns_are in
     let reasoned : IsReasoned r.cluster turn.action turn.line adds.reasons = record {
       some = adds.some;
-      merged = λ answers. subst (λ (a : Action). OfMerge AreMerged r.cluster a adds.reasons) (sym (acts r.cluster action))
+      merged = λ answers. subst (λ (a : Action). OfMerge AreMerged r.cluster a adds.reasons) (sym (turn-action r.cluster action))
           (of-merge r.cluster action carried adds.reasons told (adds.such.merged (ap (λ (l : Line). l.answer) takes.line_is ∙ answers)));
     } in
     let lines : List Line = map (λ (t : Turn). t.line) r.turns in
@@ -111,14 +92,14 @@ told-after range r clusters action w new line carried past noted text added n se
     sym (lines-of h.explained) ∙ ap (λ (ts : List Turn). map (λ (t : Turn). t.line) ts) h.whole.turns_are in
     let behind : length lines + 1 ≡ n = omega (arith, length-map r.turns (λ (t : Turn). t.line), count) in
     let number : n ≡ 1 + length lines = omega (arith, behind) in
-    let viewed : IsViewed (cluster_behind one) new = subst (λ (b : Action). IsViewed (step r.cluster b).cluster new) (sym (acts r.cluster action)) takes.view in
+    let viewed : IsViewed (cluster_behind one) new = subst (λ (b : Action). IsViewed (step r.cluster b).cluster new) (sym (turn-action r.cluster action)) takes.view in
     let names : NamesHandOut range lines one = λ shown answers.
-    let noted : OfNoted past new action adds.reasons = adds.such.seen (ap (λ m. is_shown range m (actor_of action)) (sym behind) ∙ ap (λ (b : Action). is_shown range (length lines + 1) (actor_of b)) (sym (acts r.cluster action)) ∙ shown)
+    let noted : OfNoted past new action adds.reasons = adds.such.seen (ap (λ m. is_shown range m (actor_of action)) (sym behind) ∙ ap (λ (b : Action). is_shown range (length lines + 1) (actor_of b)) (sym (turn-action r.cluster action)) ∙ shown)
     (ap (λ (l : Line). l.answer) takes.line_is ∙ answers) in
     λ a e is.
     of-seen lines (cluster_behind one) new action adds.reasons viewed (subst (λ (ns : List Note). OfNoted ns new action adds.reasons) h.notes_are noted) a e
     (ap (λ s. event_delivered s action) (sym takes.view.sent ∙ sends)
-    ∙ still-delivered r.cluster.sent turn.packets action a e (ap (λ (b : Action). event_delivered r.cluster.sent b) (sym (acts r.cluster action)) ∙ is)) in
+    ∙ still-delivered r.cluster.sent turn.packets action a e (ap (λ (b : Action). event_delivered r.cluster.sent b) (sym (turn-action r.cluster action)) ∙ is)) in
     let place : 1 + length h.explained ≡ n = omega (arith, many, count) in
     record {
       view = takes.view;
@@ -144,7 +125,7 @@ told-after range r clusters action w new line carried past noted text added n se
           ∙ ap (λ t. text ++ t)
           (ap (λ m. turn_text range (sent ++ more) m turn.action turn.line adds.reasons) place
           ∙ ap (λ t. if is_shown range n (actor_of turn.action) then t ++ flat_map (because_line n) adds.reasons else []) (stays more)
-          ∙ ap (λ a. turn_text range sent n a turn.line adds.reasons) (acts r.cluster action)
+          ∙ ap (λ a. turn_text range sent n a turn.line adds.reasons) (turn-action r.cluster action)
           ∙ ap (λ s. turn_text range s n action turn.line adds.reasons) takes.view.sent
           ∙ ap (λ l. turn_text range new.sent n action l adds.reasons) (sym takes.line_is))
           ∙ sym adds.added;

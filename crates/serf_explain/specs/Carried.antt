@@ -9,6 +9,7 @@ use Rattle.serf_agent.specs.Ideal.{IdealAgent}
 use Rattle.serf_agent.specs.States.{after_event, events_of, joined}
 use Rattle.serf_wire.specs.Decoded.{decoded}
 use Rattle.serf_wire.specs.Message.{PushPull, push_pull}
+use Rattle.serf_model.specs.declared.action.Act.TheVariants as acts
 use Rattle.serf_model.specs.declared.action.Action.{Action}
 use Rattle.serf_model.specs.declared.action.Action.TheVariants as actions
 use Rattle.serf_model.specs.Cluster.{Cluster, IdealNode}
@@ -58,8 +59,8 @@ TellsMerged carried reasons = (es : List (TimedEntry EventBody)) (i : IdealAgent
 
 -- the reasons are those of the state that an action merges in a cluster, if it merges one, told so
 abbrev pub OfMerge : (List (TimedEntry EventBody) → IdealAgent → List (List ℕ) → Type 0) → Cluster → Action → List (List ℕ) → Type 0
-OfMerge Told c (actions.Merge to packet join) reasons =
-    (m : IdealNode) (bytes : List ℕ) (p : PushPull) → slice_get c.nodes to ≡ Some m → slice_get c.sent packet ≡ Some bytes → decoded bytes ≡ Ok (push_pull p)
+OfMerge Told c (actions.Of agent (acts.Merge packet join)) reasons =
+    (m : IdealNode) (bytes : List ℕ) (p : PushPull) → slice_get c.nodes agent ≡ Some m → slice_get c.sent packet ≡ Some bytes → decoded bytes ≡ Ok (push_pull p)
     → Told (events_of p.slots) (joined p join m.agent) reasons
 OfMerge Told c _ reasons = Unit {0}
 

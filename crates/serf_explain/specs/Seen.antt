@@ -8,6 +8,7 @@ use Rattle.serf_wire.specs.Decoded.{decoded}
 use Rattle.serf_wire.specs.Message.{Message, user_event}
 use Rattle.serf_window.specs.Texts.{event_of, same_texts}
 use Rattle.serf_window.specs.Window.{TimedEntry}
+use Rattle.serf_model.specs.declared.action.Act.TheVariants as acts
 use Rattle.serf_model.specs.declared.action.Action.{Action}
 use Rattle.serf_model.specs.declared.action.Action.TheVariants as actions
 use Rattle.serf_model.specs.Cluster.{Cluster, IdealNode}
@@ -58,7 +59,7 @@ event_given (Some packet) = event_read (decoded packet)
 
 -- the agent to which an action delivers an event, and the event, where these packets were sent
 abbrev pub event_delivered : List (List ℕ) → Action → Option (ℕ × TimedEntry EventBody)
-event_delivered sent (actions.Deliver to packet now) = option_map (λ e. (to, e)) (event_given (slice_get sent packet))
+event_delivered sent (actions.Of agent (acts.Deliver packet now)) = option_map (λ e. (agent, e)) (event_given (slice_get sent packet))
 event_delivered sent _ = None
 
 -- where an action delivers an event to an agent of this cluster, its only reason says so

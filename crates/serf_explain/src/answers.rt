@@ -4,7 +4,7 @@ use crate::ignored::put_ignored;
 use crate::quoted::{put_event, put_query, put_quoted, put_since, say};
 use crate::refusals::put_refusal;
 use crate::told::{Actor, Told, actor_at, message_of, put_name};
-use serf_model::{Action, Answer, SinkCall};
+use serf_model::{Act, Action, Answer, SinkCall};
 use serf_wire::{Message, Texts, passes};
 use std::alloc::AllocError;
 
@@ -25,14 +25,9 @@ fn put_fired(
 
 /// Appends the event that a message is.
 fn put_event_of(out: &mut Vec<u8>, message: &Message) -> Result<(), AllocError> {
-    match *message {
-        Message::UserEvent {
-            time,
-            name,
-            payload,
-            ..
-        } => {
-            put_event(out, time.get(), name, payload)?;
+    match message {
+        Message::UserEvent(event) => {
+            put_event(out, event.time.get(), event.name, event.payload)?;
             out.extend_from_slice(b": ")
         }
         _ => Ok(()),
@@ -98,18 +93,11 @@ fn put_new_texts(
 
 /// Appends why a query that was delivered is new, and why it is handed out or isn't.
 fn put_new_query(out: &mut Vec<u8>, actor: &Actor, message: &Message) -> Result<(), AllocError> {
-    match *message {
-        Message::Query {
-            time,
-            id,
-            filters,
-            name,
-            payload,
-            ..
-        } => {
-            put_query(out, time.get(), id)?;
-            put_new_texts(out, actor, name, payload)?;
-            put_filtered(out, actor, filters)
+    match message {
+        Message::Query(query) => {
+            put_query(out, query.time.get(), query.id)?;
+            put_new_texts(out, actor, query.name, query.payload)?;
+            put_filtered(out, actor, query.filters)
         }
         _ => Ok(()),
     }
@@ -123,15 +111,15 @@ fn put_counted(
     message: &Message,
     what: &[u8],
 ) -> Result<(), AllocError> {
-    match *message {
-        Message::QueryResponse { time, id, from, .. } => {
+    match message {
+        Message::QueryResponse(answer) => {
             out.extend_from_slice(b"the first ")?;
             out.extend_from_slice(what)?;
             out.extend_from_slice(b" of ")?;
-            put_quoted(out, from)?;
+            put_quoted(out, answer.from)?;
             out.extend_from_slice(b" to ")?;
-            put_query(out, time, id)?;
-            put_asked(out, told, actor, time)
+            put_query(out, answer.time, answer.id)?;
+            put_asked(out, told, actor, answer.time)
         }
         _ => Ok(()),
     }
@@ -167,8 +155,8 @@ fn put_restarted(out: &mut Vec<u8>, actor: &Actor) -> Result<(), AllocError> {
 }
 
 /// Appends which call is to fail.
-fn put_broken(out: &mut Vec<u8>, told: &Told, actor: &Actor) -> Result<(), AllocError> {
-    let Action::Break { call, count, .. } = told.action else {
+fn put_broken(out: &mut Vec<u8>, actor: &Actor) -> Result<(), AllocError> {
+    let Act::Break { call, count } = actor.act else {
         return Ok(());
     };
     let name: &[u8] = match call {
@@ -196,9 +184,9 @@ fn put_state(out: &mut Vec<u8>, actor: &Actor) -> Result<(), AllocError> {
 }
 
 /// Appends which query was answered.
-fn put_replied(out: &mut Vec<u8>, told: &Told, actor: &Actor) -> Result<(), AllocError> {
-    let number = match told.action {
-        Action::Respond { handed, .. } => *handed,
+fn put_replied(out: &mut Vec<u8>, actor: &Actor) -> Result<(), AllocError> {
+    let number = match actor.act {
+        Act::Respond { handed, .. } => *handed,
         _ => 0,
     };
     put_name(out, actor.agent)?;
@@ -207,9 +195,9 @@ fn put_replied(out: &mut Vec<u8>, told: &Told, actor: &Actor) -> Result<(), Allo
 }
 
 /// Appends how many queries were closed.
-fn put_closed(out: &mut Vec<u8>, told: &Told, actor: &Actor, count: u64) -> Result<(), AllocError> {
-    let now = match told.action {
-        Action::Close { now, .. } => *now,
+fn put_closed(out: &mut Vec<u8>, actor: &Actor, count: u64) -> Result<(), AllocError> {
+    let now = match actor.act {
+        Act::Close { now } => *now,
         _ => 0,
     };
     say(out, b"", count)?;
@@ -240,8 +228,8 @@ fn put_own(out: &mut Vec<u8>, told: &Told, actor: &Actor) -> Result<(), AllocErr
             )
         }
         Answer::State => put_state(out, actor),
-        Answer::Replied => put_replied(out, told, actor),
-        Answer::Broken => put_broken(out, told, actor),
+        Answer::Replied => put_replied(out, actor),
+        Answer::Broken => put_broken(out, actor),
         Answer::Saved => {
             let kept = actor.agent.member_time().saturating_sub(1);
             say(out, b"its snapshot has clock ", kept)
@@ -250,7 +238,7 @@ fn put_own(out: &mut Vec<u8>, told: &Told, actor: &Actor) -> Result<(), AllocErr
             out.extend_from_slice(b"its snapshot has the last line of each kind alone")
         }
         Answer::Restarted { .. } => put_restarted(out, actor),
-        Answer::Closed(count) => put_closed(out, told, actor, count),
+        Answer::Closed(count) => put_closed(out, actor, count),
         Answer::Refused(refusal) => put_refusal(out, told, actor, refusal),
         _ => Ok(()),
     }
@@ -263,8 +251,8 @@ fn put_given(
     actor: &Actor,
     message: &Message,
 ) -> Result<(), AllocError> {
-    let now = match told.action {
-        Action::Deliver { now, .. } => *now,
+    let now = match actor.act {
+        Act::Deliver { now, .. } => *now,
         _ => 0,
     };
     match told.line.answer {
@@ -292,30 +280,22 @@ fn put_actor_reason(out: &mut Vec<u8>, told: &Told, actor: &Actor) -> Result<(),
     }
 }
 
-/// Appends why an action of this actor was answered so.
-pub(crate) fn put_reason(
-    out: &mut Vec<u8>,
-    told: &Told,
-    actor: Option<u64>,
-) -> Result<(), AllocError> {
-    let Some(number) = actor else {
-        return put_injected(out, told);
-    };
-    match actor_at(told, number) {
-        Some(actor) => put_actor_reason(out, told, &actor),
-        None => {
-            say(out, b"no agent has the number ", number)?;
-            out.extend_from_slice(b": agents count from 0")
-        }
+/// Appends why an action was answered so.
+pub(crate) fn put_reason(out: &mut Vec<u8>, told: &Told) -> Result<(), AllocError> {
+    match told.action {
+        Action::Inject { bytes } => put_injected(out, bytes.as_slice().len() as u64),
+        Action::Of { agent, act } => match actor_at(told, *agent, act) {
+            Some(actor) => put_actor_reason(out, told, &actor),
+            None => {
+                say(out, b"no agent has the number ", *agent)?;
+                out.extend_from_slice(b": agents count from 0")
+            }
+        },
     }
 }
 
-/// Appends what was injected.
-fn put_injected(out: &mut Vec<u8>, told: &Told) -> Result<(), AllocError> {
-    let bytes = match told.action {
-        Action::Inject { bytes } => bytes.as_slice().len() as u64,
-        _ => 0,
-    };
+/// Appends how many bytes were injected.
+fn put_injected(out: &mut Vec<u8>, bytes: u64) -> Result<(), AllocError> {
     say(out, b"", bytes)?;
     out.extend_from_slice(b" bytes were sent as a stranger could send them: no agent made them")
 }

@@ -200,35 +200,30 @@ pub(crate) fn put_ignored(
     now: u64,
     reason: Reason,
 ) -> Result<(), AllocError> {
-    match *message {
-        Message::UserEvent {
-            time,
-            name,
-            payload,
-            ..
-        } => {
+    match message {
+        Message::UserEvent(user_event) => {
             let event = Event {
-                time: time.get(),
-                name,
-                payload,
+                time: user_event.time.get(),
+                name: user_event.name,
+                payload: user_event.payload,
             };
             put_event_ignored(out, actor, &event, reason)
         }
-        Message::Query { time, id, .. } => {
-            put_query_ignored(out, told, actor, time.get(), id, reason)
+        Message::Query(query) => {
+            put_query_ignored(out, told, actor, query.time.get(), query.id, reason)
         }
-        Message::QueryResponse { time, id, from, .. } => {
+        Message::QueryResponse(response) => {
             if reason == Reason::NotOpen {
-                return put_not_open(out, told, actor, time);
+                return put_not_open(out, told, actor, response.time);
             }
             let answer = Answering {
                 now,
-                time,
-                id,
-                from,
+                time: response.time,
+                id: response.id,
+                from: response.from,
             };
             put_answer_reason(out, actor, &answer, reason)
         }
-        Message::PushPull { .. } | Message::Foreign(_) => Ok(()),
+        Message::PushPull(_) | Message::Foreign(_) => Ok(()),
     }
 }

@@ -1,7 +1,7 @@
 //! What is remembered of one agent.
 
 use serf_agent::Agent;
-use serf_model::{Action, SinkCall};
+use serf_model::{Act, SinkCall};
 use serf_snap::MemSink;
 
 /// A number that stands since an action; the 0th is the start.
@@ -82,10 +82,10 @@ impl Marks {
         }
     }
 
-    /// Remembers the failures that an action planned, or that a restart took back.
-    pub(crate) fn plan(&mut self, action: &Action, number: u64) {
-        match action {
-            Action::Break { call, count, .. } => {
+    /// Remembers the failures that were planned, or that a restart took back, at the action of this number.
+    pub(crate) fn plan(&mut self, act: &Act, number: u64) {
+        match act {
+            Act::Break { call, count } => {
                 let plan = Plan {
                     count: *count,
                     action: number,
@@ -96,7 +96,7 @@ impl Marks {
                     SinkCall::ReplaceOld | SinkCall::ReplaceNew => self.replace = plan,
                 }
             }
-            Action::Restart { .. } => {
+            Act::Restart { .. } => {
                 self.append = NO_PLAN;
                 self.flush = NO_PLAN;
                 self.replace = NO_PLAN;

@@ -5,7 +5,7 @@ use crate::marks::Marks;
 use indexmap::IndexMap;
 use serf_agent::Agent;
 use serf_lamport::Time;
-use serf_model::{Action, Answer, Line};
+use serf_model::{Act, Action, Answer, Line};
 use serf_snap::MemSink;
 use serf_wire::{Message, decode};
 use serf_world::World;
@@ -153,32 +153,27 @@ impl Memory {
         }
     }
 
-    /// Remembers what an action did to queries and plans.
-    fn note_action(
+    /// Remembers what an agent did to queries.
+    fn note_act(
         &mut self,
         alloc: Global,
         world: &World,
         number: u64,
-        action: &Action,
+        agent: u64,
+        act: &Act,
         line: &Line,
     ) -> Result<(), AllocError> {
-        match action {
-            Action::Deliver { to, packet, .. } => {
-                self.note_delivery(world, number, *to, *packet, line)
-            }
-            Action::Query { agent, id, .. } => match line.answer {
+        match act {
+            Act::Deliver { packet, .. } => self.note_delivery(world, number, agent, *packet, line),
+            Act::Query(query) => match line.answer {
                 Answer::Queried(time) => {
-                    self.enter(*agent, time.get(), *id, number)?;
-                    self.ask(*agent, time.get(), number)
+                    self.enter(agent, time.get(), query.get().id, number)?;
+                    self.ask(agent, time.get(), number)
                 }
                 _ => Ok(()),
             },
-            Action::Close { agent, .. } => {
-                self.end_queries(alloc, world, *agent, Ended::Closed(number))
-            }
-            Action::Restart { agent, .. } => {
-                self.end_queries(alloc, world, *agent, Ended::Lost(number))
-            }
+            Act::Close { .. } => self.end_queries(alloc, world, agent, Ended::Closed(number)),
+            Act::Restart { .. } => self.end_queries(alloc, world, agent, Ended::Lost(number)),
             _ => Ok(()),
         }
     }
@@ -192,18 +187,18 @@ impl Memory {
         action: &Action,
         line: &Line,
     ) -> Result<(), AllocError> {
-        self.note_action(alloc, world, number, action, line)?;
-        let Some(actor) = action.actor() else {
+        let Action::Of { agent: actor, act } = action else {
             return Ok(());
         };
-        let Some(agent) = world.agent(actor) else {
+        self.note_act(alloc, world, number, *actor, act, line)?;
+        let Some(agent) = world.agent(*actor) else {
             return Ok(());
         };
-        let Some(marks) = self.agents.get_mut(actor as usize) else {
+        let Some(marks) = self.agents.get_mut(*actor as usize) else {
             return Ok(());
         };
         marks.look(agent, number);
-        marks.plan(action, number);
+        marks.plan(act, number);
         Ok(())
     }
 }
@@ -218,8 +213,8 @@ fn is_open(agent: &Agent<MemSink>, time: u64) -> bool {
 
 /// The time and the ID of a message, where it is a query.
 fn query_in(message: &Message) -> Option<(u64, u32)> {
-    match *message {
-        Message::Query { time, id, .. } => Some((time.get(), id)),
+    match message {
+        Message::Query(query) => Some((query.time.get(), query.id)),
         _ => None,
     }
 }

@@ -26,7 +26,7 @@ use crate::refusals::put_sink_fault;
 use crate::seen::put_seen;
 use crate::told::{Actor, Told, actor_at};
 use serf_agent::Reason;
-use serf_model::{Action, Answer, Refusal, packet_at};
+use serf_model::{Act, Action, Answer, Refusal, packet_at};
 use serf_wire::{Bytes, Message, decode};
 use serf_world::World;
 use std::alloc::{AllocError, Global};
@@ -48,15 +48,13 @@ fn message_lines(
         → merging.now.agent.now.concrete ≡ view_of i → message_of message.now ≡ push_pull p
         → AreCarried (events_of p.slots) (joined p is_join i) (reasons_in lines.items)) }
 {
-    match *message {
-        Message::PushPull {
-            event_clock,
-            slots,
-            ..
-        } => carried_lines(alloc, merging, event_clock, slots, is_join),
-        Message::UserEvent { .. }
-        | Message::Query { .. }
-        | Message::QueryResponse { .. }
+    match message {
+        Message::PushPull(state) => {
+            carried_lines(alloc, merging, state.event_clock, state.slots, is_join)
+        }
+        Message::UserEvent(_)
+        | Message::Query(_)
+        | Message::QueryResponse(_)
         | Message::Foreign(_) => Ok(Vec::new(alloc)),
     }
 }
@@ -99,6 +97,29 @@ fn merging_at<'a>(
     }
 }
 
+/// What is told of each event of the state in a packet that an agent is to merge.
+fn merge_lines(
+    alloc: Global,
+    world: &World,
+    history: &History,
+    number: u64,
+    agent: u64,
+    packet: u64,
+    join: bool,
+) -> Result<Vec<Carried>, AllocError>
+    ensures { (c : Cluster) → IsViewed c world.now → AreRepresentable c
+        → IfOk result (λ lines. TellsMerge c (Action.Of agent (Act.Merge packet join))
+        (reasons_in lines.items)) }
+{
+    match merging_at(world, history, number, agent) {
+        Some(merging) => match packet_at(world.sent(), packet) {
+            Some(bytes) => packet_lines(alloc, &merging, bytes, join),
+            None => Ok(Vec::new(alloc)),
+        },
+        None => Ok(Vec::new(alloc)),
+    }
+}
+
 /// What is told of each event of a state that is to be merged; nothing of any other action.
 pub(crate) fn lines_before(
     alloc: Global,
@@ -110,15 +131,12 @@ pub(crate) fn lines_before(
     ensures { (c : Cluster) → IsViewed c world.now → AreRepresentable c
         → IfOk result (λ lines. TellsMerge c action.now (reasons_in lines.items)) }
 {
-    let Action::Merge { to, packet, join } = action else {
-        return Ok(Vec::new(alloc));
-    };
-    match merging_at(world, history, number, *to) {
-        Some(merging) => match packet_at(world.sent(), *packet) {
-            Some(bytes) => packet_lines(alloc, &merging, bytes, *join),
-            None => Ok(Vec::new(alloc)),
-        },
-        None => Ok(Vec::new(alloc)),
+    match action {
+        Action::Of {
+            agent,
+            act: Act::Merge { packet, join },
+        } => merge_lines(alloc, world, history, number, *agent, *packet, *join),
+        _ => Ok(Vec::new(alloc)),
     }
 }
 
@@ -127,7 +145,7 @@ pub(crate) fn put_lone(alloc: Global, out: &mut Vec<u8>, told: &Told) -> Result<
     ensures { OnOk result (AddsSome told.now.number out.old.items out.new.items) }
 {
     let mut reason = Vec::with_capacity(alloc, USUAL_BYTES)?;
-    put_reason(&mut reason, told, told.action.actor())?;
+    put_reason(&mut reason, told)?;
     put_because(out, told.number, reason.as_slice())
 }
 
@@ -154,17 +172,12 @@ fn put_merged(out: &mut Vec<u8>, number: u64, carried: &[Carried]) -> Result<(),
 }
 
 /// What is told of the event at which the disk failed.
-fn failed_reason(
-    alloc: Global,
-    told: &Told,
-    actor: &Actor,
-    line: &Carried,
-) -> Result<Vec<u8>, AllocError> {
+fn failed_reason(alloc: Global, actor: &Actor, line: &Carried) -> Result<Vec<u8>, AllocError> {
     let mut reason = Vec::new(alloc);
     reason.extend_from_slice(&line.reason)?;
     reason.truncate(line.reason.len().saturating_sub(NEW_WORDS));
     reason.extend_from_slice(b"new, but ")?;
-    put_sink_fault(&mut reason, told, actor)?;
+    put_sink_fault(&mut reason, actor)?;
     Ok(reason)
 }
 
@@ -181,7 +194,7 @@ fn put_failed_merge(
     for line in told.carried {
         if line.is_new {
             if handed == 0 {
-                let reason = failed_reason(alloc, told, actor, line)?;
+                let reason = failed_reason(alloc, actor, line)?;
                 return put_because(out, told.number, &reason);
             }
             handed -= 1;
@@ -193,11 +206,11 @@ fn put_failed_merge(
 
 /// The agent that merged a state up to where its disk failed.
 fn failed_actor<'a>(told: &Told<'a>) -> Option<Actor<'a>> {
-    let Action::Merge { to, .. } = told.action else {
+    let Action::Of { agent, act } = told.action else {
         return None;
     };
-    match told.line.answer {
-        Answer::Refused(Refusal::SinkFault) => actor_at(told, *to),
+    match (act, told.line.answer) {
+        (Act::Merge { .. }, Answer::Refused(Refusal::SinkFault)) => actor_at(told, *agent, act),
         _ => None,
     }
 }

@@ -4,8 +4,8 @@ use crate::marks::Plan;
 use crate::quoted::{put_query, put_quoted, say};
 use crate::told::{Actor, Told, message_of, packet_len, put_name};
 use serf_lamport::Time;
-use serf_model::{Action, Refusal};
-use serf_wire::{Message, user_event_len};
+use serf_model::{Act, Refusal};
+use serf_wire::{Message, UserEvent, user_event_len};
 use std::alloc::AllocError;
 
 /// A number of 128 bits, or the greatest of 64 where it is above that.
@@ -30,7 +30,13 @@ fn put_event_sizes(
     let measured = actor.agent.event_time().min(u64::MAX - 1);
     match Time::new(measured) {
         Some(time) => {
-            let packet = at_most_64_bits(user_event_len(time, name, payload, coalesce));
+            let event = UserEvent {
+                time,
+                name,
+                payload,
+                coalesce,
+            };
+            let packet = at_most_64_bits(user_event_len(&event));
             say(out, b" bytes together, and the packet ", packet)?;
         }
         None => {}
@@ -52,16 +58,12 @@ fn put_plan(out: &mut Vec<u8>, call: &[u8], plan: Plan) -> Result<(), AllocError
 }
 
 /// Appends at which call the disk failed.
-pub(crate) fn put_sink_fault(
-    out: &mut Vec<u8>,
-    told: &Told,
-    actor: &Actor,
-) -> Result<(), AllocError> {
+pub(crate) fn put_sink_fault(out: &mut Vec<u8>, actor: &Actor) -> Result<(), AllocError> {
     out.extend_from_slice(b"the disk of ")?;
     put_name(out, actor.agent)?;
     let marks = actor.before;
-    match told.action {
-        Action::Compact { .. } => put_plan(out, b" failed at a replace", marks.replace)?,
+    match actor.act {
+        Act::Compact => put_plan(out, b" failed at a replace", marks.replace)?,
         _ => {
             if marks.flush.count == 0 {
                 put_plan(out, b" failed at an append", marks.append)?;
@@ -87,9 +89,9 @@ fn put_stopped(out: &mut Vec<u8>, actor: &Actor) -> Result<(), AllocError> {
 /// Appends what a packet is that was to be merged.
 fn put_not_push_pull(out: &mut Vec<u8>, told: &Told) -> Result<(), AllocError> {
     let kind: &[u8] = match message_of(told) {
-        Some(Message::UserEvent { .. }) => b"a user event",
-        Some(Message::Query { .. }) => b"a query",
-        Some(Message::QueryResponse { .. }) => b"an answer to a query",
+        Some(Message::UserEvent(_)) => b"a user event",
+        Some(Message::Query(_)) => b"a query",
+        Some(Message::QueryResponse(_)) => b"an answer to a query",
         _ => b"a message of another part of Serf",
     };
     out.extend_from_slice(b"the packet is ")?;
@@ -101,11 +103,11 @@ fn put_not_push_pull(out: &mut Vec<u8>, told: &Told) -> Result<(), AllocError> {
 fn put_responders(out: &mut Vec<u8>, told: &Told, actor: &Actor) -> Result<(), AllocError> {
     let counted = actor.agent.config().responders;
     match message_of(told) {
-        Some(Message::QueryResponse { time, id, from, .. }) => {
-            put_query(out, time, id)?;
+        Some(Message::QueryResponse(answer)) => {
+            put_query(out, answer.time, answer.id)?;
             say(out, b" has answers of ", counted)?;
             out.extend_from_slice(b" nodes, as many as are counted; ")?;
-            put_quoted(out, from)?;
+            put_quoted(out, answer.from)?;
             out.extend_from_slice(b" is one more")
         }
         _ => say(out, b"as many are counted as may be: ", counted),
@@ -113,18 +115,17 @@ fn put_responders(out: &mut Vec<u8>, told: &Told, actor: &Actor) -> Result<(), A
 }
 
 /// Appends why an event or a query isn't fired, or a query isn't answered, for its size.
-fn put_too_large(out: &mut Vec<u8>, told: &Told, actor: &Actor) -> Result<(), AllocError> {
-    match told.action {
-        Action::Fire {
+fn put_too_large(out: &mut Vec<u8>, actor: &Actor) -> Result<(), AllocError> {
+    match actor.act {
+        Act::Fire {
             name,
             payload,
             coalesce,
-            ..
         } => put_event_sizes(out, actor, name.as_slice(), payload.as_slice(), *coalesce),
-        Action::Query { name, payload, .. } => {
-            let texts = (name.as_slice().len() as u64).saturating_add(
-                payload.as_slice().len() as u64,
-            );
+        Act::Query(query) => {
+            let query = query.get();
+            let name = query.name.as_slice().len() as u64;
+            let texts = name.saturating_add(query.payload.as_slice().len() as u64);
             say(
                 out,
                 b"the query's packet, whose name and payload have ",
@@ -132,7 +133,7 @@ fn put_too_large(out: &mut Vec<u8>, told: &Told, actor: &Actor) -> Result<(), Al
             )?;
             out.extend_from_slice(b" bytes together, is longer than 1024 bytes")
         }
-        Action::Respond { payload, .. } => {
+        Act::Respond { payload, .. } => {
             let bytes = payload.as_slice().len() as u64;
             say(out, b"the answer's packet, whose payload has ", bytes)?;
             out.extend_from_slice(b" bytes, is longer than 1024 bytes")
@@ -142,10 +143,9 @@ fn put_too_large(out: &mut Vec<u8>, told: &Told, actor: &Actor) -> Result<(), Al
 }
 
 /// Appends which number the schedule has no packet of.
-fn put_no_message(out: &mut Vec<u8>, told: &Told) -> Result<(), AllocError> {
-    let number = match told.action {
-        Action::Deliver { packet, .. } => *packet,
-        Action::Merge { packet, .. } => *packet,
+fn put_no_message(out: &mut Vec<u8>, told: &Told, actor: &Actor) -> Result<(), AllocError> {
+    let number = match actor.act {
+        Act::Deliver { packet, .. } | Act::Merge { packet, .. } => *packet,
         _ => 0,
     };
     let sent = told.world.sent().len() as u64;
@@ -154,9 +154,9 @@ fn put_no_message(out: &mut Vec<u8>, told: &Told) -> Result<(), AllocError> {
 }
 
 /// Appends why a query can't be answered.
-fn put_no_query(out: &mut Vec<u8>, told: &Told, actor: &Actor) -> Result<(), AllocError> {
-    let number = match told.action {
-        Action::Respond { handed, .. } => *handed,
+fn put_no_query(out: &mut Vec<u8>, actor: &Actor) -> Result<(), AllocError> {
+    let number = match actor.act {
+        Act::Respond { handed, .. } => *handed,
         _ => 0,
     };
     say(out, b"no query of number ", number)?;
@@ -174,10 +174,10 @@ pub(crate) fn put_refusal(
 ) -> Result<(), AllocError> {
     match refusal {
         Refusal::NoAgent => out.extend_from_slice(b"no agent has this number"),
-        Refusal::NoMessage => put_no_message(out, told),
-        Refusal::NoQuery => put_no_query(out, told, actor),
+        Refusal::NoMessage => put_no_message(out, told, actor),
+        Refusal::NoQuery => put_no_query(out, actor),
         Refusal::Stopped => put_stopped(out, actor),
-        Refusal::TooLarge => put_too_large(out, told, actor),
+        Refusal::TooLarge => put_too_large(out, actor),
         Refusal::TooLong => { out.extend_from_slice(b"a text or a list is longer than 4294967295") }
         Refusal::Exhausted => {
             out.extend_from_slice(b"the clock stands at 18446744073709551615, which is no time")
@@ -185,10 +185,10 @@ pub(crate) fn put_refusal(
         Refusal::ZeroTimeout => out.extend_from_slice(
             b"a query with a timeout of 0 takes no answer",
         ),
-        Refusal::PastDeadline => put_past_deadline(out, told),
+        Refusal::PastDeadline => put_past_deadline(out, actor),
         Refusal::NotPushPull => put_not_push_pull(out, told),
         Refusal::RespondersFull => put_responders(out, told, actor),
-        Refusal::SinkFault => put_sink_fault(out, told, actor),
+        Refusal::SinkFault => put_sink_fault(out, actor),
         Refusal::Wire(_) => {
             say(out, b"its ", packet_len(told))?;
             out.extend_from_slice(
@@ -199,9 +199,9 @@ pub(crate) fn put_refusal(
 }
 
 /// Appends the moment of an answer that comes too late.
-fn put_past_deadline(out: &mut Vec<u8>, told: &Told) -> Result<(), AllocError> {
-    let now = match told.action {
-        Action::Respond { now, .. } => *now,
+fn put_past_deadline(out: &mut Vec<u8>, actor: &Actor) -> Result<(), AllocError> {
+    let now = match actor.act {
+        Act::Respond { now, .. } => *now,
         _ => 0,
     };
     say(out, b"the query's deadline is before ", now)

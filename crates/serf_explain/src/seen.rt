@@ -16,7 +16,7 @@ use crate::hand_outs::Event;
 use crate::quoted::{put_event, put_quoted};
 use crate::reasons::{USUAL_BYTES, put_lone};
 use crate::told::Told;
-use serf_model::{Action, packet_at};
+use serf_model::{Act, Action, packet_at};
 use serf_text::put_number;
 use serf_wire::{Message, decode};
 use std::alloc::{AllocError, Global};
@@ -32,20 +32,15 @@ pub(crate) struct Delivered<'a> {
 fn event_read<'a>(message: &Message<'a>) -> Option<Event<'a>>
     ensures { option_map event_as result ≡ event_read (Ok (message_of message.now)) }
 {
-    match *message {
-        Message::UserEvent {
-            time,
-            name,
-            payload,
-            ..
-        } => Some(Event {
-            time: time.get(),
-            name,
-            payload,
+    match message {
+        Message::UserEvent(event) => Some(Event {
+            time: event.time.get(),
+            name: event.name,
+            payload: event.payload,
         }),
-        Message::Query { .. }
-        | Message::QueryResponse { .. }
-        | Message::PushPull { .. }
+        Message::Query(_)
+        | Message::QueryResponse(_)
+        | Message::PushPull(_)
         | Message::Foreign(_) => None,
     }
 }
@@ -65,11 +60,15 @@ fn seen_event<'a>(told: &Told<'a>) -> Option<Delivered<'a>>
     ensures { option_map delivered_as result
         ≡ event_delivered told.now.world.now.sent told.now.action.now }
 {
-    let Action::Deliver { to, packet, .. } = told.action else {
+    let Action::Of {
+        agent,
+        act: Act::Deliver { packet, .. },
+    } = told.action
+    else {
         return None;
     };
     let event = event_in(packet_at(told.world.sent(), *packet)?)?;
-    Some(Delivered { to: *to, event })
+    Some(Delivered { to: *agent, event })
 }
 
 /// Appends which action handed an event to an agent of this name.

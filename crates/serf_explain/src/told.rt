@@ -6,7 +6,7 @@ use crate::memory::Memory;
 use crate::merges::Carried;
 use crate::quoted::put_quoted;
 use serf_agent::Agent;
-use serf_model::{Action, Line};
+use serf_model::{Act, Action, Line};
 use serf_snap::MemSink;
 use serf_wire::{Message, decode};
 use serf_world::World;
@@ -34,13 +34,7 @@ pub(crate) fn put_name(out: &mut Vec<u8>, agent: &Agent<MemSink>) -> Result<(), 
 
 /// The packet that an action gives to its agent.
 fn packet_of<'a>(told: &Told<'a>) -> Option<&'a [u8]> {
-    let number = match told.action {
-        Action::Deliver { packet, .. } => *packet,
-        Action::Merge { packet, .. } => *packet,
-        _ => return None,
-    };
-    let bytes = told.world.sent().get(number as usize)?;
-    Some(bytes.as_slice())
+    told.action.given(told.world.sent())
 }
 
 /// What the packet says that an action gives to its agent.
@@ -59,18 +53,20 @@ pub(crate) fn packet_len(told: &Told) -> u64 {
     }
 }
 
-/// An agent behind the action, and what it was like before.
+/// The agent that acts: what it does, what it is behind that, and what it was like before.
 #[derive(Clone, Copy)]
 pub(crate) struct Actor<'a> {
     pub(crate) number: u64,
+    pub(crate) act: &'a Act,
     pub(crate) agent: &'a Agent<MemSink>,
     pub(crate) before: &'a Marks,
 }
 
-/// The agent of this number.
-pub(crate) fn actor_at<'a>(told: &Told<'a>, number: u64) -> Option<Actor<'a>> {
+/// The agent of this number, which does this.
+pub(crate) fn actor_at<'a>(told: &Told<'a>, number: u64, act: &'a Act) -> Option<Actor<'a>> {
     Some(Actor {
         number,
+        act,
         agent: told.world.agent(number)?,
         before: told.memory.marks(number)?,
     })

@@ -1,56 +1,55 @@
 -- Schedules of seeds, one after another.
 use Rattle.std.proofs.Common.{◌≡◌, ◌+◌, ◌-◌, ◌<◌, ◌++◌, ◌∙◌, ℕ, zero, suc, Bool, List, Option, Some, None, refl, sym, ap, subst, arith}
 use Rattle.std.specs.Prelude.{IfOk, IfSome, Result, Ok, Err}
-use Rattle.std.specs.Io.KnownBytes.{Appends}
 use Rattle.std.proofs.KnownBytes.{Appends-trans}
 use Rattle.serf_schedule.specs.Line.{Parsed}
 use Rattle.serf_conform.specs.declared.verdict.ConformFault.{ConformFault}
+use Rattle.serf_hunt.specs.declared.counts.Counts.{Counts}
 use Rattle.serf_hunt.specs.declared.held.Held.{Held}
 use Rattle.serf_hunt.specs.declared.held.Other.{Other}
-use Rattle.serf_hunt.specs.declared.seeds.Hunted.{Hunted}
-use Rattle.serf_hunt.specs.Sweep.{IsLeftBehind, Sweep, Sweeps, sweep, tally}
+use Rattle.serf_hunt.specs.Sweep.{IsLeftBehind, Sweep, Sweeps, sum_of, sweep}
 use Rattle.serf_hunt.specs.Hunt.{AfterSweep, HoldsSeed, Hunt, Hunts, IsHunt, IsHunting}
 
 -- a seed whose agents agree
-hunt_on : (makes : ℕ → Parsed → Type 0) (serf : Bool) (old now new from mid to : Option (List ℕ)) (Whole : List ℕ → Hunt → Type 0) (n seed calls : ℕ) (held : Held)
-    → IsHunting old now from mid Whole (λ w rest h. Hunts makes serf (suc n) seed calls w rest h)
+hunt_on : (makes : ℕ → Parsed → Type 0) (serf : Bool) (old now new from mid to : Option (List ℕ)) (Whole : List ℕ → Hunt → Type 0) (n seed : ℕ) (counts : Counts) (held : Held)
+    → IsHunting old now from mid Whole (λ w rest h. Hunts makes serf (suc n) seed counts w rest h)
     → IfSome now (λ input. HoldsSeed (makes seed) serf input held new mid to)
     → held.other ≡ None
-    → IsHunting old new from to Whole (λ w rest h. Hunts makes serf n (seed + 1) (tally calls held.calls) w rest h)
-hunt_on makes serf None now new from mid to Whole n seed calls held along holds none = tt
-hunt_on makes serf (Some i) None new from mid to Whole n seed calls held along holds none = absurd along
-hunt_on makes serf (Some i) (Some r) new from mid to Whole n seed calls held along holds none =
+    → IsHunting old new from to Whole (λ w rest h. Hunts makes serf n (seed + 1) (sum_of counts held.counts) w rest h)
+hunt_on makes serf None now new from mid to Whole n seed counts held along holds none = tt
+hunt_on makes serf (Some i) None new from mid to Whole n seed counts held along holds none = absurd along
+hunt_on makes serf (Some i) (Some r) new from mid to Whole n seed counts held along holds none =
     let s : Sweep = sweep serf holds.schedule r in
-    let Next : ℕ → List ℕ → List ℕ → Hunt → Type 0 = λ c w rest k. Hunts makes serf n (seed + 1) c w rest k in
+    let Next : Counts → List ℕ → List ℕ → Hunt → Type 0 = λ c w rest k. Hunts makes serf n (seed + 1) c w rest k in
     let same : s.held.other ≡ None = ap (λ (x : Held). x.other) (sym holds.sweeps.held_is) ∙ none in
     let left : new ≡ Some s.rest = subst (λ (o : Option Other). IsLeftBehind o new s.rest) none holds.sweeps.left in
-    subst (λ (m : Option (List ℕ)). IsHunting (Some i) m from to Whole (λ w rest h. Hunts makes serf n (seed + 1) (tally calls held.calls) w rest h)) (sym left) (
+    subst (λ (m : Option (List ℕ)). IsHunting (Some i) m from to Whole (λ w rest h. Hunts makes serf n (seed + 1) (sum_of counts held.counts) w rest h)) (sym left) (
       along.0 ++ s.written,
       Appends-trans _ _ _ _ _ along.1 holds.sweeps.written,
       λ h later. along.2 h (
         holds.schedule,
         holds.made,
-        subst (λ (o : Option Other). AfterSweep o seed calls along.0 s Next h) (sym same)
-            (subst (λ (x : Held). Next (tally calls x.calls) (along.0 ++ s.written) s.rest h) holds.sweeps.held_is later),
+        subst (λ (o : Option Other). AfterSweep o seed counts along.0 s Next h) (sym same)
+            (subst (λ (x : Held). Next (sum_of counts x.counts) (along.0 ++ s.written) s.rest h) holds.sweeps.held_is later),
       ),
     )
 
 -- a seed of which an agent does otherwise
-hunt_ends : (makes : ℕ → Parsed → Type 0) (serf : Bool) (old now new from mid to : Option (List ℕ)) (Whole : List ℕ → Hunt → Type 0) (n seed calls : ℕ) (held : Held) (other : Other)
-    → IsHunting old now from mid Whole (λ w rest h. Hunts makes serf (suc n) seed calls w rest h)
+hunt_ends : (makes : ℕ → Parsed → Type 0) (serf : Bool) (old now new from mid to : Option (List ℕ)) (Whole : List ℕ → Hunt → Type 0) (n seed : ℕ) (counts : Counts) (held : Held) (other : Other)
+    → IsHunting old now from mid Whole (λ w rest h. Hunts makes serf (suc n) seed counts w rest h)
     → IfSome now (λ input. HoldsSeed (makes seed) serf input held new mid to)
     → held.other ≡ Some other
-    → IfSome old (λ input. IsHunt (Whole input) (record { calls = tally calls held.calls; found = Some (record { seed = seed; other = other }) }) from to)
-hunt_ends makes serf None now new from mid to Whole n seed calls held other along holds found = tt
-hunt_ends makes serf (Some i) None new from mid to Whole n seed calls held other along holds found = absurd along
-hunt_ends makes serf (Some i) (Some r) new from mid to Whole n seed calls held other along holds found =
+    → IfSome old (λ input. IsHunt (Whole input) (record { counts = sum_of counts held.counts; found = Some (record { seed = seed; other = other }) }) from to)
+hunt_ends makes serf None now new from mid to Whole n seed counts held other along holds found = tt
+hunt_ends makes serf (Some i) None new from mid to Whole n seed counts held other along holds found = absurd along
+hunt_ends makes serf (Some i) (Some r) new from mid to Whole n seed counts held other along holds found =
     let s : Sweep = sweep serf holds.schedule r in
-    let Next : ℕ → List ℕ → List ℕ → Hunt → Type 0 = λ c w rest k. Hunts makes serf n (seed + 1) c w rest k in
+    let Next : Counts → List ℕ → List ℕ → Hunt → Type 0 = λ c w rest k. Hunts makes serf n (seed + 1) c w rest k in
     let same : s.held.other ≡ Some other = ap (λ (x : Held). x.other) (sym holds.sweeps.held_is) ∙ found in
-    let H : Held → Hunt = λ x. record { hunted = record { calls = tally calls x.calls; found = Some (record { seed = seed; other = other }) }; written = along.0 ++ s.written } in
+    let H : Held → Hunt = λ x. record { hunted = record { counts = sum_of counts x.counts; found = Some (record { seed = seed; other = other }) }; written = along.0 ++ s.written } in
     record {
       hunt = H held;
-      is = along.2 (H held) (holds.schedule, holds.made, subst (λ (o : Option Other). AfterSweep o seed calls along.0 s Next (H held)) (sym same) (ap H holds.sweeps.held_is));
+      is = along.2 (H held) (holds.schedule, holds.made, subst (λ (o : Option Other). AfterSweep o seed counts along.0 s Next (H held)) (sym same) (ap H holds.sweeps.held_is));
       hunted_is = refl;
       written = Appends-trans _ _ _ _ _ along.1 holds.sweeps.written;
     }
@@ -60,36 +59,36 @@ one_fewer : (end seed : ℕ) → seed < end → end - seed ≡ suc (end - (seed 
 one_fewer end seed below = omega arith
 
 -- The same, as the code counts.
-pub next_on : (makes : ℕ → Parsed → Type 0) (serf : Bool) (old now new from mid to : Option (List ℕ)) (Whole : List ℕ → Hunt → Type 0) (end seed calls total : ℕ) (held : Held) → seed < end
-    → IsHunting old now from mid Whole (λ w rest h. Hunts makes serf (end - seed) seed calls w rest h)
+pub next_on : (makes : ℕ → Parsed → Type 0) (serf : Bool) (old now new from mid to : Option (List ℕ)) (Whole : List ℕ → Hunt → Type 0) (end seed : ℕ) (counts total : Counts) (held : Held) → seed < end
+    → IsHunting old now from mid Whole (λ w rest h. Hunts makes serf (end - seed) seed counts w rest h)
     → IfSome now (λ input. HoldsSeed (makes seed) serf input held new mid to)
-    → held.other ≡ None → total ≡ tally calls held.calls
+    → held.other ≡ None → total ≡ sum_of counts held.counts
     → IsHunting old new from to Whole (λ w rest h. Hunts makes serf (end - (seed + 1)) (seed + 1) total w rest h)
-next_on makes serf old now new from mid to Whole end seed calls total held below along holds none e =
-    subst (λ (c : ℕ). IsHunting old new from to Whole (λ w rest h. Hunts makes serf (end - (seed + 1)) (seed + 1) c w rest h)) (sym e)
-    (hunt_on makes serf old now new from mid to Whole (end - (seed + 1)) seed calls held
-    (subst (λ (n : ℕ). IsHunting old now from mid Whole (λ w rest h. Hunts makes serf n seed calls w rest h)) (one_fewer end seed below) along) holds none)
+next_on makes serf old now new from mid to Whole end seed counts total held below along holds none e =
+    subst (λ (c : Counts). IsHunting old new from to Whole (λ w rest h. Hunts makes serf (end - (seed + 1)) (seed + 1) c w rest h)) (sym e)
+    (hunt_on makes serf old now new from mid to Whole (end - (seed + 1)) seed counts held
+    (subst (λ (n : ℕ). IsHunting old now from mid Whole (λ w rest h. Hunts makes serf n seed counts w rest h)) (one_fewer end seed below) along) holds none)
 
-pub next_ends : (makes : ℕ → Parsed → Type 0) (serf : Bool) (old now new from mid to : Option (List ℕ)) (Whole : List ℕ → Hunt → Type 0) (end seed calls total : ℕ) (held : Held) (other : Other) → seed < end
-    → IsHunting old now from mid Whole (λ w rest h. Hunts makes serf (end - seed) seed calls w rest h)
+pub next_ends : (makes : ℕ → Parsed → Type 0) (serf : Bool) (old now new from mid to : Option (List ℕ)) (Whole : List ℕ → Hunt → Type 0) (end seed : ℕ) (counts total : Counts) (held : Held) (other : Other) → seed < end
+    → IsHunting old now from mid Whole (λ w rest h. Hunts makes serf (end - seed) seed counts w rest h)
     → IfSome now (λ input. HoldsSeed (makes seed) serf input held new mid to)
-    → held.other ≡ Some other → total ≡ tally calls held.calls
-    → IfSome old (λ input. IsHunt (Whole input) (record { calls = total; found = Some (record { seed = seed; other = other }) }) from to)
-next_ends makes serf old now new from mid to Whole end seed calls total held other below along holds found e =
-    subst (λ (c : ℕ). IfSome old (λ input. IsHunt (Whole input) (record { calls = c; found = Some (record { seed = seed; other = other }) }) from to)) (sym e)
-    (hunt_ends makes serf old now new from mid to Whole (end - (seed + 1)) seed calls held other
-    (subst (λ (n : ℕ). IsHunting old now from mid Whole (λ w rest h. Hunts makes serf n seed calls w rest h)) (one_fewer end seed below) along) holds found)
+    → held.other ≡ Some other → total ≡ sum_of counts held.counts
+    → IfSome old (λ input. IsHunt (Whole input) (record { counts = total; found = Some (record { seed = seed; other = other }) }) from to)
+next_ends makes serf old now new from mid to Whole end seed counts total held other below along holds found e =
+    subst (λ (c : Counts). IfSome old (λ input. IsHunt (Whole input) (record { counts = c; found = Some (record { seed = seed; other = other }) }) from to)) (sym e)
+    (hunt_ends makes serf old now new from mid to Whole (end - (seed + 1)) seed counts held other
+    (subst (λ (n : ℕ). IsHunting old now from mid Whole (λ w rest h. Hunts makes serf n seed counts w rest h)) (one_fewer end seed below) along) holds found)
 
 -- no seed is left
-pub hunt_done : (makes : ℕ → Parsed → Type 0) (serf : Bool) (old now from to : Option (List ℕ)) (Whole : List ℕ → Hunt → Type 0) (n seed calls : ℕ)
-    → IsHunting old now from to Whole (λ w rest h. Hunts makes serf n seed calls w rest h) → n ≡ 0
-    → IfSome old (λ input. IsHunt (Whole input) (record { calls = calls; found = None }) from to)
-hunt_done makes serf None now from to Whole n seed calls along none = tt
-hunt_done makes serf (Some i) None from to Whole n seed calls along none = absurd along
-hunt_done makes serf (Some i) (Some r) from to Whole zero seed calls along none =
-    let end : Hunt = record { hunted = record { calls = calls; found = None }; written = along.0 } in
+pub hunt_done : (makes : ℕ → Parsed → Type 0) (serf : Bool) (old now from to : Option (List ℕ)) (Whole : List ℕ → Hunt → Type 0) (n seed : ℕ) (counts : Counts)
+    → IsHunting old now from to Whole (λ w rest h. Hunts makes serf n seed counts w rest h) → n ≡ 0
+    → IfSome old (λ input. IsHunt (Whole input) (record { counts = counts; found = None }) from to)
+hunt_done makes serf None now from to Whole n seed counts along none = tt
+hunt_done makes serf (Some i) None from to Whole n seed counts along none = absurd along
+hunt_done makes serf (Some i) (Some r) from to Whole zero seed counts along none =
+    let end : Hunt = record { hunted = record { counts = counts; found = None }; written = along.0 } in
     record { hunt = end; is = along.2 end refl; hunted_is = refl; written = along.1 }
-hunt_done makes serf (Some i) (Some r) from to Whole (suc n) seed calls along none = absurd (omega arith)
+hunt_done makes serf (Some i) (Some r) from to Whole (suc n) seed counts along none = absurd (omega arith)
 
 -- what is held of a schedule that was made for a seed
 pub holds_seed : (Is : Parsed → Type 0) (serf : Bool) (old new from to : Option (List ℕ)) (p : Parsed) (result : Result Held ConformFault) → Is p

@@ -1,7 +1,5 @@
 -- A schedule and what comes of it.
 use Rattle.std.specs.Prelude.{◌≡◌, List}
-use Rattle.serf_agent.specs.declared.config.Config.{Config}
-use Rattle.serf_model.specs.declared.action.Action.{Action}
 use Rattle.serf_model.specs.Cluster.{run_of, trace_of}
 use Rattle.serf_model.specs.Trace.{Turn, outcome_of, turns_of}
 use Rattle.serf_schedule.specs.Line.{Parsed}

@@ -2,10 +2,11 @@
 use Rattle.std.specs.Prelude.{◌≡◌, ℕ, ◌+◌, ◌++◌, Bool, zero, suc, List, Option, Some, None}
 use Rattle.std.specs.Io.KnownBytes.{Appends}
 use Rattle.serf_schedule.specs.Line.{Parsed}
+use Rattle.serf_hunt.specs.declared.counts.Counts.{Counts}
 use Rattle.serf_hunt.specs.declared.held.Held.{Held}
 use Rattle.serf_hunt.specs.declared.held.Other.{Other}
 use Rattle.serf_hunt.specs.declared.seeds.Hunted.{Hunted}
-use Rattle.serf_hunt.specs.Sweep.{Sweep, Sweeps, sweep, tally}
+use Rattle.serf_hunt.specs.Sweep.{Sweep, Sweeps, sum_of, sweep}
 
 -- what was found, and what was written for it
 pub record Hunt : Type 0 where
@@ -13,16 +14,16 @@ pub record Hunt : Type 0 where
   pub written : List ℕ
 
 -- An agent that does otherwise ends it; else it goes on with what the subject writes then.
-abbrev pub AfterSweep : Option Other → ℕ → ℕ → List ℕ → Sweep → (ℕ → List ℕ → List ℕ → Hunt → Type 0) → Hunt → Type 0
-AfterSweep None seed calls written s Next h = Next (tally calls s.held.calls) (written ++ s.written) s.rest h
-AfterSweep (Some other) seed calls written s Next h =
-    h ≡ record { hunted = record { calls = tally calls s.held.calls; found = Some (record { seed = seed; other = other }) }; written = written ++ s.written }
+abbrev pub AfterSweep : Option Other → ℕ → Counts → List ℕ → Sweep → (Counts → List ℕ → List ℕ → Hunt → Type 0) → Hunt → Type 0
+AfterSweep None seed counts written s Next h = Next (sum_of counts s.held.counts) (written ++ s.written) s.rest h
+AfterSweep (Some other) seed counts written s Next h =
+    h ≡ record { hunted = record { counts = sum_of counts s.held.counts; found = Some (record { seed = seed; other = other }) }; written = written ++ s.written }
 
 -- So many seeds from this one on: of each a schedule is made, and its agents are held.
-abbrev pub Hunts : (ℕ → Parsed → Type 0) → Bool → ℕ → ℕ → ℕ → List ℕ → List ℕ → Hunt → Type 0
-Hunts makes serf zero seed calls written input h = h ≡ record { hunted = record { calls = calls; found = None }; written = written }
-Hunts makes serf (suc n) seed calls written input h =
-    (p : Parsed) × makes seed p × AfterSweep (sweep serf p input).held.other seed calls written (sweep serf p input)
+abbrev pub Hunts : (ℕ → Parsed → Type 0) → Bool → ℕ → ℕ → Counts → List ℕ → List ℕ → Hunt → Type 0
+Hunts makes serf zero seed counts written input h = h ≡ record { hunted = record { counts = counts; found = None }; written = written }
+Hunts makes serf (suc n) seed counts written input h =
+    (p : Parsed) × makes seed p × AfterSweep (sweep serf p input).held.other seed counts written (sweep serf p input)
     (λ c w rest k. Hunts makes serf n (seed + 1) c w rest k) h
 
 -- such a hunt found this, and wrote what was written

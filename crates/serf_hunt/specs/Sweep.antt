@@ -7,6 +7,8 @@ use Rattle.serf_schedule.specs.Line.{Parsed}
 use Rattle.serf_conform.specs.declared.verdict.End.{End}
 use Rattle.serf_conform.specs.declared.verdict.End.TheVariants as ends
 use Rattle.serf_conform.specs.Session.{IsLeft, Session, session}
+use Rattle.serf_conform.specs.declared.verdict.Verdict.{Verdict}
+use Rattle.serf_hunt.specs.declared.counts.Counts.{Counts}
 use Rattle.serf_hunt.specs.declared.held.Held.{Held}
 use Rattle.serf_hunt.specs.declared.held.Other.{Other}
 use Rattle.serf_hunt.specs.Case.{turns_in}
@@ -14,6 +16,36 @@ use Rattle.serf_hunt.specs.Case.{turns_in}
 -- a sum of 64 bits, or the greatest such number
 abbrev pub tally : ℕ → ℕ → ℕ
 tally a b = min (a + b) (2 ^ 64 - 1)
+
+-- the sums over no agent, with another agent's verdict, and over both
+abbrev pub no_counts : Counts
+no_counts = record { agents = 0; calls = 0; unsupported_agents = 0; unsupported_looks = 0 }
+
+-- the comparison ended at a call that is unsupported
+abbrev pub ends_unsupported : End → ℕ
+ends_unsupported ends.AllAgree = 0
+ends_unsupported ends.OwnRule = 0
+ends_unsupported ends.Unsupported = 1
+ends_unsupported (ends.Differs text) = 0
+ends_unsupported ends.Ended = 0
+
+abbrev pub with_verdict : Counts → Verdict → Counts
+with_verdict n v =
+    record {
+      agents = tally n.agents 1;
+      calls = tally n.calls v.calls;
+      unsupported_agents = tally n.unsupported_agents (ends_unsupported v.end);
+      unsupported_looks = tally n.unsupported_looks v.unsupported_looks;
+    }
+
+abbrev pub sum_of : Counts → Counts → Counts
+sum_of n m =
+    record {
+      agents = tally n.agents m.agents;
+      calls = tally n.calls m.calls;
+      unsupported_agents = tally n.unsupported_agents m.unsupported_agents;
+      unsupported_looks = tally n.unsupported_looks m.unsupported_looks;
+    }
 
 -- an agent replied otherwise, or has ended
 abbrev pub is_other : End → Bool
@@ -30,21 +62,21 @@ pub record Sweep : Type 0 where
   pub rest : List ℕ
 
 -- A session of agent a ends it where the agent is another; else it goes on.
-abbrev pub after_session : Bool → ℕ → ℕ → List ℕ → Session → (ℕ → List ℕ → List ℕ → Sweep) → Sweep
-after_session true a calls written s next =
-    record { held = record { calls = tally calls s.verdict.calls; other = Some (record { agent = a; verdict = s.verdict }) }; written = written ++ s.written; rest = s.rest }
-after_session false a calls written s next = next (tally calls s.verdict.calls) (written ++ s.written) s.rest
+abbrev pub after_session : Bool → ℕ → Counts → List ℕ → Session → (Counts → List ℕ → List ℕ → Sweep) → Sweep
+after_session true a counts written s next =
+    record { held = record { counts = with_verdict counts s.verdict; other = Some (record { agent = a; verdict = s.verdict }) }; written = written ++ s.written; rest = s.rest }
+after_session false a counts written s next = next (with_verdict counts s.verdict) (written ++ s.written) s.rest
 
 -- the agents that are left, from number a on
-abbrev pub sweep_from : Bool → List Turn → ℕ → ℕ → List ℕ → List Config → List ℕ → Sweep
-sweep_from serf turns a calls written [] input = record { held = record { calls = calls; other = None }; written = written; rest = input }
-sweep_from serf turns a calls written (config ∷ configs) input =
+abbrev pub sweep_from : Bool → List Turn → ℕ → Counts → List ℕ → List Config → List ℕ → Sweep
+sweep_from serf turns a counts written [] input = record { held = record { counts = counts; other = None }; written = written; rest = input }
+sweep_from serf turns a counts written (config ∷ configs) input =
     let s = session serf a config turns input in
-    after_session (is_other s.verdict.end) a calls written s (λ c w rest. sweep_from serf turns (a + 1) c w configs rest)
+    after_session (is_other s.verdict.end) a counts written s (λ c w rest. sweep_from serf turns (a + 1) c w configs rest)
 
 -- All agents of a schedule, in order, each opened anew and held by itself, up to the first other one.
 abbrev pub sweep : Bool → Parsed → List ℕ → Sweep
-sweep serf p input = sweep_from serf (turns_in p) 0 0 [] p.configs input
+sweep serf p input = sweep_from serf (turns_in p) 0 no_counts [] p.configs input
 
 -- where no agent has ended, the reader has the rest left
 abbrev pub IsLeftBehind : Option Other → Option (List ℕ) → List ℕ → Type 0

@@ -9,11 +9,11 @@ ghost use Rattle.serf_conform.specs.Session.{turn_at};
 ghost use Rattle.serf_hunt.specs.Case.{IsRunOf, turns_in};
 ghost use Rattle.serf_hunt.specs.Calls.{alone, calls_by, injections_of, packets_in, placed_from};
 
-use crate::call::{Call, copy_action, copy_placed};
+use crate::call::{Call, copy_placed};
 use crate::case::Case;
 use serf_agent::Config;
 use serf_conform::{ConformFault, given_packet, is_of};
-use serf_model::{Action, Line};
+use serf_model::{Act, Action, Line};
 use serf_schedule::Schedule;
 use serf_wire::Bytes;
 use serf_world::{Roster, RosterFault};
@@ -41,7 +41,10 @@ fn add_call(
     let Some(given) = given_packet(action, &sent[..count]) else {
         return Ok(());
     };
-    match copy_of_call(alloc, action, given) {
+    let Action::Of { act, .. } = action else {
+        return Ok(());
+    };
+    match copy_of_call(alloc, act, given) {
         Ok(call) => match calls.push(call) {
             Ok(()) => Ok(()),
             Err(_) => Err(ConformFault::OutOfMemory),
@@ -50,12 +53,12 @@ fn add_call(
     }
 }
 
-fn copy_of_call(alloc: Global, action: &Action, given: &[u8]) -> Result<Call, AllocError>
-    ensures { IfOk result (λ call. call ≡ record { action = action.now; given = given.now }) }
+fn copy_of_call(alloc: Global, act: &Act, given: &[u8]) -> Result<Call, AllocError>
+    ensures { IfOk result (λ call. call ≡ record { act = act.now; given = given.now }) }
 {
-    let action = copy_action(alloc, action)?;
+    let act = act.try_clone(alloc)?;
     let given = Bytes::copy_of(alloc, given)?;
-    Ok(Call { action, given })
+    Ok(Call { act, given })
 }
 
 fn calls_in(
@@ -111,8 +114,8 @@ pub fn calls_of(alloc: Global, case: &Case, agent: u64) -> Result<Vec<Call>, Con
 fn add_packet(alloc: Global, actions: &mut Vec<Action>, call: &Call) -> Result<(), AllocError>
     ensures { OnOk result (actions.new.items ≡ actions.old.items ++ injections_of call.now) }
 {
-    match call.action {
-        Action::Deliver { .. } | Action::Merge { .. } => {
+    match call.act {
+        Act::Deliver { .. } | Act::Merge { .. } => {
             let bytes = Bytes::copy_of(alloc, call.given.as_slice())?;
             actions.push(Action::Inject { bytes })?;
             Ok(())
@@ -132,12 +135,12 @@ fn add_packets(alloc: Global, actions: &mut Vec<Action>, calls: &[Call]) -> Resu
 }
 
 /// How many packets a call gives: 1 or none.
-fn packets_of(action: &Action) -> u64
-    ensures count { (given : List ℕ) → result ≡ length (packets_in action.now given) }
+fn packets_of(act: &Act) -> u64
+    ensures count { (given : List ℕ) → result ≡ length (packets_in act.now given) }
     ensures few { result ≤ 1 }
 {
-    match action {
-        Action::Deliver { .. } | Action::Merge { .. } => 1,
+    match act {
+        Act::Deliver { .. } | Act::Merge { .. } => 1,
         _ => 0,
     }
 }
@@ -148,8 +151,9 @@ fn add_placed(alloc: Global, actions: &mut Vec<Action>, calls: &[Call]) -> Resul
 {
     let mut packet: u64 = 0;
     for call in calls {
-        actions.push(copy_placed(alloc, 0, packet, &call.action)?)?;
-        packet += packets_of(&call.action);
+        let act = copy_placed(alloc, packet, &call.act)?;
+        actions.push(Action::Of { agent: 0, act })?;
+        packet += packets_of(&call.act);
     }
     Ok(())
 }

@@ -5,9 +5,10 @@ ghost use Rattle.serf_model.specs.Trace.{outcome_of, turns_of};
 ghost use Rattle.serf_schedule.specs.Line.{Parsed};
 ghost use Rattle.serf_conform.specs.Rules.{is_serf};
 ghost use Rattle.serf_hunt.specs.Case.{IsRunOf};
-ghost use Rattle.serf_hunt.specs.Sweep.{Sweeps, is_other as is_other_end, sweep, sweep_from};
+ghost use Rattle.serf_hunt.specs.Sweep.{Sweeps, is_other as is_other_end, no_counts, sweep, sweep_from};
 
 use crate::case::Case;
+use crate::counts::{Counts, no_counts, with_verdict};
 use serf_agent::Config;
 use serf_conform::{ConformFault, End, Rules, Verdict, hold};
 use serf_model::{Action, Trace};
@@ -26,8 +27,7 @@ pub struct Other {
 /// What is thought of the agents of a schedule.
 #[derive(Debug, Drop)]
 pub struct Held {
-    /// How many calls agree; it stops at 2^64 - 1.
-    pub calls: u64,
+    pub counts: Counts,
     /// The first agent that does otherwise.
     pub other: Option<Other>,
 }
@@ -55,21 +55,24 @@ fn hold_configs<R: Read, W: Write>(
     trace: &Trace,
 ) -> Result<Held, ConformFault>
     ensures { IfOk result (λ held. IfSome (R.remaining reader.old) (λ input. Sweeps (sweep_from
-        (is_serf rules) (turns_of actions.now (outcome_of trace.now)) 0 0 [] configs.now input)
-        held (R.remaining reader.new) (W.contents writer.old) (W.contents writer.new))) }
+        (is_serf rules) (turns_of actions.now (outcome_of trace.now)) 0 no_counts [] configs.now
+        input) held (R.remaining reader.new) (W.contents writer.old) (W.contents writer.new))) }
 {
     let mut left = configs;
     let mut agent: u64 = 0;
-    let mut calls: u64 = 0;
+    let mut counts = no_counts();
     'agents: loop {
         match left {
-            [] => return Ok(Held { calls, other: None }),
+            [] => return Ok(Held {
+                counts,
+                other: None,
+            }),
             [config, behind @ ..] => {
                 let verdict = hold(alloc, reader, writer, rules, agent, config, actions, trace)?;
-                calls = calls.saturating_add(verdict.calls);
+                counts = with_verdict(counts, &verdict);
                 if is_other(&verdict.end) {
                     let other = Some(Other { agent, verdict });
-                    return Ok(Held { calls, other });
+                    return Ok(Held { counts, other });
                 }
                 agent += 1;
                 left = behind;

@@ -3,8 +3,10 @@
 ghost use Rattle.std.specs.Prelude.{◌-◌, [], IfOk, IfSome};
 ghost use Rattle.serf_conform.specs.Rules.{is_serf};
 ghost use Rattle.serf_hunt.specs.Hunt.{HoldsSeed, Hunts, IsHunt};
+ghost use Rattle.serf_hunt.specs.Sweep.{no_counts};
 
 use crate::case::case_of;
+use crate::counts::{Counts, sum_of};
 use crate::held::{Held, Other, hold_each};
 use crate::maker::Maker;
 use serf_conform::{ConformFault, Rules};
@@ -23,8 +25,7 @@ pub struct Found {
 /// What came of a hunt.
 #[derive(Debug, Drop)]
 pub struct Hunted {
-    /// How many calls agree; it stops at 2^64 - 1.
-    pub calls: u64,
+    pub counts: Counts,
     /// `None` where all agents of all seeds agree.
     pub found: Option<Found>,
 }
@@ -75,21 +76,32 @@ pub fn hunt<M: Maker, R: Read, W: Write>(
     end: u64,
 ) -> Result<Hunted, HuntFault>
     ensures { IfOk result (λ hunted. IfSome (R.remaining reader.old) (λ input. IsHunt
-        (λ h. Hunts (M.makes maker.now) (is_serf rules) (end - first) first 0 [] input h)
+        (λ h. Hunts (M.makes maker.now) (is_serf rules) (end - first) first no_counts [] input h)
         hunted (W.contents writer.old) (W.contents writer.new))) }
 {
-    let mut calls: u64 = 0;
+    let mut counts = Counts {
+        agents: 0,
+        calls: 0,
+        unsupported_agents: 0,
+        unsupported_looks: 0,
+    };
     for seed in first..end {
         let held = match hold_seed(alloc, maker, reader, writer, rules, seed) {
             Ok(held) => held,
             Err(fault) => return Err(HuntFault { seed, fault }),
         };
-        let Held { calls: more, other } = held;
-        calls = calls.saturating_add(more);
+        let Held {
+            counts: more,
+            other,
+        } = held;
+        counts = sum_of(counts, more);
         if let Some(other) = other {
             let found = Some(Found { seed, other });
-            return Ok(Hunted { calls, found });
+            return Ok(Hunted { counts, found });
         }
     }
-    Ok(Hunted { calls, found: None })
+    Ok(Hunted {
+        counts,
+        found: None,
+    })
 }

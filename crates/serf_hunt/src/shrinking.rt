@@ -16,7 +16,7 @@ use std::io::{Read, Write};
 #[derive(Debug, Drop)]
 pub struct Shrunk {
     pub calls: Vec<Call>,
-    /// Whether no single call can be left out. Otherwise the agent ended at a trial.
+    /// Whether no single call can be left out. Otherwise the agent ended at a trial: that is tested, and not proved.
     pub is_smallest: bool,
 }
 

@@ -1,8 +1,12 @@
+pub mod AgainLaws
 pub mod FiredLaws
 pub mod KeyLaws
 pub mod LatestLaws
+pub mod MissedLaws
 pub mod OnceLaws
 pub mod OrderLaws
 pub mod PairLaws
+pub mod RepeatedLaws
 pub mod SpotLaws
+pub mod TallyLaws
 pub mod TwiceLaws

@@ -17,7 +17,7 @@ pub(crate) struct ContentKey<'a> {
     pub(crate) payload: &'a [u8],
 }
 
-fn content_key(entry: &EventEntry) -> ContentKey<'_>
+pub(crate) fn content_key(entry: &EventEntry) -> ContentKey<'_>
     ensures { key_content result ≡ content_of entry.now }
 {
     ContentKey {

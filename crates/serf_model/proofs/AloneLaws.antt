@@ -1,12 +1,13 @@
 -- What one agent does by itself is what it does in a cluster.
 use Rattle.serf_model.proofs.Names.{◌≡◌, ℕ, List, [], ◌∷◌, ◌++◌, Option, Some, None, refl, sym, ap, subst, ◌∙◌, map, slice_get, AllZip, option_to_list, map-append, fold_push, Config}
 use Rattle.serf_model.specs.declared.action.Action.{Action}
-use Rattle.serf_model.specs.declared.action.Action.TheVariants as actions
-use Rattle.serf_model.specs.Alone.{Alone, IsAlone, Shows, alone, call_of, calls_on, of_one_packet}
+use Rattle.serf_model.specs.declared.action.Act.{Act}
+use Rattle.serf_model.specs.declared.action.Act.TheVariants as acts
+use Rattle.serf_model.specs.Alone.{AgentCall, Alone, IsAlone, Shows, alone, call_by, calls_in, calls_on, of_one_packet}
 use Rattle.serf_model.specs.Cluster.{Applied, IdealNode, Run, after, applied, apply, delivers, first_node, merges_given, run_of, start, with_handed}
-use Rattle.serf_model.specs.Trace.{Turn, packet_given, turns_by}
+use Rattle.serf_model.specs.Trace.{Turn, given_by, turns_by}
 use Rattle.serf_model.proofs.PerAgent.{Each, each-start, each-step}
-use Rattle.serf_model.proofs.TurnLaws.{fold_keeps}
+use Rattle.serf_model.proofs.TurnLaws.{fold_keeps, flat_map-push}
 
 -- lists that go together, with one more each
 zip-push : {X Y : Type 0} (R : X → Y → Type 0) (xs : List X) (ys : List Y) (x : X) (y : Y) → AllZip R xs ys → R x y → AllZip R (xs ++ x ∷ []) (ys ++ y ∷ [])
@@ -20,34 +21,36 @@ only-one : {X : Type 0} (r : Option X) → slice_get (option_to_list r) 0 ≡ r
 only-one None = refl
 only-one (Some x) = refl
 
--- an action does the same where the packet that it gives is the only one
-same-apply : (m : IdealNode) (sent : List (List ℕ)) (action : Action) → apply m sent action ≡ apply m (option_to_list (packet_given sent action)) (of_one_packet action)
-same-apply m sent (actions.Deliver to packet now) = ap (delivers m now) (sym (only-one (slice_get sent packet)))
-same-apply m sent (actions.Merge to packet join) = ap (merges_given m join) (sym (only-one (slice_get sent packet)))
+-- an agent does the same where the packet that it is given is the only one
+same-apply : (m : IdealNode) (sent : List (List ℕ)) (act : Act) → apply m sent act ≡ apply m (option_to_list (given_by sent act)) (of_one_packet act)
+same-apply m sent (acts.Deliver packet now) = ap (delivers m now) (sym (only-one (slice_get sent packet)))
+same-apply m sent (acts.Merge packet join) = ap (merges_given m join) (sym (only-one (slice_get sent packet)))
 same-apply m sent _ = refl
 
 -- the agent of this number, where it has these settings
 abbrev AloneAt : List Config → ℕ → List Turn → IdealNode → Type 0
 AloneAt configs a ts m = (config : Config) → slice_get configs a ≡ Some config → IsAlone config a ts m
 
-one-more : (config : Config) (ts : List Turn) (t : Turn) → alone config (map call_of (ts ++ t ∷ [])) ≡ calls_on (alone config (map call_of ts)) (call_of t)
-one-more config ts t = ap (alone config) (map-append call_of ts (t ∷ [])) ∙ fold_push calls_on (record { node = first_node config; came = [] }) (map call_of ts) (call_of t)
+one-more : (config : Config) (ts : List Turn) (t : Turn) (call : AgentCall) → call_by t.action t.given ≡ call ∷ [] → alone config (calls_in (ts ++ t ∷ [])) ≡ calls_on (alone config (calls_in ts)) call
+one-more config ts t call is =
+    ap (alone config) (flat_map-push (λ (t : Turn). call_by t.action t.given) ts t ∙ ap (λ l. calls_in ts ++ l) is) ∙ fold_push calls_on (record { node = first_node config; came = [] }) (calls_in ts) call
 
-alone-more : (config : Config) (a : ℕ) (ts : List Turn) (t : Turn) (m : IdealNode) (o : Applied) → IsAlone config a ts m → apply m (option_to_list t.given) (of_one_packet t.action) ≡ o → Shows a t o → IsAlone config a (ts ++ t ∷ []) (with_handed o.done.handed o.node)
-alone-more config a ts t m o h is shows =
-    let before : Alone = alone config (map call_of ts) in
-    let came : apply before.node (option_to_list t.given) (of_one_packet t.action) ≡ o = ap (λ (n : IdealNode). apply n (option_to_list t.given) (of_one_packet t.action)) (sym h.node) ∙ is in
+alone-more : (config : Config) (a : ℕ) (ts : List Turn) (t : Turn) (call : AgentCall) (m : IdealNode) (o : Applied) → IsAlone config a ts m → call_by t.action t.given ≡ call ∷ []
+    → apply m (option_to_list call.given) (of_one_packet call.act) ≡ o → Shows a t o → IsAlone config a (ts ++ t ∷ []) (with_handed o.done.handed o.node)
+alone-more config a ts t call m o h calls is shows =
+    let before : Alone = alone config (calls_in ts) in
+    let came : apply before.node (option_to_list call.given) (of_one_packet call.act) ≡ o = ap (λ (n : IdealNode). apply n (option_to_list call.given) (of_one_packet call.act)) (sym h.node) ∙ is in
     record {
-      node = ap (λ (x : Applied). with_handed x.done.handed x.node) (sym came) ∙ ap (λ (s : Alone). s.node) (sym (one-more config ts t));
-      shown = subst (λ (l : List Applied). AllZip (Shows a) (ts ++ t ∷ []) l) (ap (λ (x : Applied). before.came ++ x ∷ []) (sym came) ∙ ap (λ (s : Alone). s.came) (sym (one-more config ts t)))
+      node = ap (λ (x : Applied). with_handed x.done.handed x.node) (sym came) ∙ ap (λ (s : Alone). s.node) (sym (one-more config ts t call calls));
+      shown = subst (λ (l : List Applied). AllZip (Shows a) (ts ++ t ∷ []) l) (ap (λ (x : Applied). before.came ++ x ∷ []) (sym came) ∙ ap (λ (s : Alone). s.came) (sym (one-more config ts t call calls)))
           (zip-push (Shows a) ts before.came t o h.shown shows);
     }
 
 alone-step : (configs : List Config) (r : Run) (action : Action) → Each (AloneAt configs) r.cluster r.turns → Each (AloneAt configs) (after r action).cluster (after r action).turns
 alone-step configs r action all =
     each-step (AloneAt configs) r action all
-    (λ b m actor at h config settings. alone-more config b (turns_by b r.turns) (applied r.cluster action b (apply m r.cluster.sent action)).turn m (apply m r.cluster.sent action) (h config settings) (sym (same-apply m r.cluster.sent action))
-    (record { answer = refl; packets = refl; events = refl; handed = refl }))
+    (λ b act m of at h config settings. alone-more config b (turns_by b r.turns) (applied r.cluster b act (apply m r.cluster.sent act)).turn (record { act = act; given = given_by r.cluster.sent act }) m (apply m r.cluster.sent act) (h config settings) refl
+    (sym (same-apply m r.cluster.sent act)) (record { answer = refl; packets = refl; events = refl; handed = refl }))
 
 alone-start : (configs : List Config) → Each (AloneAt configs) (start configs).cluster []
 alone-start configs =

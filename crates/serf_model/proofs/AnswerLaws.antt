@@ -1,16 +1,18 @@
 -- Where the acks and responses of each run come from.
-use Rattle.serf_model.proofs.Names.{◌≡◌, ◌≢◌, ℕ, List, [], ◌∷◌, ◌++◌, Option, Some, None, Result, Ok, Err, refl, sym, ap, subst, ◌∙◌, arith, map, length, All, AllPairs, Contains, not, slice_get, flat_map, option_map, All-nil, All-cons, All-head, All-tail, WireFault, decoded, Message, user_event, query, query_response, push_pull, foreign, Config, Handed, is_ack}
+use Rattle.serf_model.proofs.Names.{◌≡◌, ◌≢◌, ℕ, List, [], ◌∷◌, ◌++◌, Option, Some, None, Result, Ok, Err, refl, sym, ap, subst, ◌∙◌, arith, map, length, All, AllPairs, Contains, not, slice_get, eq-eqb, flat_map, option_map, All-nil, All-cons, All-head, All-tail, WireFault, decoded, Message, user_event, query, query_response, push_pull, foreign, Config, Handed, is_ack}
 use Rattle.std.specs.Prelude.{filter}
 use Rattle.serf_model.specs.Below.{Below}
 use Rattle.serf_model.specs.declared.action.Action.{Action}
-use Rattle.serf_model.specs.declared.action.Action.TheVariants as actions
+use Rattle.serf_model.specs.declared.action.Act.{Act}
+use Rattle.serf_model.specs.declared.action.Act.TheVariants as acts
+use Rattle.serf_model.specs.declared.action.Action.TheVariants.{Inject, Of}
 use Rattle.serf_model.specs.AnswerPromises.{AckedOnce, AnswersMade, IsMade, RepliedOnce, acked, injected, replied, acked_by, replied_by, answer_brought, answers_in, query_answered}
 use Rattle.serf_model.specs.Cluster.{IdealNode, Cluster, Run, applied, apply, after, handed_line, injects, start, step}
 use Rattle.serf_model.specs.Sizes.{HasSizes}
 use Rattle.serf_model.specs.Ready.{IsRepresentable}
 use Rattle.serf_model.specs.Trace.{Turn, actor_of, injects_of, turns_by}
 use Rattle.serf_model.proofs.HistoryGrowth.{keeps-apply}
-use Rattle.serf_model.proofs.PerAgent.{AreNobodys, Each, IsRefused, each-step, each-start, is-mine, nobodys-step, nobodys-start, turns-mine}
+use Rattle.serf_model.proofs.PerAgent.{AreNobodys, Each, IsRefused, each-step, each-start, nobodys-step, nobodys-start, turns-mine}
 use Rattle.serf_model.proofs.PresentLife.{own_life}
 use Rattle.serf_model.proofs.OnceLaws.{query-once}
 use Rattle.serf_model.proofs.RunLaws.{IsAfter, after-acts, all-at}
@@ -40,36 +42,36 @@ MadeAt configs before turn = All (IsMade configs before turn) (answers_in turn.p
 representable-at : (c : Cluster) (turns : List Turn) (b : ℕ) (m : IdealNode) → IsAfter c turns → slice_get c.nodes b ≡ Some m → IsRepresentable m.agent
 representable-at c turns b m h at = all-at (λ m. IsRepresentable m.agent) c.nodes b m h.representable at
 
-sends-at : Below → (configs : List Config) (c : Cluster) (turns : List Turn) (action : Action) (b : ℕ) (m : IdealNode) → IsAfter c turns → IsServed configs c turns → HasSizes action → slice_get c.nodes b ≡ Some m → Sends m action (apply m c.sent action).done
-sends-at lower configs c turns action b m h served ranged at = sends-apply lower m c.sent action (representable-at c turns b m h at) (served.each b m at).handable ranged
+sends-at : Below → (configs : List Config) (c : Cluster) (turns : List Turn) (b : ℕ) (act : Act) (m : IdealNode) → IsAfter c turns → IsServed configs c turns → HasSizes (Of b act) → slice_get c.nodes b ≡ Some m → Sends m (Of b act) (apply m c.sent act).done
+sends-at lower configs c turns b act m h served ranged at = sends-apply lower m c.sent b act (representable-at c turns b m h at) (served.each b m at).handable ranged
 
-made-applied : (configs : List Config) (c : Cluster) (turns : List Turn) (action : Action) (b : ℕ) (m : IdealNode) → HasHanded configs b (turns_by b turns) m → actor_of action ≡ Some b → Makes m action (apply m c.sent action).done
-    → MadeAt configs turns (applied c action b (apply m c.sent action)).turn
-made-applied configs c turns action b m hands actor (makes_none packets) = subst (All (IsMade configs turns (applied c action b (apply m c.sent action)).turn)) (sym packets) (All-nil (IsMade configs turns (applied c action b (apply m c.sent action)).turn))
-made-applied configs c turns action b m hands actor (makes_ack h handed packets) =
-    subst (All (IsMade configs turns (applied c action b (apply m c.sent action)).turn)) (sym packets)
-    (All-cons (IsMade configs turns (applied c action b (apply m c.sent action)).turn) _ [] (acked record {
+made-applied : (configs : List Config) (c : Cluster) (turns : List Turn) (b : ℕ) (act : Act) (m : IdealNode) → HasHanded configs b (turns_by b turns) m → Makes m (Of b act) (apply m c.sent act).done
+    → MadeAt configs turns (applied c b act (apply m c.sent act)).turn
+made-applied configs c turns b act m hands (makes_none packets) = subst (All (IsMade configs turns (applied c b act (apply m c.sent act)).turn)) (sym packets) (All-nil (IsMade configs turns (applied c b act (apply m c.sent act)).turn))
+made-applied configs c turns b act m hands (makes_ack h handed packets) =
+    subst (All (IsMade configs turns (applied c b act (apply m c.sent act)).turn)) (sym packets)
+    (All-cons (IsMade configs turns (applied c b act (apply m c.sent act)).turn) _ [] (acked record {
       agent = b;
-      actor = actor;
+      actor = refl;
       from = record { config = m.agent.config; settings = hands.settings; name = refl };
-      line = handed_line b (length (apply m c.sent action).node.handed) h;
-      hands = ap (λ (d : Option Handed). option_map (handed_line b (length (apply m c.sent action).node.handed)) d) handed;
+      line = handed_line b (length (apply m c.sent act).node.handed) h;
+      hands = ap (λ (d : Option Handed). option_map (handed_line b (length (apply m c.sent act).node.handed)) d) handed;
       to = refl;
       query = refl;
       ack = refl;
       empty = refl;
-    }) (All-nil (IsMade configs turns (applied c action b (apply m c.sent action)).turn)))
-made-applied configs c turns action b m hands actor (makes_reply agent number now payload h respond at replies packets in_time) =
-    let same : Some agent ≡ Some b = ap actor_of (sym respond) ∙ actor in
+    }) (All-nil (IsMade configs turns (applied c b act (apply m c.sent act)).turn)))
+made-applied configs c turns b act m hands (makes_reply agent number now payload h respond at replies packets in_time) =
+    let same : Some agent ≡ Some b = ap actor_of (sym respond) in
     let mine : agent ≡ b = cc same in
     let shown = hands.shown number h at in
     let handable = hands.handable number h at in
-    subst (All (IsMade configs turns (applied c action b (apply m c.sent action)).turn)) (sym packets)
-    (All-cons (IsMade configs turns (applied c action b (apply m c.sent action)).turn) _ [] (replied record {
+    subst (All (IsMade configs turns (applied c b act (apply m c.sent act)).turn)) (sym packets)
+    (All-cons (IsMade configs turns (applied c b act (apply m c.sent act)).turn) _ [] (replied record {
       agent = b;
       number = number;
       now = now;
-      action = respond ∙ ap (λ (a : ℕ). actions.Respond a number now payload) mine;
+      action = respond ∙ ap (λ (a : ℕ). Of a (acts.Respond number now payload)) mine;
       replied = replies;
       from = record { config = m.agent.config; settings = hands.settings; name = handable.node_is };
       line = shown.line;
@@ -83,10 +85,10 @@ made-applied configs c turns action b m hands actor (makes_reply agent number no
       index = shown.index;
       query = shown.query;
       ack = refl;
-    }) (All-nil (IsMade configs turns (applied c action b (apply m c.sent action)).turn)))
+    }) (All-nil (IsMade configs turns (applied c b act (apply m c.sent act)).turn)))
 
 -- what an injected packet brings
-made-injected : (configs : List Config) (turns : List Turn) (turn : Turn) (bytes : List ℕ) (r : Result Message WireFault) → turn.action ≡ actions.Inject bytes → decoded bytes ≡ r → All (IsMade configs turns turn) (answer_brought r ++ [])
+made-injected : (configs : List Config) (turns : List Turn) (turn : Turn) (bytes : List ℕ) (r : Result Message WireFault) → turn.action ≡ Inject bytes → decoded bytes ≡ r → All (IsMade configs turns turn) (answer_brought r ++ [])
 made-injected configs turns turn bytes (Err fault) action is = All-nil (IsMade configs turns turn)
 made-injected configs turns turn bytes (Ok (user_event e)) action is = All-nil (IsMade configs turns turn)
 made-injected configs turns turn bytes (Ok (query q)) action is = All-nil (IsMade configs turns turn)
@@ -94,30 +96,26 @@ made-injected configs turns turn bytes (Ok (query_response r)) action is = All-c
 made-injected configs turns turn bytes (Ok (push_pull m)) action is = All-nil (IsMade configs turns turn)
 made-injected configs turns turn bytes (Ok (foreign kind)) action is = All-nil (IsMade configs turns turn)
 
-made-injects : (configs : List Config) (c : Cluster) (turns : List Turn) (action : Action) → MadeAt configs turns (injects c action (injects_of action)).turn
-made-injects configs c turns (actions.Inject bytes) = made-injected configs turns (injects c (actions.Inject bytes) (bytes ∷ [])).turn bytes (decoded bytes) refl refl
-made-injects configs c turns _ = All-nil _
-
 made-step : Below → (configs : List Config) (c : Cluster) (turns : List Turn) (action : Action) → IsAfter c turns → IsServed configs c turns → HasSizes action → MadeAt configs turns (step c action).turn
 made-step lower configs c turns action h served ranged =
-    step-cases (λ s. MadeAt configs turns s.turn) c action (λ actor. made-injects configs c turns action) (λ b actor at. All-nil _)
-    (λ b m actor at. made-applied configs c turns action b m (served.each b m at) actor (sends-at lower configs c turns action b m h served ranged at).makes)
+    step-cases (λ s. MadeAt configs turns s.turn) c action (λ bytes. made-injected configs turns (injects c bytes).turn bytes (decoded bytes) refl refl) (λ b act at. All-nil _)
+    (λ b act m is at. made-applied configs c turns b act m (served.each b m at) (sends-at lower configs c turns b act m h served (subst HasSizes is ranged) at).makes)
 
 -- the queries of an agent's turns, with one more
-once-after : Below → (c : Cluster) (turns : List Turn) (action : Action) (b : ℕ) (m : IdealNode) → IsAfter c turns → actor_of action ≡ Some b → slice_get c.nodes b ≡ Some m
-    → AllPairs (λ x y. x ≢ y) (queries_in (turns_by b turns ++ (applied c action b (apply m c.sent action)).turn ∷ []))
-once-after lower c turns action b m h actor at =
-    subst (λ ts. AllPairs (λ x y. x ≢ y) (queries_in ts)) (turns-mine b turns (applied c action b (apply m c.sent action)).turn (is-mine b action actor))
-    (query-once (applied c action b (apply m c.sent action)).cluster (turns ++ (applied c action b (apply m c.sent action)).turn ∷ []) (after-acts lower c turns action b m h actor at) b)
+once-after : Below → (c : Cluster) (turns : List Turn) (b : ℕ) (act : Act) (m : IdealNode) → IsAfter c turns → slice_get c.nodes b ≡ Some m
+    → AllPairs (λ x y. x ≢ y) (queries_in (turns_by b turns ++ (applied c b act (apply m c.sent act)).turn ∷ []))
+once-after lower c turns b act m h at =
+    subst (λ ts. AllPairs (λ x y. x ≢ y) (queries_in ts)) (turns-mine b turns (applied c b act (apply m c.sent act)).turn (eq-eqb b b refl))
+    (query-once (applied c b act (apply m c.sent act)).cluster (turns ++ (applied c b act (apply m c.sent act)).turn ∷ []) (after-acts lower c turns b act m h at) b)
 
 pub served-step : Below → (configs : List Config) (r : Run) (action : Action) → HasSizes action → IsAfter r.cluster r.turns → IsServed configs r.cluster r.turns → IsServed configs (after r action).cluster (after r action).turns
 served-step lower configs r action ranged h served = record {
   each = each-step (HasHanded configs) r action served.each
-      (λ b m actor at p. has-handed-more lower r.cluster configs (turns_by b r.turns) action b m p (sends-at lower configs r.cluster r.turns action b m h served ranged at)
-      (keeps-apply lower m r.cluster.sent action (representable-at r.cluster r.turns b m h at).consistent.sound).config
-      (once-after lower r.cluster r.turns action b m h actor at));
+      (λ b act m is at p. has-handed-more lower r.cluster configs (turns_by b r.turns) b act m p (sends-at lower configs r.cluster r.turns b act m h served (subst HasSizes is ranged) at)
+      (keeps-apply lower m r.cluster.sent b act (representable-at r.cluster r.turns b m h at).consistent.sound).config
+      (once-after lower r.cluster r.turns b act m h at));
   awaiting = each-step Awaits r action served.awaiting
-      (λ b m actor at p. awaiting-more lower r.cluster (turns_by b r.turns) action b m p (sends-at lower configs r.cluster r.turns action b m h served ranged at).makes (once-after lower r.cluster r.turns action b m h actor at));
+      (λ b act m is at p. awaiting-more lower r.cluster (turns_by b r.turns) b act m p (sends-at lower configs r.cluster r.turns b act m h served (subst HasSizes is ranged) at).makes (once-after lower r.cluster r.turns b act m h at));
   nobody = nobodys-step r action served.nobody;
   made = at_each_push (MadeAt configs) r.turns (step r.cluster action).turn served.made (made-step lower configs r.cluster r.turns action h served ranged);
 }

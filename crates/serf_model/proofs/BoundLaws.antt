@@ -3,12 +3,14 @@ use Rattle.serf_model.proofs.Names.{zero, suc, ◌≡◌, ℕ, ◌+◌, ◌*◌,
 use Rattle.serf_agent.specs.Config.{longest_texts}
 use Rattle.serf_model.specs.Below.{Below}
 use Rattle.serf_model.specs.declared.action.Action.{Action}
+use Rattle.serf_model.specs.declared.action.Act.{Act}
+use Rattle.serf_model.specs.declared.action.Action.TheVariants.{Of}
 use Rattle.serf_model.specs.declared.line.EventLine.{EventLine}
 use Rattle.serf_model.specs.Bounds.{AtMostOfOneTime, EventsBounded, AreEventsBounded, IsBounded, QueriesBounded, events_of_life, is_restarted, lived_on, present_life, queries_of_life, reopens}
 use Rattle.serf_model.specs.Cluster.{Applied, Cluster, IdealNode, Run, Stepped, applied, apply, after, first_node, injects, on_agent, run_of, start, step, with_handed}
 use Rattle.serf_model.specs.Ready.{IsRepresentable}
 use Rattle.serf_model.specs.Runs.{AreConfigs}
-use Rattle.serf_model.specs.Trace.{Turn, actor_of, entered_by, event_in, events_to, is_agent, packet_given, queries_at, injects_of}
+use Rattle.serf_model.specs.Trace.{Turn, actor_of, entered_by, event_in, events_to, is_agent, packet_given, queries_at, injects_of, given_by}
 use Rattle.serf_model.proofs.HistoryGrowth.{Keeps, keeps-apply}
 use Rattle.serf_model.proofs.PerTimeBound.{Enters, enters-life, enters-next}
 use Rattle.serf_model.proofs.RunLaws.{IsAfter, added, after-step, all-at, by-push, events_to-push, lines-other, lines-same, slice_get-set_other, slice_get-set_same}
@@ -158,63 +160,63 @@ lived-still configs c turns s h nodes goes none no_query a =
     (ap (λ l. cond (is_agent a (actor_of s.turn.action)) l []) no_query ∙ none-either (is_agent a (actor_of s.turn.action))))
 
 -- the turn of the agent that acts
-own-act : Below → (configs : List Config) (c : Cluster) (turns : List Turn) (b : ℕ) (m : IdealNode) (action : Action) → IsRepresentable m.agent → actor_of action ≡ Some b → IsLivedAt configs turns b (Some m)
-    → (let o = apply m c.sent action in IsLivedAt configs (turns ++ (applied c action b o).turn ∷ []) b (Some (with_handed o.done.handed o.node)))
-own-act lower configs c turns b m action representable actor h = by (is_restarted o.done.answer) refl
+own-act : Below → (configs : List Config) (c : Cluster) (turns : List Turn) (b : ℕ) (act : Act) (m : IdealNode) → IsRepresentable m.agent → IsLivedAt configs turns b (Some m)
+    → (let o = apply m c.sent act in IsLivedAt configs (turns ++ (applied c b act o).turn ∷ []) b (Some (with_handed o.done.handed o.node)))
+own-act lower configs c turns b act m representable h = by (is_restarted o.done.answer) refl
   where
     o : Applied
-    o = apply m c.sent action
+    o = apply m c.sent act
 
     turn : Turn
-    turn = (applied c action b (apply m c.sent action)).turn
+    turn = (applied c b act (apply m c.sent act)).turn
 
-    k : (let o = apply m c.sent action in Keeps m.agent o.node.agent o.done (entered_by action (packet_given c.sent action) o.done.answer))
-    k = keeps-apply lower m c.sent action representable.consistent.sound
+    k : (let o = apply m c.sent act in Keeps m.agent o.node.agent o.done (entered_by (Of b act) (given_by c.sent act) o.done.answer))
+    k = keeps-apply lower m c.sent b act representable.consistent.sound
 
-    mine : is_agent b (actor_of action) ≡ true
-    mine = ap (is_agent b) actor ∙ eq-eqb b b refl
+    mine : (b == b) ≡ true
+    mine = eq-eqb b b refl
 
-    by : (x : Bool) → is_restarted (apply m c.sent action).done.answer ≡ x
-        → (let o = apply m c.sent action in IsLivedAt configs (turns ++ (applied c action b o).turn ∷ []) b (Some (with_handed o.done.handed o.node)))
+    by : (x : Bool) → is_restarted (apply m c.sent act).done.answer ≡ x
+        → (let o = apply m c.sent act in IsLivedAt configs (turns ++ (applied c b act o).turn ∷ []) b (Some (with_handed o.done.handed o.node)))
     by true opening =
         let life = k.life ∙ ap (λ x. cond x (m.agent.life + 1) m.agent.life) opening in
         let s = representable.consistent.sound in
-        lived-anew configs turns turn b m _ h (ap (λ x. is_agent b (actor_of action) && x) opening ∙ ap (λ x. x && true) mine) k.config
+        lived-anew configs turns turn b m _ h (ap (λ x. (b == b) && x) opening ∙ ap (λ x. x && true) mine) k.config
         (ap (λ l. of_life l o.node.agent.events.history) life ∙ enters-next s.events.lives k.events) (ap (λ l. of_life l o.node.agent.queries.history) life ∙ enters-next s.queries.lives k.queries)
     by false goes =
-        lived-same configs turns turn b m _ h (ap (λ x. is_agent b (actor_of action) && x) goes ∙ and-false (is_agent b (actor_of action))) (k.life ∙ ap (λ x. cond x (m.agent.life + 1) m.agent.life) goes) k.config
+        lived-same configs turns turn b m _ h (ap (λ x. (b == b) && x) goes ∙ and-false (b == b)) (k.life ∙ ap (λ x. cond x (m.agent.life + 1) m.agent.life) goes) k.config
         (subst (Enters m.agent.life m.agent.config.per_time m.agent.events.history o.node.agent.events.history) (sym (lines-same b b o.done.events (eq-eqb b b refl))) k.events)
         (subst (Enters m.agent.life m.agent.config.per_time m.agent.queries.history o.node.agent.queries.history) (sym (ap (λ x. cond x (entered turn) []) mine)) k.queries)
 
-lived-applied : Below → (configs : List Config) (c : Cluster) (turns : List Turn) (action : Action) (b : ℕ) (m : IdealNode) → IsAfter c turns → IsLived configs c turns → actor_of action ≡ Some b → slice_get c.nodes b ≡ Some m
-    → (let s = applied c action b (apply m c.sent action) in IsLived configs s.cluster (turns ++ s.turn ∷ []))
-lived-applied lower configs c turns action b m is h actor at a = by (b == a) refl
+lived-applied : Below → (configs : List Config) (c : Cluster) (turns : List Turn) (b : ℕ) (act : Act) (m : IdealNode) → IsAfter c turns → IsLived configs c turns → slice_get c.nodes b ≡ Some m
+    → (let s = applied c b act (apply m c.sent act) in IsLived configs s.cluster (turns ++ s.turn ∷ []))
+lived-applied lower configs c turns b act m is h at a = by (b == a) refl
   where
     o : Applied
-    o = apply m c.sent action
+    o = apply m c.sent act
 
     turn : Turn
-    turn = (applied c action b (apply m c.sent action)).turn
+    turn = (applied c b act (apply m c.sent act)).turn
 
     new : IdealNode
-    new = with_handed (apply m c.sent action).done.handed (apply m c.sent action).node
+    new = with_handed (apply m c.sent act).done.handed (apply m c.sent act).node
 
-    by : (t : Bool) → (b == a) ≡ t → IsLivedAt configs (turns ++ (applied c action b (apply m c.sent action)).turn ∷ []) a (slice_get (set c.nodes b (with_handed (apply m c.sent action).done.handed (apply m c.sent action).node)) a)
+    by : (t : Bool) → (b == a) ≡ t → IsLivedAt configs (turns ++ (applied c b act (apply m c.sent act)).turn ∷ []) a (slice_get (set c.nodes b (with_handed (apply m c.sent act).done.handed (apply m c.sent act).node)) a)
     by true t =
-        let own = own-act lower configs c turns b m action (all-at (λ m. IsRepresentable m.agent) c.nodes b m is.representable at) actor (subst (IsLivedAt configs turns b) at (h b)) in
+        let own = own-act lower configs c turns b act m (all-at (λ m. IsRepresentable m.agent) c.nodes b m is.representable at) (subst (IsLivedAt configs turns b) at (h b)) in
         subst (λ (n : ℕ). IsLivedAt configs (turns ++ turn ∷ []) n (slice_get (set c.nodes b new) n)) (eqb-true b a t)
         (subst (IsLivedAt configs (turns ++ turn ∷ []) b) (sym (slice_get-set_same c.nodes b m new at)) own)
     by false t =
         subst (IsLivedAt configs (turns ++ turn ∷ []) a) (sym (slice_get-set_other c.nodes b a new (eqb-false b a t)))
         (lived-other configs turns turn a (slice_get c.nodes a) (h a)
-        (ap (λ x. x && is_restarted turn.line.answer) (ap (is_agent a) actor ∙ t))
+        (ap (λ x. x && is_restarted turn.line.answer) t)
         (lines-other a b o.done.events t)
-        (ap (λ x. cond x (entered turn) []) (ap (is_agent a) actor ∙ t)))
+        (ap (λ x. cond x (entered turn) []) t))
 
 lived-step : Below → (configs : List Config) (r : Run) (action : Action) → IsAfter r.cluster r.turns → IsLived configs r.cluster r.turns → IsLived configs (after r action).cluster (after r action).turns
 lived-step lower configs r action is h =
-    step-cases (λ s. IsLived configs s.cluster (r.turns ++ s.turn ∷ [])) r.cluster action (λ actor. lived-still configs r.cluster r.turns (injects r.cluster action (injects_of action)) h refl refl refl refl)
-    (λ b actor at. lived-still configs r.cluster r.turns (on_agent r.cluster action b None) h refl refl refl refl) (λ b m actor at. lived-applied lower configs r.cluster r.turns action b m is h actor at)
+    step-cases (λ s. IsLived configs s.cluster (r.turns ++ s.turn ∷ [])) r.cluster action (λ bytes. lived-still configs r.cluster r.turns (injects r.cluster bytes) h refl refl refl refl)
+    (λ b act at. lived-still configs r.cluster r.turns (on_agent r.cluster b act None) h refl refl refl refl) (λ b act m of at. lived-applied lower configs r.cluster r.turns b act m is h at)
 
 -- ---- the start
 

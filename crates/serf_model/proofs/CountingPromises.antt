@@ -2,11 +2,13 @@
 use Rattle.serf_model.proofs.Names.{zero, suc, ◌≡◌, ◌≢◌, ℕ, Bool, true, false, cond, List, [], ◌∷◌, ◌++◌, Option, Some, None, Result, refl, sym, ap, subst, ◌∙◌, arith, All, AllPairs, Contains, slice_get, option_to_list, All-nil, All-cons, All-head, All-tail, All-weaker, WireFault, Message, Config}
 use Rattle.serf_model.specs.Below.{Below}
 use Rattle.serf_model.specs.declared.action.Action.{Action}
-use Rattle.serf_model.specs.declared.action.Action.TheVariants as actions
+use Rattle.serf_model.specs.declared.action.Act.{Act}
+use Rattle.serf_model.specs.declared.action.Act.TheVariants as acts
+use Rattle.serf_model.specs.declared.action.Action.TheVariants.{Of}
 use Rattle.serf_model.specs.AnswerPromises.{CountedInTime, CountedOnce, CountedSent, HoldsCounted, IsAwaited, IsDelivered, OpenQueriesHold, answer_brought, answers_in, as_fired, counted_at, counted_by, is_counted, life_of, own_queries}
 use Rattle.serf_model.specs.Cluster.{IdealNode, Cluster, Run, applied, apply, after, line_of, start, step}
 use Rattle.serf_model.specs.Ready.{IsRepresentable}
-use Rattle.serf_model.specs.Trace.{Turn, actor_of, packet_given, turns_by}
+use Rattle.serf_model.specs.Trace.{Turn, actor_of, packet_given, turns_by, given_by}
 use Rattle.serf_model.proofs.PerAgent.{Each, AreNobodys, IsRefused, each-step, each-start, nobodys-step, nobodys-start}
 use Rattle.serf_model.proofs.PresentLife.{last_life, own_life}
 use Rattle.serf_model.proofs.Effects.{effect}
@@ -32,19 +34,19 @@ abbrev SentAt : List Turn → Turn → Type 0
 SentAt before turn = (ack : Bool) → is_counted ack turn.line.answer ≡ true → IsDelivered before turn ack
 
 abbrev InTimeAt : List Turn → Turn → Type 0
-InTimeAt before turn = (a packet now : ℕ) (ack : Bool) → turn.action ≡ actions.Deliver a packet now → All (IsAwaited (life_of a before) now) (counted_at ack turn)
+InTimeAt before turn = (a packet now : ℕ) (ack : Bool) → turn.action ≡ Of a (acts.Deliver packet now) → All (IsAwaited (life_of a before) now) (counted_at ack turn)
 
 representable-at : (c : Cluster) (turns : List Turn) (b : ℕ) (m : IdealNode) → IsAfter c turns → slice_get c.nodes b ≡ Some m → IsRepresentable m.agent
 representable-at c turns b m h at = all-at (λ m. IsRepresentable m.agent) c.nodes b m h.representable at
 
-tells-at : Below → (c : Cluster) (turns : List Turn) (action : Action) (b : ℕ) (m : IdealNode) (ack : Bool) → IsCounting c turns → slice_get c.nodes b ≡ Some m → (let t = (applied c action b (apply m c.sent action)).turn in is_counted ack t.line.answer ≡ true → Tells (turns_by b turns) t ack)
-tells-at lower c turns action b m ack h at counted =
-    let o = apply m c.sent action in
-    tells-effect (turns_by b turns) m action (packet_given c.sent action) o (line_of c b o) o.done.packets ack (effect lower m c.sent action) refl (h.each b m at) counted
+tells-at : Below → (c : Cluster) (turns : List Turn) (b : ℕ) (act : Act) (m : IdealNode) (ack : Bool) → IsCounting c turns → slice_get c.nodes b ≡ Some m → (let t = (applied c b act (apply m c.sent act)).turn in is_counted ack t.line.answer ≡ true → Tells (turns_by b turns) t ack)
+tells-at lower c turns b act m ack h at counted =
+    let o = apply m c.sent act in
+    tells-effect (turns_by b turns) m (Of b act) (given_by c.sent act) o (line_of c b o) o.done.packets ack (effect lower m c.sent b act) refl (h.each b m at) counted
 
-sent-acts : Below → (c : Cluster) (turns : List Turn) (action : Action) (b : ℕ) (m : IdealNode) → IsAfter c turns → IsCounting c turns → slice_get c.nodes b ≡ Some m → SentAt turns (applied c action b (apply m c.sent action)).turn
-sent-acts lower c turns action b m after h at ack counted =
-    let t = tells-at lower c turns action b m ack h at counted in
+sent-acts : Below → (c : Cluster) (turns : List Turn) (b : ℕ) (act : Act) (m : IdealNode) → IsAfter c turns → IsCounting c turns → slice_get c.nodes b ≡ Some m → SentAt turns (applied c b act (apply m c.sent act)).turn
+sent-acts lower c turns b act m after h at ack counted =
+    let t = tells-at lower c turns b act m ack h at counted in
     let place : slice_get c.sent t.number ≡ Some t.packet = ap (packet_given c.sent) (sym t.action) ∙ t.given in
     record {
       agent = t.to;
@@ -60,20 +62,20 @@ sent-acts lower c turns action b m after h at ack counted =
     }
 
 sent-step : Below → (c : Cluster) (turns : List Turn) (action : Action) → IsAfter c turns → IsCounting c turns → SentAt turns (step c action).turn
-sent-step lower c turns action after h = step-cases (λ s. SentAt turns s.turn) c action (λ actor ack counted. absurd (cc counted)) (λ b actor at ack counted. absurd (cc counted)) (λ b m actor at. sent-acts lower c turns action b m after h at)
+sent-step lower c turns action after h = step-cases (λ s. SentAt turns s.turn) c action (λ bytes ack counted. absurd (cc counted)) (λ b act at ack counted. absurd (cc counted)) (λ b act m is at. sent-acts lower c turns b act m after h at)
 
-in_time-acts : Below → (c : Cluster) (turns : List Turn) (action : Action) (b : ℕ) (m : IdealNode) → IsCounting c turns → actor_of action ≡ Some b → slice_get c.nodes b ≡ Some m → InTimeAt turns (applied c action b (apply m c.sent action)).turn
-in_time-acts lower c turns action b m h actor at a packet now ack is = by (is_counted ack (apply m c.sent action).done.answer) refl
+in_time-acts : Below → (c : Cluster) (turns : List Turn) (b : ℕ) (act : Act) (m : IdealNode) → IsCounting c turns → slice_get c.nodes b ≡ Some m → InTimeAt turns (applied c b act (apply m c.sent act)).turn
+in_time-acts lower c turns b act m h at a packet now ack is = by (is_counted ack (apply m c.sent act).done.answer) refl
   where
-    by : (x : Bool) → is_counted ack (apply m c.sent action).done.answer ≡ x → All (IsAwaited (life_of a turns) now) (cond x (answers_in (option_to_list (packet_given c.sent action))) [])
+    by : (x : Bool) → is_counted ack (apply m c.sent act).done.answer ≡ x → All (IsAwaited (life_of a turns) now) (cond x (answers_in (option_to_list (given_by c.sent act))) [])
     by false never = All-nil (IsAwaited (life_of a turns) now)
     by true counted =
-        let t = tells-at lower c turns action b m ack h at counted in
-        let same : Some b ≡ Some a = sym actor ∙ ap actor_of is in
+        let t = tells-at lower c turns b act m ack h at counted in
+        let same : Some b ≡ Some a = ap actor_of is in
         let agent : b ≡ a = cc same in
-        let deliver : actions.Deliver t.to t.number t.now ≡ actions.Deliver a packet now = sym t.action ∙ is in
+        let deliver : Of t.to (acts.Deliver t.number t.now) ≡ Of a (acts.Deliver packet now) = sym t.action ∙ is in
         let moment : t.now ≡ now = cc deliver in
-        let one : answers_in (option_to_list (packet_given c.sent action)) ≡ t.answer ∷ [] = ap (λ g. answers_in (option_to_list g)) t.given ∙ ap (λ (d : Result Message WireFault). answer_brought d ++ []) t.says in
+        let one : answers_in (option_to_list (given_by c.sent act)) ≡ t.answer ∷ [] = ap (λ g. answers_in (option_to_list g)) t.given ∙ ap (λ (d : Result Message WireFault). answer_brought d ++ []) t.says in
         let own : IsAwaited (last_life (turns_by a turns)) now t.answer =
         subst (λ (n : ℕ). IsAwaited (last_life (turns_by a turns)) n t.answer) moment (subst (λ (n : ℕ). IsAwaited (last_life (turns_by n turns)) t.now t.answer) agent t.awaited) in
         let here : IsAwaited (life_of a turns) now t.answer = subst (λ (l : List Turn). IsAwaited l now t.answer) (sym (own_life a turns)) own in
@@ -81,15 +83,15 @@ in_time-acts lower c turns action b m h actor at a packet now ack is = by (is_co
 
 in_time-step : Below → (c : Cluster) (turns : List Turn) (action : Action) → IsCounting c turns → InTimeAt turns (step c action).turn
 in_time-step lower c turns action h =
-    step-cases (λ s. InTimeAt turns s.turn) c action (λ actor a packet now ack is. All-nil (IsAwaited (life_of a turns) now)) (λ b actor at a packet now ack is. All-nil (IsAwaited (life_of a turns) now))
-    (λ b m actor at. in_time-acts lower c turns action b m h actor at)
+    step-cases (λ s. InTimeAt turns s.turn) c action (λ bytes a packet now ack is. All-nil (IsAwaited (life_of a turns) now)) (λ b act at a packet now ack is. All-nil (IsAwaited (life_of a turns) now))
+    (λ b act m is at. in_time-acts lower c turns b act m h at)
 
 pub counting-step : Below → (r : Run) (action : Action) → IsAfter r.cluster r.turns → IsCounting r.cluster r.turns → IsCounting (after r action).cluster (after r action).turns
 counting-step lower r action h all = record {
   each = each-step (λ a ts m. HasCounted ts m.agent) r action all.each
-      (λ b m actor at p.
-      let o = apply m r.cluster.sent action in
-      has-counted-effect (turns_by b r.turns) m action (packet_given r.cluster.sent action) o (line_of r.cluster b o) o.done.packets (effect lower m r.cluster.sent action) refl (representable-at r.cluster r.turns b m h at) (ap queries_of (sym at) ∙ h.queries b) p);
+      (λ b act m is at p.
+      let o = apply m r.cluster.sent act in
+      has-counted-effect (turns_by b r.turns) m (Of b act) (given_by r.cluster.sent act) o (line_of r.cluster b o) o.done.packets (effect lower m r.cluster.sent b act) refl (representable-at r.cluster r.turns b m h at) (ap queries_of (sym at) ∙ h.queries b) p);
   nobody = nobodys-step r action all.nobody;
   sent = at_each_push SentAt r.turns (step r.cluster action).turn all.sent (sent-step lower r.cluster r.turns action h all);
   in_time = at_each_push InTimeAt r.turns (step r.cluster action).turn all.in_time (in_time-step lower r.cluster r.turns action all);

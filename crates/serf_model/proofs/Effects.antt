@@ -5,8 +5,11 @@ use Rattle.serf_agent.specs.declared.outcome.PushPullFault.TheVariants as states
 use Rattle.serf_agent.specs.declared.outcome.ReceiveFault.TheVariants as receives
 use Rattle.serf_agent.specs.Queries.{counts_where}
 use Rattle.serf_model.specs.Below.{Below}
+use Rattle.serf_model.specs.declared.action.Act.{Act}
+use Rattle.serf_model.specs.declared.action.Act.TheVariants as acts
 use Rattle.serf_model.specs.declared.action.Action.{Action}
-use Rattle.serf_model.specs.declared.action.Action.TheVariants as actions
+use Rattle.serf_model.specs.declared.action.Action.TheVariants.{Of}
+use Rattle.serf_model.specs.declared.query.NewQuery.{NewQuery}
 use Rattle.serf_model.specs.declared.line.Answer.{Answer}
 use Rattle.serf_model.specs.declared.line.Answer.TheVariants as lines
 use Rattle.serf_model.specs.declared.line.Refusal.TheVariants.{SinkFault}
@@ -14,7 +17,7 @@ use Rattle.serf_model.specs.Bounds.{is_restarted}
 use Rattle.serf_model.specs.Cluster.{Applied, IdealNode, Merged, apply, called, closes, compacts, delivers, does_nothing, fire_gives, merges_as, merges_events, merges_given, merges_on, note_gives, only, plan_with, query_gives, receive_gives, responds, responds_as, restarts, saves, sends_state, state_gives, text_after}
 use Rattle.serf_model.specs.HandOuts.{events_given}
 use Rattle.serf_model.specs.Ready.{IsRepresentable}
-use Rattle.serf_model.specs.Trace.{entered_by, events_brought, packet_given}
+use Rattle.serf_model.specs.Trace.{entered_by, events_brought, given_by}
 use Rattle.serf_model.proofs.CallsKept.{may-ask, representable-fired, representable-query_fired, representable-query_received, representable-received}
 use Rattle.serf_model.proofs.InvariantKept.{compacting, representable-compacted, representable-merged, representable-opened, representable-planned, representable-saved, saving, text-has}
 use Rattle.serf_model.proofs.OpenQueriesKept.{representable-closed, representable-counted}
@@ -44,6 +47,10 @@ pub record Hears (i j : IdealAgent) (brought : List (TimedEntry EventBody)) (out
   pub asked : j.asked ≡ i.asked
   pub among : All (Contains brought) (map out_in outs)
 
+-- the message of a query that a node fires
+abbrev pub as_message : IdealNode → NewQuery → Query
+as_message m q = query_at m.agent.queries.clock m.agent.config.name q.id q.name q.payload q.params
+
 -- What an action does to the node that acts, where it gives this packet: what the node becomes, and what that gives.
 pub data Effect (m : IdealNode) : Action → Option (List ℕ) → Applied → Type 0 where
   -- it hears of clocks and of events, at most, and sends nothing
@@ -51,30 +58,29 @@ pub data Effect (m : IdealNode) : Action → Option (List ℕ) → Applied → T
       → Effect m action given (record { node = record { agent = j; handed = m.handed }; done = record { answer = answer; packets = []; events = outs; handed = None } })
   -- an event is fired
   fires : {given : Option (List ℕ)} (agent : ℕ) (name payload : List ℕ) (coalesce : Bool) → fire_fault m.agent (event_of name payload) coalesce ≡ None
-      → Effect m (actions.Fire agent name payload coalesce) given (called m (ended m.agent (fired_as None m.agent (event_of name payload) coalesce) Kept) fire_gives)
+      → Effect m (Of agent (acts.Fire name payload coalesce)) given (called m (ended m.agent (fired_as None m.agent (event_of name payload) coalesce) Kept) fire_gives)
   -- an event is new, and is sent on
   passes_on : {action : Action} (packet : List ℕ) (e : UserEvent) → decoded packet ≡ Ok (user_event e) → admission m.agent e.time (event_of e.name e.payload) ≡ None
       → Effect m action (Some packet) (called m (ended m.agent (received_as None m.agent e.time (event_of e.name e.payload) e.coalesce) Kept) (receive_gives packet))
   -- a query is fired
-  asks : {given : Option (List ℕ)} (agent now id : ℕ) (name payload : List ℕ) (params : QueryParams) → query_fault m.agent id name payload params ≡ None
-      → Effect m (actions.Query agent now id name payload params) given
-      (called m (ended m.agent (query_fired_as None m.agent now (query_at m.agent.queries.clock m.agent.config.name id name payload params)) Kept) query_gives)
+  asks : {given : Option (List ℕ)} (agent : ℕ) (q : NewQuery) → query_fault m.agent q.id q.name q.payload q.params ≡ None
+      → Effect m (Of agent (acts.Query q)) given (called m (ended m.agent (query_fired_as None m.agent q.moment (as_message m q)) Kept) query_gives)
   -- a query is new
   is_asked : (to number : ℕ) (packet : List ℕ) (now : ℕ) (q : Query) → decoded packet ≡ Ok (query q) → query_admission m.agent q.time q.id ≡ None
-      → Effect m (actions.Deliver to number now) (Some packet) (called m (ended m.agent (query_received_as None m.agent now q) Kept) (receive_gives packet))
+      → Effect m (Of to (acts.Deliver number now)) (Some packet) (called m (ended m.agent (query_received_as None m.agent now q) Kept) (receive_gives packet))
   -- an answer to an open query is counted
   counts : (to number now : ℕ) (packet : List ℕ) (r : QueryResponse) (q : OpenQuery) (ack : Bool) → decoded packet ≡ Ok (query_response r) → asked_at r.time m.agent.asked ≡ Some q → answer_ignore_reason now r q ≡ None → is_ack r ≡ ack
-      → Effect m (actions.Deliver to number now) (Some packet)
+      → Effect m (Of to (acts.Deliver number now)) (Some packet)
       (record { node = record { agent = with_asked (with_asked_at r.time (counted r q) m.agent.asked) m.agent; handed = m.handed }; done = only (cond ack lines.Ack lines.Response) })
   -- the open queries whose deadline is past are taken out
-  closes_due : {given : Option (List ℕ)} (agent now : ℕ) → Effect m (actions.Close agent now) given (closes m now)
+  closes_due : {given : Option (List ℕ)} (agent now : ℕ) → Effect m (Of agent (acts.Close now)) given (closes m now)
   -- a whole state is sent
   tells : {action : Action} {given : Option (List ℕ)} → has_long (push_pull (state_of (view_of m.agent) [] [])) ≡ false → Effect m action given (does_nothing m (state_gives (Ok (canonical (push_pull (state_of (view_of m.agent) [] []))))))
   -- a query that was handed out is answered
   replies : {given : Option (List ℕ)} (agent number now : ℕ) (payload : List ℕ) (h : Handed) → slice_get m.handed number ≡ Some (Some h) → respond_fault h now payload ≡ None
-      → Effect m (actions.Respond agent number now payload) given (responds_as None m number h payload)
+      → Effect m (Of agent (acts.Respond number now payload)) given (responds_as None m number h payload)
   -- a life begins
-  reopens : {given : Option (List ℕ)} (agent : ℕ) (tail : List ℕ) → Effect m (actions.Restart agent tail) given (restarts m tail)
+  reopens : {given : Option (List ℕ)} (agent : ℕ) (tail : List ℕ) → Effect m (Of agent (acts.Restart tail)) given (restarts m tail)
 
 -- an action has this effect, and leaves its agent sound
 pub record Acts (m : IdealNode) (action : Action) (given : Option (List ℕ)) (o : Applied) : Type 0 where
@@ -123,20 +129,20 @@ kept-or-failed {R} Goal i call kept failed = by (will i call)
 -- ---- events
 
 acts-fire : Below → (m : IdealNode) (given : Option (List ℕ)) (agent : ℕ) (name payload : List ℕ) (coalesce : Bool) (r : Option FireFault) → fire_fault m.agent (event_of name payload) coalesce ≡ r
-    → Acts m (actions.Fire agent name payload coalesce) given (called m (planned m.agent (fired_as r m.agent (event_of name payload) coalesce)) fire_gives)
+    → Acts m (Of agent (acts.Fire name payload coalesce)) given (called m (planned m.agent (fired_as r m.agent (event_of name payload) coalesce)) fire_gives)
 acts-fire lower m given agent name payload coalesce (Some fault) is = stays m tt
 acts-fire lower m given agent name payload coalesce None is = record {
-  effect = kept-or-failed (λ o. Effect m (actions.Fire agent name payload coalesce) given (called m o fire_gives)) m.agent (fired_as None m.agent (event_of name payload) coalesce)
+  effect = kept-or-failed (λ o. Effect m (Of agent (acts.Fire name payload coalesce)) given (called m o fire_gives)) m.agent (fired_as None m.agent (event_of name payload) coalesce)
       (fires agent name payload coalesce is) (λ d. snaps m tt);
   sound = λ g. representable-fired lower m.agent (event_of name payload) coalesce None g is;
 }
 
 -- what a delivery does, and that it leaves its agent sound
 abbrev DeliveryEffect : IdealNode → ℕ → ℕ → ℕ → List ℕ → Step (Result Outcome ReceiveFault) → Type 0
-DeliveryEffect m to number now packet o = Effect m (actions.Deliver to number now) (Some packet) (called m o (receive_gives packet))
+DeliveryEffect m to number now packet o = Effect m (Of to (acts.Deliver number now)) (Some packet) (called m o (receive_gives packet))
 
 abbrev DeliveryActs : IdealNode → ℕ → ℕ → ℕ → List ℕ → Step (Result Outcome ReceiveFault) → Type 0
-DeliveryActs m to number now packet o = Acts m (actions.Deliver to number now) (Some packet) (called m o (receive_gives packet))
+DeliveryActs m to number now packet o = Acts m (Of to (acts.Deliver number now)) (Some packet) (called m o (receive_gives packet))
 
 -- why what came was ignored, where it is an event
 abbrev IgnoredAs : IdealAgent → Reason → Result Message WireFault → Type 0
@@ -183,24 +189,21 @@ acts-response m to number now packet r (Some q) is at = by (answer_ignore_reason
     by (Some reason) none = stays m (ignored m.agent packet (Ok (query_response r)) reason is tt)
     by None none = by-room (is_full m.agent.config.responders r q) (is_ack r) none refl
 
-acts-asks : Below → (m : IdealNode) (given : Option (List ℕ)) (agent now id : ℕ) (name payload : List ℕ) (params : QueryParams) (r : Option QueryFault) → query_fault m.agent id name payload params ≡ r
-    → Acts m (actions.Query agent now id name payload params) given (called m (planned m.agent (query_fired_as r m.agent now (query_at m.agent.queries.clock m.agent.config.name id name payload params))) query_gives)
-acts-asks lower m given agent now id name payload params (Some fault) is = stays m tt
-acts-asks lower m given agent now id name payload params None is =
-    let q : Query = query_at m.agent.queries.clock m.agent.config.name id name payload params in
-    record {
-      effect = kept-or-failed (λ o. Effect m (actions.Query agent now id name payload params) given (called m o query_gives)) m.agent (query_fired_as None m.agent now q)
-          (asks agent now id name payload params is) (λ d. snaps m tt);
-      sound = λ g. representable-query_fired lower m.agent now q None g refl (λ e. may-ask m.agent id name payload params is);
-    }
+acts-asks : Below → (m : IdealNode) (given : Option (List ℕ)) (agent : ℕ) (q : NewQuery) (r : Option QueryFault) → query_fault m.agent q.id q.name q.payload q.params ≡ r
+    → Acts m (Of agent (acts.Query q)) given (called m (planned m.agent (query_fired_as r m.agent q.moment (as_message m q))) query_gives)
+acts-asks lower m given agent q (Some fault) is = stays m tt
+acts-asks lower m given agent q None is = record {
+  effect = kept-or-failed (λ o. Effect m (Of agent (acts.Query q)) given (called m o query_gives)) m.agent (query_fired_as None m.agent q.moment (as_message m q)) (asks agent q is) (λ d. snaps m tt);
+  sound = λ g. representable-query_fired lower m.agent q.moment (as_message m q) None g refl (λ e. may-ask m.agent q.id q.name q.payload q.params is);
+}
 
 acts-responds : (m : IdealNode) (given : Option (List ℕ)) (agent number now : ℕ) (payload : List ℕ) (q : Option (Option Handed)) → slice_get m.handed number ≡ q
-    → Acts m (actions.Respond agent number now payload) given (responds m number q now payload)
+    → Acts m (Of agent (acts.Respond number now payload)) given (responds m number q now payload)
 acts-responds m given agent number now payload None at = stays m tt
 acts-responds m given agent number now payload (Some None) at = stays m tt
 acts-responds m given agent number now payload (Some (Some h)) at = by (respond_fault h now payload) refl
   where
-    by : (r : Option RespondFault) → respond_fault h now payload ≡ r → Acts m (actions.Respond agent number now payload) given (responds_as r m number h payload)
+    by : (r : Option RespondFault) → respond_fault h now payload ≡ r → Acts m (Of agent (acts.Respond number now payload)) given (responds_as r m number h payload)
     by (Some fault) is = stays m tt
     by None is = record { effect = replies agent number now payload h at is; sound = λ g. g }
 
@@ -212,7 +215,7 @@ acts-read lower m to number now packet (Ok (query q)) is runs = acts-query lower
 acts-read lower m to number now packet (Ok (query_response r)) is runs = acts-response m to number now packet r (asked_at r.time m.agent.asked) is refl
 acts-read lower m to number now packet _ is runs = stays m tt
 
-acts-delivers : Below → (m : IdealNode) (to number now : ℕ) (given : Option (List ℕ)) → Acts m (actions.Deliver to number now) given (delivers m now given)
+acts-delivers : Below → (m : IdealNode) (to number now : ℕ) (given : Option (List ℕ)) → Acts m (Of to (acts.Deliver number now)) given (delivers m now given)
 acts-delivers lower m to number now None = stays m tt
 acts-delivers lower m to number now (Some packet) = by m.agent.snapshot.stopped refl
   where
@@ -262,7 +265,7 @@ heard [] i = rests i i [] refl refl refl refl refl
 heard (e ∷ es) i = let o = planned i (receive_one i e) in heard-on i e es o (merges_events es) (heard-one i e es (admission i e.time e.key) refl) (heard es o.agent)
 
 acts-merge : Below → (m : IdealNode) (to number : ℕ) (join : Bool) (packet : List ℕ) (f : Option MergeFault) (r : Result Message WireFault) → decoded packet ≡ r → merge_refusal m.agent.snapshot r ≡ f
-    → Acts m (actions.Merge to number join) (Some packet) (merges_as f m join r)
+    → Acts m (Of to (acts.Merge number join)) (Some packet) (merges_as f m join r)
 acts-merge lower m to number join packet None (Ok (push_pull s)) is refuses = record { effect = by (merges_events (events_of s.slots) (joined s join m.agent)).failed; sound = λ g. representable-merged lower m.agent join packet s g is refuses }
   where
     h : (let o = merges_events (events_of s.slots) (joined s join m.agent) in Hears m.agent o.agent (events_given (Some packet)) o.events)
@@ -277,14 +280,14 @@ acts-merge lower m to number join packet None (Ok (push_pull s)) is refuses = re
           among = subst (λ es. All (Contains es) (map out_in (merges_events (events_of s.slots) (joined s join m.agent)).events)) (ap events_brought (sym is)) g.among;
         }
 
-    by : (failed : Bool) → (let o = merges_events (events_of s.slots) (joined s join m.agent) in Effect m (actions.Merge to number join) (Some packet)
+    by : (failed : Bool) → (let o = merges_events (events_of s.slots) (joined s join m.agent) in Effect m (Of to (acts.Merge number join)) (Some packet)
         (record { node = record { agent = o.agent; handed = m.handed }; done = record { answer = cond failed (lines.Refused SinkFault) lines.Merged; packets = []; events = o.events; handed = None } }))
     by true = hears _ _ _ h tt
     by false = hears _ _ _ h tt
 acts-merge lower m to number join packet (Some fault) r is refuses = stays m tt
 acts-merge lower m to number join packet None _ is refuses = stays m tt
 
-acts-merges : Below → (m : IdealNode) (to number : ℕ) (join : Bool) (given : Option (List ℕ)) → Acts m (actions.Merge to number join) given (merges_given m join given)
+acts-merges : Below → (m : IdealNode) (to number : ℕ) (join : Bool) (given : Option (List ℕ)) → Acts m (Of to (acts.Merge number join)) given (merges_given m join given)
 acts-merges lower m to number join None = stays m tt
 acts-merges lower m to number join (Some packet) = acts-merge lower m to number join packet (merge_refusal m.agent.snapshot (decoded packet)) (decoded packet) refl refl
 
@@ -321,22 +324,21 @@ acts-compacts lower m action given = by m.agent.snapshot.stopped
 
 -- ---- each action
 
-acts : Below → (m : IdealNode) (sent : List (List ℕ)) (action : Action) → Acts m action (packet_given sent action) (apply m sent action)
-acts lower m sent (actions.Fire agent name payload coalesce) = acts-fire lower m None agent name payload coalesce (fire_fault m.agent (event_of name payload) coalesce) refl
-acts lower m sent (actions.Deliver to number now) = acts-delivers lower m to number now (slice_get sent number)
-acts lower m sent (actions.State agent) = acts-state m (actions.State agent) None
-acts lower m sent (actions.Merge to number join) = acts-merges lower m to number join (slice_get sent number)
-acts lower m sent (actions.Query agent now id name payload params) = acts-asks lower m None agent now id name payload params (query_fault m.agent id name payload params) refl
-acts lower m sent (actions.Respond agent number now payload) = acts-responds m None agent number now payload (slice_get m.handed number) refl
-acts lower m sent (actions.Restart agent tail) = record { effect = reopens agent tail; sound = λ g. representable-opened lower m.agent (text_after m.agent tail) g.consistent.sound (text-has lower m.agent tail g.consistent) }
-acts lower m sent (actions.Break agent call n) = record { effect = snaps m tt; sound = representable-planned m.agent (plan_with call n) }
-acts lower m sent (actions.Inject bytes) = stays m tt
-acts lower m sent (actions.Close agent now) = record { effect = closes_due agent now; sound = representable-closed m.agent now }
-acts lower m sent (actions.Save agent) = acts-saves lower m (actions.Save agent) None
-acts lower m sent (actions.Compact agent) = acts-compacts lower m (actions.Compact agent) None
+acts-of : Below → (m : IdealNode) (sent : List (List ℕ)) (a : ℕ) (act : Act) → Acts m (Of a act) (given_by sent act) (apply m sent act)
+acts-of lower m sent a (acts.Fire name payload coalesce) = acts-fire lower m None a name payload coalesce (fire_fault m.agent (event_of name payload) coalesce) refl
+acts-of lower m sent a (acts.Deliver number now) = acts-delivers lower m a number now (slice_get sent number)
+acts-of lower m sent a acts.State = acts-state m (Of a acts.State) None
+acts-of lower m sent a (acts.Merge number join) = acts-merges lower m a number join (slice_get sent number)
+acts-of lower m sent a (acts.Query q) = acts-asks lower m None a q (query_fault m.agent q.id q.name q.payload q.params) refl
+acts-of lower m sent a (acts.Respond number now payload) = acts-responds m None a number now payload (slice_get m.handed number) refl
+acts-of lower m sent a (acts.Restart tail) = record { effect = reopens a tail; sound = λ g. representable-opened lower m.agent (text_after m.agent tail) g.consistent.sound (text-has lower m.agent tail g.consistent) }
+acts-of lower m sent a (acts.Break call n) = record { effect = snaps m tt; sound = representable-planned m.agent (plan_with call n) }
+acts-of lower m sent a (acts.Close now) = record { effect = closes_due a now; sound = representable-closed m.agent now }
+acts-of lower m sent a acts.Save = acts-saves lower m (Of a acts.Save) None
+acts-of lower m sent a acts.Compact = acts-compacts lower m (Of a acts.Compact) None
 
-pub effect : Below → (m : IdealNode) (sent : List (List ℕ)) (action : Action) → Effect m action (packet_given sent action) (apply m sent action)
-effect lower m sent action = (acts lower m sent action).effect
+pub effect : Below → (m : IdealNode) (sent : List (List ℕ)) (a : ℕ) (act : Act) → Effect m (Of a act) (given_by sent act) (apply m sent act)
+effect lower m sent a act = (acts-of lower m sent a act).effect
 
-pub representable-apply : Below → (m : IdealNode) (sent : List (List ℕ)) (action : Action) → IsRepresentable m.agent → IsRepresentable (apply m sent action).node.agent
-representable-apply lower m sent action = (acts lower m sent action).sound
+pub representable-apply : Below → (m : IdealNode) (sent : List (List ℕ)) (act : Act) → IsRepresentable m.agent → IsRepresentable (apply m sent act).node.agent
+representable-apply lower m sent act = (acts-of lower m sent 0 act).sound

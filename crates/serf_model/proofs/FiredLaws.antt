@@ -2,12 +2,14 @@
 use Rattle.serf_model.proofs.Names.{zero, suc, ◌≡◌, ℕ, inl, inr, Bool, true, false, cond, List, [], ◌∷◌, ◌++◌, Option, Some, None, Result, refl, sym, ap, subst, ◌∙◌, map, All, Contains, slice_get, not, AllByRecursion, flat_map, option_to_list, append-nil, flat_map-append, All-nil, All-cons, All-head, All-tail, All-append, All-contains, All-map, All-weaker, All-contains_itself, Contains-append_left, Contains-append_right, WireFault, EventBody, canonical, Message, Query, query, push_pull, event_of, TimedEntry, Config, EventOut, event_packet, Past, query_at, ack_if_passed, ack_packet, all_pass, ack_flag, has_flag, no_broadcast_flag, response_packet, state_of, view_of}
 use Rattle.serf_model.specs.Below.{Below}
 use Rattle.serf_model.specs.declared.action.Action.{Action}
-use Rattle.serf_model.specs.declared.action.Action.TheVariants as actions
+use Rattle.serf_model.specs.declared.action.Act.{Act}
+use Rattle.serf_model.specs.declared.action.Act.TheVariants as acts
+use Rattle.serf_model.specs.declared.action.Action.TheVariants.{Of}
 use Rattle.serf_model.specs.Cluster.{IdealNode, Cluster, Applied, Done, Run, Stepped, apply, applied, injects, on_agent, after, start, first_node, with_handed, event_line}
 use Rattle.serf_model.specs.Promises.{WasFired, OnlyFired, CarriesOnlyFired}
-use Rattle.serf_model.specs.Trace.{Turn, fired_by, fired_in, injected_events, injected_in, injects_of, events_in_packet, events_brought, event_in, packet_given}
+use Rattle.serf_model.specs.Trace.{Turn, fired_by, fired_in, injected_events, injected_in, injects_of, events_in_packet, events_brought, event_in, packet_given, given_by}
 use Rattle.serf_model.specs.HandOuts.{events_given}
-use Rattle.serf_model.proofs.Effects.{Effect, asks, effect, fires, hears, is_asked, passes_on, replies, tells}
+use Rattle.serf_model.proofs.Effects.{Effect, asks, effect, fires, hears, is_asked, passes_on, replies, tells, as_message}
 use Rattle.serf_model.proofs.StepCases.{step-cases}
 use Rattle.serf_model.proofs.TurnLaws.{at_each_nil, at_each_push, flat_map-push}
 use Rattle.serf_model.proofs.HistoryGrowth.{keeps-apply}
@@ -71,8 +73,8 @@ have-effect lower P m action given o (passes_on packet e is new) g all carries f
   events = subst (λ (r : Result Message WireFault). All P (events_brought r)) is (carries packet refl);
   packets = one (Carries P) packet (carries packet refl);
 }
-have-effect lower P m action given o (asks agent now id name payload params may) g all carries fired =
-    let q : Query = query_at m.agent.queries.clock m.agent.config.name id name payload params in
+have-effect lower P m action given o (asks agent q may) g all carries fired =
+    let q : Query = as_message m q in
     record { events = All-nil P; packets = All-cons (Carries P) (canonical (query q)) (option_to_list (ack_if_passed m.agent.config.name q)) (none P (canonical (query q)) (events_in_packet-query q)) (ack-has (Carries P) m.agent.config.name q (no-event-ack P m.agent.config.name q)) }
 have-effect lower P m action given o (is_asked to number packet now q is new) g all carries fired =
     record { events = All-nil P; packets = entered-has (Carries P) m.agent.config.name packet q (not (has_flag no_broadcast_flag q.flags)) (carries packet refl) (no-event-ack P m.agent.config.name q) }
@@ -141,8 +143,8 @@ sent-at P (y ∷ ys) zero x all is = let same : y ≡ x = cc is in subst P same 
 sent-at P (y ∷ ys) (suc k) x all is = sent-at P ys k x (All-tail P y ys all) is
 
 pub given-sent : (P : List ℕ → Type 0) (sent : List (List ℕ)) (action : Action) (packet : List ℕ) → All P sent → packet_given sent action ≡ Some packet → P packet
-given-sent P sent (actions.Deliver to k now) packet all is = sent-at P sent k packet all is
-given-sent P sent (actions.Merge to k join) packet all is = sent-at P sent k packet all is
+given-sent P sent (Of a (acts.Deliver k now)) packet all is = sent-at P sent k packet all is
+given-sent P sent (Of a (acts.Merge k join)) packet all is = sent-at P sent k packet all is
 given-sent P sent _ packet all is = absurd (cc is)
 
 -- the lines of what was handed out
@@ -158,18 +160,18 @@ have-entries : (P : TimedEntry EventBody → Type 0) (h : List (Past EventBody))
 have-entries P [] all = All-nil (λ p. P p.entry)
 have-entries P (p ∷ ps) all = All-cons (λ (p : Past EventBody). P p.entry) p ps (All-head P p.entry (entries ps) all) (have-entries P ps (All-tail P p.entry (entries ps) all))
 
-fired-applied : (c : Cluster) (turns : List Turn) (action : Action) (b : ℕ) (m : IdealNode) (o : Applied) → IsFired c turns → slice_get c.nodes b ≡ Some m
+fired-applied : (c : Cluster) (turns : List Turn) (b : ℕ) (act : Act) (m : IdealNode) (o : Applied) → IsFired c turns → slice_get c.nodes b ≡ Some m
     → entries o.node.agent.events.history ≡ entries m.agent.events.history ++ map out_in o.done.events
-    → ((P : TimedEntry EventBody → Type 0) → All (λ p. P p.entry) m.agent.events.history → ((packet : List ℕ) → packet_given c.sent action ≡ Some packet → Carries P packet) → All P (fired_by action o.done.answer) → AllHave P o.done)
-    → IsFired (applied c action b o).cluster (turns ++ (applied c action b o).turn ∷ [])
-fired-applied c turns action b m o h at grows have =
-    let turn : Turn = (applied c action b o).turn in
+    → ((P : TimedEntry EventBody → Type 0) → All (λ p. P p.entry) m.agent.events.history → ((packet : List ℕ) → given_by c.sent act ≡ Some packet → Carries P packet) → All P (fired_by (Of b act) o.done.answer) → AllHave P o.done)
+    → IsFired (applied c b act o).cluster (turns ++ (applied c b act o).turn ∷ [])
+fired-applied c turns b act m o h at grows have =
+    let turn : Turn = (applied c b act o).turn in
     let P : TimedEntry EventBody → Type 0 = WasFired (turns ++ turn ∷ []) in
     let E : IdealNode → Type 0 = λ m. All (λ p. P p.entry) m.agent.events.history in
     let nodes : AllByRecursion E c.nodes = nodes-more turns turn c.nodes h.entered in
     let packets : All (Carries P) c.sent = packets-more turns turn c.sent h.packets in
     let old : E m = all-at E c.nodes b m nodes at in
-    let has : AllHave P o.done = have P old (λ packet is. given-sent (Carries P) c.sent action packet packets is) (fires-now turns turn) in
+    let has : AllHave P o.done = have P old (λ packet is. given-sent (Carries P) c.sent (Of b act) packet packets is) (fires-now turns turn) in
     record {
       entered = all-put E c.nodes b (with_handed o.done.handed o.node) nodes
           (have-entries P o.node.agent.events.history (subst (All P) (sym grows) (All-append P (entries m.agent.events.history) (map out_in o.done.events) (entries-have P m.agent.events.history old) has.events)));
@@ -202,18 +204,17 @@ fired-still c turns s h nodes sent no_events carry =
       carries = at_each_push CarriesAt turns s.turn h.carries carry;
     }
 
-fired-acts : Below → (c : Cluster) (turns : List Turn) (action : Action) (b : ℕ) (m : IdealNode) → IsAfter c turns → IsFired c turns → slice_get c.nodes b ≡ Some m → (let s = applied c action b (apply m c.sent action) in IsFired s.cluster (turns ++ s.turn ∷ []))
-fired-acts lower c turns action b m h f at =
+fired-acts : Below → (c : Cluster) (turns : List Turn) (b : ℕ) (act : Act) (m : IdealNode) → IsAfter c turns → IsFired c turns → slice_get c.nodes b ≡ Some m → (let s = applied c b act (apply m c.sent act) in IsFired s.cluster (turns ++ s.turn ∷ []))
+fired-acts lower c turns b act m h f at =
     let representable = all-at (λ m. IsRepresentable m.agent) c.nodes b m h.representable at in
-    fired-applied c turns action b m (apply m c.sent action) f at (enters-entries (keeps-apply lower m c.sent action representable.consistent.sound).events)
-    (λ P old carries fired. have-effect lower P m action (packet_given c.sent action) (apply m c.sent action) (effect lower m c.sent action) representable old carries fired)
+    fired-applied c turns b act m (apply m c.sent act) f at (enters-entries (keeps-apply lower m c.sent b act representable.consistent.sound).events)
+    (λ P old carries fired. have-effect lower P m (Of b act) (given_by c.sent act) (apply m c.sent act) (effect lower m c.sent b act) representable old carries fired)
 
 pub fired-step : Below → (r : Run) (action : Action) → IsAfter r.cluster r.turns → IsFired r.cluster r.turns → IsFired (after r action).cluster (after r action).turns
 fired-step lower r action h f =
-    let now : Stepped = injects r.cluster action (injects_of action) in
     step-cases (λ s. IsFired s.cluster (r.turns ++ s.turn ∷ [])) r.cluster action
-    (λ actor. fired-still r.cluster r.turns now f refl refl refl (all-parts (WasFired (r.turns ++ now.turn ∷ [])) events_in_packet (injects_of action) (forges-now r.turns now.turn)))
-    (λ b actor at. fired-still r.cluster r.turns (on_agent r.cluster action b None) f refl (sym (append-nil r.cluster.sent)) refl (All-nil (Carries (WasFired (r.turns ++ (on_agent r.cluster action b None).turn ∷ []))))) (λ b m actor at. fired-acts lower r.cluster r.turns action b m h f at)
+    (λ bytes. let now = injects r.cluster bytes in fired-still r.cluster r.turns now f refl refl refl (all-parts (WasFired (r.turns ++ now.turn ∷ [])) events_in_packet (bytes ∷ []) (forges-now r.turns now.turn)))
+    (λ b act at. fired-still r.cluster r.turns (on_agent r.cluster b act None) f refl (sym (append-nil r.cluster.sent)) refl (All-nil (Carries (WasFired (r.turns ++ (on_agent r.cluster b act None).turn ∷ []))))) (λ b act m is at. fired-acts lower r.cluster r.turns b act m h f at)
 
 none-entered : (configs : List Config) → AllByRecursion (λ m. All (λ p. WasFired [] p.entry) m.agent.events.history) (map first_node configs)
 none-entered [] = tt

@@ -2,16 +2,19 @@
 use Rattle.serf_model.proofs.Names.{length, ◌≡◌, ℕ, ◌⊎◌, inl, inr, Bool, true, false, cond, List, [], ◌∷◌, ◌++◌, Option, Some, None, refl, sym, ap, subst, ◌∙◌, map, All, Contains, slice_get, fold, option_map, option_to_list, All-nil, All-cons, All-head, All-tail, All-append, All-weaker, All-contains, All-contains_itself, Contains-append_left, Contains-append_right, EventBody, canonical, decoded, Query, query, event_of, TimedEntry, Config, EventOut, Handed, IdealAgent, all_pass, handed_if_passed, handed_query, query_at}
 use Rattle.serf_model.specs.Below.{Below}
 use Rattle.serf_model.specs.declared.action.Action.{Action}
+use Rattle.serf_model.specs.declared.action.Act.{Act}
+use Rattle.serf_model.specs.declared.action.Act.TheVariants as acts
+use Rattle.serf_model.specs.declared.action.Action.TheVariants.{Of}
 use Rattle.serf_model.specs.declared.line.Answer.{Answer}
 use Rattle.serf_model.specs.declared.line.Answer.TheVariants as answers
 use Rattle.serf_model.specs.declared.line.EventLine.{EventLine}
 use Rattle.serf_model.specs.declared.line.HandedLine.{HandedLine}
 use Rattle.serf_model.specs.declared.line.Refusal.TheVariants.{NoAgent}
 use Rattle.serf_model.specs.Cluster.{Applied, Cluster, IdealNode, Run, after, applied, apply, event_line, handed_line, injects, line_only, run_of, start, step}
-use Rattle.serf_model.specs.HandOuts.{HandsOutEntered, HandsOutGiven, IsHandedOf, MessagesFired, NewIsHanded, OnlyToActor, events_given, message_entered, message_fired, messages_fired, new_in, query_message, says_new}
+use Rattle.serf_model.specs.HandOuts.{HandsOutEntered, HandsOutGiven, IsHandedOf, MessagesFired, NewIsHanded, OnlyToActor, events_given, message_entered, message_fired, messages_fired, new_in, query_message, says_new, message_at}
 use Rattle.serf_model.specs.Sizes.{HasSizes}
-use Rattle.serf_model.specs.Trace.{Turn, actor_of, event_in, events_brought, events_in_packet, fired_by, injected_in, injects_of, packet_given, queried_in, query_packets}
-use Rattle.serf_model.proofs.Effects.{Effect, IsIdle, asks, counts, effect, fires, hears, is_asked, passes_on}
+use Rattle.serf_model.specs.Trace.{Turn, actor_of, event_in, events_brought, events_in_packet, fired_by, injected_in, injects_of, packet_given, queried_in, query_packets, given_by}
+use Rattle.serf_model.proofs.Effects.{Effect, IsIdle, asks, counts, effect, fires, hears, is_asked, passes_on, as_message}
 use Rattle.serf_model.proofs.PerAgent.{Each, each-start, each-step}
 use Rattle.serf_model.proofs.PerTimeBound.{out_in}
 use Rattle.serf_model.proofs.QueriesEntered.{own-decoded}
@@ -19,36 +22,23 @@ use Rattle.serf_model.proofs.QueryOrigins.{IsAsked, WasAsked, asked-start, asked
 use Rattle.serf_model.proofs.StepCases.{step-cases}
 use Rattle.serf_model.proofs.TurnLaws.{at_each_nil, at_each_push, flat_map-push, fold_keeps}
 
--- ---- a turn
-
--- the turn of an action that no agent takes
-abbrev refused_turn : Cluster → Action → Turn
-refused_turn c action = record { action = action; line = line_only (answers.Refused NoAgent); given = packet_given c.sent action; packets = [] }
-
--- a turn is injected, or refused, or an agent takes it
-turn-of : (P : Turn → Type 0) (c : Cluster) (action : Action) → P (injects c action (injects_of action)).turn → P (refused_turn c action)
-    → ((b : ℕ) (m : IdealNode) → actor_of action ≡ Some b → slice_get c.nodes b ≡ Some m → P (applied c action b (apply m c.sent action)).turn) → P (step c action).turn
-turn-of P c action injected refused acts = step-cases (λ s. P s.turn) c action (λ nobody. injected) (λ b actor missing. refused) acts
-
 -- ---- to whom
 
 abbrev ToActorAt : List Turn → Turn → Type 0
 ToActorAt before turn = All (λ (e : EventLine). actor_of turn.action ≡ Some e.agent) turn.line.events × All (λ (h : HandedLine). actor_of turn.action ≡ Some h.agent) (option_to_list turn.line.handed)
 
-events-to-actor : (action : Action) (b : ℕ) (outs : List EventOut) → actor_of action ≡ Some b → All (λ (e : EventLine). actor_of action ≡ Some e.agent) (map (event_line b) outs)
-events-to-actor action b [] actor = All-nil (λ (e : EventLine). actor_of action ≡ Some e.agent)
-events-to-actor action b (out ∷ outs) actor = All-cons (λ (e : EventLine). actor_of action ≡ Some e.agent) (event_line b out) (map (event_line b) outs) actor (events-to-actor action b outs actor)
+events-to-actor : (b : ℕ) (outs : List EventOut) → All (λ (e : EventLine). Some b ≡ Some e.agent) (map (event_line b) outs)
+events-to-actor b [] = All-nil (λ (e : EventLine). Some b ≡ Some e.agent)
+events-to-actor b (out ∷ outs) = All-cons (λ (e : EventLine). Some b ≡ Some e.agent) (event_line b out) (map (event_line b) outs) refl (events-to-actor b outs)
 
-handed-to-actor : (action : Action) (b n : ℕ) (h : Option Handed) → actor_of action ≡ Some b → All (λ (h : HandedLine). actor_of action ≡ Some h.agent) (option_to_list (option_map (handed_line b n) h))
-handed-to-actor action b n None actor = All-nil (λ (h : HandedLine). actor_of action ≡ Some h.agent)
-handed-to-actor action b n (Some q) actor = All-cons (λ (h : HandedLine). actor_of action ≡ Some h.agent) (handed_line b n q) [] actor (All-nil (λ (h : HandedLine). actor_of action ≡ Some h.agent))
+handed-to-actor : (b n : ℕ) (h : Option Handed) → All (λ (h : HandedLine). Some b ≡ Some h.agent) (option_to_list (option_map (handed_line b n) h))
+handed-to-actor b n None = All-nil (λ (h : HandedLine). Some b ≡ Some h.agent)
+handed-to-actor b n (Some q) = All-cons (λ (h : HandedLine). Some b ≡ Some h.agent) (handed_line b n q) [] refl (All-nil (λ (h : HandedLine). Some b ≡ Some h.agent))
 
 to-actor : (before : List Turn) (c : Cluster) (action : Action) → ToActorAt before (step c action).turn
 to-actor before c action =
-    let none : All (λ (e : EventLine). actor_of action ≡ Some e.agent) [] × All (λ (h : HandedLine). actor_of action ≡ Some h.agent) [] =
-    (All-nil (λ (e : EventLine). actor_of action ≡ Some e.agent), All-nil (λ (h : HandedLine). actor_of action ≡ Some h.agent)) in
-    turn-of (ToActorAt before) c action none none
-    (λ b m actor at. (events-to-actor action b (apply m c.sent action).done.events actor, handed-to-actor action b _ (apply m c.sent action).done.handed actor))
+    step-cases (λ s. ToActorAt before s.turn) c action (λ bytes. (All-nil _, All-nil _)) (λ b act at. (All-nil _, All-nil _))
+    (λ b act m is at. (events-to-actor b (apply m c.sent act).done.events, handed-to-actor b _ (apply m c.sent act).done.handed))
 
 -- ---- which events
 
@@ -81,10 +71,9 @@ GivenAt before turn = All (λ (e : EventLine). IsGiven turn.action turn.given tu
 
 given-out : Below → (before : List Turn) (c : Cluster) (action : Action) → GivenAt before (step c action).turn
 given-out lower before c action =
-    turn-of (GivenAt before) c action (All-nil (λ (e : EventLine). IsGiven action (packet_given c.sent action) answers.Injected (event_in e)))
-    (All-nil (λ (e : EventLine). IsGiven action (packet_given c.sent action) (answers.Refused NoAgent) (event_in e)))
-    (λ b m actor at. lines-all (IsGiven action (packet_given c.sent action) (apply m c.sent action).done.answer) b (apply m c.sent action).done.events
-    (given-effect m action (packet_given c.sent action) (apply m c.sent action) (effect lower m c.sent action)))
+    step-cases (λ s. GivenAt before s.turn) c action (λ bytes. All-nil _) (λ b act at. All-nil _)
+    (λ b act m is at. lines-all (IsGiven (Of b act) (given_by c.sent act) (apply m c.sent act).done.answer) b (apply m c.sent act).done.events
+    (given-effect m (Of b act) (given_by c.sent act) (apply m c.sent act) (effect lower m c.sent b act)))
 
 -- ---- what is new
 
@@ -102,7 +91,7 @@ new-effect : (m : IdealNode) (action : Action) (given : Option (List ℕ)) (o : 
 new-effect m action given _ (hears j outs answer h idle) = λ is. absurd (not-new m.agent given answer idle is)
 new-effect m _ given _ (fires agent name payload coalesce is) = λ says. (_, refl, refl)
 new-effect m action _ _ (passes_on packet e is new) = λ says. (_, refl, ap events_brought is)
-new-effect m _ given _ (asks agent now id name payload params is) = λ says. absurd (cc says)
+new-effect m _ given _ (asks agent q is) = λ says. absurd (cc says)
 new-effect m action _ _ (is_asked to number packet now q is new) = λ says. absurd (cc says)
 new-effect m _ _ _ (counts to number now packet r q true is at none kind) = λ says. absurd (cc says)
 new-effect m _ _ _ (counts to number now packet r q false is at none kind) = λ says. absurd (cc says)
@@ -113,8 +102,8 @@ NewAt before turn = says_new turn.line.answer ≡ true → (e : TimedEntry Event
 
 new-out : Below → (before : List Turn) (c : Cluster) (action : Action) → NewAt before (step c action).turn
 new-out lower before c action =
-    turn-of (NewAt before) c action (λ is. absurd (cc is)) (λ is. absurd (cc is))
-    (λ b m actor at is. let h = new-effect m action (packet_given c.sent action) (apply m c.sent action) (effect lower m c.sent action) is in (h.0, lines-in b (apply m c.sent action).done.events ∙ h.1, h.2))
+    step-cases (λ s. NewAt before s.turn) c action (λ bytes is. absurd (cc is)) (λ b act at is. absurd (cc is))
+    (λ b act m of at is. let h = new-effect m (Of b act) (given_by c.sent act) (apply m c.sent act) (effect lower m c.sent b act) is in (h.0, lines-in b (apply m c.sent act).done.events ∙ h.1, h.2))
 
 -- ---- settings
 
@@ -129,7 +118,7 @@ HasSettings configs a turns m = slice_get configs a ≡ Some m.agent.config
 settings-step : Below → (configs : List Config) (r : Run) (action : Action) → Each (HasSettings configs) r.cluster r.turns → Each (HasSettings configs) (after r action).cluster (after r action).turns
 settings-step lower configs r action all =
     each-step (HasSettings configs) r action all
-    (λ b m actor at is. is ∙ ap (λ (c : Config). Some c) (sym (settings-kept m action (packet_given r.cluster.sent action) (apply m r.cluster.sent action) (effect lower m r.cluster.sent action))))
+    (λ b act m of at is. is ∙ ap (λ (c : Config). Some c) (sym (settings-kept m (Of b act) (given_by r.cluster.sent act) (apply m r.cluster.sent act) (effect lower m r.cluster.sent b act))))
 
 settings-start : (configs : List Config) → Each (HasSettings configs) (start configs).cluster []
 settings-start configs = each-start (HasSettings configs) configs (λ a config is. is)
@@ -152,12 +141,11 @@ handed-of : (a n : ℕ) (node : List ℕ) (now : ℕ) (q : Query) (h : Handed) �
 handed-of a n node now q h same = record { time = ap (λ (x : Handed). x.time) (sym same); id = ap (λ (x : Handed). x.id) (sym same); name = ap (λ (x : Handed). x.name) (sym same); payload = ap (λ (x : Handed). x.payload) (sym same) }
 
 hands-effect : (configs : List Config) (m : IdealNode) (action : Action) (given : Option (List ℕ)) (o : Applied) (b : ℕ) → actor_of action ≡ Some b → slice_get configs b ≡ Some m.agent.config → Effect m action given o → HandsEntered configs action given o
-hands-effect configs m _ given _ b actor settings (asks agent now id name payload params is) = λ a n h e.
-    let q : Query = query_at m.agent.queries.clock m.agent.config.name id name payload params in
+hands-effect configs m _ given _ b actor settings (asks agent q is) = λ a n h e.
     let me : agent ≡ b = cc actor in (
-      q,
-      ap (λ (c : Option Config). map (λ c. query_at m.agent.queries.clock c.name id name payload params) (option_to_list c)) (ap (slice_get configs) me ∙ settings),
-      handed-of a n m.agent.config.name now q h (passed-on m.agent.config.name now q h e),
+      as_message m q,
+      ap (λ (c : Option Config). map (λ c. query_at m.agent.queries.clock c.name q.id q.name q.payload q.params) (option_to_list c)) (ap (slice_get configs) me ∙ settings),
+      handed-of a n m.agent.config.name q.moment (as_message m q) h (passed-on m.agent.config.name q.moment (as_message m q) h e),
     )
 hands-effect configs m action _ _ b actor settings (is_asked to number packet now q is new) = λ a n h e. (q, ap query_message is, handed-of a n m.agent.config.name now q h (passed-on m.agent.config.name now q h e))
 hands-effect configs m action given _ b actor settings _ = λ a n h e. absurd (cc e)
@@ -165,20 +153,20 @@ hands-effect configs m action given _ b actor settings _ = λ a n h e. absurd (c
 abbrev EnteredAt : List Config → List Turn → Turn → Type 0
 EnteredAt configs before turn = (h : HandedLine) → turn.line.handed ≡ Some h → (q : Query) × (message_entered configs turn ≡ q ∷ []) × IsHandedOf h q
 
-entered-applied : Below → (configs : List Config) (before : List Turn) (c : Cluster) (action : Action) (b : ℕ) (m : IdealNode) → actor_of action ≡ Some b → slice_get configs b ≡ Some m.agent.config → EnteredAt configs before (applied c action b (apply m c.sent action)).turn
-entered-applied lower configs before c action b m actor settings = by (apply m c.sent action).done.handed refl
+entered-applied : Below → (configs : List Config) (before : List Turn) (c : Cluster) (b : ℕ) (act : Act) (m : IdealNode) → slice_get configs b ≡ Some m.agent.config → EnteredAt configs before (applied c b act (apply m c.sent act)).turn
+entered-applied lower configs before c b act m settings = by (apply m c.sent act).done.handed refl
   where
-    by : (r : Option Handed) → (apply m c.sent action).done.handed ≡ r → (h : HandedLine) → option_map (handed_line b (length (apply m c.sent action).node.handed)) r ≡ Some h
-        → (q : Query) × (message_entered configs (applied c action b (apply m c.sent action)).turn ≡ q ∷ []) × IsHandedOf h q
+    by : (r : Option Handed) → (apply m c.sent act).done.handed ≡ r → (h : HandedLine) → option_map (handed_line b (length (apply m c.sent act).node.handed)) r ≡ Some h
+        → (q : Query) × (message_entered configs (applied c b act (apply m c.sent act)).turn ≡ q ∷ []) × IsHandedOf h q
     by None is h e = absurd (cc e)
     by (Some x) is h e =
-        let same : handed_line b (length (apply m c.sent action).node.handed) x ≡ h = cc e in
-        let found = hands-effect configs m action (packet_given c.sent action) (apply m c.sent action) b actor settings (effect lower m c.sent action) b (length (apply m c.sent action).node.handed) x is in
+        let same : handed_line b (length (apply m c.sent act).node.handed) x ≡ h = cc e in
+        let found = hands-effect configs m (Of b act) (given_by c.sent act) (apply m c.sent act) b refl settings (effect lower m c.sent b act) b (length (apply m c.sent act).node.handed) x is in
         (found.0, found.1, subst (λ (l : HandedLine). IsHandedOf l found.0) same found.2)
 
 entered-out : Below → (configs : List Config) (before : List Turn) (c : Cluster) (action : Action) (turns : List Turn) → Each (HasSettings configs) c turns → EnteredAt configs before (step c action).turn
 entered-out lower configs before c action turns all =
-    turn-of (EnteredAt configs before) c action (λ h e. absurd (cc e)) (λ h e. absurd (cc e)) (λ b m actor at. entered-applied lower configs before c action b m actor (all b m at))
+    step-cases (λ s. EnteredAt configs before s.turn) c action (λ bytes h e. absurd (cc e)) (λ b act at h e. absurd (cc e)) (λ b act m is at. entered-applied lower configs before c b act m (all b m at))
 
 -- ---- the messages that were fired
 
@@ -199,14 +187,13 @@ speaks-effect : Below → (configs : List Config) (m : IdealNode) (action : Acti
 speaks-effect lower configs m action given _ b sized actor settings (hears j outs answer h idle) =
     let own : List Query = message_fired configs (record { action = action; line = record { answer = answer; sent = []; events = []; handed = None }; given = given; packets = [] }) in
     subst (All (Speaks own)) (sym (speaks-nothing m.agent given answer [] idle)) (All-nil (Speaks own))
-speaks-effect lower configs m _ given _ b sized actor settings (asks agent now id name payload params is) =
-    let q : Query = query_at m.agent.queries.clock m.agent.config.name id name payload params in
+speaks-effect lower configs m _ given _ b sized actor settings (asks agent q is) =
     let me : agent ≡ b = cc actor in
-    let fired : map (λ c. query_at m.agent.queries.clock c.name id name payload params) (option_to_list (slice_get configs agent)) ≡ q ∷ [] =
-    ap (λ (c : Option Config). map (λ c. query_at m.agent.queries.clock c.name id name payload params) (option_to_list c)) (ap (slice_get configs) me ∙ settings) in
-    let own : List Query = map (λ (c : Config). query_at m.agent.queries.clock c.name id name payload params) (option_to_list (slice_get configs agent)) in
-    All-cons (Speaks own) (canonical (query q)) []
-    (subst (All (Contains own)) (sym (ap query_message (own-decoded lower m.agent id name payload params sized is))) (subst (λ l. All (Contains l) (q ∷ [])) (sym fired) (All-contains_itself (q ∷ []))))
+    let own : List Query = message_at configs m.agent.queries.clock (Of agent (acts.Query q)) in
+    let fired : own ≡ as_message m q ∷ [] =
+    ap (λ (c : Option Config). map (λ c. query_at m.agent.queries.clock c.name q.id q.name q.payload q.params) (option_to_list c)) (ap (slice_get configs) me ∙ settings) in
+    All-cons (Speaks own) (canonical (query (as_message m q))) []
+    (subst (All (Contains own)) (sym (ap query_message (own-decoded lower m.agent q.id q.name q.payload q.params sized is))) (subst (λ l. All (Contains l) (as_message m q ∷ [])) (sym fired) (All-contains_itself (as_message m q ∷ []))))
     (All-nil (Speaks own))
 speaks-effect lower configs m action _ _ b sized actor settings (counts to number now packet r q true is at none kind) = All-nil (Speaks [])
 speaks-effect lower configs m action _ _ b sized actor settings (counts to number now packet r q false is at none kind) = All-nil (Speaks [])
@@ -217,8 +204,8 @@ SpeaksAt configs turn = All (Speaks (message_fired configs turn)) (query_packets
 
 speaks-turn : Below → (configs : List Config) (c : Cluster) (action : Action) (turns : List Turn) → HasSizes action → Each (HasSettings configs) c turns → SpeaksAt configs (step c action).turn
 speaks-turn lower configs c action turns sized all =
-    turn-of (SpeaksAt configs) c action (All-nil (Speaks [])) (All-nil (Speaks []))
-    (λ b m actor at. speaks-effect lower configs m action (packet_given c.sent action) (apply m c.sent action) b sized actor (all b m at) (effect lower m c.sent action))
+    step-cases (λ s. SpeaksAt configs s.turn) c action (λ bytes. All-nil (Speaks [])) (λ b act at. All-nil (Speaks []))
+    (λ b act m is at. speaks-effect lower configs m (Of b act) (given_by c.sent act) (apply m c.sent act) b (subst HasSizes is sized) refl (all b m at) (effect lower m c.sent b act))
 
 -- ---- a run
 

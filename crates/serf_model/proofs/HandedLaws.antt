@@ -2,10 +2,12 @@
 use Rattle.serf_model.proofs.Names.{zero, suc, ◌≡◌, ◌≢◌, ℕ, ◌<◌, ◌==◌, ◌+◌, ◌⊎◌, inl, inr, Bool, true, false, cond, List, [], ◌∷◌, ◌++◌, Option, Some, None, refl, sym, ap, subst, ◌∙◌, arith, map, length, get_or, All, AllPairs, Contains, filter, flat_map, option_map, option_to_list, append-nil, map-append, All-nil, All-push, All-weaker, Contains-append_left, Contains-push, filter-append, all_pairs_push, Query, TimedEntry, Handed, query_at, handed_query, handed_if_passed, all_pass}
 use Rattle.serf_model.specs.Below.{Below}
 use Rattle.serf_model.specs.declared.action.Action.{Action}
+use Rattle.serf_model.specs.declared.action.Act.{Act}
+use Rattle.serf_model.specs.declared.action.Action.TheVariants.{Of}
 use Rattle.serf_model.specs.declared.line.HandedLine.{HandedLine}
 use Rattle.serf_model.specs.Cluster.{Applied, IdealNode, Cluster, Done, Run, apply, applied, after, handed_line, step}
-use Rattle.serf_model.specs.Trace.{Turn, actor_of, entered_by, handed_in, is_agent, packet_given, queries_at, queries_to, query_brought}
-use Rattle.serf_model.proofs.Effects.{Effect, asks, effect, is_asked}
+use Rattle.serf_model.specs.Trace.{Turn, actor_of, entered_by, handed_in, is_agent, packet_given, queries_at, queries_to, query_brought, given_by}
+use Rattle.serf_model.proofs.Effects.{Effect, asks, effect, is_asked, as_message}
 use Rattle.serf_model.proofs.StepCases.{step-cases}
 use Rattle.serf_model.proofs.TurnLaws.{flat_map-push}
 use Rattle.serf_model.proofs.OnceLaws.{query-once}
@@ -26,12 +28,12 @@ passed node now q h e = by (all_pass q.filters node) e
     by false e = absurd (cc e)
 
 hands-effect : (m : IdealNode) (action : Action) (given : Option (List ℕ)) (o : Applied) → Effect m action given o → Hands action given o.done
-hands-effect m action given o (asks agent now id name payload params may) = λ h e. passed m.agent.config.name now (query_at m.agent.queries.clock m.agent.config.name id name payload params) h e
+hands-effect m action given o (asks agent q may) = λ h e. passed m.agent.config.name q.moment (as_message m q) h e
 hands-effect m action given o (is_asked to number packet now q is new) = λ h e. ap query_brought is ∙ passed m.agent.config.name now q h e
 hands-effect m action given o _ = λ h e. absurd (cc e)
 
-pub hands-apply : Below → (m : IdealNode) (sent : List (List ℕ)) (action : Action) → Hands action (packet_given sent action) (apply m sent action).done
-hands-apply lower m sent action = hands-effect m action (packet_given sent action) (apply m sent action) (effect lower m sent action)
+pub hands-apply : Below → (m : IdealNode) (sent : List (List ℕ)) (a : ℕ) (act : Act) → Hands (Of a act) (given_by sent act) (apply m sent act).done
+hands-apply lower m sent a act = hands-effect m (Of a act) (given_by sent act) (apply m sent act) (effect lower m sent a act)
 
 -- ---- a step
 
@@ -93,23 +95,23 @@ IsHanded turns = (a : ℕ) → IsWithin (queries_at a turns) (queries_to a turns
 abbrev Adds : ℕ → Turn → Type 0
 Adds a turn = (map handed_in (filter (mine a) (option_to_list turn.line.handed)) ≡ []) ⊎ ((x : TimedEntry ℕ) × (map handed_in (filter (mine a) (option_to_list turn.line.handed)) ≡ x ∷ []) × (added entered a turn ≡ x ∷ []))
 
-adds-applied : Below → (c : Cluster) (action : Action) (b : ℕ) (m : IdealNode) (a : ℕ) → actor_of action ≡ Some b → Adds a (applied c action b (apply m c.sent action)).turn
-adds-applied lower c action b m a actor = by (apply m c.sent action).done.handed refl (b == a) refl
+adds-applied : Below → (c : Cluster) (b : ℕ) (act : Act) (m : IdealNode) (a : ℕ) → Adds a (applied c b act (apply m c.sent act)).turn
+adds-applied lower c b act m a = by (apply m c.sent act).done.handed refl (b == a) refl
   where
-    by : (h : Option Handed) → (apply m c.sent action).done.handed ≡ h → (t : Bool) → (b == a) ≡ t → Adds a (applied c action b (apply m c.sent action)).turn
-    by None none t is = inl (ap (λ (h : Option Handed). map handed_in (filter (mine a) (option_to_list (option_map (handed_line b (length (apply m c.sent action).node.handed)) h)))) none)
+    by : (h : Option Handed) → (apply m c.sent act).done.handed ≡ h → (t : Bool) → (b == a) ≡ t → Adds a (applied c b act (apply m c.sent act)).turn
+    by None none t is = inl (ap (λ (h : Option Handed). map handed_in (filter (mine a) (option_to_list (option_map (handed_line b (length (apply m c.sent act).node.handed)) h)))) none)
     by (Some q) some true is = inr (
       record { time = q.time; key = q.id },
-      ap (λ (h : Option Handed). map handed_in (filter (mine a) (option_to_list (option_map (handed_line b (length (apply m c.sent action).node.handed)) h)))) some
-          ∙ ap (λ (t : Bool). map handed_in (cond t (handed_line b (length (apply m c.sent action).node.handed) q ∷ []) [])) is,
-      ap (λ (t : Bool). cond t (entered_by action (packet_given c.sent action) (apply m c.sent action).done.answer) []) (ap (is_agent a) actor ∙ is) ∙ hands-apply lower m c.sent action q some,
+      ap (λ (h : Option Handed). map handed_in (filter (mine a) (option_to_list (option_map (handed_line b (length (apply m c.sent act).node.handed)) h)))) some
+          ∙ ap (λ (t : Bool). map handed_in (cond t (handed_line b (length (apply m c.sent act).node.handed) q ∷ []) [])) is,
+      ap (λ (t : Bool). cond t (entered_by (Of b act) (given_by c.sent act) (apply m c.sent act).done.answer) []) is ∙ hands-apply lower m c.sent b act q some,
     )
     by (Some q) some false is =
-        inl (ap (λ (h : Option Handed). map handed_in (filter (mine a) (option_to_list (option_map (handed_line b (length (apply m c.sent action).node.handed)) h)))) some
-        ∙ ap (λ (t : Bool). map handed_in (cond t (handed_line b (length (apply m c.sent action).node.handed) q ∷ []) [])) is)
+        inl (ap (λ (h : Option Handed). map handed_in (filter (mine a) (option_to_list (option_map (handed_line b (length (apply m c.sent act).node.handed)) h)))) some
+        ∙ ap (λ (t : Bool). map handed_in (cond t (handed_line b (length (apply m c.sent act).node.handed) q ∷ []) [])) is)
 
 adds-step : Below → (c : Cluster) (action : Action) (a : ℕ) → Adds a (step c action).turn
-adds-step lower c action a = step-cases (λ s. Adds a s.turn) c action (λ actor. inl refl) (λ b actor at. inl refl) (λ b m actor at. adds-applied lower c action b m a actor)
+adds-step lower c action a = step-cases (λ s. Adds a s.turn) c action (λ bytes. inl refl) (λ b act at. inl refl) (λ b act m is at. adds-applied lower c b act m a)
 
 pub handed-step : Below → (r : Run) (action : Action) → IsAfter r.cluster r.turns → IsHanded r.turns → IsHanded (after r action).turns
 handed-step lower r action h all a =

@@ -3,16 +3,18 @@ use Rattle.serf_model.proofs.Names.{zero, suc, ◌≡◌, ◌≢◌, ℕ, ◌⊎
 use Rattle.std.specs.Prelude.{filter}
 use Rattle.serf_model.specs.Below.{Below}
 use Rattle.serf_model.specs.declared.action.Action.{Action}
+use Rattle.serf_model.specs.declared.action.Act.{Act}
+use Rattle.serf_model.specs.declared.action.Action.TheVariants.{Of}
 use Rattle.serf_model.specs.declared.line.HandedLine.{HandedLine}
 use Rattle.serf_model.specs.AnswerPromises.{answers_in, query_answered, reply_deadline}
 use Rattle.serf_model.specs.Bounds.{is_restarted}
 use Rattle.serf_model.specs.Cluster.{Applied, Cluster, Done, IdealNode, applied, apply, handed_line, with_handed}
-use Rattle.serf_model.specs.Trace.{Turn, entered_by, handed_in, packet_given}
+use Rattle.serf_model.specs.Trace.{Turn, entered_by, handed_in, packet_given, given_by}
 use Rattle.serf_model.specs.HandOuts.{query_message}
 use Rattle.serf_model.proofs.HandedLaws.{IsWithin, hands-apply, within-more}
 use Rattle.serf_model.proofs.HandOutLaws.{passed-on}
 use Rattle.serf_model.proofs.PresentLife.{last_life, lives_on}
-use Rattle.serf_model.proofs.Effects.{Effect, asks, counts, effect, hears, idle-enters, is_asked, reopens, replies}
+use Rattle.serf_model.proofs.Effects.{Effect, asks, counts, effect, hears, idle-enters, is_asked, reopens, replies, as_message}
 use Rattle.serf_model.proofs.SendLaws.{AreHandable, IsHandable, Makes, Sends, makes_none, makes_ack, makes_reply}
 use Rattle.serf_model.proofs.OpenQueryContents.{queries_in}
 use Rattle.serf_model.proofs.TurnLaws.{flat_map-push}
@@ -50,7 +52,7 @@ stood m action given o _ k h is = record { at = is; on = refl }
 
 -- where a query is handed out no life begins
 hands-on : (m : IdealNode) (action : Action) (given : Option (List ℕ)) (o : Applied) → Effect m action given o → (h : Handed) → o.done.handed ≡ Some h → is_restarted o.done.answer ≡ false
-hands-on m action given o (asks agent now id name payload params may) h is = refl
+hands-on m action given o (asks agent q may) h is = refl
 hands-on m action given o (is_asked to number packet now q reads new) h is = refl
 hands-on m action given o _ h is = absurd (cc is)
 
@@ -85,9 +87,8 @@ shown-more a ts t number h on s = record {
 -- until when a query can be answered that is handed out
 deadline-effect : (m : IdealNode) (action : Action) (given : Option (List ℕ)) (o : Applied) → Effect m action given o → (h : Handed) → o.done.handed ≡ Some h
     → reply_deadline (record { action = action; line = record { answer = o.done.answer; sent = []; events = []; handed = None }; given = given; packets = [] }) ≡ h.deadline ∷ []
-deadline-effect m action given o (asks agent now id name payload params may) h is =
-    let q : Query = query_at m.agent.queries.clock m.agent.config.name id name payload params in
-    ap (λ (x : Handed). x.deadline ∷ []) (passed-on m.agent.config.name now q h is)
+deadline-effect m action given o (asks agent q may) h is =
+    ap (λ (x : Handed). x.deadline ∷ []) (passed-on m.agent.config.name q.moment (as_message m q) h is)
 deadline-effect m action given o (is_asked to number packet now q reads new) h is =
     ap (λ r. map (λ (q : Query). deadline_of now q.timeout) (query_message r)) reads ∙ ap (λ (x : Handed). x.deadline ∷ []) (passed-on m.agent.config.name now q h is)
 deadline-effect m action given o _ h is = absurd (cc is)
@@ -112,69 +113,69 @@ pub record HasHanded (configs : List Config) (a : ℕ) (ts : List Turn) (m : Ide
 -- ---- a turn
 
 -- what an answer that is sent adds to those that were acked
-adds : Below → (m : IdealNode) (sent : List (List ℕ)) (action : Action) → Makes m action (apply m sent action).done
-    → (let o = apply m sent action in let new = map query_answered (filter is_ack (answers_in o.done.packets)) in (new ≡ []) ⊎ ((x : TimedEntry ℕ) × (new ≡ x ∷ []) × (entered_by action (packet_given sent action) o.done.answer ≡ x ∷ [])))
-adds lower m sent action (makes_none packets) = inl (ap (λ l. map query_answered (filter is_ack l)) packets)
-adds lower m sent action (makes_ack h handed packets) = inr (record { time = h.time; key = h.id }, ap (λ l. map query_answered (filter is_ack l)) packets, hands-apply lower m sent action h handed)
-adds lower m sent action (makes_reply agent number now payload h respond at replied packets in_time) = inl (ap (λ l. map query_answered (filter is_ack l)) packets)
+adds : Below → (m : IdealNode) (sent : List (List ℕ)) (a : ℕ) (act : Act) → Makes m (Of a act) (apply m sent act).done
+    → (let o = apply m sent act in let new = map query_answered (filter is_ack (answers_in o.done.packets)) in (new ≡ []) ⊎ ((x : TimedEntry ℕ) × (new ≡ x ∷ []) × (entered_by (Of a act) (given_by sent act) o.done.answer ≡ x ∷ [])))
+adds lower m sent a act (makes_none packets) = inl (ap (λ l. map query_answered (filter is_ack l)) packets)
+adds lower m sent a act (makes_ack h handed packets) = inr (record { time = h.time; key = h.id }, ap (λ l. map query_answered (filter is_ack l)) packets, hands-apply lower m sent a act h handed)
+adds lower m sent a act (makes_reply agent number now payload h respond at replied packets in_time) = inl (ap (λ l. map query_answered (filter is_ack l)) packets)
 
 -- what can be answered after a turn
 record Slots (a : ℕ) (name : List ℕ) (ts : List Turn) (handed : List (Option Handed)) : Type 0 where
   each : (number : ℕ) (h : Handed) → slice_get handed number ≡ Some (Some h) → IsHandable name h × IsShown a ts number h
 
-slots-more : Below → (c : Cluster) (configs : List Config) (ts : List Turn) (action : Action) (b : ℕ) (m : IdealNode) → HasHanded configs b ts m → Sends m action (apply m c.sent action).done
-    → (let o = apply m c.sent action in Slots b m.agent.config.name (ts ++ (applied c action b o).turn ∷ []) (with_handed o.done.handed o.node).handed)
-slots-more lower c configs ts action b m hands sends = by (apply m c.sent action).done.handed refl
+slots-more : Below → (c : Cluster) (configs : List Config) (ts : List Turn) (b : ℕ) (act : Act) (m : IdealNode) → HasHanded configs b ts m → Sends m (Of b act) (apply m c.sent act).done
+    → (let o = apply m c.sent act in Slots b m.agent.config.name (ts ++ (applied c b act o).turn ∷ []) (with_handed o.done.handed o.node).handed)
+slots-more lower c configs ts b act m hands sends = by (apply m c.sent act).done.handed refl
   where
     turn : Turn
-    turn = (applied c action b (apply m c.sent action)).turn
+    turn = (applied c b act (apply m c.sent act)).turn
 
-    old : (number : ℕ) (h : Handed) → slice_get (apply m c.sent action).node.handed number ≡ Some (Some h) → IsHandable m.agent.config.name h × IsShown b (ts ++ (applied c action b (apply m c.sent action)).turn ∷ []) number h
+    old : (number : ℕ) (h : Handed) → slice_get (apply m c.sent act).node.handed number ≡ Some (Some h) → IsHandable m.agent.config.name h × IsShown b (ts ++ (applied c b act (apply m c.sent act)).turn ∷ []) number h
     old number h is =
-        let s = stood m action (packet_given c.sent action) (apply m c.sent action) (effect lower m c.sent action) number h is in
-        (hands.handable number h s.at, shown-more b ts (applied c action b (apply m c.sent action)).turn number h s.on (hands.shown number h s.at))
+        let s = stood m (Of b act) (given_by c.sent act) (apply m c.sent act) (effect lower m c.sent b act) number h is in
+        (hands.handable number h s.at, shown-more b ts (applied c b act (apply m c.sent act)).turn number h s.on (hands.shown number h s.at))
 
-    new : (q : Handed) → (apply m c.sent action).done.handed ≡ Some q → IsShown b (ts ++ (applied c action b (apply m c.sent action)).turn ∷ []) (length (apply m c.sent action).node.handed) q
+    new : (q : Handed) → (apply m c.sent act).done.handed ≡ Some q → IsShown b (ts ++ (applied c b act (apply m c.sent act)).turn ∷ []) (length (apply m c.sent act).node.handed) q
     new q some =
-        let on = hands-on m action (packet_given c.sent action) (apply m c.sent action) (effect lower m c.sent action) q some in
+        let on = hands-on m (Of b act) (given_by c.sent act) (apply m c.sent act) (effect lower m c.sent b act) q some in
         record {
-          line = handed_line b (length (apply m c.sent action).node.handed) q;
-          handing = (applied c action b (apply m c.sent action)).turn;
-          there = subst (λ l. Contains l (applied c action b (apply m c.sent action)).turn) (sym (life-push ts (applied c action b (apply m c.sent action)).turn on)) (Contains-push (last_life ts) (applied c action b (apply m c.sent action)).turn);
-          handed = ap (λ (h : Option Handed). option_map (handed_line b (length (apply m c.sent action).node.handed)) h) some;
+          line = handed_line b (length (apply m c.sent act).node.handed) q;
+          handing = (applied c b act (apply m c.sent act)).turn;
+          there = subst (λ l. Contains l (applied c b act (apply m c.sent act)).turn) (sym (life-push ts (applied c b act (apply m c.sent act)).turn on)) (Contains-push (last_life ts) (applied c b act (apply m c.sent act)).turn);
+          handed = ap (λ (h : Option Handed). option_map (handed_line b (length (apply m c.sent act).node.handed)) h) some;
           to = refl;
-          until = deadline-effect m action (packet_given c.sent action) (apply m c.sent action) (effect lower m c.sent action) q some;
+          until = deadline-effect m (Of b act) (given_by c.sent act) (apply m c.sent act) (effect lower m c.sent b act) q some;
           index = refl;
           query = refl;
         }
 
-    by : (d : Option Handed) → (apply m c.sent action).done.handed ≡ d → Slots b m.agent.config.name (ts ++ (applied c action b (apply m c.sent action)).turn ∷ []) ((apply m c.sent action).node.handed ++ map (λ q. Some q) (option_to_list d))
-    by None none = record { each = λ number h is. old number h (ap (λ l. slice_get l number) (sym (append-nil (apply m c.sent action).node.handed)) ∙ is) }
-    by (Some q) some = record { each = λ number h is. one number h (pushed-at (apply m c.sent action).node.handed (Some q) number (Some h) is) }
+    by : (d : Option Handed) → (apply m c.sent act).done.handed ≡ d → Slots b m.agent.config.name (ts ++ (applied c b act (apply m c.sent act)).turn ∷ []) ((apply m c.sent act).node.handed ++ map (λ q. Some q) (option_to_list d))
+    by None none = record { each = λ number h is. old number h (ap (λ l. slice_get l number) (sym (append-nil (apply m c.sent act).node.handed)) ∙ is) }
+    by (Some q) some = record { each = λ number h is. one number h (pushed-at (apply m c.sent act).node.handed (Some q) number (Some h) is) }
       where
-        one : (number : ℕ) (h : Handed) → (slice_get (apply m c.sent action).node.handed number ≡ Some (Some h)) ⊎ ((length (apply m c.sent action).node.handed ≡ number) × (Some q ≡ Some h))
-            → IsHandable m.agent.config.name h × IsShown b (ts ++ (applied c action b (apply m c.sent action)).turn ∷ []) number h
+        one : (number : ℕ) (h : Handed) → (slice_get (apply m c.sent act).node.handed number ≡ Some (Some h)) ⊎ ((length (apply m c.sent act).node.handed ≡ number) × (Some q ≡ Some h))
+            → IsHandable m.agent.config.name h × IsShown b (ts ++ (applied c b act (apply m c.sent act)).turn ∷ []) number h
         one number h (inl before) = old number h before
         one number h (inr here) =
             let same : q ≡ h = cc here.1 in
-            subst (λ (h : Handed). IsHandable m.agent.config.name h × IsShown b (ts ++ (applied c action b (apply m c.sent action)).turn ∷ []) number h) same
-            (sends.hands q some, subst (λ (n : ℕ). IsShown b (ts ++ (applied c action b (apply m c.sent action)).turn ∷ []) n q) here.0 (new q some))
+            subst (λ (h : Handed). IsHandable m.agent.config.name h × IsShown b (ts ++ (applied c b act (apply m c.sent act)).turn ∷ []) number h) same
+            (sends.hands q some, subst (λ (n : ℕ). IsShown b (ts ++ (applied c b act (apply m c.sent act)).turn ∷ []) n q) here.0 (new q some))
 
-pub has-handed-more : Below → (c : Cluster) (configs : List Config) (ts : List Turn) (action : Action) (b : ℕ) (m : IdealNode) → HasHanded configs b ts m → Sends m action (apply m c.sent action).done → (apply m c.sent action).node.agent.config ≡ m.agent.config
-    → AllPairs (λ x y. x ≢ y) (queries_in (ts ++ (applied c action b (apply m c.sent action)).turn ∷ []))
-    → (let o = apply m c.sent action in HasHanded configs b (ts ++ (applied c action b o).turn ∷ []) (with_handed o.done.handed o.node))
-has-handed-more lower c configs ts action b m hands sends config once =
-    let turn : Turn = (applied c action b (apply m c.sent action)).turn in
-    let slots = slots-more lower c configs ts action b m hands sends in
-    let name : (apply m c.sent action).node.agent.config.name ≡ m.agent.config.name = ap (λ (c : Config). c.name) config in
-    let queries : queries_in (ts ++ (applied c action b (apply m c.sent action)).turn ∷ []) ≡ queries_in ts ++ entered_by action (packet_given c.sent action) (apply m c.sent action).done.answer =
-    flat_map-push (λ t. entered_by t.action t.given t.line.answer) ts (applied c action b (apply m c.sent action)).turn in
+pub has-handed-more : Below → (c : Cluster) (configs : List Config) (ts : List Turn) (b : ℕ) (act : Act) (m : IdealNode) → HasHanded configs b ts m → Sends m (Of b act) (apply m c.sent act).done → (apply m c.sent act).node.agent.config ≡ m.agent.config
+    → AllPairs (λ x y. x ≢ y) (queries_in (ts ++ (applied c b act (apply m c.sent act)).turn ∷ []))
+    → (let o = apply m c.sent act in HasHanded configs b (ts ++ (applied c b act o).turn ∷ []) (with_handed o.done.handed o.node))
+has-handed-more lower c configs ts b act m hands sends config once =
+    let turn : Turn = (applied c b act (apply m c.sent act)).turn in
+    let slots = slots-more lower c configs ts b act m hands sends in
+    let name : (apply m c.sent act).node.agent.config.name ≡ m.agent.config.name = ap (λ (c : Config). c.name) config in
+    let queries : queries_in (ts ++ (applied c b act (apply m c.sent act)).turn ∷ []) ≡ queries_in ts ++ entered_by (Of b act) (given_by c.sent act) (apply m c.sent act).done.answer =
+    flat_map-push (λ t. entered_by t.action t.given t.line.answer) ts (applied c b act (apply m c.sent act)).turn in
     record {
       settings = hands.settings ∙ ap Some (sym config);
       handable = λ number h is. subst (λ (n : List ℕ). IsHandable n h) (sym name) (slots.each number h is).0;
       shown = λ number h is. (slots.each number h is).1;
-      acked = subst (λ l. IsWithin l (acked_in (ts ++ (applied c action b (apply m c.sent action)).turn ∷ []))) (sym queries)
-          (subst (IsWithin (queries_in ts ++ entered_by action (packet_given c.sent action) (apply m c.sent action).done.answer)) (sym (acked-push ts (applied c action b (apply m c.sent action)).turn))
-          (within-more (queries_in ts) (acked_in ts) (entered_by action (packet_given c.sent action) (apply m c.sent action).done.answer) (map query_answered (filter is_ack (answers_in (apply m c.sent action).done.packets)))
-          hands.acked (subst (AllPairs (λ x y. x ≢ y)) queries once) (adds lower m c.sent action sends.makes)));
+      acked = subst (λ l. IsWithin l (acked_in (ts ++ (applied c b act (apply m c.sent act)).turn ∷ []))) (sym queries)
+          (subst (IsWithin (queries_in ts ++ entered_by (Of b act) (given_by c.sent act) (apply m c.sent act).done.answer)) (sym (acked-push ts (applied c b act (apply m c.sent act)).turn))
+          (within-more (queries_in ts) (acked_in ts) (entered_by (Of b act) (given_by c.sent act) (apply m c.sent act).done.answer) (map query_answered (filter is_ack (answers_in (apply m c.sent act).done.packets)))
+          hands.acked (subst (AllPairs (λ x y. x ≢ y)) queries once) (adds lower m c.sent b act sends.makes)));
     }

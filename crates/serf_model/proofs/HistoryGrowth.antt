@@ -2,10 +2,12 @@
 use Rattle.serf_model.proofs.Names.{◌≡◌, ℕ, ◌+◌, Bool, true, cond, List, [], ◌∷◌, ◌++◌, Option, Some, None, Result, Ok, refl, sym, ap, subst, ◌∙◌, map, WireFault, decoded, Message, push_pull, event_of, TimedEntry, MergeFault, IdealAgent, IsSound, merge_refusal}
 use Rattle.serf_model.specs.Below.{Below}
 use Rattle.serf_model.specs.declared.action.Action.{Action}
+use Rattle.serf_model.specs.declared.action.Act.{Act}
+use Rattle.serf_model.specs.declared.action.Action.TheVariants.{Of}
 use Rattle.serf_model.specs.declared.line.Answer.TheVariants as lines
 use Rattle.serf_model.specs.Bounds.{is_restarted}
 use Rattle.serf_model.specs.Cluster.{Applied, Done, IdealNode, apply, delivers, merges_as, merges_given}
-use Rattle.serf_model.specs.Trace.{entered_by, packet_given, query_brought}
+use Rattle.serf_model.specs.Trace.{entered_by, packet_given, query_brought, given_by}
 use Rattle.serf_model.proofs.Effects.{Effect, IsIdle, asks, counts, effect, fires, hears, idle-enters, is_asked, passes_on}
 use Rattle.serf_model.proofs.PerTimeBound.{Enters, clock-room, enters-none, enters-nothing, enters-one, event-room, out_in, query-room}
 
@@ -47,11 +49,11 @@ keeps-effect m action given o sound (passes_on packet e is new) = record {
   fired = λ t e. cc;
   asked = λ t e. cc;
 }
-keeps-effect m action given o sound (asks agent now id name payload params may) = record {
+keeps-effect m action given o sound (asks agent q may) = record {
   config = refl;
   life = refl;
   events = enters-nothing;
-  queries = enters-one m.agent.life m.agent.config.per_time m.agent.queries.clock id m.agent.queries.history
+  queries = enters-one m.agent.life m.agent.config.per_time m.agent.queries.clock q.id m.agent.queries.history
       (clock-room m.agent.config m.agent.life m.agent.queries.clock m.agent.queries.history sound.config sound.queries.below_clock);
   fired = λ t e. cc;
   asked = λ t e. cc;
@@ -68,8 +70,8 @@ keeps-effect m action given o sound (is_asked to number packet now q is new) = r
 keeps-effect m action given o sound (counts to number now packet r q true is at none kind) = record { config = refl; life = refl; events = enters-nothing; queries = enters-nothing; fired = λ t e. cc; asked = λ t e. cc }
 keeps-effect m action given o sound _ = record { config = refl; life = refl; events = enters-nothing; queries = enters-nothing; fired = λ t e. cc; asked = λ t e. cc }
 
-pub keeps-apply : Below → (m : IdealNode) (sent : List (List ℕ)) (action : Action) → IsSound m.agent → (let o = apply m sent action in Keeps m.agent o.node.agent o.done (entered_by action (packet_given sent action) o.done.answer))
-keeps-apply lower m sent action sound = keeps-effect m action (packet_given sent action) (apply m sent action) sound (effect lower m sent action)
+pub keeps-apply : Below → (m : IdealNode) (sent : List (List ℕ)) (a : ℕ) (act : Act) → IsSound m.agent → (let o = apply m sent act in Keeps m.agent o.node.agent o.done (entered_by (Of a act) (given_by sent act) o.done.answer))
+keeps-apply lower m sent a act sound = keeps-effect m (Of a act) (given_by sent act) (apply m sent act) sound (effect lower m sent a act)
 
 -- ---- what an action leaves of its agent's other half
 

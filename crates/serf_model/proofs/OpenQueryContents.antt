@@ -2,7 +2,9 @@
 use Rattle.serf_model.proofs.Names.{◌≡◌, ◌≢◌, ℕ, ◌<◌, ◌≤◌, ◌==◌, nat_lt, Bool, true, false, cond, List, [], ◌∷◌, ◌++◌, Option, Some, None, Result, Ok, refl, sym, ap, subst, ◌∙◌, map, All, AllPairs, Contains, flat_map, option_to_list, eqb-true, eq-eqb, ltb-false, not-false, append-nil, map-append, All-nil, All-push, All-weaker, All-map, All-filter, All-contains, Contains-append_left, Contains-push, all_pairs_push, fold_push, WireFault, decoded, Message, QueryResponse, query_response, TimedEntry, Response, OpenQuery, QueryParams, OtherId, Closed, AckNotAsked, AckTwice, ResponseTwice, IdealAgent, Past, ack_flag, ack_ignore_reason, answer_ignore_reason, asked_at, counted, deadline_of, flags_of, has_acked, has_flag, has_responded, is_ack, is_due, opened_query, query_at, response_ignore_reason, with_asked_at}
 use Rattle.std.proofs.Common.{not}
 use Rattle.serf_model.specs.declared.action.Action.{Action}
-use Rattle.serf_model.specs.declared.action.Action.TheVariants as actions
+use Rattle.serf_model.specs.declared.action.Act.TheVariants as acts
+use Rattle.serf_model.specs.declared.action.Action.TheVariants.{Of}
+use Rattle.serf_model.specs.declared.query.NewQuery.{NewQuery}
 use Rattle.serf_model.specs.declared.line.Answer.{Answer}
 use Rattle.serf_model.specs.declared.line.Answer.TheVariants as lines
 use Rattle.serf_model.specs.declared.line.Line.{Line}
@@ -112,19 +114,19 @@ past-below ts i ack representable same h =
     All-weaker (λ r. Contains (queries_in ts) (query_answered r)) (λ r. r.time < i.queries.clock) (λ r c. All-contains (λ (e : TimedEntry ℕ). e.time < i.queries.clock) (queries_in ts) (query_answered r) below c)
     (counted_in ack ts) (h.past ack)
 
-has-counted-asks : (ts : List Turn) (t : Turn) (i j : IdealAgent) (agent now id : ℕ) (name payload : List ℕ) (params : QueryParams) → IsRepresentable i → entries i.queries.history ≡ queries_in ts → HasCounted ts i
-    → t.action ≡ actions.Query agent now id name payload params → t.line.answer ≡ lines.Queried i.queries.clock
-    → j.asked ≡ i.asked ++ (i.queries.clock, opened_query now (query_at i.queries.clock i.config.name id name payload params)) ∷ [] → HasCounted (ts ++ t ∷ []) j
-has-counted-asks ts t i j agent now id name payload params representable same h action answer is =
+has-counted-asks : (ts : List Turn) (t : Turn) (i j : IdealAgent) (agent : ℕ) (q : NewQuery) → IsRepresentable i → entries i.queries.history ≡ queries_in ts → HasCounted ts i
+    → t.action ≡ Of agent (acts.Query q) → t.line.answer ≡ lines.Queried i.queries.clock
+    → j.asked ≡ i.asked ++ (i.queries.clock, opened_query q.moment (query_at i.queries.clock i.config.name q.id q.name q.payload q.params)) ∷ [] → HasCounted (ts ++ t ∷ []) j
+has-counted-asks ts t i j agent q representable same h action answer is =
     let on : is_restarted t.line.answer ≡ false = ap is_restarted answer in
     let never : (ack : Bool) → is_counted ack t.line.answer ≡ false = λ ack. ap (is_counted ack) answer in
     let still : (ack : Bool) → counted_in ack (ts ++ t ∷ []) ≡ counted_in ack ts = λ ack. counted-still ack ts t (never ack) in
-    let new : OpenQuery = opened_query now (query_at i.queries.clock i.config.name id name payload params) in
+    let new : OpenQuery = opened_query q.moment (query_at i.queries.clock i.config.name q.id q.name q.payload q.params) in
     let none : (ack : Bool) → to_time i.queries.clock (counted_in ack (ts ++ t ∷ [])) ≡ [] = λ ack. ap (to_time i.queries.clock) (still ack) ∙ none-to_time i.queries.clock (counted_in ack ts) (past-below ts i ack representable same h) in
     let asked : own_query t.action t.line.answer ≡ as_fired (i.queries.clock, new) ∷ [] =
-    ap (λ a. own_query a t.line.answer) action ∙ ap (own_query (actions.Query agent now id name payload params)) answer
-    ∙ ap (λ b. record { time = i.queries.clock; id = id; deadline = deadline_of now params.timeout; wants_ack = b } ∷ []) (sym (flags-ask params.want_ack params.no_broadcast)) in
-    let enters : entered t ≡ as_entered (i.queries.clock, new) ∷ [] = ap (λ a. entered_by a t.given t.line.answer) action ∙ ap (entered_by (actions.Query agent now id name payload params) t.given) answer in
+    ap (λ a. own_query a t.line.answer) action ∙ ap (own_query (Of agent (acts.Query q))) answer
+    ∙ ap (λ b. record { time = i.queries.clock; id = q.id; deadline = deadline_of q.moment q.params.timeout; wants_ack = b } ∷ []) (sym (flags-ask q.params.want_ack q.params.no_broadcast)) in
+    let enters : entered t ≡ as_entered (i.queries.clock, new) ∷ [] = ap (λ a. entered_by a t.given t.line.answer) action ∙ ap (entered_by (Of agent (acts.Query q)) t.given) answer in
     let first : IsOpen (ts ++ t ∷ []) (i.queries.clock, new) = record {
       fired = subst (λ l. Contains l (as_fired (i.queries.clock, new))) (sym (own-push ts t on ∙ ap (λ l. own_queries (last_life ts) ++ l) asked)) (Contains-push (own_queries (last_life ts)) (as_fired (i.queries.clock, new)));
       entered = subst (λ l. Contains l (as_entered (i.queries.clock, new))) (sym (queries-push ts t ∙ ap (λ l. queries_in ts ++ l) enters)) (Contains-push (queries_in ts) (as_entered (i.queries.clock, new)));
@@ -277,8 +279,8 @@ has-counted-effect ts m action given o line packets (hears j outs answer heard i
 has-counted-effect ts m action given o line packets (closes_due agent now) says representable same h =
     has-counted-on ts (turn_of _ given line packets) m.agent _ h (ap is_restarted says) (λ ack. ap (is_counted ack) says) (All-filter (λ q. not (is_due now q)) (IsOpen ts) m.agent.asked h.asked)
 has-counted-effect ts m action given o line packets (reopens agent tail) says representable same h = has-counted-still ts (turn_of _ given line packets) m.agent _ h (λ ack. ap (is_counted ack) says) (All-nil _)
-has-counted-effect ts m action given o line packets (asks agent now id name payload params may) says representable same h =
-    has-counted-asks ts (turn_of _ given line packets) m.agent _ agent now id name payload params representable same h refl says refl
+has-counted-effect ts m action given o line packets (asks agent q may) says representable same h =
+    has-counted-asks ts (turn_of _ given line packets) m.agent _ agent q representable same h refl says refl
 has-counted-effect ts m action given o line packets (counts to number now packet r q b is at none kind) says representable same h =
     has-counted-counts ts (turn_of _ _ line packets) m.agent _ now packet r q representable h refl is at none (says ∙ ap (λ b. cond b lines.Ack lines.Response) (sym kind)) refl
 has-counted-effect ts m action given o line packets _ says representable same h = has-counted-on ts (turn_of _ _ line packets) m.agent _ h (ap is_restarted says) (λ ack. ap (is_counted ack) says) h.asked
@@ -290,7 +292,7 @@ pub record Tells (ts : List Turn) (t : Turn) (ack : Bool) : Type 0 where
   pub now : ℕ
   pub packet : List ℕ
   pub answer : QueryResponse
-  pub action : t.action ≡ actions.Deliver to number now
+  pub action : t.action ≡ Of to (acts.Deliver number now)
   pub given : t.given ≡ Some packet
   pub says : decoded packet ≡ Ok (query_response answer)
   pub kind : is_ack answer ≡ ack

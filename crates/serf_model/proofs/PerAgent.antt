@@ -1,10 +1,12 @@
 -- What holds of each agent, where these are the turns that it took.
 use Rattle.serf_model.proofs.Names.{zero, suc, ◌≡◌, ℕ, ◌==◌, Bool, true, false, cond, List, [], ◌∷◌, ◌++◌, Some, None, refl, sym, ap, subst, ◌∙◌, map, set, All, slice_get, eqb-true, eqb-false, eq-eqb, ne_eqb, append-nil, All-nil, All-push, filter-append, Config}
 use Rattle.serf_model.specs.declared.action.Action.{Action}
+use Rattle.serf_model.specs.declared.action.Act.{Act}
+use Rattle.serf_model.specs.declared.action.Action.TheVariants.{Of}
 use Rattle.serf_model.specs.declared.line.Answer.TheVariants as answers
 use Rattle.serf_model.specs.declared.line.Refusal.TheVariants.{NoAgent}
 use Rattle.serf_model.specs.Cluster.{IdealNode, Cluster, Applied, Run, Stepped, applied, apply, after, first_node, injects, on_agent, start, with_handed}
-use Rattle.serf_model.specs.Trace.{Turn, actor_of, injects_of, is_agent, turns_by}
+use Rattle.serf_model.specs.Trace.{Turn, actor_of, is_agent, turns_by}
 use Rattle.serf_model.proofs.StepCases.{step-cases}
 use Rattle.serf_model.proofs.RunLaws.{slice_get-set_same, slice_get-set_other}
 
@@ -18,27 +20,24 @@ turns-mine a turns turn mine = filter-append (λ (t : Turn). is_agent a (actor_o
 pub turns-other : (a : ℕ) (turns : List Turn) (turn : Turn) → is_agent a (actor_of turn.action) ≡ false → turns_by a (turns ++ turn ∷ []) ≡ turns_by a turns
 turns-other a turns turn other = filter-append (λ (t : Turn). is_agent a (actor_of t.action)) turns (turn ∷ []) ∙ ap (λ b. turns_by a turns ++ cond b (turn ∷ []) []) other ∙ append-nil (turns_by a turns)
 
-pub is-mine : (a : ℕ) (action : Action) → actor_of action ≡ Some a → is_agent a (actor_of action) ≡ true
-is-mine a action actor = ap (is_agent a) actor ∙ eq-eqb a a refl
-
-each-applied : (P : ℕ → List Turn → IdealNode → Type 0) (c : Cluster) (turns : List Turn) (action : Action) (b : ℕ) (m : IdealNode) (o : Applied) → Each P c turns → actor_of action ≡ Some b → slice_get c.nodes b ≡ Some m
-    → P b (turns_by b turns ++ (applied c action b o).turn ∷ []) (with_handed o.done.handed o.node) → Each P (applied c action b o).cluster (turns ++ (applied c action b o).turn ∷ [])
-each-applied P c turns action b m o all actor at new a n is = by (b == a) refl
+each-applied : (P : ℕ → List Turn → IdealNode → Type 0) (c : Cluster) (turns : List Turn) (b : ℕ) (act : Act) (m : IdealNode) (o : Applied) → Each P c turns → slice_get c.nodes b ≡ Some m
+    → P b (turns_by b turns ++ (applied c b act o).turn ∷ []) (with_handed o.done.handed o.node) → Each P (applied c b act o).cluster (turns ++ (applied c b act o).turn ∷ [])
+each-applied P c turns b act m o all at new a n is = by (b == a) refl
   where
     turn : Turn
-    turn = (applied c action b o).turn
+    turn = (applied c b act o).turn
 
-    by : (t : Bool) → (b == a) ≡ t → P a (turns_by a (turns ++ (applied c action b o).turn ∷ [])) n
+    by : (t : Bool) → (b == a) ≡ t → P a (turns_by a (turns ++ (applied c b act o).turn ∷ [])) n
     by true t =
         let same : b ≡ a = eqb-true b a t in
         let found : slice_get (set c.nodes b (with_handed o.done.handed o.node)) b ≡ Some (with_handed o.done.handed o.node) = slice_get-set_same c.nodes b m (with_handed o.done.handed o.node) at in
         let both : Some (with_handed o.done.handed o.node) ≡ Some n = sym found ∙ ap (slice_get (set c.nodes b (with_handed o.done.handed o.node))) same ∙ is in
         let here : with_handed o.done.handed o.node ≡ n = cc both in
-        subst (λ (j : ℕ). P j (turns_by j (turns ++ (applied c action b o).turn ∷ [])) n) same
-        (subst (λ l. P b l n) (sym (turns-mine b turns (applied c action b o).turn (is-mine b action actor))) (subst (P b (turns_by b turns ++ (applied c action b o).turn ∷ [])) here new))
+        subst (λ (j : ℕ). P j (turns_by j (turns ++ (applied c b act o).turn ∷ [])) n) same
+        (subst (λ l. P b l n) (sym (turns-mine b turns (applied c b act o).turn (eq-eqb b b refl))) (subst (P b (turns_by b turns ++ (applied c b act o).turn ∷ [])) here new))
     by false t =
         let found : slice_get c.nodes a ≡ Some n = sym (slice_get-set_other c.nodes b a (with_handed o.done.handed o.node) (eqb-false b a t)) ∙ is in
-        subst (λ l. P a l n) (sym (turns-other a turns (applied c action b o).turn (ap (is_agent a) actor ∙ t))) (all a n found)
+        subst (λ l. P a l n) (sym (turns-other a turns (applied c b act o).turn t)) (all a n found)
 
 -- a turn of no agent
 each-still : (P : ℕ → List Turn → IdealNode → Type 0) (c : Cluster) (turns : List Turn) (s : Stepped) → Each P c turns → s.cluster.nodes ≡ c.nodes → ((a : ℕ) (m : IdealNode) → slice_get c.nodes a ≡ Some m → is_agent a (actor_of s.turn.action) ≡ false)
@@ -49,15 +48,15 @@ each-still P c turns s all nodes other a m is =
 
 -- what the turn of an agent has to keep
 abbrev pub Keeps : (ℕ → List Turn → IdealNode → Type 0) → Cluster → List Turn → Action → Type 0
-Keeps P c turns action = (b : ℕ) (m : IdealNode) → actor_of action ≡ Some b → slice_get c.nodes b ≡ Some m → P b (turns_by b turns) m
-    → (let o = apply m c.sent action in P b (turns_by b turns ++ (applied c action b o).turn ∷ []) (with_handed o.done.handed o.node))
+Keeps P c turns action = (b : ℕ) (act : Act) (m : IdealNode) → action ≡ Of b act → slice_get c.nodes b ≡ Some m → P b (turns_by b turns) m
+    → (let o = apply m c.sent act in P b (turns_by b turns ++ (applied c b act o).turn ∷ []) (with_handed o.done.handed o.node))
 
 pub each-step : (P : ℕ → List Turn → IdealNode → Type 0) (r : Run) (action : Action) → Each P r.cluster r.turns → Keeps P r.cluster r.turns action → Each P (after r action).cluster (after r action).turns
 each-step P r action all keeps =
     let c : Cluster = r.cluster in
-    step-cases (λ s. Each P s.cluster (r.turns ++ s.turn ∷ [])) c action (λ actor. each-still P c r.turns (injects c action (injects_of action)) all refl (λ a m is. ap (is_agent a) actor))
-    (λ b actor at. each-still P c r.turns (on_agent c action b None) all refl (λ a m is. ap (is_agent a) actor ∙ ne_eqb b a (λ e. let no : None ≡ Some m = sym at ∙ ap (slice_get c.nodes) e ∙ is in cc)))
-    (λ b m actor at. each-applied P c r.turns action b m (apply m c.sent action) all actor at (keeps b m actor at (all b m at)))
+    step-cases (λ s. Each P s.cluster (r.turns ++ s.turn ∷ [])) c action (λ bytes. each-still P c r.turns (injects c bytes) all refl (λ a m is. refl))
+    (λ b act at. each-still P c r.turns (on_agent c b act None) all refl (λ a m is. ne_eqb b a (λ e. let no : None ≡ Some m = sym at ∙ ap (slice_get c.nodes) e ∙ is in cc)))
+    (λ b act m is at. each-applied P c r.turns b act m (apply m c.sent act) all at (keeps b act m is at (all b m at)))
 
 joined-at : (configs : List Config) (a : ℕ) (m : IdealNode) → slice_get (map first_node configs) a ≡ Some m → (config : Config) × (slice_get configs a ≡ Some config) × (first_node config ≡ m)
 joined-at [] a m is = absurd (cc is)
@@ -87,24 +86,24 @@ nobodys-still c turns s all nodes refused a none = by (is_agent a (actor_of s.tu
     by true mine = subst (All IsRefused) (sym (turns-mine a turns s.turn mine)) (All-push IsRefused (turns_by a turns) s.turn before refused)
     by false other = subst (All IsRefused) (sym (turns-other a turns s.turn other)) before
 
-nobodys-applied : (c : Cluster) (turns : List Turn) (action : Action) (b : ℕ) (m : IdealNode) (o : Applied) → AreNobodys c turns → actor_of action ≡ Some b → slice_get c.nodes b ≡ Some m → AreNobodys (applied c action b o).cluster (turns ++ (applied c action b o).turn ∷ [])
-nobodys-applied c turns action b m o all actor at a none = by (b == a) refl
+nobodys-applied : (c : Cluster) (turns : List Turn) (b : ℕ) (act : Act) (m : IdealNode) (o : Applied) → AreNobodys c turns → slice_get c.nodes b ≡ Some m → AreNobodys (applied c b act o).cluster (turns ++ (applied c b act o).turn ∷ [])
+nobodys-applied c turns b act m o all at a none = by (b == a) refl
   where
-    by : (t : Bool) → (b == a) ≡ t → All IsRefused (turns_by a (turns ++ (applied c action b o).turn ∷ []))
+    by : (t : Bool) → (b == a) ≡ t → All IsRefused (turns_by a (turns ++ (applied c b act o).turn ∷ []))
     by true t =
         let found = slice_get-set_same c.nodes b m (with_handed o.done.handed o.node) at in
         let no : Some (with_handed o.done.handed o.node) ≡ None = sym found ∙ ap (slice_get (set c.nodes b (with_handed o.done.handed o.node))) (eqb-true b a t) ∙ none in
         absurd (cc no)
     by false t =
-        subst (All IsRefused) (sym (turns-other a turns (applied c action b o).turn (ap (is_agent a) actor ∙ t)))
+        subst (All IsRefused) (sym (turns-other a turns (applied c b act o).turn t))
         (all a (sym (slice_get-set_other c.nodes b a (with_handed o.done.handed o.node) (eqb-false b a t)) ∙ none))
 
 pub nobodys-step : (r : Run) (action : Action) → AreNobodys r.cluster r.turns → AreNobodys (after r action).cluster (after r action).turns
 nobodys-step r action all =
     let c : Cluster = r.cluster in
     step-cases (λ s. AreNobodys s.cluster (r.turns ++ s.turn ∷ [])) c action
-    (λ actor a none. subst (All IsRefused) (sym (turns-other a r.turns (injects c action (injects_of action)).turn (ap (is_agent a) actor))) (all a none))
-    (λ b actor at. nobodys-still c r.turns (on_agent c action b None) all refl (record { answer = refl; packets = refl })) (λ b m actor at. nobodys-applied c r.turns action b m (apply m c.sent action) all actor at)
+    (λ bytes a none. subst (All IsRefused) (sym (turns-other a r.turns (injects c bytes).turn refl)) (all a none))
+    (λ b act at. nobodys-still c r.turns (on_agent c b act None) all refl (record { answer = refl; packets = refl })) (λ b act m is at. nobodys-applied c r.turns b act m (apply m c.sent act) all at)
 
 pub nobodys-start : (configs : List Config) → AreNobodys (start configs).cluster []
 nobodys-start configs a none = All-nil IsRefused

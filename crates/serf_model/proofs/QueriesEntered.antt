@@ -3,17 +3,19 @@ use Rattle.serf_model.proofs.Names.{Ok, ◌≡◌, ℕ, ◌<◌, ◌≤◌, ◌^
 use Rattle.serf_agent.specs.declared.outcome.QueryFault.TheVariants as asks
 use Rattle.serf_model.specs.Below.{Below}
 use Rattle.serf_model.specs.declared.action.Action.{Action}
+use Rattle.serf_model.specs.declared.action.Act.{Act}
+use Rattle.serf_model.specs.declared.action.Action.TheVariants.{Of}
 use Rattle.serf_model.specs.declared.line.Answer.{Answer}
 use Rattle.serf_model.specs.declared.line.Answer.TheVariants as answers
 use Rattle.serf_model.specs.Cluster.{Applied, Cluster, Done, IdealNode, Run, apply, after, run_of, start, step}
 use Rattle.serf_model.specs.Sizes.{HasSizes, IsSized}
 use Rattle.serf_model.specs.Queried.{QueryOnlyFired, WasQueried, queried_by, queries_fired, queries_injected}
-use Rattle.serf_model.specs.Trace.{Turn, entered_by, injected_in, injects_of, packet_given, queried_in, query_brought, query_packets}
+use Rattle.serf_model.specs.Trace.{Turn, entered_by, injected_in, injects_of, packet_given, queried_in, query_brought, query_packets, given_by}
 use Rattle.serf_model.proofs.QueryOrigins.{IsAsked, WasAsked, asked-start, asked-step}
 use Rattle.serf_model.proofs.FiredLaws.{all-parts}
 use Rattle.serf_model.proofs.CallsKept.{may-ask}
 use Rattle.serf_model.proofs.PerTimeBound.{none-if}
-use Rattle.serf_model.proofs.Effects.{Effect, asks, counts, effect, hears}
+use Rattle.serf_model.proofs.Effects.{Effect, asks, counts, effect, hears, as_message}
 use Rattle.serf_model.proofs.StepCases.{step-cases}
 use Rattle.serf_model.proofs.TurnLaws.{at_each_nil, at_each_push, flat_map-push}
 
@@ -66,15 +68,14 @@ own-nothing P _ = All-nil P
 
 own-effect : Below → (m : IdealNode) (action : Action) (given : Option (List ℕ)) (o : Applied) → Effect m action given o → HasSizes action → BringsOwn action o.done
 own-effect lower m action given o (hears j outs answer heard idle) sized = own-nothing (Brings (Contains (queried_by action answer))) answer
-own-effect lower m action given o (asks agent now id name payload params may) sized =
-    let q : Query = query_at m.agent.queries.clock m.agent.config.name id name payload params in
-    let own : List (TimedEntry ℕ) = only_query m.agent.queries.clock id in
-    All-cons (Brings (Contains own)) (canonical (query q)) [] (subst (All (Contains own)) (sym (brings-own lower m.agent id name payload params sized may)) (All-contains_itself own)) (All-nil (Brings (Contains own)))
+own-effect lower m action given o (asks agent q may) sized =
+    let own : List (TimedEntry ℕ) = only_query m.agent.queries.clock q.id in
+    All-cons (Brings (Contains own)) (canonical (query (as_message m q))) [] (subst (All (Contains own)) (sym (brings-own lower m.agent q.id q.name q.payload q.params sized may)) (All-contains_itself own)) (All-nil (Brings (Contains own)))
 own-effect lower m action given o (counts to number now packet r q true is at none kind) sized = All-nil (Brings (Contains []))
 own-effect lower m action given o _ sized = All-nil (Brings (Contains []))
 
-own-apply : Below → (m : IdealNode) (sent : List (List ℕ)) (action : Action) → HasSizes action → BringsOwn action (apply m sent action).done
-own-apply lower m sent action sized = own-effect lower m action (packet_given sent action) (apply m sent action) (effect lower m sent action) sized
+own-apply : Below → (m : IdealNode) (sent : List (List ℕ)) (a : ℕ) (act : Act) → HasSizes (Of a act) → BringsOwn (Of a act) (apply m sent act).done
+own-apply lower m sent a act sized = own-effect lower m (Of a act) (given_by sent act) (apply m sent act) (effect lower m sent a act) sized
 
 -- ---- a turn
 
@@ -82,7 +83,7 @@ abbrev OwnTurn : Turn → Type 0
 OwnTurn turn = All (Brings (Contains (queried_by turn.action turn.line.answer))) (query_packets turn.line.answer turn.packets)
 
 own-step : Below → (c : Cluster) (action : Action) → HasSizes action → OwnTurn (step c action).turn
-own-step lower c action sized = step-cases (λ s. OwnTurn s.turn) c action (λ actor. All-nil (Brings (Contains []))) (λ b actor at. All-nil (Brings (Contains []))) (λ b m actor at. own-apply lower m c.sent action sized)
+own-step lower c action sized = step-cases (λ s. OwnTurn s.turn) c action (λ bytes. All-nil (Brings (Contains []))) (λ b act at. All-nil (Brings (Contains []))) (λ b act m is at. own-apply lower m c.sent b act (subst HasSizes is sized))
 
 -- what enters is what was fired, or what the given packet brings
 entered-from : (P : TimedEntry ℕ → Type 0) (action : Action) (given : Option (List ℕ)) (answer : Answer) → All P (queried_by action answer) → ((packet : List ℕ) → answer ≡ answers.Query → given ≡ Some packet → Brings P packet)

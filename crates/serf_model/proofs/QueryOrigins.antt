@@ -2,11 +2,13 @@
 use Rattle.serf_model.proofs.Names.{◌≡◌, ℕ, ◌⊎◌, inl, inr, true, List, [], ◌∷◌, ◌++◌, Option, Some, None, refl, sym, ap, subst, ◌∙◌, All, Contains, not, option_to_list, append-nil, All-nil, All-cons, All-head, All-append, All-weaker, All-contains_itself, Contains-append_left, Contains-append_right, canonical, decoded, PushPull, Query, query, push_pull, event_of, Config, event_packet, query_at, ack_if_passed, ack_packet, ack_flag, has_flag, no_broadcast_flag, response_packet, state_of, view_of}
 use Rattle.serf_model.specs.Below.{Below}
 use Rattle.serf_model.specs.declared.action.Action.{Action}
+use Rattle.serf_model.specs.declared.action.Act.{Act}
+use Rattle.serf_model.specs.declared.action.Action.TheVariants.{Of}
 use Rattle.serf_model.specs.declared.line.Answer.TheVariants as lines
 use Rattle.serf_model.specs.Cluster.{Applied, IdealNode, Cluster, Done, Run, Stepped, apply, applied, after, injects, on_agent, start}
 use Rattle.serf_model.specs.Promises.{QueryFired}
-use Rattle.serf_model.specs.Trace.{Turn, injected_in, injects_of, packet_given, queried_in, query_brought, query_packets}
-use Rattle.serf_model.proofs.Effects.{Effect, IsIdle, asks, counts, effect, fires, hears, is_asked, passes_on, replies, tells}
+use Rattle.serf_model.specs.Trace.{Turn, injected_in, injects_of, packet_given, queried_in, query_brought, query_packets, given_by}
+use Rattle.serf_model.proofs.Effects.{Effect, IsIdle, asks, counts, effect, fires, hears, is_asked, passes_on, replies, tells, as_message}
 use Rattle.serf_model.proofs.StepCases.{step-cases}
 use Rattle.serf_model.proofs.TurnLaws.{at_each_nil, at_each_push, flat_map-push}
 use Rattle.serf_model.proofs.PacketEvents.{no-query-event, no-query-state, no-query-response}
@@ -36,8 +38,8 @@ sends-effect W m action given o (fires agent name payload coalesce may) all w = 
   brings = λ p g e n. cc;
 }
 sends-effect W m action given o (passes_on packet e is new) all w = record { packets = one (IsOf W) packet (all packet refl); brings = λ p g e n. cc }
-sends-effect W m action given o (asks agent now id name payload params may) all w =
-    let q : Query = query_at m.agent.queries.clock m.agent.config.name id name payload params in
+sends-effect W m action given o (asks agent q may) all w =
+    let q : Query = as_message m q in
     record { packets = All-cons (IsOf W) (canonical (query q)) (option_to_list (ack_if_passed m.agent.config.name q)) (inr (All-head W (canonical (query q)) [] w)) (ack-has (IsOf W) m.agent.config.name q (no-query-ack W m.agent.config.name q)); brings = λ p g e n. cc }
 sends-effect W m action given o (is_asked to number packet now q is new) all w = record {
   packets = entered-has (IsOf W) m.agent.config.name packet q (not (has_flag no_broadcast_flag q.flags)) (all packet refl) (no-query-ack W m.agent.config.name q);
@@ -87,18 +89,18 @@ FiredAt before turn = (packet : List ℕ) → turn.line.answer ≡ lines.Query �
 all-more : (turns : List Turn) (turn : Turn) (ps : List (List ℕ)) → All (IsOf (WasAsked turns)) ps → All (IsOf (WasAsked (turns ++ turn ∷ []))) ps
 all-more turns turn ps all = All-weaker (IsOf (WasAsked turns)) (IsOf (WasAsked (turns ++ turn ∷ []))) (asked-more turns turn) ps all
 
-asked-applied : Below → (c : Cluster) (turns : List Turn) (action : Action) (b : ℕ) (m : IdealNode) → IsAsked c turns → (let s = applied c action b (apply m c.sent action) in IsAsked s.cluster (turns ++ s.turn ∷ []))
-asked-applied lower c turns action b m h =
-    let turn : Turn = (applied c action b (apply m c.sent action)).turn in
+asked-applied : Below → (c : Cluster) (turns : List Turn) (b : ℕ) (act : Act) (m : IdealNode) → IsAsked c turns → (let s = applied c b act (apply m c.sent act) in IsAsked s.cluster (turns ++ s.turn ∷ []))
+asked-applied lower c turns b act m h =
+    let turn : Turn = (applied c b act (apply m c.sent act)).turn in
     let W : List ℕ → Type 0 = WasAsked (turns ++ turn ∷ []) in
     let packets : All (IsOf W) c.sent = all-more turns turn c.sent h.packets in
-    let s = sends-effect W m action (packet_given c.sent action) (apply m c.sent action) (effect lower m c.sent action) (λ p is. given-sent (IsOf W) c.sent action p packets is) (asks-now turns turn) in
+    let s = sends-effect W m (Of b act) (given_by c.sent act) (apply m c.sent act) (effect lower m c.sent b act) (λ p is. given-sent (IsOf W) c.sent (Of b act) p packets is) (asks-now turns turn) in
     record {
-      packets = All-append (IsOf W) c.sent (apply m c.sent action).done.packets packets s.packets;
-      fired = at_each_push FiredAt turns turn h.fired (λ p says given. by p says given (s.brings p given says) (given-sent (IsOf (WasAsked turns)) c.sent action p h.packets given));
+      packets = All-append (IsOf W) c.sent (apply m c.sent act).done.packets packets s.packets;
+      fired = at_each_push FiredAt turns turn h.fired (λ p says given. by p says given (s.brings p given says) (given-sent (IsOf (WasAsked turns)) c.sent (Of b act) p h.packets given));
     }
   where
-    by : (p : List ℕ) → (apply m c.sent action).done.answer ≡ lines.Query → packet_given c.sent action ≡ Some p → (query_brought (decoded p) ≡ [] → ⊥) → IsOf (WasAsked turns) p → WasAsked turns p
+    by : (p : List ℕ) → (apply m c.sent act).done.answer ≡ lines.Query → given_by c.sent act ≡ Some p → (query_brought (decoded p) ≡ [] → ⊥) → IsOf (WasAsked turns) p → WasAsked turns p
     by p says given brings (inl none) = absurd (brings none)
     by p says given brings (inr w) = w
 
@@ -112,9 +114,8 @@ asked-still c turns s h sent never all =
 
 pub asked-step : Below → (r : Run) (action : Action) → IsAsked r.cluster r.turns → IsAsked (after r action).cluster (after r action).turns
 asked-step lower r action h =
-    let now : Stepped = injects r.cluster action (injects_of action) in
-    step-cases (λ s. IsAsked s.cluster (r.turns ++ s.turn ∷ [])) r.cluster action (λ actor. asked-still r.cluster r.turns now h refl (λ e. cc) (injects-now r.turns now.turn))
-    (λ b actor at. asked-still r.cluster r.turns (on_agent r.cluster action b None) h (sym (append-nil r.cluster.sent)) (λ e. cc) (All-nil (IsOf (WasAsked (r.turns ++ (on_agent r.cluster action b None).turn ∷ []))))) (λ b m actor at. asked-applied lower r.cluster r.turns action b m h)
+    step-cases (λ s. IsAsked s.cluster (r.turns ++ s.turn ∷ [])) r.cluster action (λ bytes. let now = injects r.cluster bytes in asked-still r.cluster r.turns now h refl (λ e. cc) (injects-now r.turns now.turn))
+    (λ b act at. asked-still r.cluster r.turns (on_agent r.cluster b act None) h (sym (append-nil r.cluster.sent)) (λ e. cc) (All-nil (IsOf (WasAsked (r.turns ++ (on_agent r.cluster b act None).turn ∷ []))))) (λ b act m is at. asked-applied lower r.cluster r.turns b act m h)
 
 pub asked-start : (configs : List Config) → IsAsked (start configs).cluster []
 asked-start configs = record { packets = All-nil (IsOf (WasAsked [])); fired = at_each_nil FiredAt }

@@ -3,9 +3,11 @@ use Rattle.serf_model.proofs.Names.{zero, suc, ◌≡◌, ◌≢◌, ℕ, inl, i
 use Rattle.std.specs.Prelude.{filter}
 use Rattle.serf_model.specs.Below.{Below}
 use Rattle.serf_model.specs.declared.action.Action.{Action}
+use Rattle.serf_model.specs.declared.action.Act.{Act}
+use Rattle.serf_model.specs.declared.action.Action.TheVariants.{Of}
 use Rattle.serf_model.specs.AnswerPromises.{answers_in, query_answered}
 use Rattle.serf_model.specs.Cluster.{Applied, Cluster, IdealNode, applied, apply, with_handed}
-use Rattle.serf_model.specs.Trace.{Turn, entered_by, packet_given}
+use Rattle.serf_model.specs.Trace.{Turn, entered_by, packet_given, given_by}
 use Rattle.serf_model.proofs.Effects.{Effect, counts, effect, hears, replies}
 use Rattle.serf_model.proofs.HandedLaws.{IsWithin, fresh-last, hands-apply}
 use Rattle.serf_model.proofs.HandedQueries.{pushed-at, stood}
@@ -139,33 +141,33 @@ awaiting-new ts us handed q h same queries before old once = record {
 
 -- ---- the turn of an agent
 
-pub awaiting-more : Below → (c : Cluster) (ts : List Turn) (action : Action) (b : ℕ) (m : IdealNode) → IsAwaiting ts m.handed → Makes m action (apply m c.sent action).done
-    → (let o = apply m c.sent action in AllPairs (λ x y. x ≢ y) (queries_in (ts ++ (applied c action b o).turn ∷ [])) → IsAwaiting (ts ++ (applied c action b o).turn ∷ []) (with_handed o.done.handed o.node).handed)
-awaiting-more lower c ts action b m h makes once = by (apply m c.sent action).done.handed refl
+pub awaiting-more : Below → (c : Cluster) (ts : List Turn) (b : ℕ) (act : Act) (m : IdealNode) → IsAwaiting ts m.handed → Makes m (Of b act) (apply m c.sent act).done
+    → (let o = apply m c.sent act in AllPairs (λ x y. x ≢ y) (queries_in (ts ++ (applied c b act o).turn ∷ [])) → IsAwaiting (ts ++ (applied c b act o).turn ∷ []) (with_handed o.done.handed o.node).handed)
+awaiting-more lower c ts b act m h makes once = by (apply m c.sent act).done.handed refl
   where
     turn : Turn
-    turn = (applied c action b (apply m c.sent action)).turn
+    turn = (applied c b act (apply m c.sent act)).turn
 
     new : List (TimedEntry ℕ)
-    new = entered_by action (packet_given c.sent action) (apply m c.sent action).done.answer
+    new = entered_by (Of b act) (given_by c.sent act) (apply m c.sent act).done.answer
 
-    r : Replies m (apply m c.sent action)
-    r = replies-effect m action (packet_given c.sent action) (apply m c.sent action) (effect lower m c.sent action) makes
+    r : Replies m (apply m c.sent act)
+    r = replies-effect m (Of b act) (given_by c.sent act) (apply m c.sent act) (effect lower m c.sent b act) makes
 
-    queries : queries_in (ts ++ (applied c action b (apply m c.sent action)).turn ∷ []) ≡ queries_in ts ++ entered_by action (packet_given c.sent action) (apply m c.sent action).done.answer
-    queries = flat_map-push (λ t. entered_by t.action t.given t.line.answer) ts (applied c action b (apply m c.sent action)).turn
+    queries : queries_in (ts ++ (applied c b act (apply m c.sent act)).turn ∷ []) ≡ queries_in ts ++ entered_by (Of b act) (given_by c.sent act) (apply m c.sent act).done.answer
+    queries = flat_map-push (λ t. entered_by t.action t.given t.line.answer) ts (applied c b act (apply m c.sent act)).turn
 
-    old : IsAwaiting (ts ++ (applied c action b (apply m c.sent action)).turn ∷ []) (apply m c.sent action).node.handed
-    old = awaiting-old ts (applied c action b (apply m c.sent action)).turn m action (packet_given c.sent action) (apply m c.sent action) (effect lower m c.sent action) h r refl
-        (entered_by action (packet_given c.sent action) (apply m c.sent action).done.answer) queries
+    old : IsAwaiting (ts ++ (applied c b act (apply m c.sent act)).turn ∷ []) (apply m c.sent act).node.handed
+    old = awaiting-old ts (applied c b act (apply m c.sent act)).turn m (Of b act) (given_by c.sent act) (apply m c.sent act) (effect lower m c.sent b act) h r refl
+        (entered_by (Of b act) (given_by c.sent act) (apply m c.sent act).done.answer) queries
 
-    by : (d : Option Handed) → (apply m c.sent action).done.handed ≡ d → IsAwaiting (ts ++ (applied c action b (apply m c.sent action)).turn ∷ []) ((apply m c.sent action).node.handed ++ map (λ q. Some q) (option_to_list d))
-    by None is = subst (IsAwaiting (ts ++ (applied c action b (apply m c.sent action)).turn ∷ [])) (sym (append-nil (apply m c.sent action).node.handed)) old
+    by : (d : Option Handed) → (apply m c.sent act).done.handed ≡ d → IsAwaiting (ts ++ (applied c b act (apply m c.sent act)).turn ∷ []) ((apply m c.sent act).node.handed ++ map (λ q. Some q) (option_to_list d))
+    by None is = subst (IsAwaiting (ts ++ (applied c b act (apply m c.sent act)).turn ∷ [])) (sym (append-nil (apply m c.sent act).node.handed)) old
     by (Some q) is =
-        awaiting-new ts (ts ++ (applied c action b (apply m c.sent action)).turn ∷ []) (apply m c.sent action).node.handed q old
-        (replied-push ts (applied c action b (apply m c.sent action)).turn ∙ ap (λ l. replied_in ts ++ l) (none-handed m (apply m c.sent action) q r is) ∙ append-nil (replied_in ts))
-        (queries ∙ ap (λ l. queries_in ts ++ l) (hands-apply lower m c.sent action q is)) h.replied
-        (λ number g waits. h.entered number g (stood m action (packet_given c.sent action) (apply m c.sent action) (effect lower m c.sent action) number g waits).at) once
+        awaiting-new ts (ts ++ (applied c b act (apply m c.sent act)).turn ∷ []) (apply m c.sent act).node.handed q old
+        (replied-push ts (applied c b act (apply m c.sent act)).turn ∙ ap (λ l. replied_in ts ++ l) (none-handed m (apply m c.sent act) q r is) ∙ append-nil (replied_in ts))
+        (queries ∙ ap (λ l. queries_in ts ++ l) (hands-apply lower m c.sent b act q is)) h.replied
+        (λ number g waits. h.entered number g (stood m (Of b act) (given_by c.sent act) (apply m c.sent act) (effect lower m c.sent b act) number g waits).at) once
 
 pub awaiting-none : IsAwaiting [] []
 awaiting-none = record { entered = λ number h is. absurd (cc is); unanswered = λ number h is. absurd (cc is); apart = λ j k g h is. absurd (cc is); replied = record { within = All-nil _; once = λ i j d lt within. absurd (omega arith) } }

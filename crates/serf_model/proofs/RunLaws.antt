@@ -2,9 +2,11 @@
 use Rattle.serf_model.proofs.Names.{zero, suc, ◌≡◌, ◌≢◌, ℕ, ◌==◌, Bool, true, false, cond, List, [], ◌∷◌, ◌++◌, Option, Some, None, refl, sym, ap, subst, ◌∙◌, map, set, slice_get, AllByRecursion, filter, flat_map, eqb-true, eqb-false, append-nil, map-append, filter-append, EventBody, TimedEntry, EventOut}
 use Rattle.serf_model.specs.Below.{Below}
 use Rattle.serf_model.specs.declared.action.Action.{Action}
+use Rattle.serf_model.specs.declared.action.Act.{Act}
+use Rattle.serf_model.specs.declared.action.Action.TheVariants.{Inject, Of}
 use Rattle.serf_model.specs.declared.line.EventLine.{EventLine}
 use Rattle.serf_model.specs.Cluster.{IdealNode, Cluster, Applied, Stepped, Run, apply, applied, injects, on_agent, step, after, event_line, with_handed}
-use Rattle.serf_model.specs.Trace.{Turn, actor_of, is_agent, turns_by, event_in, events_to, queries_at, entered_by, injects_of, sent_in, packet_given}
+use Rattle.serf_model.specs.Trace.{Turn, actor_of, is_agent, turns_by, event_in, events_to, queries_at, entered_by, given_by, packet_given, sent_in}
 use Rattle.serf_model.proofs.StepCases.{step-cases}
 use Rattle.serf_model.proofs.TurnLaws.{flat_map-push}
 use Rattle.serf_model.proofs.HistoryGrowth.{Keeps, keeps-apply}
@@ -103,19 +105,19 @@ after-still c turns s h nodes sent none no_query = record {
   sent = sent ∙ ap (λ l. l ++ s.turn.packets) h.sent ∙ sym (flat_map-push (λ t. t.packets) turns s.turn);
 }
 
-after-applied : (c : Cluster) (turns : List Turn) (action : Action) (b : ℕ) (m : IdealNode) (o : Applied) → IsAfter c turns → actor_of action ≡ Some b → slice_get c.nodes b ≡ Some m
-    → IsRepresentable o.node.agent → Keeps m.agent o.node.agent o.done (entered_by action (packet_given c.sent action) o.done.answer) → IsAfter (applied c action b o).cluster (turns ++ (applied c action b o).turn ∷ [])
-after-applied c turns action b m o h actor at representable keeps = record {
+after-applied : (c : Cluster) (turns : List Turn) (b : ℕ) (act : Act) (m : IdealNode) (o : Applied) → IsAfter c turns → slice_get c.nodes b ≡ Some m
+    → IsRepresentable o.node.agent → Keeps m.agent o.node.agent o.done (entered_by (Of b act) (given_by c.sent act) o.done.answer) → IsAfter (applied c b act o).cluster (turns ++ (applied c b act o).turn ∷ [])
+after-applied c turns b act m o h at representable keeps = record {
   representable = all-put (λ m. IsRepresentable m.agent) c.nodes b (with_handed o.done.handed o.node) h.representable representable;
   events = λ a. events a (b == a) refl;
   queries = λ a. queries a (b == a) refl;
-  sent = ap (λ l. l ++ o.done.packets) h.sent ∙ sym (flat_map-push (λ t. t.packets) turns (applied c action b o).turn);
+  sent = ap (λ l. l ++ o.done.packets) h.sent ∙ sym (flat_map-push (λ t. t.packets) turns (applied c b act o).turn);
 }
   where
     new : IdealNode
     new = with_handed o.done.handed o.node
 
-    events : (a : ℕ) (t : Bool) → (b == a) ≡ t → events_at (slice_get (set c.nodes b (with_handed o.done.handed o.node)) a) ≡ events_to a (turns ++ (applied c action b o).turn ∷ [])
+    events : (a : ℕ) (t : Bool) → (b == a) ≡ t → events_at (slice_get (set c.nodes b (with_handed o.done.handed o.node)) a) ≡ events_to a (turns ++ (applied c b act o).turn ∷ [])
     events a true t =
         let same : b ≡ a = eqb-true b a t in
         ap (λ j. events_at (slice_get (set c.nodes b (with_handed o.done.handed o.node)) j)) (sym same)
@@ -123,41 +125,46 @@ after-applied c turns action b m o h actor at representable keeps = record {
         ∙ enters-entries keeps.events
         ∙ ap (λ l. l ++ map out_in o.done.events) (ap events_at (sym at) ∙ ap (λ j. events_at (slice_get c.nodes j)) same ∙ h.events a)
         ∙ ap (λ l. events_to a turns ++ l) (sym (lines-same a b o.done.events t))
-        ∙ sym (events_to-push a turns (applied c action b o).turn)
+        ∙ sym (events_to-push a turns (applied c b act o).turn)
     events a false t =
         ap events_at (slice_get-set_other c.nodes b a (with_handed o.done.handed o.node) (eqb-false b a t)) ∙ h.events a
-        ∙ sym (events_to-push a turns (applied c action b o).turn ∙ ap (λ l. events_to a turns ++ l) (lines-other a b o.done.events t) ∙ append-nil (events_to a turns))
+        ∙ sym (events_to-push a turns (applied c b act o).turn ∙ ap (λ l. events_to a turns ++ l) (lines-other a b o.done.events t) ∙ append-nil (events_to a turns))
 
-    queries : (a : ℕ) (t : Bool) → (b == a) ≡ t → queries_of (slice_get (set c.nodes b (with_handed o.done.handed o.node)) a) ≡ queries_at a (turns ++ (applied c action b o).turn ∷ [])
+    queries : (a : ℕ) (t : Bool) → (b == a) ≡ t → queries_of (slice_get (set c.nodes b (with_handed o.done.handed o.node)) a) ≡ queries_at a (turns ++ (applied c b act o).turn ∷ [])
     queries a true t =
         let same : b ≡ a = eqb-true b a t in
         ap (λ j. queries_of (slice_get (set c.nodes b (with_handed o.done.handed o.node)) j)) (sym same)
         ∙ ap queries_of (slice_get-set_same c.nodes b m (with_handed o.done.handed o.node) at)
         ∙ enters-entries keeps.queries
-        ∙ ap (λ l. l ++ entered_by action (packet_given c.sent action) o.done.answer) (ap queries_of (sym at) ∙ ap (λ j. queries_of (slice_get c.nodes j)) same ∙ h.queries a)
-        ∙ ap (λ b. queries_at a turns ++ cond b (entered_by action (packet_given c.sent action) o.done.answer) []) (sym (ap (is_agent a) actor ∙ t))
-        ∙ sym (by-push entered a turns (applied c action b o).turn)
+        ∙ ap (λ l. l ++ entered_by (Of b act) (given_by c.sent act) o.done.answer) (ap queries_of (sym at) ∙ ap (λ j. queries_of (slice_get c.nodes j)) same ∙ h.queries a)
+        ∙ ap (λ x. queries_at a turns ++ cond x (entered_by (Of b act) (given_by c.sent act) o.done.answer) []) (sym t)
+        ∙ sym (by-push entered a turns (applied c b act o).turn)
     queries a false t =
         ap queries_of (slice_get-set_other c.nodes b a (with_handed o.done.handed o.node) (eqb-false b a t)) ∙ h.queries a
-        ∙ sym (by-push entered a turns (applied c action b o).turn
-        ∙ ap (λ b. queries_at a turns ++ cond b (entered_by action (packet_given c.sent action) o.done.answer) []) (ap (is_agent a) actor ∙ t)
+        ∙ sym (by-push entered a turns (applied c b act o).turn
+        ∙ ap (λ x. queries_at a turns ++ cond x (entered_by (Of b act) (given_by c.sent act) o.done.answer) []) t
         ∙ append-nil (queries_at a turns))
 
-pub after-acts : Below → (c : Cluster) (turns : List Turn) (action : Action) (b : ℕ) (m : IdealNode) → IsAfter c turns → actor_of action ≡ Some b → slice_get c.nodes b ≡ Some m
-    → (let s = applied c action b (apply m c.sent action) in IsAfter s.cluster (turns ++ s.turn ∷ []))
-after-acts lower c turns action b m h actor at =
+pub after-acts : Below → (c : Cluster) (turns : List Turn) (b : ℕ) (act : Act) (m : IdealNode) → IsAfter c turns → slice_get c.nodes b ≡ Some m
+    → (let s = applied c b act (apply m c.sent act) in IsAfter s.cluster (turns ++ s.turn ∷ []))
+after-acts lower c turns b act m h at =
     let representable = all-at (λ m. IsRepresentable m.agent) c.nodes b m h.representable at in
-    after-applied c turns action b m (apply m c.sent action) h actor at (representable-apply lower m c.sent action representable) (keeps-apply lower m c.sent action representable.consistent.sound)
+    after-applied c turns b act m (apply m c.sent act) h at (representable-apply lower m c.sent act representable) (keeps-apply lower m c.sent b act representable.consistent.sound)
 
 pub after-step : Below → (r : Run) (action : Action) → IsAfter r.cluster r.turns → IsAfter (after r action).cluster (after r action).turns
 after-step lower r action h =
-    step-cases (λ s. IsAfter s.cluster (r.turns ++ s.turn ∷ [])) r.cluster action (λ actor. after-still r.cluster r.turns (injects r.cluster action (injects_of action)) h refl refl refl refl)
-    (λ b actor at. after-still r.cluster r.turns (on_agent r.cluster action b None) h refl (sym (append-nil r.cluster.sent)) refl refl) (λ b m actor at. after-acts lower r.cluster r.turns action b m h actor at)
+    step-cases (λ s. IsAfter s.cluster (r.turns ++ s.turn ∷ [])) r.cluster action (λ bytes. after-still r.cluster r.turns (injects r.cluster bytes) h refl refl refl refl)
+    (λ b act at. after-still r.cluster r.turns (on_agent r.cluster b act None) h refl (sym (append-nil r.cluster.sent)) refl refl) (λ b act m is at. after-acts lower r.cluster r.turns b act m h at)
 
 -- ---- what a turn says of its action
 
 pub turn-action : (c : Cluster) (action : Action) → (step c action).turn.action ≡ action
-turn-action c action = step-cases (λ s. s.turn.action ≡ action) c action (λ actor. refl) (λ b actor at. refl) (λ b m actor at. refl)
+turn-action c (Inject bytes) = refl
+turn-action c (Of b act) = by (slice_get c.nodes b)
+  where
+    by : (r : Option IdealNode) → (on_agent c b act r).turn.action ≡ Of b act
+    by None = refl
+    by (Some m) = refl
 
 pub turn-given : (c : Cluster) (action : Action) → (step c action).turn.given ≡ packet_given c.sent action
-turn-given c action = step-cases (λ s. s.turn.given ≡ packet_given c.sent action) c action (λ actor. refl) (λ b actor at. refl) (λ b m actor at. refl)
+turn-given c action = step-cases (λ s. s.turn.given ≡ packet_given c.sent s.turn.action) c action (λ bytes. refl) (λ b act at. refl) (λ b act m is at. refl) ∙ ap (packet_given c.sent) (turn-action c action)

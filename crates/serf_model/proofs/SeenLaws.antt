@@ -2,12 +2,14 @@
 use Rattle.serf_model.proofs.Names.{suc, ◌≡◌, ℕ, ◌==◌, ◌&&◌, ◌||◌, ◌+◌, nat_lt, nat_le, Bool, true, false, cond, List, [], ◌∷◌, Option, Some, None, Ok, refl, sym, ap, subst, ◌∙◌, arith, Contains, slice_get, list_any, and_parts, eqb-true, bytes_eq-Decides, EventBody, decoded, UserEvent, user_event, event_of, same_texts, count_at, Reason, BelowMinimum, TooOld, Seen, TimeFull, admission, texts_len, IdealAgent, Past, of_life, was_ever_entered, observed}
 use Rattle.serf_model.specs.Below.{Below}
 use Rattle.serf_model.specs.declared.action.Action.{Action}
+use Rattle.serf_model.specs.declared.action.Act.{Act}
+use Rattle.serf_model.specs.declared.action.Action.TheVariants.{Of}
 use Rattle.serf_model.specs.declared.line.Answer.TheVariants as lines
 use Rattle.serf_model.specs.Cluster.{Applied, IdealNode, Cluster, Run, apply, after, step}
 use Rattle.serf_model.specs.Promises.{SeenWasHanded}
-use Rattle.serf_model.specs.Trace.{Turn, actor_of, events_to, packet_given}
+use Rattle.serf_model.specs.Trace.{Turn, actor_of, events_to, packet_given, given_by}
 use Rattle.serf_model.proofs.Effects.{Effect, IsIdle, counts, effect, hears}
-use Rattle.serf_model.proofs.StepCases.{same-actor, step-cases}
+use Rattle.serf_model.proofs.StepCases.{step-cases}
 use Rattle.serf_model.proofs.TurnLaws.{at_each_nil, at_each_push}
 use Rattle.serf_model.proofs.PerTimeBound.{entries}
 use Rattle.serf_model.proofs.RunLaws.{IsAfter, events_at}
@@ -72,18 +74,18 @@ abbrev SeenAt : List Turn → Turn → Type 0
 SeenAt before turn = (a : ℕ) (packet : List ℕ) (e : UserEvent) → actor_of turn.action ≡ Some a → turn.line.answer ≡ lines.Ignored Seen → turn.given ≡ Some packet → decoded packet ≡ Ok (user_event e)
     → Contains (events_to a before) (record { time = e.time; key = event_of e.name e.payload })
 
-seen-acts : Below → (c : Cluster) (turns : List Turn) (action : Action) (b : ℕ) (m : IdealNode) (packet : List ℕ) (e : UserEvent) → IsAfter c turns → slice_get c.nodes b ≡ Some m → (apply m c.sent action).done.answer ≡ lines.Ignored Seen
-    → packet_given c.sent action ≡ Some packet → decoded packet ≡ Ok (user_event e) → Contains (events_to b turns) (record { time = e.time; key = event_of e.name e.payload })
-seen-acts lower c turns action b m packet e h at says given reads =
+seen-acts : Below → (c : Cluster) (turns : List Turn) (b : ℕ) (act : Act) (m : IdealNode) (packet : List ℕ) (e : UserEvent) → IsAfter c turns → slice_get c.nodes b ≡ Some m → (apply m c.sent act).done.answer ≡ lines.Ignored Seen
+    → given_by c.sent act ≡ Some packet → decoded packet ≡ Ok (user_event e) → Contains (events_to b turns) (record { time = e.time; key = event_of e.name e.payload })
+seen-acts lower c turns b act m packet e h at says given reads =
     subst (λ l. Contains l (record { time = e.time; key = event_of e.name e.payload })) (ap events_at (sym at) ∙ h.events b)
     (entered-contains m.agent.events.history e.time (event_of e.name e.payload)
-    (seen-entered m.agent e.time (event_of e.name e.payload) (seen-effect m action (packet_given c.sent action) (apply m c.sent action) (effect lower m c.sent action) packet e says given reads)))
+    (seen-entered m.agent e.time (event_of e.name e.payload) (seen-effect m (Of b act) (given_by c.sent act) (apply m c.sent act) (effect lower m c.sent b act) packet e says given reads)))
 
 pub seen-step : Below → (r : Run) (action : Action) → IsAfter r.cluster r.turns → SeenWasHanded r.turns → SeenWasHanded (after r action).turns
 seen-step lower r action h all =
-    at_each_push SeenAt r.turns (step r.cluster action).turn all (step-cases (λ s. SeenAt r.turns s.turn) r.cluster action (λ actor a packet e is says given reads. absurd (cc says)) (λ b actor at a packet e is says given reads. absurd (cc says))
-    (λ b m actor at a packet e is says given reads.
-    subst (λ (n : ℕ). Contains (events_to n r.turns) (record { time = e.time; key = event_of e.name e.payload })) (same-actor action b a actor is) (seen-acts lower r.cluster r.turns action b m packet e h at says given reads)))
+    at_each_push SeenAt r.turns (step r.cluster action).turn all (step-cases (λ s. SeenAt r.turns s.turn) r.cluster action (λ bytes a packet e is says given reads. absurd (cc says)) (λ b act at a packet e is says given reads. absurd (cc says))
+    (λ b act m of at a packet e is says given reads.
+    subst (λ (n : ℕ). Contains (events_to n r.turns) (record { time = e.time; key = event_of e.name e.payload })) (let same : b ≡ a = cc is in same) (seen-acts lower r.cluster r.turns b act m packet e h at says given reads)))
 
 pub seen-start : SeenWasHanded []
 seen-start = at_each_nil SeenAt

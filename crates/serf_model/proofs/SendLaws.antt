@@ -5,15 +5,17 @@ use Rattle.serf_model.proofs.ReadCases.{read_has}
 use Rattle.serf_agent.specs.declared.outcome.RespondFault.TheVariants as responding
 use Rattle.serf_model.specs.Below.{Below}
 use Rattle.serf_model.specs.declared.action.Action.{Action}
-use Rattle.serf_model.specs.declared.action.Action.TheVariants as actions
+use Rattle.serf_model.specs.declared.action.Act.{Act}
+use Rattle.serf_model.specs.declared.action.Act.TheVariants as acts
+use Rattle.serf_model.specs.declared.action.Action.TheVariants.{Of}
 use Rattle.serf_model.specs.declared.line.Answer.{Answer}
 use Rattle.serf_model.specs.declared.line.Answer.TheVariants as lines
 use Rattle.serf_model.specs.AnswerPromises.{answer_brought, answers_in}
 use Rattle.serf_model.specs.Cluster.{Applied, Done, IdealNode, apply}
 use Rattle.serf_model.specs.Ready.{IsRepresentable}
 use Rattle.serf_model.specs.Sizes.{HasSizes}
-use Rattle.serf_model.specs.Trace.{packet_given}
-use Rattle.serf_model.proofs.Effects.{Effect, asks, effect, fires, hears, is_asked, passes_on, replies, tells}
+use Rattle.serf_model.specs.Trace.{packet_given, given_by}
+use Rattle.serf_model.proofs.Effects.{Effect, asks, effect, fires, hears, is_asked, passes_on, replies, tells, as_message}
 use Rattle.serf_model.proofs.CallsKept.{may-ask}
 use Rattle.serf_model.proofs.PerTimeBound.{none-if}
 
@@ -69,7 +71,7 @@ pub record IsHandable (node : List ℕ) (h : Handed) : Type 0 where
 pub data Makes (m : IdealNode) (action : Action) (done : Done) : Type 0 where
   makes_none : answers_in done.packets ≡ [] → Makes m action done
   makes_ack : (h : Handed) → done.handed ≡ Some h → answers_in done.packets ≡ ack_of m.agent.config.name h ∷ [] → Makes m action done
-  makes_reply : (agent number now : ℕ) (payload : List ℕ) (h : Handed) → action ≡ actions.Respond agent number now payload → slice_get m.handed number ≡ Some (Some h) → done.answer ≡ lines.Replied
+  makes_reply : (agent number now : ℕ) (payload : List ℕ) (h : Handed) → action ≡ Of agent (acts.Respond number now payload) → slice_get m.handed number ≡ Some (Some h) → done.answer ≡ lines.Replied
       → answers_in done.packets ≡ reply_of h payload ∷ [] → now ≤ h.deadline → Makes m action done
 
 pub record Sends (m : IdealNode) (action : Action) (done : Done) : Type 0 where
@@ -127,9 +129,9 @@ sends-effect : Below → (m : IdealNode) (action : Action) (given : Option (List
 sends-effect lower m action given o (hears j outs answer heard idle) representable slots ranged = sends-nothing m action _ refl refl
 sends-effect lower m action given o (fires agent name payload coalesce may) representable slots ranged = hands-nothing m _ _ refl (none-in-event m.agent.events.clock (event_of name payload) coalesce)
 sends-effect lower m action given o (passes_on packet e is new) representable slots ranged = hands-nothing m action _ refl (ap (λ (d : Result Message WireFault). answer_brought d ++ []) is)
-sends-effect lower m action given o (asks agent now id name payload params may) representable slots ranged =
-    let q : Query = query_at m.agent.queries.clock m.agent.config.name id name payload params in
-    sends-entered lower m _ (lines.Queried q.time) now q (canonical (query q) ∷ []) (all_pass q.filters m.agent.config.name) (has_flag ack_flag q.flags) representable (none-in-query q) (may-ask m.agent id name payload params may).clock ranged.id_fits
+sends-effect lower m action given o (asks agent q may) representable slots ranged =
+    let a : Query = as_message m q in
+    sends-entered lower m _ (lines.Queried a.time) q.moment a (canonical (query a) ∷ []) (all_pass a.filters m.agent.config.name) (has_flag ack_flag a.flags) representable (none-in-query a) (may-ask m.agent q.id q.name q.payload q.params may).clock ranged.id_fits
 sends-effect lower m action given o (is_asked to number packet now q is new) representable slots ranged =
     let has = lower.in_range packet (query q) is in
     sends-entered lower m action lines.Query now q (cond (not (has_flag no_broadcast_flag q.flags)) (packet ∷ []) []) (all_pass q.filters m.agent.config.name) (has_flag ack_flag q.flags) representable (front (not (has_flag no_broadcast_flag q.flags))) has.time has.id
@@ -150,5 +152,5 @@ sends-effect lower m action given o (replies agent number now payload h at may) 
     }
 sends-effect lower m action given o _ representable slots ranged = sends-nothing m _ _ refl refl
 
-pub sends-apply : Below → (m : IdealNode) (sent : List (List ℕ)) (action : Action) → IsRepresentable m.agent → AreHandable m → HasSizes action → Sends m action (apply m sent action).done
-sends-apply lower m sent action representable slots ranged = sends-effect lower m action (packet_given sent action) (apply m sent action) (effect lower m sent action) representable slots ranged
+pub sends-apply : Below → (m : IdealNode) (sent : List (List ℕ)) (a : ℕ) (act : Act) → IsRepresentable m.agent → AreHandable m → HasSizes (Of a act) → Sends m (Of a act) (apply m sent act).done
+sends-apply lower m sent a act representable slots ranged = sends-effect lower m (Of a act) (given_by sent act) (apply m sent act) (effect lower m sent a act) representable slots ranged

@@ -53,7 +53,7 @@ reads-from before (t ∷ ts) more all =
 
 count-step : (c : Cluster) (action : Action) → length (step c action).turn.line.sent ≡ length (step c action).turn.packets
 count-step c action =
-    step-cases (λ s. length s.turn.line.sent ≡ length s.turn.packets) c action (λ actor. length-numbers (length c.sent) _) (λ b actor at. refl) (λ b m actor at. length-numbers (length c.sent) (apply m c.sent action).done.packets)
+    step-cases (λ s. length s.turn.line.sent ≡ length s.turn.packets) c action (λ bytes. refl) (λ b act at. refl) (λ b act m is at. length-numbers (length c.sent) (apply m c.sent act).done.packets)
 
 pub read-step : (r : Run) (action : Action) → IsAfter r.cluster r.turns → AtEach IsRead r.turns → AtEach IsRead (after r action).turns
 read-step r action h all =

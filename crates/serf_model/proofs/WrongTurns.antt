@@ -4,7 +4,8 @@ use Rattle.serf_model.proofs.Names.{◌≡◌, ◌≢◌, ℕ, ◌<◌, ◌≤�
 use Rattle.std.specs.Prelude.{Result, filter}
 use Rattle.serf_agent.specs.declared.outcome.Reason.TheVariants as reasons
 use Rattle.serf_model.specs.declared.action.Action.{Action}
-use Rattle.serf_model.specs.declared.action.Action.TheVariants as actions
+use Rattle.serf_model.specs.declared.action.Act.TheVariants as acts
+use Rattle.serf_model.specs.declared.action.Action.TheVariants.{Of}
 use Rattle.serf_model.specs.declared.line.Answer.{Answer}
 use Rattle.serf_model.specs.declared.line.Answer.TheVariants as answers
 use Rattle.serf_model.specs.declared.line.EventLine.{EventLine}
@@ -25,7 +26,7 @@ turn action answer events handed = record { action = action; line = record { ans
 
 -- a packet is delivered to an agent
 abbrev delivery : ℕ → List ℕ → Answer → Option HandedLine → Turn
-delivery a packet answer handed = record { action = actions.Deliver a 0 0; line = record { answer = answer; sent = []; events = []; handed = handed }; given = Some packet; packets = [] }
+delivery a packet answer handed = record { action = Of a (acts.Deliver 0 0); line = record { answer = answer; sent = []; events = []; handed = handed }; given = Some packet; packets = [] }
 
 -- agent 0 sends a packet, whatever it does
 abbrev sending : Action → Answer → List ℕ → Turn
@@ -39,8 +40,11 @@ abbrev handed_query : ℕ → ℕ → ℕ → List ℕ → HandedLine
 handed_query a t id name = record { agent = a; index = 0; time = t; id = id; name = name; payload = [] }
 
 -- agent 0 fires a query
+abbrev asking : ℕ → List ℕ → QueryParams → Action
+asking id name params = Of 0 (acts.Query record { moment = 0; id = id; name = name; payload = []; params = params })
+
 abbrev firing : QueryParams → ℕ → ℕ → Turn
-firing params id t = turn (actions.Query 0 0 id [] [] params) (answers.Queried t) [] None
+firing params id t = turn (asking id [] params) (answers.Queried t) [] None
 
 in-none : {X : Type 0} (x : X) → Contains [] x → ⊥
 in-none x h = absurd (let lt = h.1 in omega arith)
@@ -48,21 +52,21 @@ in-none x h = absurd (let lt = h.1 in omega arith)
 -- ---- events
 
 -- an agent is handed one event by two turns
-once-refuses : (let t = turn (actions.Close 0 0) (answers.Closed 0) (handed_event 0 1 ∷ []) None in Once (t ∷ t ∷ [])) → ⊥
+once-refuses : (let t = turn (Of 0 (acts.Close 0)) (answers.Closed 0) (handed_event 0 1 ∷ []) None in Once (t ∷ t ∷ [])) → ⊥
 once-refuses h = h 0 0 1 (record { time = 1; key = event_of [] [] }) (omega arith) (omega arith) refl
 
 -- an event is handed out that nobody fired
-fired-refuses : OnlyFired (turn (actions.Close 0 0) (answers.Closed 0) (handed_event 0 1 ∷ []) None ∷ []) → ⊥
-fired-refuses h = elim (h [] (turn (actions.Close 0 0) (answers.Closed 0) (handed_event 0 1 ∷ []) None) [] refl 0 (handed_event 0 1) (omega arith)) [
+fired-refuses : OnlyFired (turn (Of 0 (acts.Close 0)) (answers.Closed 0) (handed_event 0 1 ∷ []) None ∷ []) → ⊥
+fired-refuses h = elim (h [] (turn (Of 0 (acts.Close 0)) (answers.Closed 0) (handed_event 0 1 ∷ []) None) [] refl 0 (handed_event 0 1) (omega arith)) [
   | inl fired ↦ in-none _ fired
   | inr brought ↦ in-none _ brought
 ]
 
 -- an agent that was handed an event of time 5 fires one of time 3
-later-refuses : Later (turn (actions.Close 0 0) (answers.Closed 0) (handed_event 0 5 ∷ []) None ∷ turn (actions.Fire 0 [] [] false) (answers.Fired 3) [] None ∷ []) → ⊥
+later-refuses : Later (turn (Of 0 (acts.Close 0)) (answers.Closed 0) (handed_event 0 5 ∷ []) None ∷ turn (Of 0 (acts.Fire [] [] false)) (answers.Fired 3) [] None ∷ []) → ⊥
 later-refuses h =
-    let before : Turn = turn (actions.Close 0 0) (answers.Closed 0) (handed_event 0 5 ∷ []) None in
-    let less : 5 < 3 = h (before ∷ []) (turn (actions.Fire 0 [] [] false) (answers.Fired 3) [] None) [] refl 0 3 refl refl 0 (record { time = 5; key = event_of [] [] }) (omega arith) in
+    let before : Turn = turn (Of 0 (acts.Close 0)) (answers.Closed 0) (handed_event 0 5 ∷ []) None in
+    let less : 5 < 3 = h (before ∷ []) (turn (Of 0 (acts.Fire [] [] false)) (answers.Fired 3) [] None) [] refl 0 3 refl refl 0 (record { time = 5; key = event_of [] [] }) (omega arith) in
     absurd (omega arith)
 
 -- an event is ignored as seen that the agent was never handed
@@ -70,9 +74,9 @@ seen-refuses : (packet : List ℕ) (e : UserEvent) → decoded packet ≡ Ok (us
 seen-refuses packet e reads h = in-none _ (h.1 [] (delivery 0 packet (answers.Ignored reasons.Seen) None) [] refl 0 packet e refl refl refl reads)
 
 -- a packet carries an event that nobody fired
-carries-refuses : (packet : List ℕ) (e : UserEvent) → decoded packet ≡ Ok (user_event e) → Held (sending (actions.State 0) answers.State packet ∷ []) → ⊥
+carries-refuses : (packet : List ℕ) (e : UserEvent) → decoded packet ≡ Ok (user_event e) → Held (sending (Of 0 acts.State) answers.State packet ∷ []) → ⊥
 carries-refuses packet e reads h =
-    let turn : Turn = sending (actions.State 0) answers.State packet in
+    let turn : Turn = sending (Of 0 acts.State) answers.State packet in
     let all : All (WasFired (turn ∷ [])) (events_brought (decoded packet)) = h.0 [] turn [] refl 0 packet (omega arith) in
     let found : WasFired (turn ∷ []) (record { time = e.time; key = event_of e.name e.payload }) = subst (λ r. All (WasFired (turn ∷ [])) (events_brought r)) reads all 0 (record { time = e.time; key = event_of e.name e.payload }) (omega arith) in
     elim found [
@@ -81,14 +85,14 @@ carries-refuses packet e reads h =
     ]
 
 -- a turn hands out to an agent that doesn't act
-to_actor-refuses : OnlyToActor (turn (actions.Fire 0 [] [] false) (answers.Fired 1) (handed_event 0 1 ∷ handed_event 1 1 ∷ []) None ∷ []) → ⊥
+to_actor-refuses : OnlyToActor (turn (Of 0 (acts.Fire [] [] false)) (answers.Fired 1) (handed_event 0 1 ∷ handed_event 1 1 ∷ []) None ∷ []) → ⊥
 to_actor-refuses h =
-    let same : Some 0 ≡ Some 1 = (h [] (turn (actions.Fire 0 [] [] false) (answers.Fired 1) (handed_event 0 1 ∷ handed_event 1 1 ∷ []) None) [] refl).0 1 (handed_event 0 1) (omega arith) in
+    let same : Some 0 ≡ Some 1 = (h [] (turn (Of 0 (acts.Fire [] [] false)) (answers.Fired 1) (handed_event 0 1 ∷ handed_event 1 1 ∷ []) None) [] refl).0 1 (handed_event 0 1) (omega arith) in
     absurd (cc same)
 
 -- a turn that is given nothing hands out an event that an earlier turn fired
-given-refuses : HandsOutGiven (turn (actions.Fire 0 [] [] false) (answers.Fired 1) (handed_event 0 1 ∷ []) None ∷ turn (actions.Close 1 0) (answers.Closed 0) (handed_event 1 1 ∷ []) None ∷ []) → ⊥
-given-refuses h = elim (h (turn (actions.Fire 0 [] [] false) (answers.Fired 1) (handed_event 0 1 ∷ []) None ∷ []) (turn (actions.Close 1 0) (answers.Closed 0) (handed_event 1 1 ∷ []) None) [] refl 0 (handed_event 1 1) (omega arith)) [
+given-refuses : HandsOutGiven (turn (Of 0 (acts.Fire [] [] false)) (answers.Fired 1) (handed_event 0 1 ∷ []) None ∷ turn (Of 1 (acts.Close 0)) (answers.Closed 0) (handed_event 1 1 ∷ []) None ∷ []) → ⊥
+given-refuses h = elim (h (turn (Of 0 (acts.Fire [] [] false)) (answers.Fired 1) (handed_event 0 1 ∷ []) None ∷ []) (turn (Of 1 (acts.Close 0)) (answers.Closed 0) (handed_event 1 1 ∷ []) None) [] refl 0 (handed_event 1 1) (omega arith)) [
   | inl fired ↦ in-none _ fired
   | inr given ↦ in-none _ given
 ]
@@ -104,7 +108,7 @@ query_once-refuses : (params : QueryParams) → QueryOnce (firing params 7 1 ∷
 query_once-refuses params h = h 0 0 1 (record { time = 1; key = 7 }) (omega arith) (omega arith) refl
 
 -- an agent is handed one query by two turns
-query_handed-refuses : (let t = turn (actions.Close 0 0) (answers.Closed 0) [] (Some (handed_query 0 1 7 [])) in QueryHandedOnce (t ∷ t ∷ [])) → ⊥
+query_handed-refuses : (let t = turn (Of 0 (acts.Close 0)) (answers.Closed 0) [] (Some (handed_query 0 1 7 [])) in QueryHandedOnce (t ∷ t ∷ [])) → ⊥
 query_handed-refuses h = h 0 0 1 (record { time = 1; key = 7 }) (omega arith) (omega arith) refl
 
 -- an agent that fired a query of time 5 fires one of time 3
@@ -121,9 +125,9 @@ query_fired-refuses packet h = elim (h [] (delivery 0 packet answers.Query None)
 ]
 
 -- a query is handed out that didn't enter: no packet came, and none was fired
-entered-refuses : (configs : List Config) → HandsOutEntered configs (turn (actions.Close 1 0) (answers.Closed 0) [] (Some (handed_query 1 5 9 [])) ∷ []) → ⊥
+entered-refuses : (configs : List Config) → HandsOutEntered configs (turn (Of 1 (acts.Close 0)) (answers.Closed 0) [] (Some (handed_query 1 5 9 [])) ∷ []) → ⊥
 entered-refuses configs h =
-    let found = h [] (turn (actions.Close 1 0) (answers.Closed 0) [] (Some (handed_query 1 5 9 []))) [] refl (handed_query 1 5 9 []) refl in
+    let found = h [] (turn (Of 1 (acts.Close 0)) (answers.Closed 0) [] (Some (handed_query 1 5 9 []))) [] refl (handed_query 1 5 9 []) refl in
     let empty = found.1 in
     absurd (cc empty)
 
@@ -139,9 +143,9 @@ entered-refuses_name configs packet q reads name h =
 
 -- a query enters at another agent under another name than the one under which it was fired
 messages-refuses : (configs : List Config) (params : QueryParams) (packet : List ℕ) (q : Query) → decoded packet ≡ Ok (query q) → q.name ≡ 2 ∷ []
-    → MessagesFired configs (turn (actions.Query 0 0 7 (1 ∷ []) [] params) (answers.Queried 1) [] None ∷ delivery 1 packet answers.Query None ∷ []) → ⊥
+    → MessagesFired configs (turn (asking 7 (1 ∷ []) params) (answers.Queried 1) [] None ∷ delivery 1 packet answers.Query None ∷ []) → ⊥
 messages-refuses configs params packet q reads name h =
-    let first : Turn = turn (actions.Query 0 0 7 (1 ∷ []) [] params) (answers.Queried 1) [] None in
+    let first : Turn = turn (asking 7 (1 ∷ []) params) (answers.Queried 1) [] None in
     elim (h (first ∷ []) (delivery 1 packet answers.Query None) [] refl packet refl refl) [
       | inl all ↦ of (slice_get configs 0) (subst (λ l. All (Contains (messages_fired configs (first ∷ []))) l) (ap query_message reads) all 0 q (omega arith))
       | inr brought ↦ in-none _ brought
@@ -168,7 +172,7 @@ only_fired-refuses packet q reads h =
 
 -- agent 0 fires a query, and is handed it
 abbrev asked : QueryParams → Turn
-asked params = turn (actions.Query 0 0 7 [] [] params) (answers.Queried 1) [] (Some (handed_query 0 1 7 []))
+asked params = turn (asking 7 [] params) (answers.Queried 1) [] (Some (handed_query 0 1 7 []))
 
 -- one agent's ack is counted twice
 counted_once-refuses : (packet : List ℕ) (r : QueryResponse) → decoded packet ≡ Ok (query_response r) → CountedOnce (delivery 0 packet answers.Ack None ∷ delivery 0 packet answers.Ack None ∷ []) → ⊥
@@ -183,25 +187,25 @@ in_time-refuses packet r reads h =
     in-none awaited.query awaited.fired
 
 -- an ack is counted and no packet came
-sent-refuses : CountedSent (turn (actions.Deliver 0 0 0) answers.Ack [] None ∷ []) → ⊥
+sent-refuses : CountedSent (turn (Of 0 (acts.Deliver 0 0)) answers.Ack [] None ∷ []) → ⊥
 sent-refuses h =
-    let found = h [] (turn (actions.Deliver 0 0 0) answers.Ack [] None) [] refl true refl in
+    let found = h [] (turn (Of 0 (acts.Deliver 0 0)) answers.Ack [] None) [] refl true refl in
     let given = found.given in
     absurd (cc given)
 
 -- an agent answers a query that it was never handed
-made-refuses : (configs : List Config) (packet : List ℕ) (r : QueryResponse) → decoded packet ≡ Ok (query_response r) → AnswersMade configs (sending (actions.Close 0 0) (answers.Closed 0) packet ∷ []) → ⊥
+made-refuses : (configs : List Config) (packet : List ℕ) (r : QueryResponse) → decoded packet ≡ Ok (query_response r) → AnswersMade configs (sending (Of 0 (acts.Close 0)) (answers.Closed 0) packet ∷ []) → ⊥
 made-refuses configs packet r reads h =
-    let turn : Turn = sending (actions.Close 0 0) (answers.Closed 0) packet in
+    let turn : Turn = sending (Of 0 (acts.Close 0)) (answers.Closed 0) packet in
     of (subst (λ (m : Result Message WireFault). All (IsMade configs [] turn) (answer_brought m ++ [])) reads (h [] turn [] refl) 0 r (omega arith))
   where
-    of : IsMade configs [] (sending (actions.Close 0 0) (answers.Closed 0) packet) r → ⊥
+    of : IsMade configs [] (sending (Of 0 (acts.Close 0)) (answers.Closed 0) packet) r → ⊥
     of (injected i) = let action = i.action in absurd (cc action)
     of (acked a) = let hands = a.hands in absurd (cc hands)
-    of (replied a) = let action = a.action in absurd (cc action)
+    of (replied a) = let replied = a.replied in absurd (cc replied)
 
 -- an agent acks one query twice
-acked-refuses : (packet : List ℕ) (r : QueryResponse) → decoded packet ≡ Ok (query_response r) → is_ack r ≡ true → (let t = sending (actions.Close 0 0) (answers.Closed 0) packet in AckedOnce (t ∷ t ∷ [])) → ⊥
+acked-refuses : (packet : List ℕ) (r : QueryResponse) → decoded packet ≡ Ok (query_response r) → is_ack r ≡ true → (let t = sending (Of 0 (acts.Close 0)) (answers.Closed 0) packet in AckedOnce (t ∷ t ∷ [])) → ⊥
 acked-refuses packet r reads ack h =
     let both : AllPairs (λ (x y : TimedEntry ℕ). x ≢ y) (map query_answered (filter is_ack (r ∷ r ∷ []))) =
     subst (λ (m : Result Message WireFault). AllPairs (λ (x y : TimedEntry ℕ). x ≢ y) (map query_answered (filter is_ack ((answer_brought m ++ []) ++ ((answer_brought m ++ []) ++ []))))) reads (h 0) in
@@ -209,7 +213,7 @@ acked-refuses packet r reads ack h =
     plain 0 1 (query_answered r) (omega arith) (omega arith) refl
 
 -- an agent answers one query twice
-replied-refuses : (packet : List ℕ) (r : QueryResponse) → decoded packet ≡ Ok (query_response r) → is_ack r ≡ false → (let t = sending (actions.Respond 0 0 5 []) answers.Replied packet in RepliedOnce (t ∷ t ∷ [])) → ⊥
+replied-refuses : (packet : List ℕ) (r : QueryResponse) → decoded packet ≡ Ok (query_response r) → is_ack r ≡ false → (let t = sending (Of 0 (acts.Respond 0 5 [])) answers.Replied packet in RepliedOnce (t ∷ t ∷ [])) → ⊥
 replied-refuses packet r reads reply h =
     let both : AllPairs (λ (x y : TimedEntry ℕ). x ≢ y) (map query_answered (filter (λ r. not (is_ack r)) (r ∷ r ∷ []))) =
     subst (λ (m : Result Message WireFault). AllPairs (λ (x y : TimedEntry ℕ). x ≢ y) (map query_answered (filter (λ r. not (is_ack r)) ((answer_brought m ++ []) ++ ((answer_brought m ++ []) ++ []))))) reads (h 0) in
@@ -219,12 +223,12 @@ replied-refuses packet r reads reply h =
 
 -- an agent answers a query whose deadline is past
 late-refuses : (configs : List Config) (params : QueryParams) (packet : List ℕ) (r : QueryResponse) → params.timeout ≡ pos 10 → decoded packet ≡ Ok (query_response r) → r.payload ≡ []
-    → AnswersMade configs (asked params ∷ sending (actions.Respond 0 0 20 []) answers.Replied packet ∷ []) → ⊥
+    → AnswersMade configs (asked params ∷ sending (Of 0 (acts.Respond 0 20 [])) answers.Replied packet ∷ []) → ⊥
 late-refuses configs params packet r timeout reads empty h =
-    let turn : Turn = sending (actions.Respond 0 0 20 []) answers.Replied packet in
+    let turn : Turn = sending (Of 0 (acts.Respond 0 20 [])) answers.Replied packet in
     of (subst (λ (m : Result Message WireFault). All (IsMade configs (asked params ∷ []) turn) (answer_brought m ++ [])) reads (h (asked params ∷ []) turn [] refl) 0 r (omega arith))
   where
-    of : IsMade configs (asked params ∷ []) (sending (actions.Respond 0 0 20 []) answers.Replied packet) r → ⊥
+    of : IsMade configs (asked params ∷ []) (sending (Of 0 (acts.Respond 0 20 [])) answers.Replied packet) r → ⊥
     of (injected i) = let action = i.action in absurd (cc action)
     of (acked a) = let hands = a.hands in absurd (cc hands)
     of (replied a) =
@@ -243,16 +247,16 @@ late-refuses configs params packet r timeout reads empty h =
 -- ---- bounds
 
 -- an agent that takes one event of one time is handed two
-events-refuses : (c : Config) → c.per_time ≡ 1 → EventsBounded (c ∷ []) (turn (actions.Close 0 0) (answers.Closed 0) (handed_event 0 1 ∷ handed_event 0 1 ∷ []) None ∷ []) → ⊥
+events-refuses : (c : Config) → c.per_time ≡ 1 → EventsBounded (c ∷ []) (turn (Of 0 (acts.Close 0)) (answers.Closed 0) (handed_event 0 1 ∷ handed_event 0 1 ∷ []) None ∷ []) → ⊥
 events-refuses c one h =
-    let most : 2 ≤ c.per_time = (h [] (turn (actions.Close 0 0) (answers.Closed 0) (handed_event 0 1 ∷ handed_event 0 1 ∷ []) None) [] refl 0 c refl).bounded.of_one_time 1 in
+    let most : 2 ≤ c.per_time = (h [] (turn (Of 0 (acts.Close 0)) (answers.Closed 0) (handed_event 0 1 ∷ handed_event 0 1 ∷ []) None) [] refl 0 c refl).bounded.of_one_time 1 in
     absurd (omega arith)
 
 -- an agent is handed an event of more than 9,216 bytes
-long-refuses : (c : Config) (name : List ℕ) → length name ≡ 9217 → EventsBounded (c ∷ []) (turn (actions.Close 0 0) (answers.Closed 0) (record { agent = 0; time = 1; name = name; payload = []; coalesce = false } ∷ []) None ∷ []) → ⊥
+long-refuses : (c : Config) (name : List ℕ) → length name ≡ 9217 → EventsBounded (c ∷ []) (turn (Of 0 (acts.Close 0)) (answers.Closed 0) (record { agent = 0; time = 1; name = name; payload = []; coalesce = false } ∷ []) None ∷ []) → ⊥
 long-refuses c name long h =
     let line : EventLine = record { agent = 0; time = 1; name = name; payload = []; coalesce = false } in
-    let all = (h [] (turn (actions.Close 0 0) (answers.Closed 0) (line ∷ []) None) [] refl 0 c refl).short in
+    let all = (h [] (turn (Of 0 (acts.Close 0)) (answers.Closed 0) (line ∷ []) None) [] refl 0 c refl).short in
     let short : length name + length {A = ℕ} [] ≤ 9216 = all 0 (record { time = 1; key = event_of name [] }) (omega arith) in
     absurd (omega arith)
 

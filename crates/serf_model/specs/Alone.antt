@@ -1,26 +1,32 @@
 -- What one agent does by itself: its calls, with the packets by their bytes, and nothing of the others.
 use Rattle.std.specs.Prelude.{◌≡◌, ℕ, List, [], ◌∷◌, ◌++◌, length, map, Option}
-use Rattle.std.specs.List.{AllZip, fold}
+use Rattle.std.specs.List.{AllZip, flat_map, fold}
 use Rattle.std.specs.Option.{option_map, option_to_list}
 use Rattle.serf_agent.specs.declared.config.Config.{Config}
+use Rattle.serf_model.specs.declared.action.Act.{Act}
+use Rattle.serf_model.specs.declared.action.Act.TheVariants as acts
 use Rattle.serf_model.specs.declared.action.Action.{Action}
 use Rattle.serf_model.specs.declared.action.Action.TheVariants as actions
 use Rattle.serf_model.specs.Cluster.{Applied, IdealNode, apply, event_line, first_node, handed_line, with_handed}
 use Rattle.serf_model.specs.Trace.{Turn}
 
--- a call of an agent: the action, and the packet that it gives, by its bytes
+-- a call of an agent: what it does, and the packet that it is given, by its bytes
 pub record AgentCall : Type 0 where
-  pub action : Action
+  pub act : Act
   pub given : Option (List ℕ)
 
-abbrev pub call_of : Turn → AgentCall
-call_of turn = record { action = turn.action; given = turn.given }
+abbrev pub call_by : Action → Option (List ℕ) → List AgentCall
+call_by (actions.Inject bytes) given = []
+call_by (actions.Of agent act) given = record { act = act; given = given } ∷ []
 
--- the action where the packet that it gives is the only one that there is
-abbrev pub of_one_packet : Action → Action
-of_one_packet (actions.Deliver to packet now) = actions.Deliver to 0 now
-of_one_packet (actions.Merge to packet join) = actions.Merge to 0 join
-of_one_packet action = action
+abbrev pub calls_in : List Turn → List AgentCall
+calls_in turns = flat_map (λ t. call_by t.action t.given) turns
+
+-- the act where the packet that is given is the only one that there is
+abbrev pub of_one_packet : Act → Act
+of_one_packet (acts.Deliver packet now) = acts.Deliver 0 now
+of_one_packet (acts.Merge packet join) = acts.Merge 0 join
+of_one_packet act = act
 
 -- an agent, and what came of each call that was made of it
 pub record Alone : Type 0 where
@@ -29,7 +35,7 @@ pub record Alone : Type 0 where
 
 abbrev pub calls_on : Alone → AgentCall → Alone
 calls_on s call =
-    let o = apply s.node (option_to_list call.given) (of_one_packet call.action) in
+    let o = apply s.node (option_to_list call.given) (of_one_packet call.act) in
     record { node = with_handed o.done.handed o.node; came = s.came ++ o ∷ [] }
 
 -- an agent of these settings after these calls
@@ -45,5 +51,5 @@ pub record Shows (a : ℕ) (turn : Turn) (o : Applied) : Type 0 where
 
 -- The turns of an agent show what comes of its calls where it is alone, and it is left as it is then.
 pub record IsAlone (config : Config) (a : ℕ) (turns : List Turn) (m : IdealNode) : Type 0 where
-  pub node : m ≡ (alone config (map call_of turns)).node
-  pub shown : AllZip (Shows a) turns (alone config (map call_of turns)).came
+  pub node : m ≡ (alone config (calls_in turns)).node
+  pub shown : AllZip (Shows a) turns (alone config (calls_in turns)).came

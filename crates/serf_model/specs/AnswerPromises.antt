@@ -11,6 +11,8 @@ use Rattle.serf_agent.specs.declared.config.Config.{Config}
 use Rattle.serf_agent.specs.declared.lists.Response.{Response}
 use Rattle.serf_agent.specs.declared.open_query.OpenQuery.{OpenQuery}
 use Rattle.serf_agent.specs.Queries.{deadline_of, is_ack}
+use Rattle.serf_model.specs.declared.action.Act.{Act}
+use Rattle.serf_model.specs.declared.action.Act.TheVariants as acts
 use Rattle.serf_model.specs.declared.action.Action.{Action}
 use Rattle.serf_model.specs.declared.action.Action.TheVariants as actions
 use Rattle.serf_model.specs.declared.line.Answer.{Answer}
@@ -37,7 +39,7 @@ pub record OwnQuery : Type 0 where
   pub wants_ack : Bool
 
 abbrev pub own_query_at : ℕ → Action → List OwnQuery
-own_query_at t (actions.Query agent now id name payload params) = record { time = t; id = id; deadline = deadline_of now params.timeout; wants_ack = params.want_ack } ∷ []
+own_query_at t (actions.Of agent (acts.Query q)) = record { time = t; id = q.id; deadline = deadline_of q.moment q.params.timeout; wants_ack = q.params.want_ack } ∷ []
 own_query_at t _ = []
 
 abbrev pub own_query : Action → Answer → List OwnQuery
@@ -96,14 +98,14 @@ pub record IsAwaited (life : List Turn) (now : ℕ) (r : QueryResponse) : Type 0
 -- An agent counts an answer only to a query that it fired in its present life, and only until the deadline.
 abbrev pub CountedInTime : List Turn → Type 0
 CountedInTime turns =
-    AtEach (λ before turn. (a packet now : ℕ) (ack : Bool) → turn.action ≡ actions.Deliver a packet now → All (IsAwaited (life_of a before) now) (counted_at ack turn)) turns
+    AtEach (λ before turn. (a packet now : ℕ) (ack : Bool) → turn.action ≡ actions.Of a (acts.Deliver packet now) → All (IsAwaited (life_of a before) now) (counted_at ack turn)) turns
 
 -- An agent was given a packet that had been sent, and that spells an answer of this kind.
 pub record IsDelivered (before : List Turn) (turn : Turn) (ack : Bool) : Type 0 where
   pub agent : ℕ
   pub number : ℕ
   pub now : ℕ
-  pub action : turn.action ≡ actions.Deliver agent number now
+  pub action : turn.action ≡ actions.Of agent (acts.Deliver number now)
   pub packet : List ℕ
   pub given : turn.given ≡ Some packet
   pub sent : Contains (sent_in before) packet
@@ -188,8 +190,8 @@ abbrev pub reply_deadline : Turn → List ℕ
 reply_deadline turn = by turn.action turn.line.answer
   where
     by : Action → Answer → List ℕ
-    by (actions.Query agent now id name payload params) (answers.Queried t) = deadline_of now params.timeout ∷ []
-    by (actions.Deliver to packet now) answers.Query = map (λ q. deadline_of now q.timeout) (message_given turn.given)
+    by (actions.Of agent (acts.Query q)) (answers.Queried t) = deadline_of q.moment q.params.timeout ∷ []
+    by (actions.Of agent (acts.Deliver packet now)) answers.Query = map (λ q. deadline_of now q.timeout) (message_given turn.given)
     by _ _ = []
 
 -- An agent of the answer's name answered the query, which was handed to it in this life, before its deadline was past,
@@ -198,7 +200,7 @@ pub record IsReplyTo (configs : List Config) (before : List Turn) (turn : Turn) 
   pub agent : ℕ
   pub number : ℕ
   pub now : ℕ
-  pub action : turn.action ≡ actions.Respond agent number now r.payload
+  pub action : turn.action ≡ actions.Of agent (acts.Respond number now r.payload)
   pub replied : turn.line.answer ≡ answers.Replied
   pub from : IsFrom configs agent r
   pub line : HandedLine

@@ -20,7 +20,6 @@ use Rattle.serf_agent.specs.declared.outcome.FireFault.TheVariants as fires
 use Rattle.serf_agent.specs.declared.outcome.FiredQuery.{FiredQuery}
 use Rattle.serf_agent.specs.declared.outcome.QueryFault.{QueryFault}
 use Rattle.serf_agent.specs.declared.outcome.QueryFault.TheVariants as queries
-use Rattle.serf_agent.specs.declared.outcome.QueryParams.{QueryParams}
 use Rattle.serf_agent.specs.declared.outcome.Outcome.{Outcome}
 use Rattle.serf_agent.specs.declared.outcome.Outcome.TheVariants as outcomes
 use Rattle.serf_agent.specs.declared.outcome.ReceiveFault.{ReceiveFault}
@@ -40,8 +39,11 @@ use Rattle.serf_agent.specs.Receive.{receive}
 use Rattle.serf_agent.specs.Restart.{restarted, unopened}
 use Rattle.serf_agent.specs.States.{send_state, joined, events_of, receive_one, handed_by, merge_refusal, save, compact}
 use Rattle.serf_agent.specs.View.{view_of}
+use Rattle.serf_model.specs.declared.action.Act.{Act}
+use Rattle.serf_model.specs.declared.action.Act.TheVariants as acts
 use Rattle.serf_model.specs.declared.action.Action.{Action}
 use Rattle.serf_model.specs.declared.action.Action.TheVariants as actions
+use Rattle.serf_model.specs.declared.query.NewQuery.{NewQuery}
 use Rattle.serf_model.specs.declared.action.SinkCall.{SinkCall}
 use Rattle.serf_model.specs.declared.action.SinkCall.TheVariants.{Append, Flush, ReplaceOld, ReplaceNew}
 use Rattle.serf_model.specs.declared.line.Answer.{Answer}
@@ -51,7 +53,7 @@ use Rattle.serf_model.specs.declared.line.Refusal.TheVariants.{NoAgent, NoMessag
 use Rattle.serf_model.specs.declared.line.EventLine.{EventLine}
 use Rattle.serf_model.specs.declared.line.HandedLine.{HandedLine}
 use Rattle.serf_model.specs.declared.line.Line.{Line}
-use Rattle.serf_model.specs.Trace.{Turn, Outcome as Shown, actor_of, injects_of, packet_given}
+use Rattle.serf_model.specs.Trace.{Turn, Outcome as Shown, given_by}
 
 -- An agent of a cluster: it forgets nothing, and has the queries that were handed to it in this life, in order; one
 -- that was answered is gone.
@@ -207,8 +209,8 @@ abbrev pub query_gives : Result FiredQuery QueryFault → Done
 query_gives (Ok f) = record { answer = answers.Queried f.time; packets = f.packet ∷ option_to_list f.ack; events = []; handed = f.handed }
 query_gives (Err fault) = refused (query_refusal fault)
 
-abbrev pub fires_query : IdealNode → ℕ → ℕ → List ℕ → List ℕ → QueryParams → Applied
-fires_query m now id name payload params = called m (planned m.agent (fire_query m.agent now id name payload params)) query_gives
+abbrev pub fires_query : IdealNode → NewQuery → Applied
+fires_query m q = called m (planned m.agent (fire_query m.agent q.moment q.id q.name q.payload q.params)) query_gives
 
 abbrev pub respond_refusal : RespondFault → Refusal
 respond_refusal answering.PastDeadline = PastDeadline
@@ -276,20 +278,19 @@ breaks m call n = record { node = record { agent = with_plan (plan_with call n) 
 
 -- One action
 
--- what an action does to its agent, where these packets were sent
-abbrev pub apply : IdealNode → List (List ℕ) → Action → Applied
-apply m sent (actions.Fire agent name payload coalesce) = fires_event m (event_of name payload) coalesce
-apply m sent (actions.Deliver to packet now) = delivers m now (slice_get sent packet)
-apply m sent (actions.State agent) = sends_state m
-apply m sent (actions.Merge to packet join) = merges_given m join (slice_get sent packet)
-apply m sent (actions.Query agent now id name payload params) = fires_query m now id name payload params
-apply m sent (actions.Respond agent h now payload) = responds m h (slice_get m.handed h) now payload
-apply m sent (actions.Restart agent tail) = restarts m tail
-apply m sent (actions.Break agent call n) = breaks m call n
-apply m sent (actions.Inject bytes) = does_nothing m (only answers.Injected)
-apply m sent (actions.Close agent now) = closes m now
-apply m sent (actions.Save agent) = saves m
-apply m sent (actions.Compact agent) = compacts m
+-- what an agent does, where these packets were sent
+abbrev pub apply : IdealNode → List (List ℕ) → Act → Applied
+apply m sent (acts.Fire name payload coalesce) = fires_event m (event_of name payload) coalesce
+apply m sent (acts.Deliver packet now) = delivers m now (slice_get sent packet)
+apply m sent acts.State = sends_state m
+apply m sent (acts.Merge packet join) = merges_given m join (slice_get sent packet)
+apply m sent (acts.Query q) = fires_query m q
+apply m sent (acts.Respond h now payload) = responds m h (slice_get m.handed h) now payload
+apply m sent (acts.Restart tail) = restarts m tail
+apply m sent (acts.Break call n) = breaks m call n
+apply m sent (acts.Close now) = closes m now
+apply m sent acts.Save = saves m
+apply m sent acts.Compact = compacts m
 
 -- What came of an action, and the packets that were sent.
 pub record Stepped : Type 0 where
@@ -320,39 +321,36 @@ line_of c a o = record {
   handed = option_map (handed_line a (length o.node.handed)) o.done.handed;
 }
 
--- an action was applied to an agent
-abbrev pub applied : Cluster → Action → ℕ → Applied → Stepped
-applied c action a o = record {
+-- an agent acted
+abbrev pub applied : Cluster → ℕ → Act → Applied → Stepped
+applied c a act o = record {
   cluster = record { nodes = slice_set c.nodes a (with_handed o.done.handed o.node); sent = c.sent ++ o.done.packets };
-  turn = record { action = action; line = line_of c a o; given = packet_given c.sent action; packets = o.done.packets };
+  turn = record { action = actions.Of a act; line = line_of c a o; given = given_by c.sent act; packets = o.done.packets };
 }
 
 -- nothing but an answer
 abbrev pub line_only : Answer → Line
 line_only answer = record { answer = answer; sent = []; events = []; handed = None }
 
-abbrev pub on_agent : Cluster → Action → ℕ → Option IdealNode → Stepped
-on_agent c action a None = record { cluster = c; turn = record { action = action; line = line_only (answers.Refused NoAgent); given = packet_given c.sent action; packets = [] } }
-on_agent c action a (Some m) = applied c action a (apply m c.sent action)
+abbrev pub on_agent : Cluster → ℕ → Act → Option IdealNode → Stepped
+on_agent c a act None = record { cluster = c; turn = record { action = actions.Of a act; line = line_only (answers.Refused NoAgent); given = given_by c.sent act; packets = [] } }
+on_agent c a act (Some m) = applied c a act (apply m c.sent act)
 
 -- bytes that no agent made are sent
-abbrev pub injects : Cluster → Action → List (List ℕ) → Stepped
-injects c action packets = record {
-  cluster = record { nodes = c.nodes; sent = c.sent ++ packets };
+abbrev pub injects : Cluster → List ℕ → Stepped
+injects c bytes = record {
+  cluster = record { nodes = c.nodes; sent = c.sent ++ bytes ∷ [] };
   turn = record {
-    action = action;
-    line = record { answer = answers.Injected; sent = numbers_from (length c.sent) packets; events = []; handed = None };
-    given = packet_given c.sent action;
-    packets = packets;
+    action = actions.Inject bytes;
+    line = record { answer = answers.Injected; sent = length c.sent ∷ []; events = []; handed = None };
+    given = None;
+    packets = bytes ∷ [];
   };
 }
 
-abbrev pub step_by : Cluster → Action → Option ℕ → Stepped
-step_by c action None = injects c action (injects_of action)
-step_by c action (Some a) = on_agent c action a (slice_get c.nodes a)
-
 abbrev pub step : Cluster → Action → Stepped
-step c action = step_by c action (actor_of action)
+step c (actions.Inject bytes) = injects c bytes
+step c (actions.Of a act) = on_agent c a act (slice_get c.nodes a)
 
 -- A run
 

@@ -2,6 +2,7 @@
 use Rattle.std.specs.Prelude.{◌==◌, ◌&&◌, Bool, true, false, length}
 use Rattle.serf_agent.specs.declared.outcome.Reason.{Reason}
 use Rattle.serf_agent.specs.declared.outcome.Reason.TheVariants as reasons
+use Rattle.serf_model.specs.declared.action.Act.TheVariants as acts
 use Rattle.serf_model.specs.declared.action.Action.{Action}
 use Rattle.serf_model.specs.declared.action.Action.TheVariants as actions
 use Rattle.serf_model.specs.declared.line.Refusal.{Refusal}
@@ -36,7 +37,7 @@ is_common_answer _ = true
 
 -- what becomes of a torn tail is own
 abbrev pub has_no_tail : Action → Bool
-has_no_tail (actions.Restart agent tail) = length tail == 0
+has_no_tail (actions.Of agent (acts.Restart tail)) = length tail == 0
 has_no_tail _ = true
 
 -- the turn rests on no rule of this project's own

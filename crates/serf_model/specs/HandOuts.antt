@@ -9,6 +9,7 @@ use Rattle.serf_wire.specs.Message.{Message, Query, query}
 use Rattle.serf_window.specs.Window.{TimedEntry}
 use Rattle.serf_agent.specs.declared.config.Config.{Config}
 use Rattle.serf_agent.specs.Queries.{query_at}
+use Rattle.serf_model.specs.declared.action.Act.TheVariants as acts
 use Rattle.serf_model.specs.declared.action.Action.{Action}
 use Rattle.serf_model.specs.declared.action.Action.TheVariants as actions
 use Rattle.serf_model.specs.declared.line.Answer.{Answer}
@@ -56,7 +57,7 @@ NewIsHanded turns =
 
 -- the message of the query that an action fires at a time
 abbrev pub message_at : List Config → ℕ → Action → List Query
-message_at configs t (actions.Query agent now id name payload params) = map (λ c. query_at t c.name id name payload params) (option_to_list (slice_get configs agent))
+message_at configs t (actions.Of agent (acts.Query q)) = map (λ c. query_at t c.name q.id q.name q.payload q.params) (option_to_list (slice_get configs agent))
 message_at configs t _ = []
 
 -- the message of the query that a turn fired

@@ -1,6 +1,7 @@
 -- The numbers that an action's fields can hold.
 use Rattle.std.specs.Prelude.{◌≡◌, ℕ, ℤ, ◌<◌, ◌^◌, Some}
 use Rattle.serf_wire.specs.Fields.{fits}
+use Rattle.serf_model.specs.declared.action.Act.TheVariants as acts
 use Rattle.serf_model.specs.declared.action.Action.{Action}
 use Rattle.serf_model.specs.declared.action.Action.TheVariants as actions
 
@@ -13,5 +14,5 @@ pub record IsSized (id port relay_factor : ℕ) (timeout : ℤ) : Type 0 where
 
 -- and so the numbers of an action
 abbrev pub HasSizes : Action → Type 0
-HasSizes (actions.Query agent now id name payload params) = IsSized id params.port params.relay_factor params.timeout
+HasSizes (actions.Of agent (acts.Query q)) = IsSized q.id q.params.port q.params.relay_factor q.params.timeout
 HasSizes _ = Unit {0}

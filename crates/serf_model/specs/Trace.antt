@@ -9,6 +9,8 @@ use Rattle.serf_wire.specs.Message.{Message, user_event, query, push_pull}
 use Rattle.serf_window.specs.Texts.{event_of}
 use Rattle.serf_window.specs.Window.{TimedEntry}
 use Rattle.serf_agent.specs.States.{events_of}
+use Rattle.serf_model.specs.declared.action.Act.{Act}
+use Rattle.serf_model.specs.declared.action.Act.TheVariants as acts
 use Rattle.serf_model.specs.declared.action.Action.{Action}
 use Rattle.serf_model.specs.declared.action.Action.TheVariants as actions
 use Rattle.serf_model.specs.declared.line.Answer.{Answer}
@@ -36,11 +38,16 @@ pub record Turn : Type 0 where
   pub given : Option (List ℕ)
   pub packets : List (List ℕ)
 
--- the packet that an action gives to its agent, where these were sent
+-- the packet that an agent is given by what it does, where these were sent
+abbrev pub given_by : List (List ℕ) → Act → Option (List ℕ)
+given_by sent (acts.Deliver packet now) = slice_get sent packet
+given_by sent (acts.Merge packet join) = slice_get sent packet
+given_by sent _ = None
+
+-- and the packet that an action gives to its agent
 abbrev pub packet_given : List (List ℕ) → Action → Option (List ℕ)
-packet_given sent (actions.Deliver to packet now) = slice_get sent packet
-packet_given sent (actions.Merge to packet join) = slice_get sent packet
-packet_given sent _ = None
+packet_given sent (actions.Inject bytes) = None
+packet_given sent (actions.Of agent act) = given_by sent act
 
 -- the turns from where n packets were sent: each line's packets follow those before it
 abbrev pub turns_from : ℕ → List (List ℕ) → List Action → List Line → List Turn
@@ -64,18 +71,8 @@ AtEach P turns = (before : List Turn) (turn : Turn) (rest : List Turn) → turns
 
 -- the agent that acts; no agent injects
 abbrev pub actor_of : Action → Option ℕ
-actor_of (actions.Fire agent name payload coalesce) = Some agent
-actor_of (actions.Deliver to packet now) = Some to
-actor_of (actions.State agent) = Some agent
-actor_of (actions.Merge to packet join) = Some to
-actor_of (actions.Query agent now id name payload params) = Some agent
-actor_of (actions.Respond agent h now payload) = Some agent
-actor_of (actions.Restart agent tail) = Some agent
-actor_of (actions.Break agent call n) = Some agent
 actor_of (actions.Inject bytes) = None
-actor_of (actions.Close agent now) = Some agent
-actor_of (actions.Save agent) = Some agent
-actor_of (actions.Compact agent) = Some agent
+actor_of (actions.Of agent act) = Some agent
 
 abbrev pub is_agent : ℕ → Option ℕ → Bool
 is_agent a None = false
@@ -88,7 +85,7 @@ turns_by a turns = filter (λ t. is_agent a (actor_of t.action)) turns
 -- the packets that an action injects
 abbrev pub injects_of : Action → List (List ℕ)
 injects_of (actions.Inject bytes) = bytes ∷ []
-injects_of _ = []
+injects_of (actions.Of agent act) = []
 
 abbrev pub injected_in : List Turn → List (List ℕ)
 injected_in turns = flat_map (λ t. injects_of t.action) turns
@@ -105,7 +102,7 @@ events_to a turns = map event_in (filter (λ e. e.agent == a) (flat_map (λ t. t
 
 -- the event that an action fired, where this is its answer
 abbrev pub fired_at : ℕ → Action → List (TimedEntry EventBody)
-fired_at t (actions.Fire agent name payload coalesce) = record { time = t; key = event_of name payload } ∷ []
+fired_at t (actions.Of agent (acts.Fire name payload coalesce)) = record { time = t; key = event_of name payload } ∷ []
 fired_at t _ = []
 
 abbrev pub fired_by : Action → Answer → List (TimedEntry EventBody)
@@ -142,7 +139,7 @@ query_given None = []
 query_given (Some packet) = query_brought (decoded packet)
 
 abbrev pub queried_at : ℕ → Action → List (TimedEntry ℕ)
-queried_at t (actions.Query agent now id name payload params) = record { time = t; key = id } ∷ []
+queried_at t (actions.Of agent (acts.Query q)) = record { time = t; key = q.id } ∷ []
 queried_at t _ = []
 
 -- the query that entered, where this is the answer: the one that was fired, or the one that was given

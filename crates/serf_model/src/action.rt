@@ -1,11 +1,13 @@
 //! What is done in a cluster.
 
-ghost use Rattle.std.specs.Prelude.{◌≡◌, slice_get};
+ghost use Rattle.std.specs.Prelude.{◌≡◌, IfOk, slice_get};
 ghost use Rattle.std.specs.Option.{option_copied};
-ghost use Rattle.serf_model.specs.Trace.{actor_of, packet_given};
+ghost use Rattle.serf_model.specs.Trace.{actor_of, given_by, packet_given};
 
-use crate::boxed::{BoxedBytes, BoxedParams};
+use crate::boxed::Boxed;
+use crate::query::NewQuery;
 use serf_wire::Bytes;
+use std::alloc::{AllocError, Global};
 
 /// A call of an agent's sink that can be made to fail.
 #[derive(Clone, Copy, Debug, PartialEq, Eq)]
@@ -20,79 +22,63 @@ pub enum SinkCall {
     ReplaceNew,
 }
 
-/// What is done. Agents are numbered from 0 in the order of their settings, packets from 0 in the order in which they
-/// were sent, and the queries that were handed to an agent from 0 in each of its lives. Moments are nanoseconds.
+/// What is done in a cluster. Agents are numbered from 0 in the order of their settings.
 #[derive(Debug, Drop)]
 pub enum Action {
-    /// An agent fires a user event.
+    /// Bytes are sent that no agent made.
+    Inject { bytes: Bytes },
+    /// The agent of this number acts.
+    Of { agent: u64, act: Act },
+}
+
+/// What an agent does. Packets are numbered from 0 in the order in which they were sent, and the queries that were
+/// handed to an agent from 0 in each of its lives. Moments are nanoseconds.
+#[derive(Debug, Drop)]
+pub enum Act {
+    /// It fires a user event.
     Fire {
-        agent: u64,
         name: Bytes,
         payload: Bytes,
         /// Whether the event may be coalesced with others of its name.
         coalesce: bool,
     },
-    /// An agent is given a packet. Any packet can be given to any agent, any number of times; one that is never given
-    /// is lost.
+    /// It is given a packet. Any packet can be given to any agent, any number of times; one that is never given is lost.
     Deliver {
-        to: u64,
         packet: u64,
         now: u64,
     },
-    /// An agent sends its whole state, as a push/pull.
-    State {
-        agent: u64,
-    },
-    /// An agent merges the state that a packet brings; where it joins, it may pass over what was fired before.
+    /// It sends its whole state, as a push/pull.
+    State,
+    /// It merges the state that a packet brings; where it joins, it may pass over what was fired before.
     Merge {
-        to: u64,
         packet: u64,
         join: bool,
     },
-    /// An agent fires a query.
-    Query {
-        agent: u64,
-        now: u64,
-        id: u32,
-        name: BoxedBytes,
-        payload: BoxedBytes,
-        params: BoxedParams,
-    },
-    /// An agent answers a query that was handed to it in this life.
+    /// It fires a query.
+    Query(Boxed<NewQuery>),
+    /// It answers a query that was handed to it in this life.
     Respond {
-        agent: u64,
         handed: u64,
         now: u64,
         payload: Bytes,
     },
-    /// An agent is opened again on what its sink keeps and a tail: what a call that was cut off had appended.
+    /// It is opened again on what its sink keeps and a tail: what a call that was cut off had appended.
     Restart {
-        agent: u64,
         tail: Bytes,
     },
-    /// The call of an agent's sink with this number from now, counted from 1, is to fail; 0 lets none fail.
+    /// The call of its sink with this number from now, counted from 1, is to fail; 0 lets none fail.
     Break {
-        agent: u64,
         call: SinkCall,
         count: u64,
     },
-    /// Bytes are sent that no agent made.
-    Inject {
-        bytes: Bytes,
-    },
-    /// An agent lets go of its open queries that are past their deadlines.
+    /// It lets go of its open queries that are past their deadlines.
     Close {
-        agent: u64,
         now: u64,
     },
-    /// An agent notes its member clock.
-    Save {
-        agent: u64,
-    },
-    /// An agent replaces its snapshot's text by its last lines.
-    Compact {
-        agent: u64,
-    },
+    /// It notes its member clock.
+    Save,
+    /// It replaces its snapshot's text by its last lines.
+    Compact,
 }
 
 impl Action {
@@ -101,18 +87,8 @@ impl Action {
         ensures { result ≡ actor_of self.now }
     {
         match self {
-            Action::Fire { agent, .. } => Some(*agent),
-            Action::Deliver { to, .. } => Some(*to),
-            Action::State { agent } => Some(*agent),
-            Action::Merge { to, .. } => Some(*to),
-            Action::Query { agent, .. } => Some(*agent),
-            Action::Respond { agent, .. } => Some(*agent),
-            Action::Restart { agent, .. } => Some(*agent),
-            Action::Break { agent, .. } => Some(*agent),
             Action::Inject { .. } => None,
-            Action::Close { agent, .. } => Some(*agent),
-            Action::Save { agent } => Some(*agent),
-            Action::Compact { agent } => Some(*agent),
+            Action::Of { agent, .. } => Some(*agent),
         }
     }
 
@@ -120,11 +96,83 @@ impl Action {
     pub fn given<'a>(&self, sent: &'a [Bytes]) -> Option<&'a [u8]>
         ensures { option_copied result ≡ packet_given sent.now self.now }
     {
+        let Action::Of { act, .. } = self else {
+            return None;
+        };
+        act.given(sent)
+    }
+
+    /// A copy, or `AllocError` where there is no memory for it.
+    pub fn try_clone(&self, alloc: Global) -> Result<Action, AllocError>
+        ensures { IfOk result (λ copy. copy ≡ self.now) }
+    {
         match self {
-            Action::Deliver { packet, .. } => packet_at(sent, *packet),
-            Action::Merge { packet, .. } => packet_at(sent, *packet),
+            Action::Inject { bytes } => Ok(Action::Inject {
+                bytes: Bytes::copy_of(alloc, bytes.as_slice())?,
+            }),
+            Action::Of { agent, act } => Ok(Action::Of {
+                agent: *agent,
+                act: act.try_clone(alloc)?,
+            }),
+        }
+    }
+}
+
+impl Act {
+    /// The packet that the agent is given, where these were sent. Takes no memory.
+    pub fn given<'a>(&self, sent: &'a [Bytes]) -> Option<&'a [u8]>
+        ensures { option_copied result ≡ given_by sent.now self.now }
+    {
+        match self {
+            Act::Deliver { packet, .. } | Act::Merge { packet, .. } => packet_at(sent, *packet),
             _ => None,
         }
+    }
+
+    /// A copy, or `AllocError` where there is no memory for it.
+    pub fn try_clone(&self, alloc: Global) -> Result<Act, AllocError>
+        ensures { IfOk result (λ copy. copy ≡ self.now) }
+    {
+        Ok(match self {
+            Act::Fire {
+                name,
+                payload,
+                coalesce,
+            } => Act::Fire {
+                name: Bytes::copy_of(alloc, name.as_slice())?,
+                payload: Bytes::copy_of(alloc, payload.as_slice())?,
+                coalesce: *coalesce,
+            },
+            Act::Deliver { packet, now } => Act::Deliver {
+                packet: *packet,
+                now: *now,
+            },
+            Act::State => Act::State,
+            Act::Merge { packet, join } => Act::Merge {
+                packet: *packet,
+                join: *join,
+            },
+            Act::Query(query) => Act::Query(Boxed::new(alloc, query.get().try_clone(alloc)?)?),
+            Act::Respond {
+                handed,
+                now,
+                payload,
+            } => Act::Respond {
+                handed: *handed,
+                now: *now,
+                payload: Bytes::copy_of(alloc, payload.as_slice())?,
+            },
+            Act::Restart { tail } => Act::Restart {
+                tail: Bytes::copy_of(alloc, tail.as_slice())?,
+            },
+            Act::Break { call, count } => Act::Break {
+                call: *call,
+                count: *count,
+            },
+            Act::Close { now } => Act::Close { now: *now },
+            Act::Save => Act::Save,
+            Act::Compact => Act::Compact,
+        })
     }
 }
 

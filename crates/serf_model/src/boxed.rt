@@ -1,9 +1,7 @@
-//! What only a query has, each in a place of its own, so that every other action stays small.
+//! A value in a place of its own, so that what has it stays small.
 
 ghost use Rattle.std.specs.Prelude.{◌≡◌, IfOk};
 
-use serf_agent::QueryParams;
-use serf_wire::Bytes;
 use std::alloc::{AllocError, Global};
 use std::marker::Model;
 
@@ -39,18 +37,3 @@ impl<T> Boxed<T> {
         &self.place
     }
 }
-
-impl Boxed<Bytes> {
-    /// The bytes. Takes no memory.
-    pub fn as_slice(&self) -> &[u8]
-        ensures { result.now ≡ self.now }
-    {
-        self.place.as_slice()
-    }
-}
-
-/// Bytes in a place of their own.
-pub type BoxedBytes = Boxed<Bytes>;
-
-/// How a query is fired, in a place of its own.
-pub type BoxedParams = Boxed<QueryParams>;

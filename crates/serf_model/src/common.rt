@@ -3,7 +3,7 @@
 ghost use Rattle.std.specs.Prelude.{◌≡◌, ◌&&◌};
 ghost use Rattle.serf_model.specs.Common.{has_no_tail, is_common_answer, is_common_reason, is_common_refusal};
 
-use crate::action::Action;
+use crate::action::{Act, Action};
 use crate::line::{Answer, Line, Refusal};
 use serf_agent::Reason;
 
@@ -42,7 +42,10 @@ fn is_without_tail(action: &Action) -> bool
     ensures { result ≡ has_no_tail action.now }
 {
     match action {
-        Action::Restart { tail, .. } => tail.as_slice().is_empty(),
+        Action::Of {
+            act: Act::Restart { tail },
+            ..
+        } => tail.as_slice().is_empty(),
         _ => true,
     }
 }

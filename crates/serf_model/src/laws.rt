@@ -7,6 +7,7 @@ ghost use Rattle.serf_agent.specs.Config.{is_sound};
 ghost use Rattle.serf_agent.specs.declared.config.Config.{Config};
 ghost use Rattle.serf_agent.specs.Restart.{IsInText, unopened};
 ghost use Rattle.serf_agent.specs.Sound.{IsSound};
+ghost use Rattle.serf_model.specs.declared.action.Act.{Act};
 ghost use Rattle.serf_model.specs.declared.action.Action.{Action};
 ghost use Rattle.serf_model.specs.Alone.{IsAlone};
 ghost use Rattle.serf_model.specs.AnswerPromises.{AckedOnce, AnswersMade, CountedInTime, CountedOnce, CountedSent, OpenQueriesHold, RepliedOnce};
@@ -128,14 +129,14 @@ pub fn agents_alone()
         → IsAlone config a (turns_by a (run_of configs actions).turns) m }
 {}
 
-/// The agents of a cluster that has done nothing are representable, and an action leaves its agent representable. An
+/// The agents of a cluster that has done nothing are representable, and what an agent does leaves it representable. An
 /// agent before its first life is sound. What a representable agent's sink keeps has the times of all that entered,
 /// whatever tail comes behind. Does nothing.
 pub fn representable_agents()
     ensures start { (configs : List Config) → AreConfigs configs
         → AreRepresentable (start configs).cluster }
-    ensures apply { (m : IdealNode) (sent : List (List ℕ)) (action : Action)
-        → IsRepresentable m.agent → IsRepresentable (apply m sent action).node.agent }
+    ensures apply { (m : IdealNode) (sent : List (List ℕ)) (act : Act)
+        → IsRepresentable m.agent → IsRepresentable (apply m sent act).node.agent }
     ensures unopened { (config : Config) → is_sound config ≡ true
         → IsSound (unopened config (opened [] (fresh_device []))) }
     ensures text { (m : IdealNode) (tail : List ℕ) → IsRepresentable m.agent

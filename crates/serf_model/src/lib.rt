@@ -13,10 +13,11 @@ mod fault;
 mod laws;
 mod line;
 mod lists;
+mod query;
 mod trace;
 
-pub use action::{Action, SinkCall, packet_at};
-pub use boxed::{Boxed, BoxedBytes, BoxedParams};
+pub use action::{Act, Action, SinkCall, packet_at};
+pub use boxed::Boxed;
 pub use common::is_common_turn;
 pub use fault::{NewFault, RunFault};
 pub use laws::{
@@ -25,4 +26,5 @@ pub use laws::{
 };
 pub use line::{Answer, EventLine, HandedLine, Line, Refusal};
 pub use lists::{EventLines, Lines, Numbers};
+pub use query::NewQuery;
 pub use trace::Trace;

@@ -1,11 +1,16 @@
-//! Packets that begin as memberlist's framing, which stands around what Serf reads.
+//! Packets of memberlist's own, and its framing, which stands around what Serf reads.
 
 ghost use Rattle.std.specs.Prelude.{◌≡◌};
-ghost use Rattle.serf_packets.specs.Framing.{framing_in};
+ghost use Rattle.serf_packets.specs.Framing.{framing_in, has_text as has_text_in, own_in};
 
-/// A message of memberlist, by its first byte, that may stand around a message of Serf (memberlist's `net.go`).
+/// A message of memberlist, by its first byte: one that may stand around a message of Serf, or one of its own
+/// (memberlist's `net.go`).
 #[derive(Clone, Copy, Debug, PartialEq, Eq)]
 pub enum Framing {
+    /// 0 to 2, with the key `SeqNo` somewhere behind: a ping, an indirect ping or an ack.
+    Probe,
+    /// 3 to 5, with the key `Incarnation` somewhere behind: that a node is suspect, alive or dead.
+    Rumour,
     /// 7: several messages in one packet.
     Compound,
     /// 8: a message of Serf stands behind this byte.
@@ -16,14 +21,44 @@ pub enum Framing {
     Checksum,
 }
 
-/// The framing that a packet begins with: first byte 7, 9 or 12, or 8 with the type of a Serf message (0 to 9) behind it.
+/// Whether a text stands somewhere in the bytes.
+fn has_text(text: &[u8], bytes: &[u8]) -> bool
+    ensures { result ≡ has_text_in text.now bytes.now }
+{
+    let mut rest = bytes;
+    'starts: loop {
+        let [_, more @ ..] = rest else {
+            return false;
+        };
+        if rest.starts_with(text) {
+            return true;
+        }
+        rest = more;
+    }
+}
+
+/// Memberlist's own message, where the key of all of its kind stands in it.
+fn own_of(framing: Framing, key: &[u8], rest: &[u8]) -> Option<Framing>
+    ensures { result ≡ own_in framing key.now rest.now }
+{
+    if has_text(key, rest) {
+        Some(framing)
+    } else {
+        None
+    }
+}
+
+/// The framing that a packet begins with, or that it is memberlist's own: first byte 7, 9 or 12, or 8 with the type of a
+/// Serf message (0 to 9) behind it; or 0 to 5 with a key behind it that all messages of memberlist of this type have.
 ///
-/// 7, 8 and 9 are also types of Serf's own messages, so a packet of a query's key response or relay may have framing by
-/// this test. Takes no memory.
+/// 0 to 5, 7, 8 and 9 are also types of Serf's own messages, so a packet of Serf may be taken for memberlist's: a key
+/// response, a relay, or one with that key in a name or a payload. Takes no memory.
 pub fn framing_of(packet: &[u8]) -> Option<Framing>
     ensures { result ≡ framing_in packet.now }
 {
     match packet {
+        [0..=2, rest @ ..] => own_of(Framing::Probe, b"SeqNo", rest),
+        [3..=5, rest @ ..] => own_of(Framing::Rumour, b"Incarnation", rest),
         [7, ..] => Some(Framing::Compound),
         [8, kind, ..] => {
             if *kind <= 9 {

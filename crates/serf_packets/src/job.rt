@@ -20,7 +20,7 @@ use thiserror::Error;
 #[error("the line is not hex")]
 pub struct BadHex;
 
-/// Is told of each packet that begins as memberlist's framing. What it does changes nothing of the answers.
+/// Is told of each packet that begins as memberlist's framing, or is its own. What it does changes nothing of the answers.
 pub trait FramingNotes {
     /// The packet in the line of this number, counted from 1, begins so. The number stops at 2^64 - 1.
     fn framed(&mut self, line: u64, framing: Framing);

@@ -2,8 +2,7 @@
 
 ghost use Rattle.std.specs.Prelude.{◌≡◌, ◌∷◌, [], IfOk, MatchOption, Some, None, codes, map};
 ghost use Rattle.std.specs.Option.{option_map};
-ghost use Rattle.serf_wire.specs.Message.{Message, query, foreign};
-ghost use Rattle.serf_wire.specs.Parts.{query_of};
+ghost use Rattle.serf_wire.specs.Message.{Message, foreign, query, query_of};
 ghost use Rattle.serf_packets.specs.Rows.{row_seen};
 ghost use Rattle.serf_packets.specs.Meant.{event_meant, meant_by, number_at, query_meant, response_meant};
 ghost use Rattle.serf_packets.specs.Encoded.{packet_meant};
@@ -12,21 +11,28 @@ ghost use Rattle.serf_packets.specs.States.{IsPacketOf};
 use crate::meant::{bytes_field, number_field, signed_in, texts_field, time_in};
 use crate::row::{Row, rows_of_text, value};
 use crate::slots::encode_state;
-use serf_wire::{EncodeFault, QueryParts, encode_query, encode_response, encode_user_event};
+use serf_wire::{
+    Bytes, EncodeFault, Query, QueryResponse, UserEvent, encode_query, encode_response,
+    encode_user_event,
+};
 use std::alloc::{AllocError, Global};
 
 #[tactic(auto, unfolding(crate::specs::Meant::event_meant))]
 fn encode_event(alloc: Global, rows: &[Row]) -> Result<Vec<u8>, EncodeFault>
     ensures { IsPacketOf (λ p. p.items) result (event_meant (map row_seen rows.now)) }
 {
-    let time = time_in(value(rows, b"LTime"));
     let name = bytes_field(alloc, rows, b"Name")?;
     let payload = bytes_field(alloc, rows, b"Payload")?;
-    let coalesce = value(rows, b"CC") == b"1".as_slice();
-    encode_user_event(alloc, time, name.as_slice(), payload.as_slice(), coalesce)
+    let event = UserEvent {
+        time: time_in(value(rows, b"LTime")),
+        name: name.as_slice(),
+        payload: payload.as_slice(),
+        coalesce: value(rows, b"CC") == b"1".as_slice(),
+    };
+    encode_user_event(alloc, &event)
 }
 
-fn write_query(alloc: Global, parts: &QueryParts) -> Result<Vec<u8>, EncodeFault>
+fn write_query(alloc: Global, parts: &Query<&[Bytes]>) -> Result<Vec<u8>, EncodeFault>
     ensures { IsPacketOf (λ p. p.items) result (query (query_of parts.now)) }
 {
     encode_query(alloc, parts)
@@ -41,7 +47,7 @@ fn encode_question(alloc: Global, rows: &[Row]) -> Result<Vec<u8>, EncodeFault>
     let filters = texts_field(alloc, rows, b"filter")?;
     let name = bytes_field(alloc, rows, b"Name")?;
     let payload = bytes_field(alloc, rows, b"Payload")?;
-    let parts = QueryParts {
+    let parts = Query {
         time: time_in(value(rows, b"LTime")),
         id: number_field(rows, b"ID", 4_294_967_295) as u32,
         addr: addr.as_slice(),
@@ -61,12 +67,16 @@ fn encode_question(alloc: Global, rows: &[Row]) -> Result<Vec<u8>, EncodeFault>
 fn encode_answer(alloc: Global, rows: &[Row]) -> Result<Vec<u8>, EncodeFault>
     ensures { IsPacketOf (λ p. p.items) result (response_meant (map row_seen rows.now)) }
 {
-    let time = number_field(rows, b"LTime", u64::MAX);
-    let id = number_field(rows, b"ID", 4_294_967_295) as u32;
     let from = bytes_field(alloc, rows, b"From")?;
-    let flags = number_field(rows, b"Flags", 4_294_967_295) as u32;
     let payload = bytes_field(alloc, rows, b"Payload")?;
-    encode_response(alloc, time, id, from.as_slice(), flags, payload.as_slice())
+    let answer = QueryResponse {
+        time: number_field(rows, b"LTime", u64::MAX),
+        id: number_field(rows, b"ID", 4_294_967_295) as u32,
+        from: from.as_slice(),
+        flags: number_field(rows, b"Flags", 4_294_967_295) as u32,
+        payload: payload.as_slice(),
+    };
+    encode_response(alloc, &answer)
 }
 
 #[tactic(auto, unfolding(serf_wire::specs::Canonical::canonical, serf_wire::specs::Canonical::has_long))]

@@ -26,6 +26,7 @@ kind-plain kinds.Exhaustion = record { some = omega arith; plain = refl }
 kind-plain kinds.PerTime = record { some = omega arith; plain = refl }
 kind-plain kinds.Compactions = record { some = omega arith; plain = refl }
 kind-plain kinds.Gossip = record { some = omega arith; plain = refl }
+kind-plain kinds.Spellings = record { some = omega arith; plain = refl }
 
 kind-short : (k : Kind) → length (kind_name k) ≤ 20
 kind-short kinds.Mixed = omega arith
@@ -40,6 +41,7 @@ kind-short kinds.Exhaustion = omega arith
 kind-short kinds.PerTime = omega arith
 kind-short kinds.Compactions = omega arith
 kind-short kinds.Gossip = omega arith
+kind-short kinds.Spellings = omega arith
 
 comment-plain : NumbersAreWords → (ask : Ask) → HasNumbers ask → AllByRecursion IsWord (comment_words ask)
 comment-plain number-word ask h = (

@@ -27,6 +27,7 @@ kind-word kinds.Exhaustion = (record { some = omega arith; plain = refl }, omega
 kind-word kinds.PerTime = (record { some = omega arith; plain = refl }, omega arith)
 kind-word kinds.Compactions = (record { some = omega arith; plain = refl }, omega arith)
 kind-word kinds.Gossip = (record { some = omega arith; plain = refl }, omega arith)
+kind-word kinds.Spellings = (record { some = omega arith; plain = refl }, omega arith)
 
 comment-plain : NumbersAreWords → (ask : Ask) → HasNumbers ask → AllByRecursion IsWord (comment_words ask)
 comment-plain number-word ask h = (record { some = omega arith; plain = refl }, (record { some = omega arith; plain = refl }, (number-word ask.seed h.0, (record { some = omega arith; plain = refl }, ((kind-word ask.kind).0, (record { some = omega arith; plain = refl }, (number-word ask.agents h.1, (record { some = omega arith; plain = refl }, (number-word ask.actions h.2, (record { some = omega arith; plain = refl }, (record { some = omega arith; plain = refl }, (record { some = omega arith; plain = refl }, (record { some = omega arith; plain = refl }, tt)))))))))))))

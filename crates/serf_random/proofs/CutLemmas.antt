@@ -7,10 +7,10 @@ use Rattle.std.proofs.lemmas.List.Elements.{All-push}
 use Rattle.std.proofs.lemmas.List.Sums.{fold-append}
 use Rattle.serf_agent.specs.declared.config.Config.{Config}
 use Rattle.serf_model.specs.declared.action.Action.{Action}
+use Rattle.serf_model.specs.declared.action.Action.TheVariants.{Inject, Of}
 use Rattle.serf_model.specs.declared.line.Line.{Line}
-use Rattle.serf_model.specs.Cluster.{Cluster, IdealNode, Run, after, on_agent, run_of, start, step, step_by}
+use Rattle.serf_model.specs.Cluster.{Cluster, IdealNode, Run, after, on_agent, run_of, start, step}
 use Rattle.serf_model.specs.Ready.{AreRepresentable}
-use Rattle.serf_model.specs.Trace.{actor_of}
 use Rattle.serf_world.specs.View.{IsViewed, TakesStep, WorldState}
 use Rattle.serf_model.specs.Common.{has_no_tail, is_common_answer}
 use Rattle.serf_schedule.specs.Sayable.{IsSayable}
@@ -19,23 +19,20 @@ use Rattle.serf_random.specs.Common.{IsCommon}
 use Rattle.serf_random.specs.Cut.{AddsLine, AddsNothing, AreKept, GoesOn, IsAlong, MayAdd}
 
 -- a turn is of the action that was done
-acts : (c : Cluster) (action : Action) → (step c action).turn.action ≡ action
-acts c action = by (actor_of action)
+turn-action : (c : Cluster) (action : Action) → (step c action).turn.action ≡ action
+turn-action c (Inject bytes) = refl
+turn-action c (Of a act) = by (slice_get c.nodes a)
   where
-    at : (a : ℕ) (m : Option IdealNode) → (on_agent c action a m).turn.action ≡ action
-    at a None = refl
-    at a (Some m) = refl
-
-    by : (o : Option ℕ) → (step_by c action o).turn.action ≡ action
+    by : (m : Option IdealNode) → (on_agent c a act m).turn.action ≡ Of a act
     by None = refl
-    by (Some a) = at a (slice_get c.nodes a)
+    by (Some m) = refl
 
 -- the turn of a step whose line is common, by an action without a tail
 common-step : (c : Cluster) (action : Action) (line : Line) → line ≡ (step c action).turn.line
     → (is_common_answer line.answer && has_no_tail action) ≡ true → IsCommon (step c action).turn
 common-step c action line is common =
     ap (λ (l : Line). is_common_answer l.answer && has_no_tail (step c action).turn.action) (sym is)
-    ∙ ap (λ (a : Action). is_common_answer line.answer && has_no_tail a) (acts c action)
+    ∙ ap (λ (a : Action). is_common_answer line.answer && has_no_tail a) (turn-action c action)
     ∙ common
 
 more-kept : (configs : List Config) (first old new : List ℕ) (before behind : List Action) (action : Action) (line : Line) (w v : WorldState)

@@ -17,6 +17,7 @@ kind_name kinds.Exhaustion = codes "exhaustion"
 kind_name kinds.PerTime = codes "per-time"
 kind_name kinds.Compactions = codes "compactions"
 kind_name kinds.Gossip = codes "gossip"
+kind_name kinds.Spellings = codes "spellings"
 
 -- the kind that has a name
 abbrev pub kind_of : List ℕ → Option Kind
@@ -33,4 +34,5 @@ kind_of name =
     else if bytes_eq name (codes "per-time") then Some kinds.PerTime
     else if bytes_eq name (codes "compactions") then Some kinds.Compactions
     else if bytes_eq name (codes "gossip") then Some kinds.Gossip
+    else if bytes_eq name (codes "spellings") then Some kinds.Spellings
     else None

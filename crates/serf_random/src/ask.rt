@@ -9,7 +9,7 @@ use serf_schedule::put_line;
 use std::alloc::AllocError;
 
 /// The version of the generator. Another one may make other schedules of the same seed.
-pub const VERSION: u64 = 2;
+pub const VERSION: u64 = 3;
 
 /// The most agents of a random schedule.
 pub const MAX_AGENTS: u64 = 64;
@@ -41,7 +41,7 @@ pub(crate) fn put_comment(out: &mut Vec<u8>, ask: &Ask) -> Result<(), AllocError
         Plain(b"--actions"),
         Number(ask.actions),
         Plain(b"version"),
-        Plain(b"2"),
+        Plain(b"3"),
     ];
     put_line(out, b"#", &words)
 }

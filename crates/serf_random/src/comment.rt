@@ -35,7 +35,7 @@ pub(crate) fn put_comment(out: &mut Vec<u8>, ask: &Ask) -> Result<(), AllocError
         Plain(b"--rules"),
         Plain(b"serf"),
         Plain(b"version"),
-        Plain(b"2"),
+        Plain(b"3"),
     ];
     put_line(out, b"#", &words)
 }

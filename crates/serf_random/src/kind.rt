@@ -31,6 +31,8 @@ pub enum Kind {
     Compactions,
     /// Rounds of gossip: packets go to a few agents each, some are lost, and states are exchanged now and then.
     Gossip,
+    /// Strangers' packets in any spelling that the grammar takes, and just beyond it.
+    Spellings,
 }
 
 fn is_name(name: &[u8], text: &[u8]) -> bool
@@ -57,6 +59,7 @@ impl Kind {
             Kind::PerTime => b"per-time",
             Kind::Compactions => b"compactions",
             Kind::Gossip => b"gossip",
+            Kind::Spellings => b"spellings",
         }
     }
 
@@ -88,6 +91,8 @@ impl Kind {
             Some(Kind::Compactions)
         } else if is_name(name, b"gossip") {
             Some(Kind::Gossip)
+        } else if is_name(name, b"spellings") {
+            Some(Kind::Spellings)
         } else {
             None
         }

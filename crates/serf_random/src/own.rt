@@ -1,12 +1,14 @@
 //! What agents do of their own accord.
 
+use crate::filters::filters;
 use crate::kind::Kind;
 use crate::player::{LastQuery, Player};
 use crate::pools::{long_text, name, payload, tail};
+use crate::sizes::{event_filling, query_filling, response_filling};
 use crate::verb::Verb;
-use serf_agent::{BytesList, QueryParams};
-use serf_model::{Action, Answer, BoxedBytes, BoxedParams, Line, SinkCall};
-use serf_wire::{Bytes, node_filter};
+use serf_agent::QueryParams;
+use serf_model::{Act, Action, Answer, Boxed, Line, NewQuery, SinkCall};
+use serf_wire::Bytes;
 use std::alloc::{AllocError, Global};
 
 /// What an agent does of its own accord.
@@ -16,15 +18,19 @@ pub(crate) fn act(alloc: Global, player: &mut Player, verb: Verb) -> Result<Acti
         Verb::Respond => respond(alloc, player),
         Verb::Restart => restart(alloc, player),
         Verb::Break => Ok(fail(player)),
-        Verb::Close => Ok(Action::Close {
+        Verb::Close => Ok(Action::Of {
             agent: player.agent(),
-            now: player.moment(),
+            act: Act::Close {
+                now: player.moment(),
+            },
         }),
-        Verb::Save => Ok(Action::Save {
+        Verb::Save => Ok(Action::Of {
             agent: player.agent(),
+            act: Act::Save,
         }),
-        Verb::Compact => Ok(Action::Compact {
+        Verb::Compact => Ok(Action::Of {
             agent: player.agent(),
+            act: Act::Compact,
         }),
         _ => fire(alloc, player),
     }
@@ -39,8 +45,26 @@ fn is_long(player: &mut Player) -> bool {
     }
 }
 
-fn fire(alloc: Global, player: &mut Player) -> Result<Action, AllocError> {
-    let agent = player.agent();
+/// Whether a packet is to be as long as its limit, or nearly so.
+fn is_filled(player: &mut Player) -> bool {
+    match player.kind {
+        Kind::Spellings => player.dice.one_in(4),
+        Kind::Mixed => player.dice.one_in(12),
+        _ => false,
+    }
+}
+
+/// The name and the payload of an event that an agent fires.
+fn event_texts(
+    alloc: Global,
+    player: &mut Player,
+    agent: u64,
+) -> Result<(Vec<u8>, Vec<u8>), AllocError> {
+    if is_filled(player) {
+        let name = name(alloc, &mut player.dice)?;
+        let payload = event_filling(alloc, player, agent, &name)?;
+        return Ok((name, payload));
+    }
     let limit = match player.world.agent(agent) {
         Some(one) => one.config().event_limit,
         None => 0,
@@ -50,42 +74,23 @@ fn fire(alloc: Global, player: &mut Player) -> Result<Action, AllocError> {
     } else {
         payload(alloc, &mut player.dice)?
     };
-    Ok(Action::Fire {
-        agent,
-        name: Bytes::from_vec(name(alloc, &mut player.dice)?),
-        payload: Bytes::from_vec(payload),
-        coalesce: player.dice.one_in(3),
-    })
+    Ok((name(alloc, &mut player.dice)?, payload))
 }
 
-/// The filters of a query: mostly none, else some names, or what excludes every node.
-pub(crate) fn filters(alloc: Global, player: &mut Player) -> Result<BytesList, AllocError> {
-    let mut list = BytesList::new(alloc);
-    if !player.dice.one_in(4) {
-        return Ok(list);
-    }
-    for _filter in 0..player.dice.below(3) {
-        let one: &[u8] = player.dice.pick(
-            &[
-                b"\x00\x91\xa1a".as_slice(),
-                b"\x00\x92\xa1a\xa1b".as_slice(),
-                b"\x00\x92\xc4\x01b\xc0".as_slice(),
-                b"\x00\x90".as_slice(),
-                b"\x00\xc0".as_slice(),
-                b"\x01\x82\xa3Tag\xa1x\xa4Expr\xa1y".as_slice(),
-                b"\x00\x92\xa1a\x05".as_slice(),
-                b"".as_slice(),
-            ],
-            b"",
-        );
-        list.push(Bytes::copy_of(alloc, one)?)?;
-    }
-    Ok(list)
+fn fire(alloc: Global, player: &mut Player) -> Result<Action, AllocError> {
+    let agent = player.agent();
+    let (name, payload) = event_texts(alloc, player, agent)?;
+    let act = Act::Fire {
+        name: Bytes::from_vec(name),
+        payload: Bytes::from_vec(payload),
+        coalesce: player.dice.one_in(3),
+    };
+    Ok(Action::Of { agent, act })
 }
 
 fn ask(alloc: Global, player: &mut Player) -> Result<Action, AllocError> {
     let agent = player.agent();
-    let now = player.moment();
+    let moment = player.moment();
     let payload = if is_long(player) {
         long_text(alloc, &mut player.dice, 970)?
     } else {
@@ -104,28 +109,55 @@ fn ask(alloc: Global, player: &mut Player) -> Result<Action, AllocError> {
         relay_factor: 0,
     };
     let id = player.dice.pick(&[0, 1, 2, 3, u32::MAX], 0);
-    let name = Bytes::from_vec(name(alloc, &mut player.dice)?);
-    Ok(Action::Query {
-        agent,
-        now,
+    let name = name(alloc, &mut player.dice)?;
+    let payload = if is_filled(player) {
+        query_filling(alloc, player, agent, id, &name, &params)?
+    } else {
+        payload
+    };
+    let query = NewQuery {
+        moment,
         id,
-        name: BoxedBytes::new(alloc, name)?,
-        payload: BoxedBytes::new(alloc, Bytes::from_vec(payload))?,
-        params: BoxedParams::new(alloc, params)?,
+        name: Bytes::from_vec(name),
+        payload: Bytes::from_vec(payload),
+        params,
+    };
+    Ok(Action::Of {
+        agent,
+        act: Act::Query(Boxed::new(alloc, query)?),
+    })
+}
+
+/// An answer to the query that was handed out last, whose packet is as long as its limit, or nearly so.
+fn respond_in_full(alloc: Global, player: &mut Player) -> Result<Action, AllocError> {
+    let last = player.last_handed;
+    let payload = response_filling(alloc, player)?;
+    Ok(Action::Of {
+        agent: last.agent,
+        act: Act::Respond {
+            handed: last.index,
+            now: player.now,
+            payload: Bytes::from_vec(payload),
+        },
     })
 }
 
 fn respond(alloc: Global, player: &mut Player) -> Result<Action, AllocError> {
+    if is_filled(player) {
+        return respond_in_full(alloc, player);
+    }
     let payload = if is_long(player) {
         long_text(alloc, &mut player.dice, 970)?
     } else {
         payload(alloc, &mut player.dice)?
     };
-    Ok(Action::Respond {
+    Ok(Action::Of {
         agent: player.agent(),
-        handed: player.dice.below(player.handed.saturating_add(1)),
-        now: player.moment(),
-        payload: Bytes::from_vec(payload),
+        act: Act::Respond {
+            handed: player.dice.below(player.handed.saturating_add(1)),
+            now: player.moment(),
+            payload: Bytes::from_vec(payload),
+        },
     })
 }
 
@@ -135,10 +167,10 @@ fn restart(alloc: Global, player: &mut Player) -> Result<Action, AllocError> {
         Some(one) => one.event_time(),
         None => 1,
     };
-    Ok(Action::Restart {
-        agent,
+    let act = Act::Restart {
         tail: Bytes::from_vec(tail(alloc, &mut player.dice, time)?),
-    })
+    };
+    Ok(Action::Of { agent, act })
 }
 
 fn fail(player: &mut Player) -> Action {
@@ -148,10 +180,12 @@ fn fail(player: &mut Player) -> Action {
         SinkCall::ReplaceOld,
         SinkCall::ReplaceNew,
     ];
-    Action::Break {
+    Action::Of {
         agent: player.agent(),
-        call: player.dice.pick(&calls, SinkCall::Flush),
-        count: player.dice.below(3).saturating_add(1),
+        act: Act::Break {
+            call: player.dice.pick(&calls, SinkCall::Flush),
+            count: player.dice.below(3).saturating_add(1),
+        },
     }
 }
 
@@ -160,20 +194,18 @@ pub(crate) fn note_query(player: &mut Player, action: &Action, line: &Line) {
     let Answer::Queried(time) = line.answer else {
         return;
     };
-    if let Action::Query {
+    if let Action::Of {
         agent,
-        now,
-        id,
-        params,
-        ..
+        act: Act::Query(query),
     } = action
     {
-        let timeout = params.get().timeout.max(0) as u64;
+        let query = query.get();
+        let timeout = query.params.timeout.max(0) as u64;
         player.query = LastQuery {
             agent: *agent,
             time: time.get(),
-            id: u64::from(*id),
-            deadline: now.saturating_add(timeout),
+            id: u64::from(query.id),
+            deadline: query.moment.saturating_add(timeout),
         };
     }
 }

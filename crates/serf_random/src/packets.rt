@@ -1,6 +1,7 @@
 //! Packets that strangers send.
 
 use crate::dice::Dice;
+use crate::pools::letter;
 use serf_pack::{put_array, put_bool, put_int, put_map, put_raw, put_uint};
 use serf_wire::Bytes;
 use std::alloc::{AllocError, Global};
@@ -124,8 +125,7 @@ fn put_slot(out: &mut Vec<u8>, dice: &mut Dice, slot: &StrangeSlot) -> Result<()
     put_array(out, events as u32)?;
     for _event in 0..events {
         put_map(out, 2)?;
-        let letter = [b'a'.saturating_add(dice.below(6) as u8)];
-        put_text_field(out, b"Name", &letter)?;
+        put_text_field(out, b"Name", &[letter(dice)])?;
         put_text_field(out, b"Payload", b"")?;
     }
     Ok(())

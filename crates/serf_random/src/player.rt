@@ -5,11 +5,12 @@ ghost use Rattle.std.specs.Prelude.{◌≡◌, false};
 use crate::ask::Ask;
 use crate::dice::Dice;
 use crate::kind::Kind;
+use crate::spelled::{foreign, spelled};
 use crate::strangers::stranger;
 use crate::times::near;
 use crate::verb::{Verb, verbs};
 use crate::{own, pools};
-use serf_model::{Action, Line};
+use serf_model::{Act, Action, Line};
 use serf_world::{Roster, StepFault, World};
 use std::alloc::{AllocError, Global};
 
@@ -32,6 +33,16 @@ pub(crate) struct LastQuery {
     pub(crate) deadline: u64,
 }
 
+/// The query that was handed out last.
+#[derive(Clone, Copy, Debug)]
+pub(crate) struct LastHanded {
+    pub(crate) agent: u64,
+    /// How many were handed to this agent before.
+    pub(crate) index: u64,
+    pub(crate) time: u64,
+    pub(crate) id: u32,
+}
+
 /// A cluster that is stepped along, so that what is done next aims at where it stands.
 #[derive(Drop)]
 pub(crate) struct Player {
@@ -46,6 +57,7 @@ pub(crate) struct Player {
     /// The first packet that was not given to all agents, and how many got it.
     pub(crate) passed: (u64, u64),
     pub(crate) query: LastQuery,
+    pub(crate) last_handed: LastHanded,
     /// How many queries were handed to some agent in its life, at most.
     pub(crate) handed: u64,
     // memory hasn't run out
@@ -64,6 +76,12 @@ impl Player {
             id: 0,
             deadline: 0,
         };
+        let last_handed = LastHanded {
+            agent: 0,
+            index: 0,
+            time: 1,
+            id: 0,
+        };
         Ok(Player {
             dice: Dice::new(ask.seed ^ SALT),
             kind: ask.kind,
@@ -73,6 +91,7 @@ impl Player {
             next: None,
             passed: (0, 0),
             query,
+            last_handed,
             handed: 0,
         })
     }
@@ -106,12 +125,17 @@ impl Player {
     fn follow(&mut self, next: Next) -> Action {
         let packet = (self.world.sent().len() as u64).saturating_sub(1);
         match next {
-            Next::Deliver { to } => Action::Deliver {
-                to,
-                packet,
-                now: self.moment(),
+            Next::Deliver { to } => Action::Of {
+                agent: to,
+                act: Act::Deliver {
+                    packet,
+                    now: self.moment(),
+                },
             },
-            Next::Merge { to, join } => Action::Merge { to, packet, join },
+            Next::Merge { to, join } => Action::Of {
+                agent: to,
+                act: Act::Merge { packet, join },
+            },
         }
     }
 
@@ -124,6 +148,18 @@ impl Player {
             Verb::Event | Verb::Query | Verb::Answer | Verb::State | Verb::Spoil => {
                 self.next = Some(self.next_of(verb));
                 let bytes = stranger(alloc, self, verb)?;
+                Ok(Action::Inject { bytes })
+            }
+            Verb::Spelled => {
+                let kinds = [Verb::Event, Verb::Query, Verb::Answer, Verb::State];
+                let verb = self.dice.pick(&kinds, Verb::Event);
+                self.next = Some(self.next_of(verb));
+                let bytes = spelled(alloc, self, verb)?;
+                Ok(Action::Inject { bytes })
+            }
+            Verb::Foreign => {
+                self.next = Some(self.next_of(verb));
+                let bytes = foreign(alloc, self)?;
                 Ok(Action::Inject { bytes })
             }
             other => own::act(alloc, self, other),
@@ -182,10 +218,12 @@ impl Player {
             return self.repeat();
         }
         self.passed = (packet, got.saturating_add(1));
-        Action::Deliver {
-            to: got,
-            packet,
-            now: self.moment(),
+        Action::Of {
+            agent: got,
+            act: Act::Deliver {
+                packet,
+                now: self.moment(),
+            },
         }
     }
 
@@ -200,18 +238,22 @@ impl Player {
     }
 
     fn repeat(&mut self) -> Action {
-        Action::Deliver {
-            to: self.agent(),
-            packet: self.recent(),
-            now: self.moment(),
+        Action::Of {
+            agent: self.agent(),
+            act: Act::Deliver {
+                packet: self.recent(),
+                now: self.moment(),
+            },
         }
     }
 
     fn merge(&mut self) -> Action {
-        Action::Merge {
-            to: self.agent(),
-            packet: self.recent(),
-            join: self.dice.one_in(3),
+        Action::Of {
+            agent: self.agent(),
+            act: Act::Merge {
+                packet: self.recent(),
+                join: self.dice.one_in(3),
+            },
         }
     }
 
@@ -224,8 +266,9 @@ impl Player {
             to: self.agent(),
             join: self.dice.one_in(3),
         });
-        Action::State {
+        Action::Of {
             agent: self.agent(),
+            act: Act::State,
         }
     }
 
@@ -233,7 +276,14 @@ impl Player {
     fn note(&mut self, action: &Action, line: &Line) {
         own::note_query(self, action, line);
         if let Some(handed) = &line.handed {
-            self.handed = self.handed.max(handed.get().index.saturating_add(1));
+            let handed = handed.get();
+            self.handed = self.handed.max(handed.index.saturating_add(1));
+            self.last_handed = LastHanded {
+                agent: handed.agent,
+                index: handed.index,
+                time: handed.time.get(),
+                id: handed.id,
+            };
         }
     }
 }

@@ -14,6 +14,11 @@ const PAYLOADS: [&[u8]; 5] = [b"", b"v1", b"v2", b"a", b"\x00\xff"];
 /// Lengths at which a size is refused, or a length is spelled wider.
 const EDGES: [u64; 9] = [31, 255, 470, 512, 970, 1_024, 9_100, 9_216, 65_535];
 
+/// The name of a node of one letter.
+pub(crate) fn letter(dice: &mut Dice) -> u8 {
+    b'a'.saturating_add(dice.below(6) as u8)
+}
+
 pub(crate) fn name(alloc: Global, dice: &mut Dice) -> Result<Vec<u8>, AllocError> {
     Vec::from_slice(alloc, dice.pick(&NAMES, b"a"))
 }

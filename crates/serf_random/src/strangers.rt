@@ -1,12 +1,12 @@
 //! What strangers send: packets at the edges of what an agent decides.
 
+use crate::filters::filters;
 use crate::kind::Kind;
-use crate::own::filters;
 use crate::packets::{
     StrangeQuery, StrangeSlot, answer_packet, event_packet, query_packet, spoiled, state_packet,
 };
 use crate::player::{Next, Player};
-use crate::pools::{long_text, name, payload};
+use crate::pools::{letter, long_text, name, payload};
 use crate::times::{edge_of_track, great_time, near};
 use crate::verb::Verb;
 use serf_wire::Bytes;
@@ -46,7 +46,7 @@ fn is_great(player: &mut Player) -> bool {
 }
 
 /// A time at an edge of the target's event window.
-fn event_time(player: &mut Player) -> u64 {
+pub(crate) fn event_time(player: &mut Player) -> u64 {
     if is_great(player) {
         return great_time(&mut player.dice);
     }
@@ -62,7 +62,7 @@ fn event_time(player: &mut Player) -> u64 {
 }
 
 /// A time at an edge of the target's query window.
-fn query_time(player: &mut Player) -> u64 {
+pub(crate) fn query_time(player: &mut Player) -> u64 {
     if is_great(player) {
         return great_time(&mut player.dice);
     }
@@ -108,7 +108,8 @@ fn query(alloc: Global, player: &mut Player) -> Result<Vec<u8>, AllocError> {
     query_packet(alloc, &query)
 }
 
-fn answer(alloc: Global, player: &mut Player) -> Result<Vec<u8>, AllocError> {
+/// The time and the ID of the query that an answer names: the last one, or near it.
+pub(crate) fn answer_names(player: &mut Player) -> (u64, u64) {
     let last = player.query;
     let time = if player.dice.one_in(5) {
         near(&mut player.dice, last.time)
@@ -120,7 +121,12 @@ fn answer(alloc: Global, player: &mut Player) -> Result<Vec<u8>, AllocError> {
     } else {
         last.id
     };
-    let from = [b'a'.saturating_add(player.dice.below(6) as u8)];
+    (time, id)
+}
+
+fn answer(alloc: Global, player: &mut Player) -> Result<Vec<u8>, AllocError> {
+    let (time, id) = answer_names(player);
+    let from = [letter(&mut player.dice)];
     let flags = player.dice.pick(&[0, 0, 1, 1, 2, 3], 0);
     let payload = payload(alloc, &mut player.dice)?;
     answer_packet(alloc, time, id, &from, flags, &payload)

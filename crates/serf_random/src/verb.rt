@@ -33,6 +33,10 @@ pub(crate) enum Verb {
     State,
     /// A packet with a byte more, less or other.
     Spoil,
+    /// A stranger's packet, in any spelling.
+    Spelled,
+    /// A packet of Serf's other messages, or of no message.
+    Foreign,
     /// An agent closes its open queries.
     Close,
     /// An agent writes its member clock.
@@ -41,7 +45,7 @@ pub(crate) enum Verb {
     Compact,
 }
 
-const MIXED: [Verb; 24] = [
+const MIXED: [Verb; 28] = [
     Verb::Fire,
     Verb::Fire,
     Verb::Pass,
@@ -63,6 +67,10 @@ const MIXED: [Verb; 24] = [
     Verb::Answer,
     Verb::State,
     Verb::Spoil,
+    Verb::Spelled,
+    Verb::Spelled,
+    Verb::Spelled,
+    Verb::Foreign,
     Verb::Close,
     Verb::Save,
     Verb::Compact,
@@ -241,6 +249,29 @@ const GOSSIP: [Verb; 16] = [
     Verb::Respond,
 ];
 
+const SPELLINGS: [Verb; 20] = [
+    Verb::Spelled,
+    Verb::Spelled,
+    Verb::Spelled,
+    Verb::Spelled,
+    Verb::Spelled,
+    Verb::Spelled,
+    Verb::Spelled,
+    Verb::Spelled,
+    Verb::Foreign,
+    Verb::Foreign,
+    Verb::Fire,
+    Verb::Ask,
+    Verb::Respond,
+    Verb::Repeat,
+    Verb::Merge,
+    Verb::Exchange,
+    Verb::Close,
+    Verb::Save,
+    Verb::Break,
+    Verb::Restart,
+];
+
 /// What a player of this kind does, each as often as it stands here.
 pub(crate) fn verbs(kind: Kind) -> &'static [Verb] {
     match kind {
@@ -256,5 +287,6 @@ pub(crate) fn verbs(kind: Kind) -> &'static [Verb] {
         Kind::PerTime => &PER_TIME,
         Kind::Compactions => &COMPACTIONS,
         Kind::Gossip => &GOSSIP,
+        Kind::Spellings => &SPELLINGS,
     }
 }

@@ -21,8 +21,13 @@ pub(crate) fn no_memory(rt: &impl Eprint) -> u8 {
     DEVICE
 }
 
-pub(crate) fn read_failed(rt: &impl Eprint) -> u8 {
-    let _ = eprintln!(rt; "read fault");
+/// A read that failed, of this file or of standard input.
+pub(crate) fn read_failed(rt: &impl Eprint, file: Option<&str>) -> u8 {
+    let name = match file {
+        None | Some("-") => "standard input",
+        Some(path) => path,
+    };
+    let _ = eprintln!(rt; "{name}: read fault");
     DEVICE
 }
 
@@ -48,22 +53,45 @@ pub(crate) fn bad_line_for(rt: &impl Eprint, line: u64, word: &str) -> u8 {
     REFUSED
 }
 
-/// The end of a replay at a fault.
-pub(crate) fn replay_failed(rt: &impl Eprint, fault: ReplayFault) -> u8 {
+/// A line of a schedule that is bad. A file that is called a written schedule gets a second line, which says what reads it.
+pub(crate) fn bad_schedule_line(
+    rt: &impl Eprint,
+    file: Option<&str>,
+    line: u64,
+    cause: Cause,
+) -> u8 {
+    let status = bad_line(rt, line, cause);
+    if let Some(path) = file
+        && path.as_bytes().ends_with(b".written")
+    {
+        let _ = eprintln!(rt; "a written schedule? serf-replay write {path} | serf-replay replay");
+    }
+    status
+}
+
+/// A file, or standard input, in which no line of a snapshot stands.
+pub(crate) fn not_a_snapshot(rt: &impl Eprint, file: &str) -> u8 {
+    let name = if file == "-" { "standard input" } else { file };
+    let _ = eprintln!(rt; "{name}: no line of a snapshot");
+    REFUSED
+}
+
+/// The end of a replay of this file, or of standard input, at a fault.
+pub(crate) fn replay_failed(rt: &impl Eprint, file: Option<&str>, fault: ReplayFault) -> u8 {
     match fault {
-        ReplayFault::BadLine { line, cause } => bad_line(rt, line, cause),
+        ReplayFault::BadLine { line, cause } => bad_schedule_line(rt, file, line, cause),
         ReplayFault::ReadTooLong => too_long(rt),
-        ReplayFault::ReadFault => read_failed(rt),
+        ReplayFault::ReadFault => read_failed(rt, file),
         ReplayFault::WriteFault => write_failed(rt),
         ReplayFault::OutOfMemory => no_memory(rt),
     }
 }
 
-/// The end of a stream of schedule lines or log lines at a fault.
-pub(crate) fn stopped(rt: &impl Eprint, fault: StreamFault<Cause>) -> u8 {
+/// The end of a stream of schedule lines or log lines, from this file or from standard input, at a fault.
+pub(crate) fn stopped(rt: &impl Eprint, file: Option<&str>, fault: StreamFault<Cause>) -> u8 {
     match fault {
-        StreamFault::ReadFault => read_failed(rt),
-        StreamFault::BadLine { line, fault } => bad_line(rt, line, fault),
+        StreamFault::ReadFault => read_failed(rt, file),
+        StreamFault::BadLine { line, fault } => bad_schedule_line(rt, file, line, fault),
         StreamFault::LineTooLong { line } => bad_line_for(rt, line, "TooLong"),
         StreamFault::OutOfMemory => no_memory(rt),
         StreamFault::WriteFault => write_failed(rt),

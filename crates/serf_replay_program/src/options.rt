@@ -6,7 +6,7 @@ use std::alloc::{AllocError, Global};
 
 /// The words that name a kind of random schedules.
 pub(crate) const KINDS: &str =
-    "mixed (where left out), tiny, merges, restarts, devices, injections, queries, limits, exhaustion, per-time, compactions or gossip";
+    "mixed (where left out), tiny, merges, restarts, devices, injections, queries, limits, exhaustion, per-time, compactions, gossip or spellings";
 
 /// A word that is given in its place.
 pub(crate) fn place<'a>(alloc: Global, name: &'a str, help: &'a str) -> Arg<'a> {
@@ -75,16 +75,22 @@ pub(crate) fn with<'a>(
 fn words_for(option: &str) -> &'static str {
     match option {
         "agent" => "the number of an agent, counted from 0, where a schedule is given",
+        "as" => "svg or mermaid",
         "kind" => KINDS,
         "random" => "seeds as A-B, where no schedule is given, or a schedule without it",
         "rules" => "serf or own",
+        "save" => "a file, where --shrink is given too",
         _ => "a number",
     }
 }
 
-/// Tells that the word of an option is none that it may have, and which it may.
-pub(crate) fn bad_option(rt: &impl Eprint, name: &str) -> u8 {
-    let words = words_for(name);
+/// Tells that the word of an option is none of these, which it may have.
+pub(crate) fn bad_word(rt: &impl Eprint, name: &str, words: &str) -> u8 {
     let _ = eprintln!(rt; "error: a bad word for --{name}: here may stand {words}");
     COMMAND_LINE
+}
+
+/// Tells that the word of an option is none that it may have, and which it may.
+pub(crate) fn bad_option(rt: &impl Eprint, name: &str) -> u8 {
+    bad_word(rt, name, words_for(name))
 }

@@ -1,8 +1,9 @@
 -- The lines of actions, read back.
-use Rattle.serf_schedule.proofs.TextNames.{◌≡◌, ◌+◌, ◌%◌, ◌<◌, ◌≤◌, ◌^◌, ◌∙◌, ℕ, ℤ, pos, List, [], ◌∷◌, ◌++◌, Bool, true, false, Some, Ok, refl, sym, ap, arith, codes, decimal, map, append_assoc, ◌==◌, nat_le, signed_decimal, AllByRecursion, common_steps, append-nil, recursion_from_All, IsBytes, QueryParams, Action, SinkCall, Append, Flush, ReplaceOld, ReplaceNew, command_of, Parsed, with_action, said_by, filters_from, params_of, query_of, firing_of, delivery_of, merging_of, answer_of, restart_of, break_of, injection_of, closing_of, lone_of, flag_text, hex_text, between, bytes_in, choice_in, choice_of, number_between, number_in, sink_call_in, sink_call_of}
+use Rattle.serf_schedule.proofs.TextNames.{◌≡◌, ◌+◌, ◌%◌, ◌<◌, ◌≤◌, ◌^◌, ◌∙◌, ℕ, ℤ, pos, List, [], ◌∷◌, ◌++◌, Bool, true, false, Some, Ok, refl, sym, ap, arith, codes, decimal, map, append_assoc, ◌==◌, nat_le, signed_decimal, AllByRecursion, common_steps, append-nil, recursion_from_All, IsBytes, QueryParams, Action, Deed, NewQuery, SinkCall, Append, Flush, ReplaceOld, ReplaceNew, command_of, Parsed, with_action, said_by, filters_from, params_of, query_of, firing_of, delivery_of, merging_of, answer_of, restart_of, break_of, injection_of, closing_of, flag_text, hex_text, between, bytes_in, choice_in, choice_of, number_between, number_in, sink_call_in, sink_call_of}
 use Rattle.std.specs.Prelude.{cond}
-use Rattle.serf_model.specs.declared.action.Action.TheVariants as actions
-use Rattle.serf_schedule.specs.Sayable.{AreSayable, IsSayable}
+use Rattle.serf_model.specs.declared.action.Act.TheVariants as acts
+use Rattle.serf_model.specs.declared.action.Action.TheVariants.{Inject, Of}
+use Rattle.serf_schedule.specs.Sayable.{AreSayable, IsActSayable, IsQuerySayable, IsSayable}
 use Rattle.serf_schedule.specs.ScheduleText.{action_words, flags_of, join_word, sink_call_word}
 use Rattle.serf_schedule.proofs.WordsBack.{bytes-back, number-back}
 
@@ -75,68 +76,61 @@ all-said params h = λ k. record {
   relay_factor = sym h.relay_factor k;
 }
 
--- the eight words before the filters
-abbrev head_words : ℕ → ℕ → ℕ → List ℕ → List ℕ → ℕ → ℕ → List (List ℕ)
-head_words agent now id name payload nanoseconds flags =
-    codes "query" ∷ decimal agent ∷ decimal now ∷ decimal id ∷ hex_text name ∷ hex_text payload ∷ decimal nanoseconds ∷ decimal flags ∷ []
+-- the eight words before the filters, where the timeout is so many nanoseconds
+abbrev head_words : ℕ → NewQuery → ℕ → List (List ℕ)
+head_words agent q nanoseconds =
+    codes "query" ∷ decimal agent ∷ decimal q.moment ∷ decimal q.id ∷ hex_text q.name ∷ hex_text q.payload ∷ decimal nanoseconds ∷ decimal (flags_of q.params) ∷ []
 
-params-back : (agent now id : ℕ) (name payload : List ℕ) (params : QueryParams) (h : AreSayable params)
-    → params_of (head_words agent now id name payload h.nanoseconds (flags_of params)) (map hex_text params.filters) ≡ Ok (said_params params h.nanoseconds)
+params-back : (agent : ℕ) (q : NewQuery) (h : AreSayable q.params) → params_of (head_words agent q h.nanoseconds) (map hex_text q.params.filters) ≡ Ok (said_params q.params h.nanoseconds)
 unfolding params_of number_between
-params-back agent now id name payload params h =
-    let few = flags-few params.want_ack params.no_broadcast in
+params-back agent q h =
+    let few = flags-few q.params.want_ack q.params.no_broadcast in
     let most : h.nanoseconds ≤ 9223372036854775807 = omega (arith, h.timeout_fits) in
     rw (
       number-back h.nanoseconds (omega (arith, h.timeout_fits)),
       between-back 0 9223372036854775807 h.nanoseconds (omega arith) most,
-      number-back (flags_of params) (omega (arith, few)),
-      between-back 0 3 (flags_of params) (omega arith) few,
-      filters-back [] params.filters 9 (recursion_from_All IsBytes params.filters h.filters),
+      number-back (flags_of q.params) (omega (arith, few)),
+      between-back 0 3 (flags_of q.params) (omega arith) few,
+      filters-back [] q.params.filters 9 (recursion_from_All IsBytes q.params.filters h.filters),
     ) refl
 
-query-back : (agent now id : ℕ) (name payload : List ℕ) (params : QueryParams) → agent < 2 ^ 64 → now < 2 ^ 64 → id < 2 ^ 32
-    → IsBytes name → IsBytes payload → (h : AreSayable params)
-    → query_of (head_words agent now id name payload h.nanoseconds (flags_of params)) (map hex_text params.filters)
-    ≡ Ok (actions.Query agent now id name payload params)
+query-back : (agent : ℕ) (q : NewQuery) (h : IsQuerySayable q) → query_of (head_words agent q h.params.nanoseconds) (map hex_text q.params.filters) ≡ Ok (acts.Query q)
 unfolding query_of number_in number_between bytes_in
-query-back agent now id name payload params a n i na pa h =
+query-back agent q h =
     rw (
-      number-back agent a,
-      number-back now n,
-      number-back id (omega (arith, i)),
-      between-back 0 4294967295 id (omega arith) (omega (arith, i)),
-      bytes-back name na,
-      bytes-back payload pa,
-      params-back agent now id name payload params h,
+      number-back q.moment h.moment,
+      number-back q.id (omega (arith, h.id)),
+      between-back 0 4294967295 q.id (omega arith) (omega (arith, h.id)),
+      bytes-back q.name h.name,
+      bytes-back q.payload h.payload,
+      params-back agent q h.params,
     )
-    (ap (λ ps. Ok (actions.Query agent now id name payload ps)) (all-said params h))
+    (ap (λ (ps : QueryParams). Ok (acts.Query record { moment = q.moment; id = q.id; name = q.name; payload = q.payload; params = ps })) (all-said q.params h.params))
 
-query-said : (p : Parsed) (agent now id : ℕ) (name payload : List ℕ) (params : QueryParams) → agent < 2 ^ 64 → now < 2 ^ 64 → id < 2 ^ 32
-    → IsBytes name → IsBytes payload → (h : AreSayable params)
-    → said_by p (head_words agent now id name payload h.nanoseconds (flags_of params) ++ map hex_text params.filters)
-    ≡ Ok (with_action p (actions.Query agent now id name payload params))
-unfolding command_of
-query-said p agent now id name payload params a n i na pa h = rw (query-back agent now id name payload params a n i na pa h) refl
+query-said : (p : Parsed) (agent : ℕ) (q : NewQuery) → agent < 2 ^ 64 → (h : IsQuerySayable q)
+    → said_by p (head_words agent q h.params.nanoseconds ++ map hex_text q.params.filters) ≡ Ok (with_action p (Of agent (acts.Query q)))
+unfolding command_of number_in
+query-said p agent q a h = rw (number-back agent a, query-back agent q h) refl
 
 -- Lines
 
-pub action-back : (p : Parsed) (action : Action) → IsSayable action → said_by p (action_words action) ≡ Ok (with_action p action)
-unfolding command_of firing_of delivery_of merging_of answer_of restart_of break_of injection_of closing_of lone_of number_in number_between bytes_in choice_in sink_call_in
-action-back p (actions.Fire agent name payload coalesce) h =
-    rw (number-back agent h.0, bytes-back name h.1, bytes-back payload h.2, choice-back coalesce) refl
-action-back p (actions.Deliver to packet now) h = rw (number-back to h.0, number-back packet h.1, number-back now h.2) refl
-action-back p (actions.State agent) h = rw (number-back agent h) refl
-action-back p (actions.Merge to packet join) h = rw (number-back to h.0, number-back packet h.1, join-back join) refl
-action-back p (actions.Query agent now id name payload params) h =
+pub act-back : (p : Parsed) (agent : ℕ) (act : Deed) → agent < 2 ^ 64 → IsActSayable act → said_by p (action_words (Of agent act)) ≡ Ok (with_action p (Of agent act))
+unfolding command_of firing_of delivery_of merging_of answer_of restart_of break_of closing_of number_in number_between bytes_in choice_in sink_call_in
+act-back p agent (acts.Fire name payload coalesce) a h = rw (number-back agent a, bytes-back name h.0, bytes-back payload h.1, choice-back coalesce) refl
+act-back p agent (acts.Deliver packet now) a h = rw (number-back agent a, number-back packet h.0, number-back now h.1) refl
+act-back p agent (acts.Merge packet join) a h = rw (number-back agent a, number-back packet h, join-back join) refl
+act-back p agent (acts.Query q) a h =
     let time : (z : ℤ) → List (List ℕ) = λ z.
-    codes "query" ∷ decimal agent ∷ decimal now ∷ decimal id ∷ hex_text name ∷ hex_text payload ∷ signed_decimal z ∷ decimal (flags_of params) ∷ map hex_text params.filters
-    in ap (λ z. said_by p (time z)) h.5.timeout ∙ query-said p agent now id name payload params h.0 h.1 h.2 h.3 h.4 h.5
-action-back p (actions.Respond agent handed now payload) h =
-    rw (number-back agent h.0, number-back handed h.1, number-back now h.2, bytes-back payload h.3) refl
-action-back p (actions.Restart agent tail) h = rw (number-back agent h.0, bytes-back tail h.1) refl
-action-back p (actions.Break agent call count) h =
-    rw (number-back agent h.0, call-back call, number-back count h.2, between-back 1 18446744073709551615 count h.1 (omega (arith, h.2))) refl
-action-back p (actions.Inject bytes) h = rw (bytes-back bytes h) refl
-action-back p (actions.Close agent now) h = rw (number-back agent h.0, number-back now h.1) refl
-action-back p (actions.Save agent) h = rw (number-back agent h) refl
-action-back p (actions.Compact agent) h = rw (number-back agent h) refl
+    codes "query" ∷ decimal agent ∷ decimal q.moment ∷ decimal q.id ∷ hex_text q.name ∷ hex_text q.payload ∷ signed_decimal z ∷ decimal (flags_of q.params) ∷ map hex_text q.params.filters
+    in ap (λ z. said_by p (time z)) h.params.timeout ∙ query-said p agent q a h
+act-back p agent (acts.Respond handed now payload) a h = rw (number-back agent a, number-back handed h.0, number-back now h.1, bytes-back payload h.2) refl
+act-back p agent (acts.Restart tail) a h = rw (number-back agent a, bytes-back tail h) refl
+act-back p agent (acts.Break call count) a h =
+    rw (number-back agent a, call-back call, number-back count h.1, between-back 1 18446744073709551615 count h.0 (omega (arith, h.1))) refl
+act-back p agent (acts.Close now) a h = rw (number-back agent a, number-back now h) refl
+act-back p agent _ a h = rw (number-back agent a) refl
+
+pub action-back : (p : Parsed) (action : Action) → IsSayable action → said_by p (action_words action) ≡ Ok (with_action p action)
+unfolding command_of injection_of bytes_in
+action-back p (Inject bytes) h = rw (bytes-back bytes h) refl
+action-back p (Of agent act) h = act-back p agent act h.0 h.1

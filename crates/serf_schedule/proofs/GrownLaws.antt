@@ -9,11 +9,11 @@ use Rattle.serf_model.specs.Runs.{has_name}
 use Rattle.serf_text.specs.declared.cause.Cause.{Cause}
 use Rattle.serf_text.specs.declared.cause.Cause.TheVariants.{BadConfig, LateAgent, NameTwice, WordCount}
 use Rattle.serf_schedule.specs.declared.command.Command.{Command}
-use Rattle.serf_schedule.specs.declared.command.Command.TheVariants.{Agent, Query, Act}
+use Rattle.serf_schedule.specs.declared.command.Command.TheVariants.{Agent, Inject, Query, Act}
 use Rattle.serf_schedule.specs.Command.{command_of, count_of}
 use Rattle.serf_text.specs.Gives.{◌>>=◌}
 use Rattle.serf_text.specs.Words.{word_at, words_of}
-use Rattle.serf_schedule.specs.Line.{Parsed, action_of, add_action, add_agent, after_line, agent_of, command_line, is_skipped, query_of, said_by}
+use Rattle.serf_schedule.specs.Line.{Parsed, act_of, add_action, add_agent, after_line, agent_of, by_agent, command_line, injection_of, is_skipped, query_of, said_by}
 use Rattle.serf_schedule.specs.Grown.{AddsSame, Grows, with_turn}
 use Rattle.serf_schedule.specs.Laws.{LateLinesAddSame, LinesGrow}
 
@@ -57,9 +57,11 @@ grown-command (Some Agent) before words = by (nat_lt 0 (length before.actions)) 
 grown-command (Some Query) before words =
     let first : List (List ℕ) = take 8 words in
     let rest : List (List ℕ) = drop 8 words in
-    if-ok (Grows before) (nat_lt (length first) 8) WordCount (query_of first rest >>= add_action before) (grown-added before (query_of first rest))
+    if-ok (Grows before) (nat_lt (length first) 8) WordCount (by_agent first (query_of first rest) >>= add_action before) (grown-added before (by_agent first (query_of first rest)))
+grown-command (Some Inject) before words =
+    if-ok (Grows before) (not (length words == 2)) WordCount (injection_of words >>= add_action before) (grown-added before (injection_of words))
 grown-command (Some (Act verb)) before words =
-    if-ok (Grows before) (not (length words == count_of verb)) WordCount (action_of verb words >>= add_action before) (grown-added before (action_of verb words))
+    if-ok (Grows before) (not (length words == count_of verb)) WordCount (by_agent words (act_of verb words) >>= add_action before) (grown-added before (by_agent words (act_of verb words)))
 
 pub grown : LinesGrow
 unfolding after_line
@@ -85,9 +87,14 @@ same-command (Some Agent) p q words m n = rw (late p.actions m, late q.actions n
 same-command (Some Query) p q words m n =
     let first : List (List ℕ) = take 8 words in
     let rest : List (List ℕ) = drop 8 words in
-    same-if p q (nat_lt (length first) 8) WordCount (query_of first rest >>= add_action p) (query_of first rest >>= add_action q) (same-added p q (query_of first rest))
+    let said = by_agent first (query_of first rest) in
+    same-if p q (nat_lt (length first) 8) WordCount (said >>= add_action p) (said >>= add_action q) (same-added p q said)
+same-command (Some Inject) p q words m n =
+    let said = injection_of words in
+    same-if p q (not (length words == 2)) WordCount (said >>= add_action p) (said >>= add_action q) (same-added p q said)
 same-command (Some (Act verb)) p q words m n =
-    same-if p q (not (length words == count_of verb)) WordCount (action_of verb words >>= add_action p) (action_of verb words >>= add_action q) (same-added p q (action_of verb words))
+    let said = by_agent words (act_of verb words) in
+    same-if p q (not (length words == count_of verb)) WordCount (said >>= add_action p) (said >>= add_action q) (same-added p q said)
 
 pub late-same : LateLinesAddSame
 unfolding after_line

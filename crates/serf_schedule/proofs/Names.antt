@@ -17,7 +17,7 @@ pub use Rattle.serf_agent.specs.declared.outcome.QueryParams.{QueryParams}
 pub use Rattle.serf_model.specs.declared.action.Action.{Action}
 pub use Rattle.serf_model.specs.declared.line.Line.{Line}
 pub use Rattle.serf_wire.specs.Fields.{fits}
-pub use Rattle.serf_model.specs.Cluster.{Cluster, IdealNode, numbers_from, on_agent, step, step_by}
+pub use Rattle.serf_model.specs.Cluster.{Cluster, IdealNode, numbers_from, on_agent, step}
 pub use Rattle.serf_model.specs.Runs.{has_name}
 pub use Rattle.serf_model.specs.Sizes.{HasSizes}
-pub use Rattle.serf_model.specs.Trace.{Turn, actor_of, outcome_of}
+pub use Rattle.serf_model.specs.Trace.{Turn, outcome_of}

@@ -1,10 +1,11 @@
 -- The text of a schedule, read back.
-use Rattle.serf_schedule.proofs.TextNames.{◌≡◌, ◌+◌, ◌<◌, ◌^◌, ◌∙◌, ℕ, List, [], ◌∷◌, ◌++◌, length, Bool, true, false, Option, Some, None, Ok, refl, sym, ap, subst, arith, codes, append_assoc, cond, ◌==◌, slice_index, signed_decimal, AllByRecursion, flat_map, slice_split, common_steps, append-nil, recursion_from_All, IsBytes, Config, QueryParams, is_sound, Action, SinkCall, Append, Flush, ReplaceOld, ReplaceNew, AreConfigs, has_name, twice_after, command_of, Parsed, after_line, agent_of, per_time_in, said_by, with_action, after_lines, schedule_of, flag_text, bytes_in, choice_in, choice_of, number_in}
+use Rattle.serf_schedule.proofs.TextNames.{◌≡◌, ◌+◌, ◌<◌, ◌^◌, ◌∙◌, ℕ, List, [], ◌∷◌, ◌++◌, length, Bool, true, false, Option, Some, None, Ok, refl, sym, ap, subst, arith, codes, append_assoc, cond, ◌==◌, slice_index, signed_decimal, AllByRecursion, flat_map, slice_split, common_steps, append-nil, recursion_from_All, IsBytes, Config, QueryParams, is_sound, Action, Deed, SinkCall, Append, Flush, ReplaceOld, ReplaceNew, AreConfigs, has_name, twice_after, command_of, Parsed, after_line, agent_of, per_time_in, said_by, with_action, after_lines, schedule_of, flag_text, bytes_in, choice_in, choice_of, number_in}
 use Rattle.std.specs.List.{All}
-use Rattle.serf_model.specs.declared.action.Action.TheVariants as actions
+use Rattle.serf_model.specs.declared.action.Act.TheVariants as acts
+use Rattle.serf_model.specs.declared.action.Action.TheVariants.{Inject, Of}
 use Rattle.serf_model.specs.Runs.{NoneBadIsSound}
-use Rattle.serf_schedule.specs.Sayable.{AreSayable, HasByteName, IsSayable}
-use Rattle.serf_schedule.specs.ScheduleText.{action_text, action_words, agent_text, agent_words, flags_of, join_word, mode_word, schedule_text, sink_call_word, spaced}
+use Rattle.serf_schedule.specs.Sayable.{AreSayable, HasByteName, IsActSayable, IsSayable}
+use Rattle.serf_schedule.specs.ScheduleText.{act_words, action_text, action_words, agent_text, agent_words, flags_of, join_word, mode_word, schedule_text, sink_call_word, spaced, verb_word}
 use Rattle.serf_schedule.proofs.ActionsBack.{action-back}
 use Rattle.serf_schedule.proofs.LinesBack.{body, line-off, words-back}
 use Rattle.serf_schedule.specs.Comments.{IsWord}
@@ -99,48 +100,42 @@ flags-fit false false = omega arith
 timeout-plain : (params : QueryParams) → AreSayable params → IsWord (signed_decimal params.timeout)
 timeout-plain params h = subst (λ z. IsWord (signed_decimal z)) (sym h.timeout) (number-word h.nanoseconds (omega (arith, h.timeout_fits)))
 
-action-plain : (a : Action) → IsSayable a → AllByRecursion IsWord (action_words a)
-action-plain (actions.Fire agent name payload coalesce) h =
-    (record { some = omega arith; plain = refl }, (number-word agent h.0, (hex-word name h.1, (hex-word payload h.2, (flag-plain coalesce, tt)))))
-action-plain (actions.Deliver to packet now) h =
-    (record { some = omega arith; plain = refl }, (number-word to h.0, (number-word packet h.1, (number-word now h.2, tt))))
-action-plain (actions.State agent) h = (record { some = omega arith; plain = refl }, (number-word agent h, tt))
-action-plain (actions.Merge to packet join) h =
-    (record { some = omega arith; plain = refl }, (number-word to h.0, (number-word packet h.1, (join-plain join, tt))))
-action-plain (actions.Query agent now id name payload params) h = (
-  record { some = omega arith; plain = refl },
+verb-plain : (act : Deed) → IsWord (verb_word act)
+verb-plain (acts.Fire name payload coalesce) = record { some = omega arith; plain = refl }
+verb-plain _ = record { some = omega arith; plain = refl }
+
+words-plain : (act : Deed) → IsActSayable act → AllByRecursion IsWord (act_words None act)
+words-plain (acts.Fire name payload coalesce) h = (hex-word name h.0, (hex-word payload h.1, (flag-plain coalesce, tt)))
+words-plain (acts.Deliver packet now) h = (number-word packet h.0, (number-word now h.1, tt))
+words-plain (acts.Merge packet join) h = (number-word packet h, (join-plain join, tt))
+words-plain (acts.Query q) h = (
+  number-word q.moment h.moment,
   (
-    number-word agent h.0,
+    number-word q.id (omega (arith, h.id)),
     (
-      number-word now h.1,
+      hex-word q.name h.name,
       (
-        number-word id (omega (arith, h.2)),
+        hex-word q.payload h.payload,
         (
-          hex-word name h.3,
+          timeout-plain q.params h.params,
           (
-            hex-word payload h.4,
-            (
-              timeout-plain params h.5,
-              (
-                number-word (flags_of params) (flags-fit params.want_ack params.no_broadcast),
-                hex-words params.filters (recursion_from_All IsBytes params.filters h.5.filters),
-              ),
-            ),
+            number-word (flags_of q.params) (flags-fit q.params.want_ack q.params.no_broadcast),
+            hex-words q.params.filters (recursion_from_All IsBytes q.params.filters h.params.filters),
           ),
         ),
       ),
     ),
   ),
 )
-action-plain (actions.Respond agent handed now payload) h =
-    (record { some = omega arith; plain = refl }, (number-word agent h.0, (number-word handed h.1, (number-word now h.2, (hex-word payload h.3, tt)))))
-action-plain (actions.Restart agent tail) h = (record { some = omega arith; plain = refl }, (number-word agent h.0, (hex-word tail h.1, tt)))
-action-plain (actions.Break agent call count) h =
-    (record { some = omega arith; plain = refl }, (number-word agent h.0, (call-plain call, (number-word count h.2, tt))))
-action-plain (actions.Inject bytes) h = (record { some = omega arith; plain = refl }, (hex-word bytes h, tt))
-action-plain (actions.Close agent now) h = (record { some = omega arith; plain = refl }, (number-word agent h.0, (number-word now h.1, tt)))
-action-plain (actions.Save agent) h = (record { some = omega arith; plain = refl }, (number-word agent h, tt))
-action-plain (actions.Compact agent) h = (record { some = omega arith; plain = refl }, (number-word agent h, tt))
+words-plain (acts.Respond handed now payload) h = (number-word handed h.0, (number-word now h.1, (hex-word payload h.2, tt)))
+words-plain (acts.Restart tail) h = (hex-word tail h, tt)
+words-plain (acts.Break call count) h = (call-plain call, (number-word count h.1, tt))
+words-plain (acts.Close now) h = (number-word now h, tt)
+words-plain _ h = tt
+
+action-plain : (a : Action) → IsSayable a → AllByRecursion IsWord (action_words a)
+action-plain (Inject bytes) h = (record { some = omega arith; plain = refl }, (hex-word bytes h, tt))
+action-plain (Of agent act) h = (verb-plain act, (number-word agent h.0, words-plain act h.1))
 
 -- Lines
 
@@ -155,18 +150,9 @@ line-says p word words ws plain = rw (plain, words-back word words ws, some-word
 
 -- no action's line begins as a comment
 no-comment : (a : Action) → (slice_index (body (action_words a)) 0 == 35) ≡ false
-no-comment (actions.Fire agent name payload coalesce) = refl
-no-comment (actions.Deliver to packet now) = refl
-no-comment (actions.State agent) = refl
-no-comment (actions.Merge to packet join) = refl
-no-comment (actions.Query agent now id name payload params) = refl
-no-comment (actions.Respond agent handed now payload) = refl
-no-comment (actions.Restart agent tail) = refl
-no-comment (actions.Break agent call count) = refl
-no-comment (actions.Inject bytes) = refl
-no-comment (actions.Close agent now) = refl
-no-comment (actions.Save agent) = refl
-no-comment (actions.Compact agent) = refl
+no-comment (Inject bytes) = refl
+no-comment (Of agent (acts.Fire name payload coalesce)) = refl
+no-comment (Of agent _) = refl
 
 body-says : (p : Parsed) (words : List (List ℕ)) → 0 < length words → AllByRecursion IsWord words → (slice_index (body words) 0 == 35) ≡ false
     → after_line p (body words) ≡ said_by p words
@@ -174,18 +160,8 @@ body-says p [] some ws plain = absurd (omega arith)
 body-says p (word ∷ words) some ws plain = line-says p word words ws plain
 
 has-command : (a : Action) → 0 < length (action_words a)
-has-command (actions.Fire agent name payload coalesce) = omega arith
-has-command (actions.Deliver to packet now) = omega arith
-has-command (actions.State agent) = omega arith
-has-command (actions.Merge to packet join) = omega arith
-has-command (actions.Query agent now id name payload params) = omega arith
-has-command (actions.Respond agent handed now payload) = omega arith
-has-command (actions.Restart agent tail) = omega arith
-has-command (actions.Break agent call count) = omega arith
-has-command (actions.Inject bytes) = omega arith
-has-command (actions.Close agent now) = omega arith
-has-command (actions.Save agent) = omega arith
-has-command (actions.Compact agent) = omega arith
+has-command (Inject bytes) = omega arith
+has-command (Of agent act) = omega arith
 
 action-line-back : (p : Parsed) (a : Action) → IsSayable a → after_line p (body (action_words a)) ≡ Ok (with_action p a)
 action-line-back p a h = body-says p (action_words a) (has-command a) (action-plain a h) (no-comment a) ∙ action-back p a h

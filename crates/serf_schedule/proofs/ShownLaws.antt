@@ -1,5 +1,6 @@
 -- The text of a run's lines, as one action after another is done.
-use Rattle.serf_schedule.proofs.Names.{◌≡◌, ℕ, ◌+◌, ◌<◌, ◌≤◌, List, [], ◌∷◌, ◌++◌, Option, Some, None, refl, sym, ap, ◌∙◌, length, append_assoc, length-append, codes, decimal, arith, slice_get, flat_map, option_to_list, append-nil, get_or_append_left, unwrap_or-slice_get, Action, Line, IdealNode, Cluster, numbers_from, on_agent, step, step_by, Turn, actor_of}
+use Rattle.serf_schedule.proofs.Names.{◌≡◌, ℕ, ◌+◌, ◌<◌, ◌≤◌, List, [], ◌∷◌, ◌++◌, Option, Some, None, refl, sym, ap, ◌∙◌, length, append_assoc, length-append, codes, decimal, arith, slice_get, flat_map, option_to_list, append-nil, get_or_append_left, unwrap_or-slice_get, Action, Line, IdealNode, Cluster, numbers_from, on_agent, step, Turn}
+use Rattle.serf_model.specs.declared.action.Action.TheVariants.{Inject, Of}
 use Rattle.serf_text.specs.TextParts.{hex_text}
 use Rattle.serf_schedule.specs.Show.{action_text, actions_text, answer_line, event_line, handed_line, numbered, packet_of, sent_line}
 
@@ -46,17 +47,13 @@ pub record Sends (c : Cluster) (action : Action) : Type 0 where
   pub numbers : (step c action).turn.line.sent ≡ numbers_from (length c.sent) (step c action).turn.packets
 
 pub sends : (c : Cluster) (action : Action) → Sends c action
-sends c action = record { sent = (by (actor_of action)).0; numbers = (by (actor_of action)).1 }
+sends c (Inject bytes) = record { sent = refl; numbers = refl }
+sends c (Of a act) = record { sent = (at (slice_get c.nodes a)).0; numbers = (at (slice_get c.nodes a)).1 }
   where
-    at : (a : ℕ) (m : Option IdealNode) → ((on_agent c action a m).cluster.sent ≡ c.sent ++ (on_agent c action a m).turn.packets)
-        × ((on_agent c action a m).turn.line.sent ≡ numbers_from (length c.sent) (on_agent c action a m).turn.packets)
-    at a None = (sym (append-nil c.sent), refl)
-    at a (Some m) = (refl, refl)
-
-    by : (o : Option ℕ) → ((step_by c action o).cluster.sent ≡ c.sent ++ (step_by c action o).turn.packets)
-        × ((step_by c action o).turn.line.sent ≡ numbers_from (length c.sent) (step_by c action o).turn.packets)
-    by None = (refl, refl)
-    by (Some a) = at a (slice_get c.nodes a)
+    at : (m : Option IdealNode) → ((on_agent c a act m).cluster.sent ≡ c.sent ++ (on_agent c a act m).turn.packets)
+        × ((on_agent c a act m).turn.line.sent ≡ numbers_from (length c.sent) (on_agent c a act m).turn.packets)
+    at None = (sym (append-nil c.sent), refl)
+    at (Some m) = (refl, refl)
 
 -- what is sent after a step changes none of its lines
 pub line-stays : (c : Cluster) (action : Action) (n : ℕ) (more : List (List ℕ))

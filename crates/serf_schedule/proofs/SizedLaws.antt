@@ -1,18 +1,19 @@
 -- The numbers of the actions of a schedule's text have their types' sizes.
 use Rattle.serf_schedule.proofs.Names.{◌≡◌, ◌≤◌, ◌+◌, ◌==◌, ◌&&◌, ◌||◌, ℕ, Bool, true, false, cond, nat_lt, nat_le, not, List, [], ◌∷◌, Option, Some, None, Result, Ok, Err, refl, subst, arith, length, pos, slice_split, and_parts, All-nil, All-push, nat_tests, fits, Config, QueryParams, is_sound, Action, has_name, HasSizes}
 use Rattle.std.specs.Prelude.{All, codes, take, drop}
+use Rattle.serf_model.specs.declared.action.Act.{Act as Deed}
 use Rattle.serf_model.specs.declared.action.Action.TheVariants as actions
 use Rattle.serf_text.specs.declared.cause.Cause.{Cause}
 use Rattle.serf_text.specs.declared.cause.Cause.TheVariants.{BadConfig, LateAgent, NameTwice, WordCount}
 use Rattle.serf_schedule.specs.declared.command.Command.{Command}
-use Rattle.serf_schedule.specs.declared.command.Command.TheVariants.{Agent, Query, Act}
+use Rattle.serf_schedule.specs.declared.command.Command.TheVariants.{Agent, Inject, Query, Act}
 use Rattle.serf_schedule.specs.declared.command.Verb.{Verb}
-use Rattle.serf_schedule.specs.declared.command.Verb.TheVariants.{Deliver, Fire, State, Merge, Respond, Restart, Break, Inject, Close, Save, Compact}
+use Rattle.serf_schedule.specs.declared.command.Verb.TheVariants.{Deliver, Fire, Merge, Respond, Restart, Break, Close}
 use Rattle.serf_schedule.specs.Command.{command_of, count_of}
 use Rattle.serf_text.specs.Gives.{◌>>=◌, at_line}
 use Rattle.serf_text.specs.Words.{between, bytes_in, choice_in, number_between, number_in, number_of, or_bad, word_at, words_of}
 use Rattle.serf_schedule.specs.Sinks.{sink_call_in}
-use Rattle.serf_schedule.specs.Line.{Parsed, action_of, add_action, add_agent, after_line, agent_of, answer_of, break_of, closing_of, command_line, delivery_of, filters_from, firing_of, injection_of, is_skipped, lone_of, merging_of, params_of, query_of, restart_of, said_by}
+use Rattle.serf_schedule.specs.Line.{Parsed, act_of, add_action, add_agent, after_line, agent_of, answer_of, break_of, by_agent, closing_of, command_line, delivery_of, filters_from, firing_of, injection_of, is_skipped, merging_of, params_of, query_of, restart_of, said_by}
 use Rattle.serf_schedule.specs.Schedule.{after_lines, schedule_of}
 
 -- ---- steps that may fail
@@ -65,34 +66,36 @@ sized-params words filters =
     next-ok_of (λ n. n ≤ 9223372036854775807) HasParams (number_between 0 9223372036854775807 7 words) _ (number-high 0 9223372036854775807 7 words)
     (λ timeout small. next-ok HasParams (number_between 0 3 8 words) _ (λ flags. next-ok HasParams (filters_from [] 9 filters) _ (λ filters. record { port = refl; relay_factor = refl; timeout = fits-positive timeout small })))
 
-sized-query : (words filters : List (List ℕ)) → AllOk HasSizes (query_of words filters)
+-- the numbers of what an agent does have their types' sizes
+abbrev IsActSized : Deed → Type 0
+IsActSized act = (agent : ℕ) → HasSizes (actions.Of agent act)
+
+sized-query : (words filters : List (List ℕ)) → AllOk IsActSized (query_of words filters)
 unfolding query_of
 sized-query words filters =
-    next-ok HasSizes (number_in 2 words) _ (λ agent. next-ok HasSizes (number_in 3 words) _ (λ now.
-    next-ok_of (λ n. n ≤ 4294967295) HasSizes (number_between 0 4294967295 4 words) _ (number-high 0 4294967295 4 words) (λ id small.
-    next-ok HasSizes (bytes_in 5 words) _ (λ name. next-ok HasSizes (bytes_in 6 words) _ (λ payload.
-    next-ok_of HasParams HasSizes (params_of words filters) _ (sized-params words filters)
-    (λ params h. record { id_fits = omega arith; port_fits = (let p = h.port in omega arith); relay_factor_fits = (let p = h.relay_factor in omega arith); timeout_fits = h.timeout }))))))
+    next-ok IsActSized (number_in 3 words) _ (λ moment.
+    next-ok_of (λ n. n ≤ 4294967295) IsActSized (number_between 0 4294967295 4 words) _ (number-high 0 4294967295 4 words) (λ id small.
+    next-ok IsActSized (bytes_in 5 words) _ (λ name. next-ok IsActSized (bytes_in 6 words) _ (λ payload.
+    next-ok_of HasParams IsActSized (params_of words filters) _ (sized-params words filters)
+    (λ params h agent. record { id_fits = omega arith; port_fits = (let p = h.port in omega arith); relay_factor_fits = (let p = h.relay_factor in omega arith); timeout_fits = h.timeout })))))
 
-sized-lone : (action : ℕ → Action) (words : List (List ℕ)) → ((agent : ℕ) → HasSizes (action agent)) → AllOk HasSizes (lone_of action words)
-unfolding lone_of
-sized-lone action words h = next-ok HasSizes (number_in 2 words) (λ agent. Ok (action agent)) h
+sized-act : (verb : Verb) (words : List (List ℕ)) → AllOk IsActSized (act_of verb words)
+unfolding delivery_of firing_of merging_of answer_of restart_of break_of closing_of
+sized-act Deliver words = next-ok IsActSized (number_in 3 words) _ (λ packet. next-ok IsActSized (number_in 4 words) _ (λ now agent. tt))
+sized-act Fire words = next-ok IsActSized (bytes_in 3 words) _ (λ name. next-ok IsActSized (bytes_in 4 words) _ (λ payload. next-ok IsActSized (choice_in (codes "0") (codes "1") 5 words) _ (λ coalesce agent. tt)))
+sized-act Merge words = next-ok IsActSized (number_in 3 words) _ (λ packet. next-ok IsActSized (choice_in (codes "sync") (codes "join") 4 words) _ (λ join agent. tt))
+sized-act Respond words = next-ok IsActSized (number_in 3 words) _ (λ handed. next-ok IsActSized (number_in 4 words) _ (λ now. next-ok IsActSized (bytes_in 5 words) _ (λ payload agent. tt)))
+sized-act Restart words = next-ok IsActSized (bytes_in 3 words) _ (λ tail agent. tt)
+sized-act Break words = next-ok IsActSized (sink_call_in 3 words) _ (λ call. next-ok IsActSized (number_between 1 18446744073709551615 4 words) _ (λ count agent. tt))
+sized-act Close words = next-ok IsActSized (number_in 3 words) _ (λ now agent. tt)
+sized-act _ words = λ agent. tt
 
-sized-action : (verb : Verb) (words : List (List ℕ)) → AllOk HasSizes (action_of verb words)
-unfolding delivery_of firing_of merging_of answer_of restart_of break_of injection_of closing_of
-sized-action Deliver words = next-ok HasSizes (number_in 2 words) _ (λ to. next-ok HasSizes (number_in 3 words) _ (λ packet. next-ok HasSizes (number_in 4 words) _ (λ now. tt)))
-sized-action Fire words =
-    next-ok HasSizes (number_in 2 words) _ (λ agent. next-ok HasSizes (bytes_in 3 words) _ (λ name. next-ok HasSizes (bytes_in 4 words) _ (λ payload. next-ok HasSizes (choice_in (codes "0") (codes "1") 5 words) _ (λ coalesce. tt))))
-sized-action State words = sized-lone (λ agent. actions.State agent) words (λ agent. tt)
-sized-action Merge words = next-ok HasSizes (number_in 2 words) _ (λ to. next-ok HasSizes (number_in 3 words) _ (λ packet. next-ok HasSizes (choice_in (codes "sync") (codes "join") 4 words) _ (λ join. tt)))
-sized-action Respond words =
-    next-ok HasSizes (number_in 2 words) _ (λ agent. next-ok HasSizes (number_in 3 words) _ (λ handed. next-ok HasSizes (number_in 4 words) _ (λ now. next-ok HasSizes (bytes_in 5 words) _ (λ payload. tt))))
-sized-action Restart words = next-ok HasSizes (number_in 2 words) _ (λ agent. next-ok HasSizes (bytes_in 3 words) _ (λ tail. tt))
-sized-action Break words = next-ok HasSizes (number_in 2 words) _ (λ agent. next-ok HasSizes (sink_call_in 3 words) _ (λ call. next-ok HasSizes (number_between 1 18446744073709551615 4 words) _ (λ count. tt)))
-sized-action Inject words = next-ok HasSizes (bytes_in 2 words) _ (λ bytes. tt)
-sized-action Close words = next-ok HasSizes (number_in 2 words) _ (λ agent. next-ok HasSizes (number_in 3 words) _ (λ now. tt))
-sized-action Save words = sized-lone (λ agent. actions.Save agent) words (λ agent. tt)
-sized-action Compact words = sized-lone (λ agent. actions.Compact agent) words (λ agent. tt)
+sized-by_agent : (words : List (List ℕ)) (r : Result Deed Cause) → AllOk IsActSized r → AllOk HasSizes (by_agent words r)
+sized-by_agent words r has = next-ok HasSizes (number_in 2 words) _ (λ agent. next-ok_of IsActSized HasSizes r _ has (λ act h. h agent))
+
+sized-injection : (words : List (List ℕ)) → AllOk HasSizes (injection_of words)
+unfolding injection_of
+sized-injection words = next-ok HasSizes (bytes_in 2 words) _ (λ bytes. tt)
 
 -- ---- a line
 
@@ -113,9 +116,13 @@ sized-command (Some Agent) before words all =
 sized-command (Some Query) before words all =
     let first : List (List ℕ) = take 8 words in
     let rest : List (List ℕ) = drop 8 words in
-    if-ok AreSized (nat_lt (length first) 8) WordCount (query_of first rest >>= add_action before) (sized-added before (query_of first rest) all (sized-query first rest))
+    let said = by_agent first (query_of first rest) in
+    if-ok AreSized (nat_lt (length first) 8) WordCount (said >>= add_action before) (sized-added before said all (sized-by_agent first (query_of first rest) (sized-query first rest)))
+sized-command (Some Inject) before words all =
+    if-ok AreSized (not (length words == 2)) WordCount (injection_of words >>= add_action before) (sized-added before (injection_of words) all (sized-injection words))
 sized-command (Some (Act verb)) before words all =
-    if-ok AreSized (not (length words == count_of verb)) WordCount (action_of verb words >>= add_action before) (sized-added before (action_of verb words) all (sized-action verb words))
+    let said = by_agent words (act_of verb words) in
+    if-ok AreSized (not (length words == count_of verb)) WordCount (said >>= add_action before) (sized-added before said all (sized-by_agent words (act_of verb words) (sized-act verb words)))
 
 sized-line : (before : Parsed) (line : List ℕ) → AreSized before → AllOk AreSized (after_line before line)
 unfolding after_line

@@ -3,7 +3,7 @@ use Rattle.serf_schedule.proofs.Names.{◌≡◌, ◌≤◌, ◌<◌, ◌++◌, 
 use Rattle.std.specs.Prelude.{◌==◌}
 use Rattle.std.proofs.lemmas.List.{length-append}
 use Rattle.serf_schedule.specs.declared.command.Command.{Command}
-use Rattle.serf_schedule.specs.declared.command.Command.TheVariants.{Agent, Query, Act}
+use Rattle.serf_schedule.specs.declared.command.Command.TheVariants.{Agent, Inject, Query, Act}
 use Rattle.serf_schedule.specs.declared.command.Verb.{Verb}
 use Rattle.serf_schedule.specs.Command.{command_of, count_of}
 use Rattle.serf_text.specs.Words.{word_at, words_of}
@@ -31,6 +31,7 @@ whole-said (Some Query) p ws few =
     let all : take 8 ws ≡ ws = grind (arith, common_steps) in
     let none : drop 8 ws ≡ [] = grind (arith, common_steps) in
     sym (ap (λ (x : List (List ℕ)). query_said p x (drop 8 ws)) all ∙ ap (query_said p ws) none)
+whole-said (Some Inject) p ws few = refl
 whole-said (Some (Act v)) p ws few = refl
 
 -- there are more
@@ -46,6 +47,11 @@ more-said (Some Agent) p ws b bs eight some =
 more-said (Some Query) p ws b bs eight some =
     let r : List (List ℕ) = words_of (b ∷ bs) in
     sym (ap (λ (x : List (List ℕ)). query_said p x (drop 8 (ws ++ r))) (front-of ws r 8 eight) ∙ ap (query_said p ws) (back-of ws r 8 eight))
+more-said (Some Inject) p ws b bs eight some =
+    let total = length-append ws (words_of (b ∷ bs)) in
+    let first = apart (length ws) 2 (omega arith) in
+    let all = apart (length (ws ++ words_of (b ∷ bs))) 2 (omega (arith, total)) in
+    rw (first, all) refl
 more-said (Some (Act v)) p ws b bs eight some =
     let total = length-append ws (words_of (b ∷ bs)) in
     let short = few-words v in

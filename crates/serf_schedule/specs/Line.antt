@@ -4,13 +4,15 @@ use Rattle.serf_agent.specs.declared.config.Config.{Config}
 use Rattle.serf_agent.specs.declared.outcome.QueryParams.{QueryParams}
 use Rattle.serf_agent.specs.Config.{is_sound}
 use Rattle.serf_agent.specs.Defaults.{default_per_time}
+use Rattle.serf_model.specs.declared.action.Act.{Act as Deed}
+use Rattle.serf_model.specs.declared.action.Act.TheVariants as acts
 use Rattle.serf_model.specs.declared.action.Action.{Action}
 use Rattle.serf_model.specs.declared.action.Action.TheVariants as actions
 use Rattle.serf_model.specs.Runs.{has_name}
 use Rattle.serf_schedule.specs.declared.command.Command.{Command}
-use Rattle.serf_schedule.specs.declared.command.Command.TheVariants.{Agent, Query, Act}
+use Rattle.serf_schedule.specs.declared.command.Command.TheVariants.{Agent, Inject, Query, Act}
 use Rattle.serf_schedule.specs.declared.command.Verb.{Verb}
-use Rattle.serf_schedule.specs.declared.command.Verb.TheVariants.{Deliver, Fire, State, Merge, Respond, Restart, Break, Inject, Close, Save, Compact}
+use Rattle.serf_schedule.specs.declared.command.Verb.TheVariants.{Deliver, Fire, State, Merge, Respond, Restart, Break, Close, Save, Compact}
 use Rattle.serf_text.specs.declared.cause.Cause.{Cause}
 use Rattle.serf_text.specs.declared.cause.Cause.TheVariants.{UnknownWord, LateAgent, WordCount, BadConfig, NameTwice}
 use Rattle.serf_schedule.specs.Command.{command_of, count_of}
@@ -61,83 +63,79 @@ with_action before action = record before { actions = before.actions ++ action �
 abbrev pub add_action : Parsed → Action → Result Parsed Cause
 add_action before action = Ok (with_action before action)
 
-unfoldable pub firing_of : List (List ℕ) → Result Action Cause
-firing_of words = do
+-- what the agent of the second word does
+abbrev pub by_agent : List (List ℕ) → Result Deed Cause → Result Action Cause
+by_agent words deed = do
   agent ← number_in 2 words
+  act ← deed
+  Ok (actions.Of agent act)
+
+unfoldable pub firing_of : List (List ℕ) → Result Deed Cause
+firing_of words = do
   name ← bytes_in 3 words
   payload ← bytes_in 4 words
   coalesce ← choice_in (codes "0") (codes "1") 5 words
-  Ok (actions.Fire agent name payload coalesce)
+  Ok (acts.Fire name payload coalesce)
 
-unfoldable pub delivery_of : List (List ℕ) → Result Action Cause
+unfoldable pub delivery_of : List (List ℕ) → Result Deed Cause
 delivery_of words = do
-  to ← number_in 2 words
   packet ← number_in 3 words
   now ← number_in 4 words
-  Ok (actions.Deliver to packet now)
+  Ok (acts.Deliver packet now)
 
-unfoldable pub merging_of : List (List ℕ) → Result Action Cause
+unfoldable pub merging_of : List (List ℕ) → Result Deed Cause
 merging_of words = do
-  to ← number_in 2 words
   packet ← number_in 3 words
   join ← choice_in (codes "sync") (codes "join") 4 words
-  Ok (actions.Merge to packet join)
+  Ok (acts.Merge packet join)
 
-unfoldable pub answer_of : List (List ℕ) → Result Action Cause
+unfoldable pub answer_of : List (List ℕ) → Result Deed Cause
 answer_of words = do
-  agent ← number_in 2 words
   handed ← number_in 3 words
   now ← number_in 4 words
   payload ← bytes_in 5 words
-  Ok (actions.Respond agent handed now payload)
+  Ok (acts.Respond handed now payload)
 
-unfoldable pub restart_of : List (List ℕ) → Result Action Cause
+unfoldable pub restart_of : List (List ℕ) → Result Deed Cause
 restart_of words = do
-  agent ← number_in 2 words
   tail ← bytes_in 3 words
-  Ok (actions.Restart agent tail)
+  Ok (acts.Restart tail)
 
 -- the calls of a sink count from 1
-unfoldable pub break_of : List (List ℕ) → Result Action Cause
+unfoldable pub break_of : List (List ℕ) → Result Deed Cause
 break_of words = do
-  agent ← number_in 2 words
   call ← sink_call_in 3 words
   count ← number_between 1 (2 ^ 64 - 1) 4 words
-  Ok (actions.Break agent call count)
+  Ok (acts.Break call count)
+
+unfoldable pub closing_of : List (List ℕ) → Result Deed Cause
+closing_of words = do
+  now ← number_in 3 words
+  Ok (acts.Close now)
+
+-- what an agent does, by the words of its line
+abbrev pub act_of : Verb → List (List ℕ) → Result Deed Cause
+act_of Deliver words = delivery_of words
+act_of Fire words = firing_of words
+act_of State words = Ok acts.State
+act_of Merge words = merging_of words
+act_of Respond words = answer_of words
+act_of Restart words = restart_of words
+act_of Break words = break_of words
+act_of Close words = closing_of words
+act_of Save words = Ok acts.Save
+act_of Compact words = Ok acts.Compact
+
+abbrev pub act_line : Verb → Parsed → List (List ℕ) → Result Parsed Cause
+act_line verb before words = if not (length words == count_of verb) then Err WordCount else by_agent words (act_of verb words) >>= add_action before
 
 unfoldable pub injection_of : List (List ℕ) → Result Action Cause
 injection_of words = do
   bytes ← bytes_in 2 words
   Ok (actions.Inject bytes)
 
-unfoldable pub closing_of : List (List ℕ) → Result Action Cause
-closing_of words = do
-  agent ← number_in 2 words
-  now ← number_in 3 words
-  Ok (actions.Close agent now)
-
--- an action that has nothing but its agent
-unfoldable pub lone_of : (ℕ → Action) → List (List ℕ) → Result Action Cause
-lone_of action words = do
-  agent ← number_in 2 words
-  Ok (action agent)
-
--- the action that the words of its line describe
-abbrev pub action_of : Verb → List (List ℕ) → Result Action Cause
-action_of Deliver words = delivery_of words
-action_of Fire words = firing_of words
-action_of State words = lone_of (λ agent. actions.State agent) words
-action_of Merge words = merging_of words
-action_of Respond words = answer_of words
-action_of Restart words = restart_of words
-action_of Break words = break_of words
-action_of Inject words = injection_of words
-action_of Close words = closing_of words
-action_of Save words = lone_of (λ agent. actions.Save agent) words
-action_of Compact words = lone_of (λ agent. actions.Compact agent) words
-
-abbrev pub action_line : Verb → Parsed → List (List ℕ) → Result Parsed Cause
-action_line verb before words = if not (length words == count_of verb) then Err WordCount else action_of verb words >>= add_action before
+abbrev pub injection_line : Parsed → List (List ℕ) → Result Parsed Cause
+injection_line before words = if not (length words == 2) then Err WordCount else injection_of words >>= add_action before
 
 -- Queries
 
@@ -155,18 +153,17 @@ params_of words filters = do
   filters ← filters_from [] 9 filters
   Ok (record { filters = filters; want_ack = flags % 2 == 1; no_broadcast = nat_le 2 flags; timeout = pos timeout; addr = []; port = 0; relay_factor = 0 })
 
-unfoldable pub query_of : List (List ℕ) → List (List ℕ) → Result Action Cause
+unfoldable pub query_of : List (List ℕ) → List (List ℕ) → Result Deed Cause
 query_of words filters = do
-  agent ← number_in 2 words
-  now ← number_in 3 words
+  moment ← number_in 3 words
   id ← number_between 0 (2 ^ 32 - 1) 4 words
   name ← bytes_in 5 words
   payload ← bytes_in 6 words
   params ← params_of words filters
-  Ok (actions.Query agent now id name payload params)
+  Ok (acts.Query record { moment = moment; id = id; name = name; payload = payload; params = params })
 
 abbrev pub query_said : Parsed → List (List ℕ) → List (List ℕ) → Result Parsed Cause
-query_said before words filters = if nat_lt (length words) 8 then Err WordCount else query_of words filters >>= add_action before
+query_said before words filters = if nat_lt (length words) 8 then Err WordCount else by_agent words (query_of words filters) >>= add_action before
 
 -- the words from the ninth on are filters
 abbrev pub query_line : Parsed → List (List ℕ) → Result Parsed Cause
@@ -177,8 +174,9 @@ query_line before words = query_said before (take 8 words) (drop 8 words)
 abbrev pub command_line : Option Command → Parsed → List (List ℕ) → Result Parsed Cause
 command_line None before words = Err UnknownWord
 command_line (Some Agent) before words = agent_line before words
+command_line (Some Inject) before words = injection_line before words
 command_line (Some Query) before words = query_line before words
-command_line (Some (Act verb)) before words = action_line verb before words
+command_line (Some (Act verb)) before words = act_line verb before words
 
 -- what the words of a line add
 abbrev pub said_by : Parsed → List (List ℕ) → Result Parsed Cause

@@ -3,8 +3,11 @@ use Rattle.std.specs.Prelude.{◌≡◌, ℕ, pos, ◌<◌, ◌≤◌, ◌^◌, 
 use Rattle.hex.specs.Hex.{IsBytes}
 use Rattle.serf_agent.specs.declared.config.Config.{Config}
 use Rattle.serf_agent.specs.declared.outcome.QueryParams.{QueryParams}
+use Rattle.serf_model.specs.declared.action.Act.{Act}
+use Rattle.serf_model.specs.declared.action.Act.TheVariants as acts
 use Rattle.serf_model.specs.declared.action.Action.{Action}
 use Rattle.serf_model.specs.declared.action.Action.TheVariants as actions
+use Rattle.serf_model.specs.declared.query.NewQuery.{NewQuery}
 
 -- Of how a query is fired: a timeout that isn't negative, filters, and nothing of where answers go.
 pub record AreSayable (params : QueryParams) : Type 0 where
@@ -17,20 +20,28 @@ pub record AreSayable (params : QueryParams) : Type 0 where
   pub relay_factor : params.relay_factor ≡ 0
 
 -- Each number has its type's size, each list is of bytes, and the calls of a sink count from 1.
+
+pub record IsQuerySayable (q : NewQuery) : Type 0 where
+  pub moment : q.moment < 2 ^ 64
+  pub id : q.id < 2 ^ 32
+  pub name : IsBytes q.name
+  pub payload : IsBytes q.payload
+  pub params : AreSayable q.params
+
+abbrev pub IsActSayable : Act → Type 0
+IsActSayable (acts.Fire name payload coalesce) = IsBytes name × IsBytes payload
+IsActSayable (acts.Deliver packet now) = (packet < 2 ^ 64) × (now < 2 ^ 64)
+IsActSayable (acts.Merge packet join) = packet < 2 ^ 64
+IsActSayable (acts.Query q) = IsQuerySayable q
+IsActSayable (acts.Respond handed now payload) = (handed < 2 ^ 64) × (now < 2 ^ 64) × IsBytes payload
+IsActSayable (acts.Restart tail) = IsBytes tail
+IsActSayable (acts.Break call count) = (1 ≤ count) × (count < 2 ^ 64)
+IsActSayable (acts.Close now) = now < 2 ^ 64
+IsActSayable _ = Unit {0}
+
 abbrev pub IsSayable : Action → Type 0
-IsSayable (actions.Fire agent name payload coalesce) = (agent < 2 ^ 64) × IsBytes name × IsBytes payload
-IsSayable (actions.Deliver to packet now) = (to < 2 ^ 64) × (packet < 2 ^ 64) × (now < 2 ^ 64)
-IsSayable (actions.State agent) = agent < 2 ^ 64
-IsSayable (actions.Merge to packet join) = (to < 2 ^ 64) × (packet < 2 ^ 64)
-IsSayable (actions.Query agent now id name payload params) =
-    (agent < 2 ^ 64) × (now < 2 ^ 64) × (id < 2 ^ 32) × IsBytes name × IsBytes payload × AreSayable params
-IsSayable (actions.Respond agent handed now payload) = (agent < 2 ^ 64) × (handed < 2 ^ 64) × (now < 2 ^ 64) × IsBytes payload
-IsSayable (actions.Restart agent tail) = (agent < 2 ^ 64) × IsBytes tail
-IsSayable (actions.Break agent call count) = (agent < 2 ^ 64) × (1 ≤ count) × (count < 2 ^ 64)
 IsSayable (actions.Inject bytes) = IsBytes bytes
-IsSayable (actions.Close agent now) = (agent < 2 ^ 64) × (now < 2 ^ 64)
-IsSayable (actions.Save agent) = agent < 2 ^ 64
-IsSayable (actions.Compact agent) = agent < 2 ^ 64
+IsSayable (actions.Of agent act) = (agent < 2 ^ 64) × IsActSayable act
 
 -- an agent whose name is of bytes
 abbrev pub HasByteName : Config → Type 0

@@ -1,9 +1,11 @@
 -- The text of a schedule: a line for each agent, and then one for each action.
-use Rattle.std.specs.Prelude.{ℕ, ◌+◌, ◌++◌, Bool, if◌then◌else◌, List, [], ◌∷◌, codes, decimal, map}
+use Rattle.std.specs.Prelude.{ℕ, ◌+◌, ◌++◌, Bool, if◌then◌else◌, List, [], ◌∷◌, Option, Some, None, codes, decimal, map}
 use Rattle.std.specs.Fmt.{signed_decimal}
 use Rattle.std.specs.List.{flat_map}
 use Rattle.serf_agent.specs.declared.config.Config.{Config}
 use Rattle.serf_agent.specs.declared.outcome.QueryParams.{QueryParams}
+use Rattle.serf_model.specs.declared.action.Act.{Act}
+use Rattle.serf_model.specs.declared.action.Act.TheVariants as acts
 use Rattle.serf_model.specs.declared.action.Action.{Action}
 use Rattle.serf_model.specs.declared.action.Action.TheVariants as actions
 use Rattle.serf_model.specs.declared.action.SinkCall.{SinkCall}
@@ -29,28 +31,51 @@ sink_call_word ReplaceNew = codes "replace-new"
 abbrev pub flags_of : QueryParams → ℕ
 flags_of params = (if params.want_ack then 1 else 0) + (if params.no_broadcast then 2 else 0)
 
--- The words of an agent's line, and of an action's. A query's line says nothing of where answers go.
+-- The words of an agent's settings, and of what it does. A query says nothing of where answers go.
+
+abbrev pub config_words : Config → List (List ℕ)
+config_words c = hex_text c.name ∷ decimal c.event_buffer ∷ decimal c.query_buffer ∷ decimal c.event_limit ∷ decimal c.responders ∷ mode_word c.ignore_old ∷ decimal c.per_time ∷ []
+
+abbrev pub verb_word : Act → List ℕ
+verb_word (acts.Fire name payload coalesce) = codes "fire"
+verb_word (acts.Deliver packet now) = codes "deliver"
+verb_word acts.State = codes "state"
+verb_word (acts.Merge packet join) = codes "merge"
+verb_word (acts.Query q) = codes "query"
+verb_word (acts.Respond handed now payload) = codes "respond"
+verb_word (acts.Restart tail) = codes "restart"
+verb_word (acts.Break call count) = codes "break"
+verb_word (acts.Close now) = codes "close"
+verb_word acts.Save = codes "save"
+verb_word acts.Compact = codes "compact"
+
+-- a packet by its bytes, where these are given, else by its number
+abbrev pub packet_word : Option (List ℕ) → ℕ → List ℕ
+packet_word None packet = decimal packet
+packet_word (Some bytes) packet = hex_text bytes
+
+-- what stands behind the verb, and behind the agent's number where that is told
+abbrev pub act_words : Option (List ℕ) → Act → List (List ℕ)
+act_words given (acts.Fire name payload coalesce) = hex_text name ∷ hex_text payload ∷ flag_text coalesce ∷ []
+act_words given (acts.Deliver packet now) = packet_word given packet ∷ decimal now ∷ []
+act_words given (acts.Merge packet join) = packet_word given packet ∷ join_word join ∷ []
+act_words given (acts.Query q) =
+    decimal q.moment ∷ decimal q.id ∷ hex_text q.name ∷ hex_text q.payload ∷ signed_decimal q.params.timeout ∷ decimal (flags_of q.params)
+    ∷ map hex_text q.params.filters
+act_words given (acts.Respond handed now payload) = decimal handed ∷ decimal now ∷ hex_text payload ∷ []
+act_words given (acts.Restart tail) = hex_text tail ∷ []
+act_words given (acts.Break call count) = sink_call_word call ∷ decimal count ∷ []
+act_words given (acts.Close now) = decimal now ∷ []
+act_words given _ = []
+
+-- The words of the lines of a schedule.
 
 abbrev pub agent_words : Config → List (List ℕ)
-agent_words c =
-    codes "agent" ∷ hex_text c.name ∷ decimal c.event_buffer ∷ decimal c.query_buffer ∷ decimal c.event_limit ∷ decimal c.responders
-    ∷ mode_word c.ignore_old ∷ decimal c.per_time ∷ []
+agent_words c = codes "agent" ∷ config_words c
 
 abbrev pub action_words : Action → List (List ℕ)
-action_words (actions.Fire agent name payload coalesce) = codes "fire" ∷ decimal agent ∷ hex_text name ∷ hex_text payload ∷ flag_text coalesce ∷ []
-action_words (actions.Deliver to packet now) = codes "deliver" ∷ decimal to ∷ decimal packet ∷ decimal now ∷ []
-action_words (actions.State agent) = codes "state" ∷ decimal agent ∷ []
-action_words (actions.Merge to packet join) = codes "merge" ∷ decimal to ∷ decimal packet ∷ join_word join ∷ []
-action_words (actions.Query agent now id name payload params) =
-    codes "query" ∷ decimal agent ∷ decimal now ∷ decimal id ∷ hex_text name ∷ hex_text payload ∷ signed_decimal params.timeout
-    ∷ decimal (flags_of params) ∷ map hex_text params.filters
-action_words (actions.Respond agent handed now payload) = codes "respond" ∷ decimal agent ∷ decimal handed ∷ decimal now ∷ hex_text payload ∷ []
-action_words (actions.Restart agent tail) = codes "restart" ∷ decimal agent ∷ hex_text tail ∷ []
-action_words (actions.Break agent call count) = codes "break" ∷ decimal agent ∷ sink_call_word call ∷ decimal count ∷ []
 action_words (actions.Inject bytes) = codes "inject" ∷ hex_text bytes ∷ []
-action_words (actions.Close agent now) = codes "close" ∷ decimal agent ∷ decimal now ∷ []
-action_words (actions.Save agent) = codes "save" ∷ decimal agent ∷ []
-action_words (actions.Compact agent) = codes "compact" ∷ decimal agent ∷ []
+action_words (actions.Of agent act) = verb_word act ∷ decimal agent ∷ act_words None act
 
 -- Lines
 

@@ -1,7 +1,6 @@
 -- The words of a line, as the code holds them: private to the crate.
 use Rattle.std.specs.Prelude.{ℕ, ◌++◌, List, codes, decimal}
 use Rattle.std.specs.Fmt.{signed_decimal}
-use Rattle.std.specs.List.{flat_map}
 use Rattle.serf_text.specs.TextParts.{hex_text}
 use Rattle.serf_schedule.specs.declared.written_words.Word.{Word}
 use Rattle.serf_schedule.specs.declared.written_words.Word.TheVariants as words
@@ -15,7 +14,3 @@ word_text (words.Plain word) = word.now
 -- a word behind a space
 abbrev pub word_behind : Word → List ℕ
 word_behind word = codes " " ++ word_text word
-
--- a command and its words
-abbrev pub command_text : List ℕ → List Word → List ℕ
-command_text command words = command ++ flat_map word_behind words

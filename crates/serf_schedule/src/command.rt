@@ -10,13 +10,15 @@ use serf_text::is_word;
 pub enum Command {
     /// An agent of the cluster.
     Agent,
+    /// Bytes that no agent made.
+    Inject,
     /// A query, whose line may have any number of filters.
     Query,
-    /// Another action, whose line has so many words as that action has.
+    /// What else an agent does, whose line has so many words as that has.
     Act(Verb),
 }
 
-/// An action other than a query.
+/// What an agent does, other than a query.
 #[derive(Clone, Copy, Debug, PartialEq, Eq)]
 pub enum Verb {
     Deliver,
@@ -26,7 +28,6 @@ pub enum Verb {
     Respond,
     Restart,
     Break,
-    Inject,
     Close,
     Save,
     Compact,
@@ -49,8 +50,6 @@ fn verb_in(word: &[u8]) -> Option<Verb>
         Some(Verb::Restart)
     } else if is_word(word, b"break") {
         Some(Verb::Break)
-    } else if is_word(word, b"inject") {
-        Some(Verb::Inject)
     } else if is_word(word, b"close") {
         Some(Verb::Close)
     } else if is_word(word, b"save") {
@@ -71,6 +70,8 @@ pub fn command_in(word: &[u8]) -> Option<Command>
         Some(Command::Agent)
     } else if is_word(word, b"query") {
         Some(Command::Query)
+    } else if is_word(word, b"inject") {
+        Some(Command::Inject)
     } else {
         match verb_in(word) {
             Some(verb) => Some(Command::Act(verb)),
@@ -80,12 +81,12 @@ pub fn command_in(word: &[u8]) -> Option<Command>
 }
 
 impl Verb {
-    /// How many words its line has, the command among them.
+    /// How many words its line has, the command and the agent among them.
     pub(crate) fn count(self) -> usize
         ensures { result ≡ count_of self }
     {
         match self {
-            Verb::State | Verb::Inject | Verb::Save | Verb::Compact => 2,
+            Verb::State | Verb::Save | Verb::Compact => 2,
             Verb::Restart | Verb::Close => 3,
             Verb::Deliver | Verb::Merge | Verb::Break => 4,
             Verb::Fire | Verb::Respond => 5,

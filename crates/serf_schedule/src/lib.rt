@@ -26,5 +26,7 @@ pub use show::{answer_words, put_action, put_answer, show_trace};
 pub use sinks::sink_call;
 pub use watch::{Unwatched, Watch};
 pub use whole::{know_read_back, put_schedule};
-pub use written_lines::{put_action_line, put_agent_line};
+pub use written_lines::{
+    put_act_words, put_action_line, put_agent_line, put_config_words, verb_word,
+};
 pub use written_words::{Word, put_line};

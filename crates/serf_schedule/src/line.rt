@@ -1,16 +1,15 @@
 //! What one line says, once it is cut into words.
 
-ghost use Rattle.std.specs.Prelude.{◌≡◌, ◌≤◌, ◌⊎◌, [], length, map};
-ghost use Rattle.serf_model.specs.declared.action.Action.TheVariants.{State, Save, Compact};
-ghost use Rattle.serf_text.specs.Words.{words_of, bytes_of, bytes_in, or_bad};
+ghost use Rattle.std.specs.Prelude.{◌≡◌, ◌⊎◌, [], length, map};
+ghost use Rattle.serf_text.specs.Words.{words_of, bytes_of, or_bad};
 ghost use Rattle.serf_schedule.specs.Command.{count_of};
-ghost use Rattle.serf_schedule.specs.Line.{agent_of, per_time_in, firing_of, delivery_of, merging_of, answer_of, restart_of, break_of, injection_of, closing_of, lone_of, action_of, filters_from, params_of, query_of};
+ghost use Rattle.serf_schedule.specs.Line.{agent_of, per_time_in, firing_of, delivery_of, merging_of, answer_of, restart_of, break_of, injection_of, closing_of, act_of, by_agent, filters_from, params_of, query_of};
 ghost use Rattle.serf_text.specs.Gives.{Gives};
 
 use crate::command::Verb;
 use crate::sinks::sink_call_at;
 use serf_agent::{BytesList, Config, DEFAULT_PER_TIME, QueryParams};
-use serf_model::{Action, BoxedBytes, BoxedParams};
+use serf_model::{Act, Action, Boxed, NewQuery};
 use serf_text::{
     Cause, FIXED_WORDS, LineFault, bytes_at, choice_at, cut, hex_bytes, number_at, number_from_to,
 };
@@ -60,16 +59,14 @@ pub(crate) fn agent(alloc: Global, words: &[&[u8]]) -> Result<Config, LineFault>
 }
 
 #[tactic(auto, unfolding(crate::specs::Line::firing_of))]
-fn firing(alloc: Global, words: &[&[u8]]) -> Result<Action, LineFault>
+fn firing(alloc: Global, words: &[&[u8]]) -> Result<Act, LineFault>
     requires { length words.now ≡ 5 }
     ensures { Gives (λ a. a) result (firing_of (map (λ w. w.now) words.now)) }
 {
-    let agent = number_at(words, 2)?;
     let name = bytes_at(alloc, words, 3)?;
     let payload = bytes_at(alloc, words, 4)?;
     let coalesce = choice_at(words, 5, b"0", b"1")?;
-    Ok(Action::Fire {
-        agent,
+    Ok(Act::Fire {
         name,
         payload,
         coalesce,
@@ -77,38 +74,34 @@ fn firing(alloc: Global, words: &[&[u8]]) -> Result<Action, LineFault>
 }
 
 #[tactic(auto, unfolding(crate::specs::Line::delivery_of))]
-fn delivery(words: &[&[u8]]) -> Result<Action, LineFault>
+fn delivery(words: &[&[u8]]) -> Result<Act, LineFault>
     requires { length words.now ≡ 4 }
     ensures { Gives (λ a. a) result (delivery_of (map (λ w. w.now) words.now)) }
 {
-    let to = number_at(words, 2)?;
     let packet = number_at(words, 3)?;
     let now = number_at(words, 4)?;
-    Ok(Action::Deliver { to, packet, now })
+    Ok(Act::Deliver { packet, now })
 }
 
 #[tactic(auto, unfolding(crate::specs::Line::merging_of))]
-fn merging(words: &[&[u8]]) -> Result<Action, LineFault>
+fn merging(words: &[&[u8]]) -> Result<Act, LineFault>
     requires { length words.now ≡ 4 }
     ensures { Gives (λ a. a) result (merging_of (map (λ w. w.now) words.now)) }
 {
-    let to = number_at(words, 2)?;
     let packet = number_at(words, 3)?;
     let join = choice_at(words, 4, b"sync", b"join")?;
-    Ok(Action::Merge { to, packet, join })
+    Ok(Act::Merge { packet, join })
 }
 
 #[tactic(auto, unfolding(crate::specs::Line::answer_of))]
-fn answer(alloc: Global, words: &[&[u8]]) -> Result<Action, LineFault>
+fn answer(alloc: Global, words: &[&[u8]]) -> Result<Act, LineFault>
     requires { length words.now ≡ 5 }
     ensures { Gives (λ a. a) result (answer_of (map (λ w. w.now) words.now)) }
 {
-    let agent = number_at(words, 2)?;
     let handed = number_at(words, 3)?;
     let now = number_at(words, 4)?;
     let payload = bytes_at(alloc, words, 5)?;
-    Ok(Action::Respond {
-        agent,
+    Ok(Act::Respond {
         handed,
         now,
         payload,
@@ -116,91 +109,71 @@ fn answer(alloc: Global, words: &[&[u8]]) -> Result<Action, LineFault>
 }
 
 #[tactic(auto, unfolding(crate::specs::Line::restart_of))]
-fn restarting(alloc: Global, words: &[&[u8]]) -> Result<Action, LineFault>
+fn restarting(alloc: Global, words: &[&[u8]]) -> Result<Act, LineFault>
     requires { length words.now ≡ 3 }
     ensures { Gives (λ a. a) result (restart_of (map (λ w. w.now) words.now)) }
 {
-    let agent = number_at(words, 2)?;
     let tail = bytes_at(alloc, words, 3)?;
-    Ok(Action::Restart { agent, tail })
+    Ok(Act::Restart { tail })
 }
 
 #[tactic(auto, unfolding(crate::specs::Line::break_of))]
-fn breaking(words: &[&[u8]]) -> Result<Action, LineFault>
+fn breaking(words: &[&[u8]]) -> Result<Act, LineFault>
     requires { length words.now ≡ 4 }
     ensures { Gives (λ a. a) result (break_of (map (λ w. w.now) words.now)) }
 {
-    let agent = number_at(words, 2)?;
     let call = sink_call_at(words, 3)?;
     let count = number_from_to(words, 4, 1, u64::MAX)?;
-    Ok(Action::Break { agent, call, count })
-}
-
-#[tactic(auto, unfolding(crate::specs::Line::injection_of))]
-fn injection(alloc: Global, words: &[&[u8]]) -> Result<Action, LineFault>
-    requires { length words.now ≡ 2 }
-    ensures { Gives (λ a. a) result (injection_of (map (λ w. w.now) words.now)) }
-{
-    let bytes = bytes_at(alloc, words, 2)?;
-    Ok(Action::Inject { bytes })
+    Ok(Act::Break { call, count })
 }
 
 #[tactic(auto, unfolding(crate::specs::Line::closing_of))]
-fn closing(words: &[&[u8]]) -> Result<Action, LineFault>
+fn closing(words: &[&[u8]]) -> Result<Act, LineFault>
     requires { length words.now ≡ 3 }
     ensures { Gives (λ a. a) result (closing_of (map (λ w. w.now) words.now)) }
 {
-    let agent = number_at(words, 2)?;
     let now = number_at(words, 3)?;
-    Ok(Action::Close { agent, now })
+    Ok(Act::Close { now })
 }
 
-#[tactic(auto, unfolding(crate::specs::Line::lone_of))]
-fn sending_state(words: &[&[u8]]) -> Result<Action, LineFault>
-    requires { length words.now ≡ 2 }
-    ensures { Gives (λ a. a) result (lone_of (λ agent. State agent) (map (λ w. w.now) words.now)) }
+/// What the words of a line say that its agent does.
+fn act(alloc: Global, verb: Verb, words: &[&[u8]]) -> Result<Act, LineFault>
+    requires { length words.now ≡ count_of verb }
+    ensures { Gives (λ a. a) result (act_of verb (map (λ w. w.now) words.now)) }
 {
-    let agent = number_at(words, 2)?;
-    Ok(Action::State { agent })
-}
-
-#[tactic(auto, unfolding(crate::specs::Line::lone_of))]
-fn saving(words: &[&[u8]]) -> Result<Action, LineFault>
-    requires { length words.now ≡ 2 }
-    ensures { Gives (λ a. a) result (lone_of (λ agent. Save agent) (map (λ w. w.now) words.now)) }
-{
-    let agent = number_at(words, 2)?;
-    Ok(Action::Save { agent })
-}
-
-#[tactic(auto, unfolding(crate::specs::Line::lone_of))]
-fn compacting(words: &[&[u8]]) -> Result<Action, LineFault>
-    requires { length words.now ≡ 2 }
-    ensures { Gives (λ a. a) result
-        (lone_of (λ agent. Compact agent) (map (λ w. w.now) words.now)) }
-{
-    let agent = number_at(words, 2)?;
-    Ok(Action::Compact { agent })
+    match verb {
+        Verb::Deliver => delivery(words),
+        Verb::Fire => firing(alloc, words),
+        Verb::State => Ok(Act::State),
+        Verb::Merge => merging(words),
+        Verb::Respond => answer(alloc, words),
+        Verb::Restart => restarting(alloc, words),
+        Verb::Break => breaking(words),
+        Verb::Close => closing(words),
+        Verb::Save => Ok(Act::Save),
+        Verb::Compact => Ok(Act::Compact),
+    }
 }
 
 /// The action of a line that has as many words as it needs.
 pub(crate) fn action(alloc: Global, verb: Verb, words: &[&[u8]]) -> Result<Action, LineFault>
     requires { length words.now ≡ count_of verb }
-    ensures { Gives (λ a. a) result (action_of verb (map (λ w. w.now) words.now)) }
+    ensures { Gives (λ a. a) result
+        (by_agent (map (λ w. w.now) words.now) (act_of verb (map (λ w. w.now) words.now))) }
 {
-    match verb {
-        Verb::Deliver => delivery(words),
-        Verb::Fire => firing(alloc, words),
-        Verb::State => sending_state(words),
-        Verb::Merge => merging(words),
-        Verb::Respond => answer(alloc, words),
-        Verb::Restart => restarting(alloc, words),
-        Verb::Break => breaking(words),
-        Verb::Inject => injection(alloc, words),
-        Verb::Close => closing(words),
-        Verb::Save => saving(words),
-        Verb::Compact => compacting(words),
-    }
+    let agent = number_at(words, 2)?;
+    let act = act(alloc, verb, words)?;
+    Ok(Action::Of { agent, act })
+}
+
+/// The action of a line that injects bytes.
+#[tactic(auto, unfolding(crate::specs::Line::injection_of))]
+pub(crate) fn injection(alloc: Global, words: &[&[u8]]) -> Result<Action, LineFault>
+    requires { length words.now ≡ 2 }
+    ensures { Gives (λ a. a) result (injection_of (map (λ w. w.now) words.now)) }
+{
+    let bytes = bytes_at(alloc, words, 2)?;
+    Ok(Action::Inject { bytes })
 }
 
 /// The filter that a word at this place spells.
@@ -254,48 +227,40 @@ fn params(alloc: Global, words: &[&[u8]], rest: &[u8]) -> Result<QueryParams, Li
     })
 }
 
-/// The same, in a place of its own.
-fn boxed_params(alloc: Global, words: &[&[u8]], rest: &[u8]) -> Result<BoxedParams, LineFault>
-    requires { length words.now ≡ 8 }
-    ensures { Gives (λ p. p) result (params_of (map (λ w. w.now) words.now) (words_of rest.now)) }
-{
-    let params = params(alloc, words, rest)?;
-    match BoxedParams::new(alloc, params) {
-        Ok(boxed) => Ok(boxed),
-        Err(_) => Err(LineFault::OutOfMemory),
-    }
-}
-
-/// The bytes at a place of a line, counting from 1, in a place of their own.
-fn boxed_bytes_at(alloc: Global, words: &[&[u8]], place: usize) -> Result<BoxedBytes, LineFault>
-    requires { (1 ≤ place) × (place ≤ length words.now) }
-    ensures { Gives (λ b. b) result (bytes_in place (map (λ w. w.now) words.now)) }
-{
-    let bytes = bytes_at(alloc, words, place)?;
-    match BoxedBytes::new(alloc, bytes) {
-        Ok(boxed) => Ok(boxed),
-        Err(_) => Err(LineFault::OutOfMemory),
-    }
-}
-
-/// The action of a query line, of which these are the first eight words and what is left.
+/// The query of a line, of which these are the first eight words and what is left.
 #[tactic(auto, unfolding(crate::specs::Line::query_of))]
-pub(crate) fn query(alloc: Global, words: &[&[u8]], rest: &[u8]) -> Result<Action, LineFault>
+fn new_query(alloc: Global, words: &[&[u8]], rest: &[u8]) -> Result<NewQuery, LineFault>
     requires { length words.now ≡ 8 }
-    ensures { Gives (λ a. a) result (query_of (map (λ w. w.now) words.now) (words_of rest.now)) }
+    ensures { Gives (λ q. Act.Query q) result
+        (query_of (map (λ w. w.now) words.now) (words_of rest.now)) }
 {
-    let agent = number_at(words, 2)?;
-    let now = number_at(words, 3)?;
+    let moment = number_at(words, 3)?;
     let id = number_from_to(words, 4, 0, u64::from(u32::MAX))?;
-    let name = boxed_bytes_at(alloc, words, 5)?;
-    let payload = boxed_bytes_at(alloc, words, 6)?;
-    let params = boxed_params(alloc, words, rest)?;
-    Ok(Action::Query {
-        agent,
-        now,
+    let name = bytes_at(alloc, words, 5)?;
+    let payload = bytes_at(alloc, words, 6)?;
+    let params = params(alloc, words, rest)?;
+    Ok(NewQuery {
+        moment,
         id: id as u32,
         name,
         payload,
         params,
     })
+}
+
+/// The action of a query line, of which these are the first eight words and what is left.
+pub(crate) fn query(alloc: Global, words: &[&[u8]], rest: &[u8]) -> Result<Action, LineFault>
+    requires { length words.now ≡ 8 }
+    ensures { Gives (λ a. a) result (by_agent (map (λ w. w.now) words.now)
+        (query_of (map (λ w. w.now) words.now) (words_of rest.now))) }
+{
+    let agent = number_at(words, 2)?;
+    let query = new_query(alloc, words, rest)?;
+    match Boxed::new(alloc, query) {
+        Ok(query) => Ok(Action::Of {
+            agent,
+            act: Act::Query(query),
+        }),
+        Err(_) => Err(LineFault::OutOfMemory),
+    }
 }

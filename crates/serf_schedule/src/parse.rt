@@ -5,13 +5,13 @@ ghost use Rattle.serf_model.specs.Runs.{AreConfigs};
 ghost use Rattle.serf_model.specs.Sizes.{HasSizes};
 ghost use Rattle.serf_schedule.specs.Command.{command_of};
 ghost use Rattle.serf_text.specs.Words.{words_of, word_at};
-ghost use Rattle.serf_schedule.specs.Line.{action_line, query_said, after_line, with_action};
+ghost use Rattle.serf_schedule.specs.Line.{act_line, after_line, injection_line, query_said, with_action};
 ghost use Rattle.serf_schedule.specs.Parts.{agent_said, parts_said};
 ghost use Rattle.serf_schedule.specs.Schedule.{parsed_of, schedule_fault, schedule_of, Reads};
 ghost use Rattle.serf_text.specs.Gives.{Gives};
 
 use crate::command::{Command, Verb, command_in};
-use crate::line::{action, agent, query};
+use crate::line::{action, agent, injection, query};
 use crate::schedule::Schedule;
 use serf_model::Action;
 use serf_text::{Cause, LineFault, cut, take_words};
@@ -81,12 +81,23 @@ fn read_action(
     words: &[&[u8]],
 ) -> Result<(), LineFault>
     ensures { Gives (λ _. parsed_of parsed.new) result
-        (action_line verb (parsed_of parsed.old) (map (λ w. w.now) words.now)) }
+        (act_line verb (parsed_of parsed.old) (map (λ w. w.now) words.now)) }
 {
     if words.len() != verb.count() {
         return Err(LineFault::Bad(Cause::WordCount));
     }
     let action = action(alloc, verb, words)?;
+    add_action(parsed, action)
+}
+
+fn read_injection(alloc: Global, parsed: &mut Schedule, words: &[&[u8]]) -> Result<(), LineFault>
+    ensures { Gives (λ _. parsed_of parsed.new) result
+        (injection_line (parsed_of parsed.old) (map (λ w. w.now) words.now)) }
+{
+    if words.len() != 2 {
+        return Err(LineFault::Bad(Cause::WordCount));
+    }
+    let action = injection(alloc, words)?;
     add_action(parsed, action)
 }
 
@@ -121,6 +132,7 @@ fn read_words(
 {
     match command_in(words[0]) {
         Some(Command::Agent) => read_agent(alloc, parsed, words, rest.is_empty()),
+        Some(Command::Inject) => read_injection(alloc, parsed, words),
         Some(Command::Query) => read_query(alloc, parsed, words, rest),
         Some(Command::Act(verb)) => read_action(alloc, verb, parsed, words),
         None => Err(LineFault::Bad(Cause::UnknownWord)),

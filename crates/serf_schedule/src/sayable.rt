@@ -2,10 +2,10 @@
 
 ghost use Rattle.std.specs.Prelude.{◌↔◌, ◌<◌, ◌^◌, All, IsTrue};
 ghost use Rattle.hex.specs.Hex.{IsBytes};
-ghost use Rattle.serf_schedule.specs.Sayable.{AreSayable, HasByteName, IsSayable};
+ghost use Rattle.serf_schedule.specs.Sayable.{AreSayable, HasByteName, IsActSayable, IsQuerySayable, IsSayable};
 
 use serf_agent::{Config, QueryParams};
-use serf_model::Action;
+use serf_model::{Act, Action, NewQuery};
 use serf_wire::Bytes;
 
 /// A slice has bytes. Does nothing.
@@ -49,83 +49,74 @@ fn are_sayable(params: &QueryParams) -> bool
         && params.relay_factor == 0
 }
 
+fn is_query_sayable(query: &NewQuery) -> bool
+    ensures { IsTrue result ↔ IsQuerySayable query.now }
+{
+    know_number(query.moment);
+    know_id(query.id);
+    know_bytes(query.name.as_slice());
+    know_bytes(query.payload.as_slice());
+    are_sayable(&query.params)
+}
+
+fn is_act_sayable(act: &Act) -> bool
+    ensures { IsTrue result ↔ IsActSayable act.now }
+{
+    match act {
+        Act::Fire { name, payload, .. } => {
+            know_bytes(name.as_slice());
+            know_bytes(payload.as_slice());
+            true
+        }
+        Act::Deliver { packet, now } => {
+            know_number(*packet);
+            know_number(*now);
+            true
+        }
+        Act::Merge { packet, .. } => {
+            know_number(*packet);
+            true
+        }
+        Act::Query(query) => is_query_sayable(query.get()),
+        Act::Respond {
+            handed,
+            now,
+            payload,
+        } => {
+            know_number(*handed);
+            know_number(*now);
+            know_bytes(payload.as_slice());
+            true
+        }
+        Act::Restart { tail } => {
+            know_bytes(tail.as_slice());
+            true
+        }
+        Act::Break { count, .. } => {
+            know_number(*count);
+            *count >= 1
+        }
+        Act::Close { now } => {
+            know_number(*now);
+            true
+        }
+        _ => true,
+    }
+}
+
 /// Whether a line of a schedule can say an action. It can't say a sink's calls counted from 0, a negative timeout, or
 /// where a query's answers go. Takes no memory.
 pub fn is_sayable(action: &Action) -> bool
     ensures { IsTrue result ↔ IsSayable action.now }
 {
     match action {
-        Action::Fire {
-            agent,
-            name,
-            payload,
-            ..
-        } => {
-            know_number(*agent);
-            know_bytes(name.as_slice());
-            know_bytes(payload.as_slice());
-            true
-        }
-        Action::Deliver { to, packet, now } => {
-            know_number(*to);
-            know_number(*packet);
-            know_number(*now);
-            true
-        }
-        Action::Merge { to, packet, .. } => {
-            know_number(*to);
-            know_number(*packet);
-            true
-        }
-        Action::Query {
-            agent,
-            now,
-            id,
-            name,
-            payload,
-            params,
-        } => {
-            know_number(*agent);
-            know_number(*now);
-            know_id(*id);
-            know_bytes(name.as_slice());
-            know_bytes(payload.as_slice());
-            are_sayable(params.get())
-        }
-        Action::Respond {
-            agent,
-            handed,
-            now,
-            payload,
-        } => {
-            know_number(*agent);
-            know_number(*handed);
-            know_number(*now);
-            know_bytes(payload.as_slice());
-            true
-        }
-        Action::Restart { agent, tail } => {
-            know_number(*agent);
-            know_bytes(tail.as_slice());
-            true
-        }
-        Action::Break { agent, count, .. } => {
-            know_number(*agent);
-            know_number(*count);
-            *count >= 1
-        }
         Action::Inject { bytes } => {
             know_bytes(bytes.as_slice());
             true
         }
-        Action::Close { agent, now } => {
+        Action::Of { agent, act } => {
             know_number(*agent);
-            know_number(*now);
-            true
-        }
-        Action::State { agent } | Action::Save { agent } | Action::Compact { agent } => {
-            know_number(*agent);
-            true
+            is_act_sayable(act)
         }
     }
 }

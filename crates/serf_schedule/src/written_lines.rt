@@ -1,20 +1,22 @@
-//! The lines of a schedule.
+//! The lines of a schedule, and of the pipe.
 
 ghost use Rattle.std.specs.Prelude.{◌≡◌, ◌++◌, OnOk};
-ghost use Rattle.serf_model.specs.declared.action.Action.TheVariants.{Query};
-ghost use Rattle.serf_schedule.specs.ScheduleText.{action_text, agent_text};
+ghost use Rattle.std.specs.Option.{option_copied};
+ghost use Rattle.serf_schedule.specs.ScheduleText.{act_words, action_text, agent_text, config_words, packet_word, spaced, verb_word};
+ghost use Rattle.serf_schedule.specs.Words.{word_text};
 
 use crate::written_words::Word::{Hex, Number, Plain, Signed};
-use crate::written_words::{flags, join, mode, put_line, put_long_line, sink_call};
-use serf_agent::{Config, QueryParams};
-use serf_model::Action;
+use crate::written_words::{
+    Word, flags, join, mode, put_hex_words, put_line, put_words, sink_call,
+};
+use serf_agent::Config;
+use serf_model::{Act, Action, NewQuery};
 use serf_text::flag;
 use std::alloc::AllocError;
 
-/// Appends the line of an agent. Where memory runs out, a part of the line may stand there.
-#[tactic(auto, unfolding(crate::specs::ScheduleText::agent_text))]
-pub fn put_agent_line(out: &mut Vec<u8>, config: &Config) -> Result<(), AllocError>
-    ensures { OnOk result (out.new.items ≡ out.old.items ++ agent_text config.now) }
+/// Appends an agent's settings, with a space before each word. Where memory runs out, a part of them may stand there.
+pub fn put_config_words(out: &mut Vec<u8>, config: &Config) -> Result<(), AllocError>
+    ensures { OnOk result (out.new.items ≡ out.old.items ++ spaced (config_words config.now)) }
 {
     let words = [
         Hex(config.name.as_slice()),
@@ -25,33 +27,110 @@ pub fn put_agent_line(out: &mut Vec<u8>, config: &Config) -> Result<(), AllocErr
         Plain(mode(config.ignore_old)),
         Number(config.per_time),
     ];
-    put_line(out, b"agent", &words)
+    put_words(out, &words)
 }
 
-/// Appends the line of a query.
-#[tactic(auto, unfolding(crate::specs::ScheduleText::action_text))]
-fn put_query<'a>(
-    out: &mut Vec<u8>,
-    agent: u64,
-    now: u64,
-    id: u32,
-    name: &'a [u8],
-    payload: &'a [u8],
-    params: &QueryParams,
-) -> Result<(), AllocError>
+/// Appends the line of an agent. Where memory runs out, a part of the line may stand there.
+#[tactic(auto, unfolding(crate::specs::ScheduleText::agent_text))]
+pub fn put_agent_line(out: &mut Vec<u8>, config: &Config) -> Result<(), AllocError>
+    ensures { OnOk result (out.new.items ≡ out.old.items ++ agent_text config.now) }
+{
+    out.extend_from_slice(b"agent")?;
+    put_config_words(out, config)?;
+    out.extend_from_slice(b"\n")
+}
+
+/// The word of what an agent does. Takes no memory.
+pub fn verb_word(act: &Act) -> &'static [u8]
+    ensures { result.now ≡ verb_word act.now }
+{
+    match act {
+        Act::Fire { .. } => b"fire",
+        Act::Deliver { .. } => b"deliver",
+        Act::State => b"state",
+        Act::Merge { .. } => b"merge",
+        Act::Query(_) => b"query",
+        Act::Respond { .. } => b"respond",
+        Act::Restart { .. } => b"restart",
+        Act::Break { .. } => b"break",
+        Act::Close { .. } => b"close",
+        Act::Save => b"save",
+        Act::Compact => b"compact",
+    }
+}
+
+/// A packet by its bytes, where these are given, else by its number.
+fn packet_word<'a>(given: Option<&'a [u8]>, packet: u64) -> Word<'a>
+    ensures { word_text result ≡ packet_word (option_copied given.entry) packet }
+{
+    match given {
+        Some(bytes) => Hex(bytes),
+        None => Number(packet),
+    }
+}
+
+fn put_query_words(out: &mut Vec<u8>, query: &NewQuery) -> Result<(), AllocError>
     ensures { OnOk result (out.new.items ≡ out.old.items
-        ++ action_text (Query agent now id name.now payload.now params.now)) }
+        ++ spaced (act_words None (Act.Query query.now))) }
 {
     let words = [
-        Number(agent),
-        Number(now),
-        Number(u64::from(id)),
-        Hex(name),
-        Hex(payload),
-        Signed(params.timeout),
-        Number(flags(params)),
+        Number(query.moment),
+        Number(u64::from(query.id)),
+        Hex(query.name.as_slice()),
+        Hex(query.payload.as_slice()),
+        Signed(query.params.timeout),
+        Number(flags(&query.params)),
     ];
-    put_long_line(out, b"query", &words, params.filters.as_slice())
+    put_words(out, &words)?;
+    put_hex_words(out, query.params.filters.as_slice())
+}
+
+/// Appends what stands behind the word of what an agent does, with a space before each word. A packet that it is given
+/// stands there by these bytes, or by its number where there are none. Where memory runs out, a part of the words may
+/// stand there.
+///
+/// Of a query they say nothing of where answers go ([`crate::is_sayable`]).
+pub fn put_act_words(out: &mut Vec<u8>, act: &Act, given: Option<&[u8]>) -> Result<(), AllocError>
+    ensures { OnOk result (out.new.items ≡ out.old.items
+        ++ spaced (act_words (option_copied given.entry) act.now)) }
+{
+    match act {
+        Act::Fire {
+            name,
+            payload,
+            coalesce,
+        } => {
+            put_words(
+                out,
+                &[
+                    Hex(name.as_slice()),
+                    Hex(payload.as_slice()),
+                    Plain(flag(*coalesce)),
+                ],
+            )
+        }
+        Act::Deliver { packet, now } => {
+            put_words(out, &[packet_word(given, *packet), Number(*now)])
+        }
+        Act::Merge { packet, join: mode } => {
+            put_words(out, &[packet_word(given, *packet), Plain(join(*mode))])
+        }
+        Act::Query(query) => put_query_words(out, query.get()),
+        Act::Respond {
+            handed,
+            now,
+            payload,
+        } => {
+            put_words(
+                out,
+                &[Number(*handed), Number(*now), Hex(payload.as_slice())],
+            )
+        }
+        Act::Restart { tail } => put_words(out, &[Hex(tail.as_slice())]),
+        Act::Break { call, count } => { put_words(out, &[Plain(sink_call(*call)), Number(*count)]) }
+        Act::Close { now } => put_words(out, &[Number(*now)]),
+        _ => Ok(()),
+    }
 }
 
 /// Appends the line of an action. Where memory runs out, a part of the line may stand there.
@@ -62,86 +141,12 @@ pub fn put_action_line(out: &mut Vec<u8>, action: &Action) -> Result<(), AllocEr
     ensures { OnOk result (out.new.items ≡ out.old.items ++ action_text action.now) }
 {
     match action {
-        Action::Fire {
-            agent,
-            name,
-            payload,
-            coalesce,
-        } => put_line(
-            out,
-            b"fire",
-            &[
-                Number(*agent),
-                Hex(name.as_slice()),
-                Hex(payload.as_slice()),
-                Plain(flag(*coalesce)),
-            ],
-        ),
-        Action::Deliver { to, packet, now } => {
-            put_line(
-                out,
-                b"deliver",
-                &[Number(*to), Number(*packet), Number(*now)],
-            )
-        }
-        Action::State { agent } => put_line(out, b"state", &[Number(*agent)]),
-        Action::Merge {
-            to,
-            packet,
-            join: mode,
-        } => {
-            put_line(
-                out,
-                b"merge",
-                &[Number(*to), Number(*packet), Plain(join(*mode))],
-            )
-        }
-        Action::Query {
-            agent,
-            now,
-            id,
-            name,
-            payload,
-            params,
-        } => {
-            put_query(
-                out,
-                *agent,
-                *now,
-                *id,
-                name.as_slice(),
-                payload.as_slice(),
-                params.get(),
-            )
-        }
-        Action::Respond {
-            agent,
-            handed,
-            now,
-            payload,
-        } => put_line(
-            out,
-            b"respond",
-            &[
-                Number(*agent),
-                Number(*handed),
-                Number(*now),
-                Hex(payload.as_slice()),
-            ],
-        ),
-        Action::Restart { agent, tail } => {
-            put_line(out, b"restart", &[Number(*agent), Hex(tail.as_slice())])
-        }
-        Action::Break { agent, call, count } => {
-            put_line(
-                out,
-                b"break",
-                &[Number(*agent), Plain(sink_call(*call)), Number(*count)],
-            )
-        }
         Action::Inject { bytes } => put_line(out, b"inject", &[Hex(bytes.as_slice())]),
-        Action::Close { agent, now } => put_line(out, b"close", &[Number(*agent), Number(*now)]),
-        Action::Save { agent } => put_line(out, b"save", &[Number(*agent)]),
-        Action::Compact { agent } => put_line(out, b"compact", &[Number(*agent)]),
+        Action::Of { agent, act } => {
+            out.extend_from_slice(verb_word(act))?;
+            put_words(out, &[Number(*agent)])?;
+            put_act_words(out, act, None)?;
+            out.extend_from_slice(b"\n")
+        }
     }
 }

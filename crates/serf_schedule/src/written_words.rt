@@ -1,9 +1,9 @@
 //! Words of a line.
 
-ghost use Rattle.std.specs.Prelude.{◌≡◌, ◌++◌, ◌∷◌, OnOk, codes, map};
+ghost use Rattle.std.specs.Prelude.{◌≡◌, ◌++◌, ◌∷◌, OnOk, map};
 ghost use Rattle.serf_text.specs.TextParts.{hex_text};
 ghost use Rattle.serf_schedule.specs.ScheduleText.{flags_of, join_word, line_text, mode_word, sink_call_word, spaced};
-ghost use Rattle.serf_schedule.specs.Words.{command_text, word_behind, word_text};
+ghost use Rattle.serf_schedule.specs.Words.{word_behind, word_text};
 
 use serf_agent::QueryParams;
 use serf_model::SinkCall;
@@ -37,11 +37,10 @@ fn put_word(out: &mut Vec<u8>, word: Word) -> Result<(), AllocError>
     }
 }
 
-/// Appends a command and its words, with a space before each.
-fn put_command(out: &mut Vec<u8>, command: &[u8], words: &[Word]) -> Result<(), AllocError>
-    ensures { OnOk result (out.new.items ≡ out.old.items ++ command_text command.now words.now) }
+/// Appends words, with a space before each.
+pub(crate) fn put_words(out: &mut Vec<u8>, words: &[Word]) -> Result<(), AllocError>
+    ensures { OnOk result (out.new.items ≡ out.old.items ++ spaced (map word_text words.now)) }
 {
-    out.extend_from_slice(command)?;
     for word in words {
         put_word(out, *word)?;
     }
@@ -51,36 +50,21 @@ fn put_command(out: &mut Vec<u8>, command: &[u8], words: &[Word]) -> Result<(), 
 /// Appends a line of a command and its words.
 pub fn put_line(out: &mut Vec<u8>, command: &[u8], words: &[Word]) -> Result<(), AllocError>
     ensures { OnOk result (out.new.items ≡ out.old.items
-        ++ (command_text command.now words.now ++ codes "\n")) }
+        ++ line_text (command.now ∷ map word_text words.now)) }
 {
-    put_command(out, command, words)?;
+    out.extend_from_slice(command)?;
+    put_words(out, words)?;
     out.extend_from_slice(b"\n")
 }
 
 /// Appends byte lists in hex, with a space before each.
-fn put_hex_words(out: &mut Vec<u8>, lists: &[Bytes]) -> Result<(), AllocError>
+pub(crate) fn put_hex_words(out: &mut Vec<u8>, lists: &[Bytes]) -> Result<(), AllocError>
     ensures { OnOk result (out.new.items ≡ out.old.items ++ spaced (map hex_text lists.now)) }
 {
     for list in lists {
         put_word(out, Word::Hex(list.as_slice()))?;
     }
     Ok(())
-}
-
-/// Appends a line of a command, its words, and further words in hex.
-#[tactic(auto, using(crate::proofs::LineLemmas::whole_line))]
-pub(crate) fn put_long_line(
-    out: &mut Vec<u8>,
-    command: &[u8],
-    words: &[Word],
-    more: &[Bytes],
-) -> Result<(), AllocError>
-    ensures { OnOk result (out.new.items ≡ out.old.items
-        ++ line_text (command.now ∷ (map word_text words.now ++ map hex_text more.now))) }
-{
-    put_command(out, command, words)?;
-    put_hex_words(out, more)?;
-    out.extend_from_slice(b"\n")
 }
 
 /// Whether an agent ignores old events at a join.

@@ -173,8 +173,3 @@ fresh_device text =
       failures = 0;
       calls = record { appends = 0; flushes = 0; replaces = 0 };
     }
-
--- a device that exposes nothing of its bytes, has no plan, and can't replace
-abbrev pub silent_device : ℕ → ℕ → ℕ → Device
-silent_device failures appends flushes =
-    record { observed_bytes = None; plan = None; failures = failures; calls = record { appends = appends; flushes = flushes; replaces = 0 } }

@@ -10,11 +10,10 @@
 //! - a sink that failed stops the snapshot, and a compaction is one replace ([`Snapshot::compact`]).
 //!
 //! What a sink does is said by the clauses of [`Sink`] and [`ReplaceSink`], over what it exposes of its bytes:
-//! [`MemSink`] exposes all of them and fails as planned, [`FileSink`] exposes nothing.
+//! [`MemSink`] exposes all of them and fails as planned. A store on a file is `FileStore` of `serf_store`.
 #![tactic(auto)]
 
 mod clocks;
-mod file;
 mod kind;
 mod laws;
 mod lengths;
@@ -23,9 +22,8 @@ mod sink;
 mod snapshot;
 
 pub use clocks::{Clocks, read_clocks};
-pub use file::FileSink;
 pub use kind::ClockKind;
 pub use laws::{plan_laws, snapshot_laws, text_laws};
 pub use memory::MemSink;
 pub use sink::{ReplaceFault, ReplaceSink, Sink, SinkFault};
-pub use snapshot::{NoteFault, OpenFault, Snapshot};
+pub use snapshot::{NoteFault, SealFault, Snapshot};

@@ -33,15 +33,48 @@ pub enum NoteFault {
     SinkFault,
 }
 
-/// Why a snapshot couldn't be opened.
+impl From<AllocError> for NoteFault {
+    ghost use Rattle.std.specs.Prelude.{◌≡◌};
+    ghost use Rattle.serf_snap.specs.declared.snapshot.NoteFault.TheVariants.{OutOfMemory};
+
+    ghost from_gives = { λ _ fault. fault ≡ OutOfMemory };
+
+    fn from(_error: AllocError) -> NoteFault {
+        NoteFault::OutOfMemory
+    }
+}
+
+/// Why a snapshot couldn't be opened: a torn last line of its text couldn't be ended.
 #[derive(Clone, Copy, Debug, PartialEq, Eq, Error)]
-pub enum OpenFault {
+pub enum SealFault {
     /// There was no memory to end a torn last line. The sink keeps what it kept.
     #[error("out of memory")]
     OutOfMemory,
     /// The sink failed when a torn last line was ended. It keeps the text, and perhaps a part of that end.
     #[error("the sink failed")]
     SinkFault,
+}
+
+impl From<AllocError> for SealFault {
+    ghost use Rattle.std.specs.Prelude.{◌≡◌};
+    ghost use Rattle.serf_snap.specs.declared.snapshot.SealFault.TheVariants.{OutOfMemory};
+
+    ghost from_gives = { λ _ fault. fault ≡ OutOfMemory };
+
+    fn from(_error: AllocError) -> SealFault {
+        SealFault::OutOfMemory
+    }
+}
+
+impl From<SinkFault> for SealFault {
+    ghost use Rattle.std.specs.Prelude.{◌≡◌};
+    ghost use Rattle.serf_snap.specs.declared.snapshot.SealFault.TheVariants.{SinkFault};
+
+    ghost from_gives = { λ _ fault. fault ≡ SinkFault };
+
+    fn from(_error: SinkFault) -> SealFault {
+        SealFault::SinkFault
+    }
 }
 
 /// The clock lines of an agent on a sink: the last line of each kind, and whether the sink has failed.
@@ -147,7 +180,7 @@ fn keep<S: Sink>(sink: &mut S, line: &[u8]) -> Result<(), SinkFault>
 }
 
 /// Ends a torn last line, so that it never becomes a clock line.
-fn seal<S: Sink>(alloc: Global, text: &[u8], sink: &mut S) -> Result<(), OpenFault>
+fn seal<S: Sink>(alloc: Global, text: &[u8], sink: &mut S) -> Result<(), SealFault>
     requires { HasText text.now (S.device sink.old) }
     ensures ok { OnOk result (S.device sink.new ≡ opened_device text.now (S.device sink.old)) }
     ensures durable { OnOk result (durable_of (S.device sink.new)
@@ -158,26 +191,22 @@ fn seal<S: Sink>(alloc: Global, text: &[u8], sink: &mut S) -> Result<(), OpenFau
     ensures ok_planned { OnOk result (is_whole text.now ≡ false
         → IfSome (S.device sink.old).plan (λ p. note_fails p ≡ false)) }
     ensures whole { is_whole text.now ≡ true → IsOk result }
-    ensures fault { IsErrOf result OpenFault.SinkFault
+    ensures fault { IsErrOf result SealFault.SinkFault
         → Fails (S.device sink.old) (S.device sink.new) seal_line }
-    ensures fault_called { IsErrOf result OpenFault.SinkFault
+    ensures fault_called { IsErrOf result SealFault.SinkFault
         → HasTriedNote (S.device sink.old).calls (S.device sink.new).calls }
-    ensures fault_planned { IsErrOf result OpenFault.SinkFault
+    ensures fault_planned { IsErrOf result SealFault.SinkFault
         → IfSome (S.device sink.old).plan (λ p. note_fails p ≡ true) }
-    ensures fault_decremented { IsErrOf result OpenFault.SinkFault
+    ensures fault_decremented { IsErrOf result SealFault.SinkFault
         → (S.device sink.new).plan ≡ option_map note_decremented (S.device sink.old).plan }
-    ensures memory { IsErrOf result OpenFault.OutOfMemory → S.device sink.new ≡ S.device sink.old }
+    ensures memory { IsErrOf result SealFault.OutOfMemory → S.device sink.new ≡ S.device sink.old }
 {
     if ends_whole(text) {
         return Ok(());
     }
-    if sink.reserve(alloc, 2).is_err() {
-        return Err(OpenFault::OutOfMemory);
-    }
-    match keep(sink, b"#\n") {
-        Ok(()) => Ok(()),
-        Err(SinkFault) => Err(OpenFault::SinkFault),
-    }
+    sink.reserve(alloc, 2)?;
+    keep(sink, b"#\n")?;
+    Ok(())
 }
 
 impl<S: Sink> Snapshot<S> {
@@ -190,7 +219,7 @@ impl<S: Sink> Snapshot<S> {
     ///
     /// A sink with a plan fails just where the plan fails this append or this flush, and what is left of the plan is
     /// that of the sink which comes back.
-    pub fn open(alloc: Global, text: &[u8], sink: S) -> Result<Self, (S, OpenFault)>
+    pub fn open(alloc: Global, text: &[u8], sink: S) -> Result<Self, (S, SealFault)>
         requires { HasText text.now (S.device sink) }
         ensures ok { IfOk result (λ s. s.snapshot ≡ opened text.now (S.device sink)) }
         ensures device { IfOk result (λ s. s.device ≡ opened_device text.now (S.device sink)) }
@@ -198,15 +227,15 @@ impl<S: Sink> Snapshot<S> {
         ensures ok_planned { OnOk result (is_whole text.now ≡ false
             → IfSome (S.device sink).plan (λ p. note_fails p ≡ false)) }
         ensures whole { is_whole text.now ≡ true → IsOk result }
-        ensures fault { IfErr result (λ e. e.1 ≡ OpenFault.SinkFault
+        ensures fault { IfErr result (λ e. e.1 ≡ SealFault.SinkFault
             → Fails (S.device sink) (S.device e.0) seal_line) }
-        ensures fault_called { IfErr result (λ e. e.1 ≡ OpenFault.SinkFault
+        ensures fault_called { IfErr result (λ e. e.1 ≡ SealFault.SinkFault
             → HasTriedNote (S.device sink).calls (S.device e.0).calls) }
-        ensures fault_planned { IfErr result (λ e. e.1 ≡ OpenFault.SinkFault
+        ensures fault_planned { IfErr result (λ e. e.1 ≡ SealFault.SinkFault
             → IfSome (S.device sink).plan (λ p. note_fails p ≡ true)) }
-        ensures fault_decremented { IfErr result (λ e. e.1 ≡ OpenFault.SinkFault
+        ensures fault_decremented { IfErr result (λ e. e.1 ≡ SealFault.SinkFault
             → (S.device e.0).plan ≡ option_map note_decremented (S.device sink).plan) }
-        ensures memory { IfErr result (λ e. e.1 ≡ OpenFault.OutOfMemory
+        ensures memory { IfErr result (λ e. e.1 ≡ SealFault.OutOfMemory
             → S.device e.0 ≡ S.device sink) }
     {
         let mut sink = sink;
@@ -267,10 +296,8 @@ impl<S: Sink> Snapshot<S> {
         if value <= self.last.of(kind) {
             return Ok(());
         }
-        let line = line_of(alloc, kind, value).map_err(|_| NoteFault::OutOfMemory)?;
-        if self.sink.reserve(alloc, LONGEST_LINE).is_err() {
-            return Err(NoteFault::OutOfMemory);
-        }
+        let line = line_of(alloc, kind, value)?;
+        self.sink.reserve(alloc, LONGEST_LINE)?;
         match keep(&mut self.sink, line.as_slice()) {
             Ok(()) => {
                 self.last = self.last.with(kind, value);
@@ -367,7 +394,7 @@ impl<S: ReplaceSink> Snapshot<S> {
         if self.stopped {
             return Err(NoteFault::Stopped);
         }
-        let text = text_of(alloc, self.last).map_err(|_| NoteFault::OutOfMemory)?;
+        let text = text_of(alloc, self.last)?;
         match self.sink.replace(alloc, text.as_slice()) {
             Ok(()) => {
                 self.kept = text.len() as u64;

@@ -3,7 +3,7 @@ ghost use Rattle.std.specs.Prelude.{◌≡◌, ◌++◌, OnOk, IfOk, Ok, Err};
 ghost use Rattle.std.specs.List.{flat_map};
 ghost use Rattle.serf_wire.specs.declared.fault.WireFault.{WireFault as Fault};
 ghost use Rattle.serf_wire.specs.Lists.{events_left, event_of_view, slot_of_view, slots_left, status_left, status_of, texts_left};
-ghost use Rattle.serf_wire.specs.Message.{Message as Meaning, message_of, response_of, user_event_of};
+ghost use Rattle.serf_wire.specs.Message.{Message as Meaning, event_said, message_of, push_pull, push_pull_said, query, query_response, query_said, response_said, user_event};
 ghost use Rattle.serf_wire.specs.Spells.{IsFirstFault, Spells};
 ghost use Rattle.serf_wire.specs.Decoded.{decoded};
 ghost use Rattle.serf_text.specs.declared.wire_words.WireWords.{WireWords as Words};
@@ -17,7 +17,8 @@ use crate::put::{
 };
 use crate::wire_words::WireWords;
 use serf_wire::{
-    EventView, EventViews, Message, SlotView, SlotViews, StatusTime, StatusTimes, Texts, decode,
+    EventView, EventViews, Message, PushPull, Query, QueryResponse, SlotView, SlotViews,
+    StatusTime, StatusTimes, Texts, UserEvent, decode,
 };
 use std::alloc::{AllocError, Global};
 use thiserror::Error;
@@ -42,12 +43,13 @@ fn put_identity(out: &mut Vec<u8>, time: u64, id: u32) -> Result<(), AllocError>
 }
 
 #[tactic(auto, unfolding(crate::specs::MessageText::asker_lines))]
-fn put_asker(out: &mut Vec<u8>, addr: &[u8], port: u16, source: &[u8]) -> Result<(), AllocError>
-    ensures { OnOk result (out.new.items ≡ out.old.items ++ asker_lines addr.now port source.now) }
+fn put_asker(out: &mut Vec<u8>, asked: &Query) -> Result<(), AllocError>
+    ensures { OnOk result (out.new.items ≡ out.old.items
+        ++ asker_lines asked.now.addr.now asked.now.port asked.now.source.now) }
 {
-    put_hex_line(out, b"Addr", addr)?;
-    put_number_line(out, b"Port", u64::from(port))?;
-    put_hex_line(out, b"SourceNode", source)
+    put_hex_line(out, b"Addr", asked.addr)?;
+    put_number_line(out, b"Port", u64::from(asked.port))?;
+    put_hex_line(out, b"SourceNode", asked.source)
 }
 
 #[tactic(auto, unfolding(crate::specs::MessageText::relay_line))]
@@ -58,35 +60,31 @@ fn put_relay(out: &mut Vec<u8>, relay_factor: u8) -> Result<(), AllocError>
 }
 
 #[tactic(auto, unfolding(crate::specs::MessageText::limit_lines))]
-fn put_limits(out: &mut Vec<u8>, relay_factor: u8, timeout: i64) -> Result<(), AllocError>
-    ensures { OnOk result (out.new.items ≡ out.old.items ++ limit_lines relay_factor timeout) }
+fn put_limits(out: &mut Vec<u8>, asked: &Query) -> Result<(), AllocError>
+    ensures { OnOk result (out.new.items ≡ out.old.items
+        ++ limit_lines asked.now.relay_factor asked.now.timeout) }
 {
-    put_relay(out, relay_factor)?;
-    put_signed_line(out, b"Timeout", timeout)
+    put_relay(out, asked.relay_factor)?;
+    put_signed_line(out, b"Timeout", asked.timeout)
 }
 
 #[tactic(auto, unfolding(crate::specs::MessageText::handling_lines))]
-fn put_handling(
-    out: &mut Vec<u8>,
-    flags: u32,
-    relay_factor: u8,
-    timeout: i64,
-) -> Result<(), AllocError>
+fn put_handling(out: &mut Vec<u8>, asked: &Query) -> Result<(), AllocError>
     ensures { OnOk result (out.new.items ≡ out.old.items
-        ++ handling_lines flags relay_factor timeout) }
+        ++ handling_lines asked.now.flags asked.now.relay_factor asked.now.timeout) }
 {
-    put_number_line(out, b"Flags", u64::from(flags))?;
-    put_limits(out, relay_factor, timeout)
+    put_number_line(out, b"Flags", u64::from(asked.flags))?;
+    put_limits(out, asked)
 }
 
 #[tactic(auto, unfolding(crate::specs::MessageText::answer_lines))]
-fn put_answer(out: &mut Vec<u8>, from: &[u8], flags: u32, payload: &[u8]) -> Result<(), AllocError>
+fn put_answer(out: &mut Vec<u8>, answer: &QueryResponse) -> Result<(), AllocError>
     ensures { OnOk result (out.new.items ≡ out.old.items
-        ++ answer_lines from.now flags payload.now) }
+        ++ answer_lines answer.now.from.now answer.now.flags answer.now.payload.now) }
 {
-    put_hex_line(out, b"From", from)?;
-    put_number_line(out, b"Flags", u64::from(flags))?;
-    put_hex_line(out, b"Payload", payload)
+    put_hex_line(out, b"From", answer.from)?;
+    put_number_line(out, b"Flags", u64::from(answer.flags))?;
+    put_hex_line(out, b"Payload", answer.payload)
 }
 
 #[tactic(auto, unfolding(crate::specs::MessageText::content_lines))]
@@ -129,18 +127,13 @@ fn put_status_lines(out: &mut Vec<u8>, status: StatusTimes) -> Result<(), AllocE
 /// Appends the lines of a push/pull from its first to its event clock: the member clock, the members' status times, and
 /// those that left. After an `AllocError`, which comes where there is no memory for them, `out` may have a front of them.
 #[tactic(auto, unfolding(crate::specs::MessageText::member_lines))]
-pub fn put_members(
-    out: &mut Vec<u8>,
-    time: u64,
-    status: StatusTimes,
-    left: Texts,
-) -> Result<(), AllocError>
-    ensures { OnOk result (out.new.items ≡ out.old.items
-        ++ member_lines time (status_left status.entry) (texts_left left.entry)) }
+pub fn put_members(out: &mut Vec<u8>, state: &PushPull) -> Result<(), AllocError>
+    ensures { OnOk result (out.new.items ≡ out.old.items ++ member_lines state.now.member_clock
+        (status_left state.now.status) (texts_left state.now.left)) }
 {
-    put_number_line(out, b"LTime", time)?;
-    put_status_lines(out, status)?;
-    put_hex_lines(out, b"left", left)
+    put_number_line(out, b"LTime", state.member_clock)?;
+    put_status_lines(out, state.status)?;
+    put_hex_lines(out, b"left", state.left)
 }
 
 #[tactic(auto, unfolding(crate::specs::MessageText::event_line, crate::specs::TextParts::with_hex))]
@@ -211,72 +204,64 @@ fn put_response_name(out: &mut Vec<u8>) -> Result<(), AllocError>
     out.extend_from_slice(b"queryResponse\n")
 }
 
-fn put_user_event(
-    out: &mut Vec<u8>,
-    time: u64,
-    name: &[u8],
-    payload: &[u8],
-    coalesce: bool,
-) -> Result<(), AllocError>
+fn put_user_event(out: &mut Vec<u8>, event: &UserEvent) -> Result<(), AllocError>
     ensures { OnOk result (out.new.items ≡ out.old.items
-        ++ message_text (user_event_of time name.now payload.now coalesce)) }
+        ++ message_text (user_event (event_said event.now))) }
 {
     out.extend_from_slice(b"userEvent\n")?;
-    put_number_line(out, b"LTime", time)?;
-    put_content(out, name, payload)?;
-    put_flag_line(out, b"CC", coalesce)
+    put_number_line(out, b"LTime", event.time.get())?;
+    put_content(out, event.name, event.payload)?;
+    put_flag_line(out, b"CC", event.coalesce)
 }
 
 /// Appends the lines of a query that come before its filters.
 #[tactic(auto, unfolding(crate::specs::MessageText::query_head))]
-fn put_query_head(
-    out: &mut Vec<u8>,
-    time: u64,
-    id: u32,
-    addr: &[u8],
-    port: u16,
-    source: &[u8],
-) -> Result<(), AllocError>
-    ensures { OnOk result (out.new.items ≡ out.old.items
-        ++ query_head time id addr.now port source.now) }
+fn put_query_head(out: &mut Vec<u8>, asked: &Query) -> Result<(), AllocError>
+    ensures { OnOk result (out.new.items ≡ out.old.items ++ query_head asked.now.time asked.now.id
+        asked.now.addr.now asked.now.port asked.now.source.now) }
 {
     out.extend_from_slice(b"query\n")?;
-    put_identity(out, time, id)?;
-    put_asker(out, addr, port, source)
+    put_identity(out, asked.time.get(), asked.id)?;
+    put_asker(out, asked)
 }
 
-fn put_response(
-    out: &mut Vec<u8>,
-    time: u64,
-    id: u32,
-    from: &[u8],
-    flags: u32,
-    payload: &[u8],
-) -> Result<(), AllocError>
+fn put_query(out: &mut Vec<u8>, asked: &Query) -> Result<(), AllocError>
     ensures { OnOk result (out.new.items ≡ out.old.items
-        ++ message_text (response_of time id from.now flags payload.now)) }
+        ++ message_text (query (query_said asked.now))) }
+{
+    put_query_head(out, asked)?;
+    put_hex_lines(out, b"filter", asked.filters)?;
+    put_handling(out, asked)?;
+    put_content(out, asked.name, asked.payload)
+}
+
+fn put_response(out: &mut Vec<u8>, answer: &QueryResponse) -> Result<(), AllocError>
+    ensures { OnOk result (out.new.items ≡ out.old.items
+        ++ message_text (query_response (response_said answer.now))) }
 {
     put_response_name(out)?;
-    put_identity(out, time, id)?;
-    put_answer(out, from, flags, payload)
+    put_identity(out, answer.time, answer.id)?;
+    put_answer(out, answer)
 }
 
 /// Appends the lines of a push/pull that come before its last clock.
 #[tactic(auto, unfolding(crate::specs::MessageText::push_pull_head))]
-fn put_push_pull_head(
-    out: &mut Vec<u8>,
-    member_clock: u64,
-    status: StatusTimes,
-    left: Texts,
-    event_clock: u64,
-    slots: SlotViews,
-) -> Result<(), AllocError>
-    ensures { OnOk result (out.new.items ≡ out.old.items ++ push_pull_head member_clock
-        (status_left status.entry) (texts_left left.entry) event_clock (slots_left slots.entry)) }
+fn put_push_pull_head(out: &mut Vec<u8>, state: &PushPull) -> Result<(), AllocError>
+    ensures { OnOk result (out.new.items ≡ out.old.items ++ push_pull_head state.now.member_clock
+        (status_left state.now.status) (texts_left state.now.left)
+        state.now.event_clock (slots_left state.now.slots)) }
 {
     out.extend_from_slice(b"pushPull\n")?;
-    put_members(out, member_clock, status, left)?;
-    put_buffer(out, event_clock, slots)
+    put_members(out, state)?;
+    put_buffer(out, state.event_clock, state.slots)
+}
+
+fn put_push_pull(out: &mut Vec<u8>, state: &PushPull) -> Result<(), AllocError>
+    ensures { OnOk result (out.new.items ≡ out.old.items
+        ++ message_text (push_pull (push_pull_said state.now))) }
+{
+    put_push_pull_head(out, state)?;
+    put_number_line(out, b"QueryLTime", state.query_clock)
 }
 
 /// Appends the lines of a message. After an `AllocError`, which comes where there is no memory for them, `out` may have
@@ -285,48 +270,10 @@ pub fn put_message(out: &mut Vec<u8>, message: &Message) -> Result<(), AllocErro
     ensures { OnOk result (out.new.items ≡ out.old.items ++ message_text (message_of message.now)) }
 {
     match message {
-        Message::UserEvent {
-            time,
-            name,
-            payload,
-            coalesce,
-        } => put_user_event(out, time.get(), name, payload, *coalesce),
-        Message::Query {
-            time,
-            id,
-            addr,
-            port,
-            source,
-            filters,
-            flags,
-            relay_factor,
-            timeout,
-            name,
-            payload,
-        } => {
-            put_query_head(out, time.get(), *id, addr, *port, source)?;
-            put_hex_lines(out, b"filter", *filters)?;
-            put_handling(out, *flags, *relay_factor, *timeout)?;
-            put_content(out, name, payload)
-        }
-        Message::QueryResponse {
-            time,
-            id,
-            from,
-            flags,
-            payload,
-        } => put_response(out, *time, *id, from, *flags, payload),
-        Message::PushPull {
-            member_clock,
-            status,
-            left,
-            event_clock,
-            slots,
-            query_clock,
-        } => {
-            put_push_pull_head(out, *member_clock, *status, *left, *event_clock, *slots)?;
-            put_number_line(out, b"QueryLTime", *query_clock)
-        }
+        Message::UserEvent(event) => put_user_event(out, event),
+        Message::Query(asked) => put_query(out, asked),
+        Message::QueryResponse(answer) => put_response(out, answer),
+        Message::PushPull(state) => put_push_pull(out, state),
         Message::Foreign(kind) => put_number_line(out, b"foreign", u64::from(*kind)),
     }
 }

@@ -11,10 +11,10 @@ use Rattle.serf_wire.specs.Ranges.{IsRangedQuery, IsRangedResponse, IsTimed, IsR
 use Rattle.serf_wire.proofs.Short.{short, neither, short_query}
 use Rattle.serf_wire.proofs.Spelling.{Part, IsPart, text_part, number_part, int_part, flag_part, text_is_part, number_is_part, int_is_part, flag_is_part, items_from, array_part, array_is_part, Entry, IsEntry, pairs_from, map_part, map_is_part, entries_part, entries_are_part, all_read, map_same, none_all, both_all, all_true, within}
 
-text_entry : Below → (d : ℕ) (name s : List ℕ) → length name < 4294967296 → length s < 4294967296 → IsEntry d (record { name = name; value = text_part s })
+pub text_entry : Below → (d : ℕ) (name s : List ℕ) → length name < 4294967296 → length s < 4294967296 → IsEntry d (record { name = name; value = text_part s })
 text_entry below d name s short lt = record { short = short; is = text_is_part below d s lt }
 
-number_entry : Below → (d : ℕ) (name : List ℕ) (n : ℕ) → length name < 4294967296 → n < 18446744073709551616 → IsEntry d (record { name = name; value = number_part n })
+pub number_entry : Below → (d : ℕ) (name : List ℕ) (n : ℕ) → length name < 4294967296 → n < 18446744073709551616 → IsEntry d (record { name = name; value = number_part n })
 number_entry below d name n short lt = record { short = short; is = number_is_part below d n lt }
 
 -- ---- user events
@@ -169,7 +169,7 @@ both_are make o p a b e f = rw (e, f) refl
 abbrev text_entries : EventBody → List Entry
 text_entries e = record { name = codes "Name"; value = text_part e.name } ∷ record { name = codes "Payload"; value = text_part e.payload } ∷ []
 
-regroup_two : (h a b : List ℕ) → (h ++ a) ++ b ≡ h ++ (a ++ (b ++ []))
+pub regroup_two : (h a b : List ℕ) → (h ++ a) ++ b ≡ h ++ (a ++ (b ++ []))
 regroup_two h a b = simp (append_assoc, append-nil)
 
 abbrev event_part : EventBody → Part

@@ -2,11 +2,11 @@
 use Rattle.serf_wire.proofs.Names.{◌+◌, ◌<◌, ◌≡◌, ℕ, List, [], ◌∷◌, ◌++◌, Bool, false, codes, Option, Some, None, IfSome, unwrap_or, refl, sym, subst, ◌∙◌, arith, append-nil, option_copied, Tree, raw, PackPairs, pair_list, greatest_clock}
 use denote.Bor.{Bor}
 use Rattle.serf_wire.specs.declared.fast.event.EventFields.{EventFields}
-use Rattle.serf_wire.specs.declared.parts.UserEventParts.{UserEventParts}
+use Rattle.serf_wire.specs.declared.message.UserEvent.{UserEvent as LentEvent}
 use Rattle.serf_wire.specs.declared.layout.MessageType.TheVariants as types
 use Rattle.serf_wire.specs.Fields.{text, truth, number, values_of}
-use Rattle.serf_wire.specs.Fast.{IsEventSoFar, IsReadSoFar}
-use Rattle.serf_wire.specs.Message.{event_said, user_event_of}
+use Rattle.serf_wire.specs.Fast.{IsEventSoFar, IsReadSoFar, found_event}
+use Rattle.serf_wire.specs.Message.{event_said, user_event}
 use Rattle.serf_wire.specs.Spells.{SpellsMap}
 use Rattle.serf_wire.proofs.FastPairs.{keys_push, kept, added, sole_shown, narrow_sole, map_packs}
 
@@ -47,7 +47,7 @@ finds_coalesce old x none p v ps means s = record {
 }
 
 pub event_read : (n : ℕ) (bytes : List ℕ) (f : EventFields) → n < 16 → IsReadSoFar IsEventSoFar f n bytes [] → unwrap_or f.time 0 < 18446744073709551615
-    → SpellsMap types.UserEvent (user_event_of (unwrap_or f.time 0) (unwrap_or (option_copied f.name) []) (unwrap_or (option_copied f.payload) []) (unwrap_or f.coalesce false)) ((128 + n) ∷ bytes)
+    → SpellsMap types.UserEvent (user_event (found_event f)) ((128 + n) ∷ bytes)
 event_read n bytes f small r lt =
     let all : bytes ≡ r.text = r.bytes_are ∙ append-nil r.text in (
       r.pairs,
@@ -61,10 +61,10 @@ event_read n bytes f small r lt =
       },
     )
 
-pub event_whole : (r : Option UserEventParts) (f : EventFields) (n : ℕ) (bytes rest end : List ℕ) → bytes ≡ (128 + n) ∷ rest → n < 16 → end ≡ [] → IsReadSoFar IsEventSoFar f n rest end
-    → IfSome r (λ e. event_said e ≡ user_event_of (unwrap_or f.time 0) (unwrap_or (option_copied f.name) []) (unwrap_or (option_copied f.payload) []) (unwrap_or f.coalesce false)) → IfSome r (λ e. unwrap_or f.time 0 < 18446744073709551615)
-    → IfSome r (λ e. SpellsMap types.UserEvent (event_said e) bytes)
+pub event_whole : (r : Option LentEvent) (f : EventFields) (n : ℕ) (bytes rest end : List ℕ) → bytes ≡ (128 + n) ∷ rest → n < 16 → end ≡ [] → IsReadSoFar IsEventSoFar f n rest end
+    → IfSome r (λ e. event_said e ≡ found_event f) → IfSome r (λ e. unwrap_or f.time 0 < 18446744073709551615)
+    → IfSome r (λ e. SpellsMap types.UserEvent (user_event (event_said e)) bytes)
 event_whole None f n bytes rest end e small none r is lt = tt
 event_whole (Some m) f n bytes rest end e small none r is lt =
     let read : IsReadSoFar IsEventSoFar f n rest [] = subst (λ t. IsReadSoFar IsEventSoFar f n rest t) none r in
-    subst (SpellsMap types.UserEvent (event_said m)) (sym e) (subst (λ said. SpellsMap types.UserEvent said ((128 + n) ∷ rest)) (sym is) (event_read n rest f small read lt))
+    subst (SpellsMap types.UserEvent (user_event (event_said m))) (sym e) (subst (λ said. SpellsMap types.UserEvent (user_event said) ((128 + n) ∷ rest)) (sym is) (event_read n rest f small read lt))

@@ -7,7 +7,7 @@ use Rattle.serf_wire.specs.declared.layout.MessageType.TheVariants as types
 use Rattle.serf_wire.specs.declared.fast.state.StateFields.{StateFields}
 use Rattle.serf_wire.specs.Fields.{text, number, list, status, slot}
 use Rattle.serf_wire.specs.Lists.{texts_left, status_left, slots_left}
-use Rattle.serf_wire.specs.Message.{Message, push_pull}
+use Rattle.serf_wire.specs.Message.{PushPull, push_pull}
 use Rattle.serf_wire.specs.Spells.{SpellsMap}
 use Rattle.serf_wire.specs.Fast.{IsStateSoFar, IsReadSoFar, found_state}
 use Rattle.serf_wire.proofs.FastPairs.{keys_push, kept, added, sole_shown, map_packs}
@@ -94,7 +94,7 @@ state_read n bytes f small r =
       },
     )
 
-pub state_whole : (m : Message) (f : StateFields) (n : ℕ) (bytes rest end : List ℕ) → bytes ≡ (128 + n) ∷ rest → n < 16 → end ≡ [] → IsReadSoFar IsStateSoFar f n rest end → m ≡ push_pull (found_state f) → SpellsMap types.PushPull m bytes
+pub state_whole : (m : PushPull) (f : StateFields) (n : ℕ) (bytes rest end : List ℕ) → bytes ≡ (128 + n) ∷ rest → n < 16 → end ≡ [] → IsReadSoFar IsStateSoFar f n rest end → m ≡ found_state f → SpellsMap types.PushPull (push_pull m) bytes
 state_whole m f n bytes rest end e small none r is =
     let read : IsReadSoFar IsStateSoFar f n rest [] = subst (λ t. IsReadSoFar IsStateSoFar f n rest t) none r in
-    subst (SpellsMap types.PushPull m) (sym e) (subst (λ said. SpellsMap types.PushPull said ((128 + n) ∷ rest)) (sym is) (state_read n rest f small read))
+    subst (SpellsMap types.PushPull (push_pull m)) (sym e) (subst (λ said. SpellsMap types.PushPull (push_pull said) ((128 + n) ∷ rest)) (sym is) (state_read n rest f small read))

@@ -5,9 +5,9 @@ use Rattle.serf_wire.specs.declared.fault.WireFault.TheVariants.{BadKey, Twice, 
 use Rattle.serf_wire.specs.declared.layout.Layout.{Layout}
 use Rattle.serf_wire.specs.declared.layout.Kind.{Kind}
 use Rattle.serf_wire.specs.declared.layout.Kind.TheVariants as kinds
-use Rattle.serf_wire.specs.Layout.{fields_of, kind_in, layout_of}
+use Rattle.serf_wire.specs.Layout.{fields_of, kind_in}
 use Rattle.serf_wire.specs.Fields.{text, truth, up_to, fits, has_key}
-use Rattle.serf_wire.specs.Faults.{at, unless, number_faults, time_fault, time_faults, text_faults, truth_faults, signed_faults, items_faults, list_faults, name_faults, status_time_faults, status_faults, field_faults, key_faults, faults_behind, map_faults, kind_faults, value_faults, message_faults}
+use Rattle.serf_wire.specs.Faults.{at, unless, number_faults, time_fault, time_faults, text_faults, truth_faults, signed_faults, items_faults, list_faults, name_faults, status_time_faults, status_faults, field_faults, key_faults, faults_behind, map_faults, kind_faults, value_faults, layout_faults}
 use Rattle.serf_wire.specs.Laws.{map_place, InOrder, FaultsInOrder}
 
 -- ---- lists in order
@@ -190,5 +190,5 @@ value_ordered zero kind = kind_ordered (λ layout v. []) (λ layout v d p bytes 
 value_ordered (suc n) kind = kind_ordered (λ layout. list_faults (map_faults (value_faults n) layout)) (λ layout. list_ordered (map_faults (value_faults n) layout) (map_ordered (value_faults n) (value_ordered n) layout)) kind
 
 pub faults_ordered : FaultsInOrder
-faults_ordered message ps bytes packs =
-    upper 1 (0 + length bytes + 1) (length bytes + 1) (message_faults message (pair_list ps)) (map_ordered (value_faults 2) (value_ordered 2) (layout_of message) (pairs 0 ps) 0 0 bytes packs) (omega arith)
+faults_ordered layout ps bytes packs =
+    upper 1 (0 + length bytes + 1) (length bytes + 1) (layout_faults layout (pair_list ps)) (map_ordered (value_faults 2) (value_ordered 2) layout (pairs 0 ps) 0 0 bytes packs) (omega arith)

@@ -48,6 +48,8 @@ few_fields layouts.QueryResponse = omega arith
 few_fields layouts.PushPull = omega arith
 few_fields layouts.Slot = omega arith
 few_fields layouts.Event = omega arith
+few_fields layouts.Join = omega arith
+few_fields layouts.Leave = omega arith
 
 pub place_within : (layout : Layout) (name : List ℕ) (f : Field) → field_in 0 name (fields_of layout) ≡ Some f → f.place < 11
 place_within layout name f e = omega (arith, place_below 0 name (fields_of layout) f e, few_fields layout)

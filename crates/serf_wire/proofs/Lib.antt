@@ -3,7 +3,10 @@ pub mod Stepping
 pub mod Sound
 pub mod Meanings
 pub mod MessageFields
+pub mod CheckedMaps
 pub mod Packets
+pub mod Intents
+pub mod CanonicalIntents
 pub mod FaultOrder
 pub mod SpelledRanges
 pub mod Unused

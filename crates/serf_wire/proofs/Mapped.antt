@@ -1,6 +1,6 @@
 -- Lists that were handed in for a push/pull, and what they mean.
 use Rattle.serf_wire.proofs.Names.{◌≡◌, ◌<◌, List, [], ◌∷◌, ◌++◌, map, Bool, false, ◌||◌, ap, refl, sym, ◌∙◌, length, list_any, flat_map, length-map, raw_bytes}
-use Rattle.serf_wire.specs.declared.parts.PushPullParts.{PushPullParts}
+use Rattle.serf_wire.specs.declared.message.PushPullParts.{PushPullParts}
 use Rattle.serf_wire.specs.Buffers.{slots_lent}
 use Rattle.serf_wire.specs.Canonical.{is_long, is_long_slot, has_long, canonical, status_time_bytes, slot_bytes}
 use Rattle.serf_wire.specs.Message.{push_pull}

@@ -1,5 +1,5 @@
 -- What packets are, exactly.
-use Rattle.serf_wire.proofs.Names.{◌≡◌, ℕ, List, [], ◌∷◌, Option, Some, None, Result, Ok, Err, MatchResult, IfOk, IfErr, IsOkAnd, refl, sym, ap, subst, ◌∙◌, PackFault, Tree, nil, flag, int, raw, array, pairs, Pairs, Packs, Gives, whole_at, pair_list, kind_of, Map}
+use Rattle.serf_wire.proofs.Names.{◌≡◌, ℕ, List, [], ◌∷◌, Option, Some, None, Result, Ok, Err, MatchResult, IfOk, IfErr, IsOkAnd, refl, sym, ap, subst, ◌∙◌, PackFault, Tree, nil, flag, int, raw, array, pairs, Gives, whole_at, pair_list}
 use Rattle.serf_wire.specs.Below.{Below}
 use Rattle.serf_wire.specs.declared.fault.WireFault.{WireFault}
 use Rattle.serf_wire.specs.declared.fault.WireFault.TheVariants as faults
@@ -8,13 +8,14 @@ use Rattle.serf_wire.specs.declared.layout.MessageType.TheVariants as types
 use Rattle.serf_wire.specs.declared.layout.Class.{Class}
 use Rattle.serf_wire.specs.declared.layout.Class.TheVariants as classes
 use Rattle.serf_wire.specs.declared.message.Message.{Message as Lent}
-use Rattle.serf_wire.specs.Layout.{class_of}
+use Rattle.serf_wire.specs.Layout.{class_of, layout_of}
+use Rattle.serf_wire.specs.Checked.{checked_pairs, made_of}
 use Rattle.serf_wire.specs.Faults.{message_faults, first}
 use Rattle.serf_wire.specs.Message.{Message, user_event, query, query_response, push_pull, foreign, message_of}
-use Rattle.serf_wire.specs.Reading.{message_in, read_tree, unless_fault}
-use Rattle.serf_wire.specs.Spells.{HasFields, SpellsMap, SpellsBehind, Spells, IsFirstMapFault, IsFirstFaultBehind, IsFirstFault, no_value, no_map, in_map}
+use Rattle.serf_wire.specs.Reading.{message_in, unless_fault}
+use Rattle.serf_wire.specs.Spells.{HasFields, SpellsMap, SpellsBehind, Spells, IsFirstMapFault, IsFirstFaultBehind, IsFirstFault}
 use Rattle.serf_wire.specs.Decoded.{read_value, decoded_behind, decoded}
-use Rattle.serf_wire.proofs.Stepping.{no_first}
+use Rattle.serf_wire.proofs.CheckedMaps.{IsChecked, value_checked, sound_checked, faulty_checked}
 use Rattle.serf_wire.proofs.MessageFields.{event_there, event_clean, event_is, query_there, query_clean, query_is, response_there, response_clean, response_is, push_pull_there, push_pull_clean, push_pull_is}
 
 -- ---- a map's message
@@ -65,37 +66,34 @@ read_has P message (Ok (pairs p ps)) bad good = by (first (message_faults messag
 -- ---- what is read of a value is exact
 
 abbrev IsAnswer : MessageType → List ℕ → Result Message WireFault → Type 0
-IsAnswer message bytes r = MatchResult r (λ m. SpellsMap message m bytes) (λ f. IsFirstMapFault message bytes f)
+IsAnswer message bytes r = MatchResult r (λ m. SpellsMap message m bytes) (λ f. IsFirstMapFault (layout_of message) bytes f)
 
-pairs_answer : (message : MessageType) (bytes : List ℕ) (ps : Pairs) → Packs (pairs 0 ps) 0 0 bytes → (o : Option WireFault) → first (message_faults message (pair_list ps)) ≡ o → IsAnswer message bytes (unless_fault o (message_in message (pair_list ps)))
-pairs_answer message bytes ps packs None e = (ps, packs, fields_there message (pair_list ps) (no_first _ e))
-pairs_answer message bytes ps packs (Some f) e = in_map message bytes f ps packs e
+-- a message's value is made of the map's pairs
+pub read_by_checked : (message : MessageType) (r : Result Tree PackFault) → read_value message r ≡ made_of (message_in message) (checked_pairs (layout_of message) r)
+read_by_checked message (Err f) = refl
+read_by_checked message (Ok (nil p)) = refl
+read_by_checked message (Ok (flag p b)) = refl
+read_by_checked message (Ok (int p z)) = refl
+read_by_checked message (Ok (raw p s)) = refl
+read_by_checked message (Ok (array p vs)) = refl
+read_by_checked message (Ok (pairs p ps)) = by (first (message_faults message (pair_list ps)))
+  where
+    by : (o : Option WireFault) → unless_fault o (message_in message (pair_list ps)) ≡ made_of (message_in message) (unless_fault o (pair_list ps))
+    by None = refl
+    by (Some f) = refl
 
-tree_answer : (message : MessageType) (bytes : List ℕ) (v : Tree) → Packs v 0 0 bytes → IsAnswer message bytes (read_tree message v)
-tree_answer message bytes (nil p) packs = no_map message bytes faults.NotAMap (nil p) packs (λ e. cc) refl
-tree_answer message bytes (flag p b) packs = no_map message bytes faults.NotAMap (flag p b) packs (λ e. cc) refl
-tree_answer message bytes (int p z) packs = no_map message bytes faults.NotAMap (int p z) packs (λ e. cc) refl
-tree_answer message bytes (raw p s) packs = no_map message bytes faults.NotAMap (raw p s) packs (λ e. cc) refl
-tree_answer message bytes (array p vs) packs = no_map message bytes faults.NotAMap (array p vs) packs (λ e. cc) refl
-tree_answer message bytes (pairs p ps) packs = pairs_answer message bytes ps (subst (λ q. Packs (pairs q ps) 0 0 bytes) packs.0 packs) _ refl
+made_answer : (message : MessageType) (bytes : List ℕ) (r : Result (List (Tree × Tree)) WireFault) → IsChecked (layout_of message) bytes r → IsAnswer message bytes (made_of (message_in message) r)
+made_answer message bytes (Ok ps) s = (s.map, s.packs, subst (HasFields message (message_in message ps)) (sym s.are) (fields_there message ps s.sound))
+made_answer message bytes (Err f) h = h
 
-no_map_read : (message : MessageType) (v : Tree) → (kind_of v ≡ Map → ⊥) → read_tree message v ≡ Err faults.NotAMap
-no_map_read message (nil p) not = refl
-no_map_read message (flag p b) not = refl
-no_map_read message (int p z) not = refl
-no_map_read message (raw p s) not = refl
-no_map_read message (array p vs) not = refl
-no_map_read message (pairs p ps) not = absurd (not refl)
-
-value_answer : Below → (message : MessageType) (bytes : List ℕ) (r : Result Tree PackFault) → whole_at 8 bytes ≡ r → IsAnswer message bytes (read_value message r)
-value_answer below message bytes (Ok v) e = tree_answer message bytes v ((below.reading.value bytes v).0 e)
-value_answer below message bytes (Err f) e = no_value message bytes _ f ((below.reading.fault bytes f).0 e) refl
+value_answer : Below → (message : MessageType) (bytes : List ℕ) → IsAnswer message bytes (read_value message (whole_at 8 bytes))
+value_answer below message bytes = subst (IsAnswer message bytes) (sym (read_by_checked message (whole_at 8 bytes))) (made_answer message bytes _ (value_checked below (layout_of message) bytes _ refl))
 
 abbrev IsPacketAnswer : List ℕ → Result Message WireFault → Type 0
 IsPacketAnswer packet r = MatchResult r (λ m. Spells m packet) (λ f. IsFirstFault packet f)
 
 behind_answer : Below → (class : Class) (kind : ℕ) (bytes : List ℕ) → MatchResult (decoded_behind class kind bytes) (λ m. SpellsBehind class kind m bytes) (λ f. IsFirstFaultBehind class kind bytes f)
-behind_answer below (classes.Read message) kind bytes = value_answer below message bytes (whole_at 8 bytes) refl
+behind_answer below (classes.Read message) kind bytes = value_answer below message bytes
 behind_answer below classes.Foreign kind bytes = refl
 behind_answer below classes.Unknown kind bytes = refl
 
@@ -110,12 +108,10 @@ packet_answer below (kind ∷ bytes) = behind_answer below (class_of kind) kind 
 pub spelled_map : Below → (message : MessageType) (bytes : List ℕ) (m : Message) → SpellsMap message m bytes → read_value message (whole_at 8 bytes) ≡ Ok m
 spelled_map below message bytes m s =
     let c = fields_clean message m (pair_list s.0) s.2 in
-    ap (read_value message) ((below.reading.value bytes (pairs 0 s.0)).1 s.1) ∙ rw c.0 (ap (λ n. Ok n) c.1)
+    read_by_checked message _ ∙ ap (made_of (message_in message)) (sound_checked below (layout_of message) bytes s.0 s.1 c.0) ∙ ap (λ n. Ok n) c.1
 
-faulty_map : Below → (message : MessageType) (bytes : List ℕ) (f : WireFault) → IsFirstMapFault message bytes f → read_value message (whole_at 8 bytes) ≡ Err f
-faulty_map below message bytes f (no_value _ _ _ g faulty e) = ap (read_value message) ((below.reading.fault bytes g).1 faulty) ∙ ap (λ h. Err h) (sym e)
-faulty_map below message bytes f (no_map _ _ _ w spelled not e) = ap (read_value message) ((below.reading.value bytes w).1 spelled) ∙ no_map_read message w not ∙ ap (λ g. Err g) (sym e)
-faulty_map below message bytes f (in_map _ _ _ ps spelled e) = ap (read_value message) ((below.reading.value bytes (pairs 0 ps)).1 spelled) ∙ rw e refl
+faulty_map : Below → (message : MessageType) (bytes : List ℕ) (f : WireFault) → IsFirstMapFault (layout_of message) bytes f → read_value message (whole_at 8 bytes) ≡ Err f
+faulty_map below message bytes f h = read_by_checked message _ ∙ ap (made_of (message_in message)) (faulty_checked below (layout_of message) bytes f h)
 
 spelled_behind : Below → (class : Class) (kind : ℕ) (bytes : List ℕ) (m : Message) → SpellsBehind class kind m bytes → decoded_behind class kind bytes ≡ Ok m
 spelled_behind below (classes.Read message) kind bytes m s = spelled_map below message bytes m s

@@ -1,7 +1,7 @@
 -- Lists of which no text is too long.
 use Rattle.serf_wire.proofs.Names.{◌≡◌, ℕ, ◌<◌, List, length, Bool, true, false, ◌||◌, arith, refl, nat_tests, list_any}
 use Rattle.serf_wire.specs.Canonical.{is_long, has_long}
-use Rattle.serf_wire.specs.Message.{Query, query, user_event_of, response_of}
+use Rattle.serf_wire.specs.Message.{UserEvent, Query, QueryResponse, user_event, query, query_response}
 
 pub short : {X : Type 0} (xs : List X) → is_long xs ≡ false → length xs < 4294967296
 short xs e = grind (arith, nat_tests)
@@ -29,10 +29,10 @@ short_query q none =
     let f1 = neither _ _ f2.0 in
     record { addr = short _ f1.0; source = short _ f1.1; filters = short _ f2.1; each = f3.1; name = short _ f4.1; payload = short _ f5.1 }
 
-pub short_event_texts : (t : ℕ) (n p : List ℕ) (coalesce : Bool) → is_long n ≡ false → is_long p ≡ false → has_long (user_event_of t n p coalesce) ≡ false
+pub short_event_texts : (e : UserEvent) → is_long e.name ≡ false → is_long e.payload ≡ false → has_long (user_event e) ≡ false
 unfolding has_long
-short_event_texts t n p coalesce none other = rw (none, other) refl
+short_event_texts e none other = rw (none, other) refl
 
-pub short_response_texts : (t id : ℕ) (n : List ℕ) (flags : ℕ) (p : List ℕ) → is_long n ≡ false → is_long p ≡ false → has_long (response_of t id n flags p) ≡ false
+pub short_response_texts : (r : QueryResponse) → is_long r.from ≡ false → is_long r.payload ≡ false → has_long (query_response r) ≡ false
 unfolding has_long
-short_response_texts t id n flags p none other = rw (none, other) refl
+short_response_texts r none other = rw (none, other) refl

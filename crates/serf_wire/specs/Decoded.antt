@@ -9,9 +9,9 @@ use Rattle.serf_wire.specs.declared.fault.WireFault.TheVariants as faults
 use Rattle.serf_wire.specs.declared.layout.MessageType.{MessageType}
 use Rattle.serf_wire.specs.declared.layout.Class.{Class}
 use Rattle.serf_wire.specs.declared.layout.Class.TheVariants as classes
-use Rattle.serf_wire.specs.declared.parts.UserEventParts.{UserEventParts}
+use Rattle.serf_wire.specs.declared.message.UserEvent.{UserEvent as LentEvent}
 use Rattle.serf_wire.specs.Layout.{class_of}
-use Rattle.serf_wire.specs.Message.{Message, event_said, user_event, query, query_response, push_pull, foreign}
+use Rattle.serf_wire.specs.Message.{Message, UserEvent, event_said, user_event, query, query_response, push_pull, foreign}
 use Rattle.serf_wire.specs.Reading.{read_tree}
 use Rattle.serf_wire.specs.Spells.{shifted}
 
@@ -31,8 +31,8 @@ decoded [] = Err faults.Empty
 decoded (kind ∷ bytes) = decoded_behind (class_of kind) kind bytes
 
 -- the user event of an answer, if it is one
-abbrev pub event_in : Result Message WireFault → Option Message
-event_in (Ok (user_event e)) = Some (user_event e)
+abbrev pub event_in : Result Message WireFault → Option UserEvent
+event_in (Ok (user_event e)) = Some e
 event_in (Ok (query q)) = None
 event_in (Ok (query_response r)) = None
 event_in (Ok (push_pull s)) = None
@@ -40,5 +40,5 @@ event_in (Ok (foreign kind)) = None
 event_in (Err f) = None
 
 -- the result is just the user event of what a packet decodes to, and none where that is another message or a fault
-abbrev pub GivesEvent : Option UserEventParts → Result Message WireFault → Type 0
+abbrev pub GivesEvent : Option LentEvent → Result Message WireFault → Type 0
 GivesEvent result answer = option_map event_said result ≡ event_in answer

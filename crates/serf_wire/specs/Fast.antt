@@ -1,5 +1,5 @@
 -- A map that is read in one pass: what was found of its fields so far.
-use Rattle.std.specs.Prelude.{◌≡◌, ◌<◌, ℕ, unwrap_or, List, [], ◌∷◌, ◌++◌, length, codes, Option, Some, None}
+use Rattle.std.specs.Prelude.{◌≡◌, ◌<◌, ℕ, false, unwrap_or, List, [], ◌∷◌, ◌++◌, length, codes, Option, Some, None}
 use Rattle.std.specs.Option.{option_copied, option_map}
 use Rattle.std.specs.List.{flat_map}
 use Rattle.serf_lamport.specs.Clock.{greatest_clock}
@@ -10,7 +10,7 @@ use Rattle.serf_pack.specs.Canonical.{raw_bytes}
 use Rattle.serf_wire.specs.declared.fast.event.EventFields.{EventFields}
 use Rattle.serf_wire.specs.declared.fast.state.StateFields.{StateFields}
 use Rattle.serf_wire.specs.Lists.{texts_left, status_left, slots_left}
-use Rattle.serf_wire.specs.Message.{PushPull}
+use Rattle.serf_wire.specs.Message.{UserEvent, PushPull}
 use Rattle.serf_wire.specs.Fields.{text, truth, number, list, status, slot, values_of}
 use Rattle.serf_wire.specs.Spells.{HasRawKeys}
 
@@ -115,6 +115,14 @@ pub record IsReadSoFar {F : Type 0} (IsSoFar : F → List (Tree × Tree) → Typ
   pub is : IsSoFar found (pair_list pairs)
 
 -- ---- the message of what was found
+
+abbrev pub found_event : EventFields → UserEvent
+found_event f = record {
+  time = unwrap_or f.time 0;
+  name = unwrap_or (option_copied f.name) [];
+  payload = unwrap_or (option_copied f.payload) [];
+  coalesce = unwrap_or f.coalesce false;
+}
 
 abbrev pub found_state : StateFields → PushPull
 found_state f = record {

@@ -127,6 +127,10 @@ abbrev pub first : {A : Type 0} → List A → Option A
 first [] = None
 first (x ∷ xs) = Some x
 
--- the faults of a message's map: lists of slots, and of events in them
+-- the faults of a map with the fields of a layout: lists of slots, and of events in them
+abbrev pub layout_faults : Layout → List (Tree × Tree) → List WireFault
+layout_faults layout ps = faults_behind (value_faults 2) layout [] ps
+
+-- the faults of a message's map
 abbrev pub message_faults : MessageType → List (Tree × Tree) → List WireFault
-message_faults message ps = faults_behind (value_faults 2) (layout_of message) [] ps
+message_faults message ps = layout_faults (layout_of message) ps

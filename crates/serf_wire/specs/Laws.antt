@@ -5,8 +5,8 @@ use Rattle.serf_pack.specs.Packs.{Packs}
 use Rattle.serf_pack.specs.View.{pair_list}
 use Rattle.serf_wire.specs.declared.fault.WireFault.{WireFault}
 use Rattle.serf_wire.specs.declared.fault.WireFault.TheVariants as faults
-use Rattle.serf_wire.specs.declared.layout.MessageType.{MessageType}
-use Rattle.serf_wire.specs.Faults.{message_faults}
+use Rattle.serf_wire.specs.declared.layout.Layout.{Layout}
+use Rattle.serf_wire.specs.Faults.{layout_faults}
 use Rattle.serf_wire.specs.Message.{Message}
 use Rattle.serf_wire.specs.Spells.{Spells, IsFirstFault}
 use Rattle.serf_wire.specs.Decoded.{decoded}
@@ -55,6 +55,6 @@ abbrev pub InOrder : ℕ → List WireFault → ℕ → Type 0
 InOrder from [] to = from ≤ to
 InOrder from (f ∷ fs) to = (from ≤ map_place f) × InOrder (map_place f) fs to
 
--- the faults of a message's map stand in reading order, behind the packet's first byte
+-- the faults of a map stand in reading order, behind the packet's first byte, whichever layout its fields have
 abbrev pub FaultsInOrder : Type 0
-FaultsInOrder = (message : MessageType) (ps : Pairs) (bytes : List ℕ) → Packs (pairs 0 ps) 0 0 bytes → InOrder 1 (message_faults message (pair_list ps)) (length bytes + 1)
+FaultsInOrder = (layout : Layout) (ps : Pairs) (bytes : List ℕ) → Packs (pairs 0 ps) 0 0 bytes → InOrder 1 (layout_faults layout (pair_list ps)) (length bytes + 1)

@@ -13,7 +13,7 @@ use Rattle.serf_wire.specs.declared.layout.Kind.{Kind}
 use Rattle.serf_wire.specs.declared.layout.Kind.TheVariants as kinds
 
 -- What a type byte says of what follows. Of Serf's messages, leave (0), join (1), conflictResponse (6),
--- keyRequest (7), keyResponse (8) and relay (9) are not read.
+-- keyRequest (7), keyResponse (8) and relay (9) are not read. Who asks for leave and join has them of Intent.antt.
 abbrev pub class_of : ℕ → Class
 class_of kind =
     if kind == 3 then classes.Read types.UserEvent else
@@ -41,6 +41,8 @@ fields_of layouts.PushPull =
     ∷ (codes "Events", kinds.Maps layouts.Slot) ∷ (codes "QueryLTime", kinds.Natural greatest_clock) ∷ []
 fields_of layouts.Slot = (codes "LTime", kinds.Time) ∷ (codes "Events", kinds.Maps layouts.Event) ∷ []
 fields_of layouts.Event = (codes "Name", kinds.Text) ∷ (codes "Payload", kinds.Text) ∷ []
+fields_of layouts.Join = (codes "LTime", kinds.Time) ∷ (codes "Node", kinds.Text) ∷ []
+fields_of layouts.Leave = (codes "LTime", kinds.Time) ∷ (codes "Node", kinds.Text) ∷ (codes "Prune", kinds.Flag) ∷ []
 
 -- the kind of the field with this name
 abbrev pub kind_in : List ℕ → List (List ℕ × Kind) → Option Kind

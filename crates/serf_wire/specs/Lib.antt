@@ -13,6 +13,8 @@ pub mod Spells
 pub mod Keys
 pub mod Fast
 pub mod Decoded
+pub mod Checked
+pub mod Intent
 pub mod Canonical
 pub mod Parts
 pub mod Passes

@@ -1,8 +1,13 @@
 -- What a packet says, wherever its texts lie (Serf's messages.go).
 use Rattle.std.specs.Prelude.{ℕ, ℤ, Bool, List}
-use Rattle.serf_wire.specs.declared.parts.UserEventParts.{UserEventParts}
+use denote.Bor.{Bor}
+use Rattle.serf_wire.specs.declared.message.UserEvent.{UserEvent as LentEvent}
+use Rattle.serf_wire.specs.declared.message.Query.{Query as LentQuery}
+use Rattle.serf_wire.specs.declared.message.QueryResponse.{QueryResponse as LentResponse}
+use Rattle.serf_wire.specs.declared.message.PushPull.{PushPull as LentPushPull}
 use Rattle.serf_wire.specs.declared.message.Message.{Message as Lent}
 use Rattle.serf_wire.specs.declared.message.Message.TheVariants as lent
+use Rattle.serf_wire.specs.declared.lists.Texts.{Texts}
 use Rattle.serf_wire.specs.Slots.{SlotContent}
 use Rattle.serf_wire.specs.Lists.{texts_left, status_left, slots_left}
 
@@ -55,27 +60,42 @@ user_event_of time name payload coalesce = user_event (record { time = time; nam
 abbrev pub response_of : ℕ → ℕ → List ℕ → ℕ → List ℕ → Message
 response_of time id from flags payload = query_response (record { time = time; id = id; from = from; flags = flags; payload = payload })
 
+-- What is said where the texts lie elsewhere: of a user event, a query with these filters, a response and a push/pull.
+abbrev pub event_said : LentEvent → UserEvent
+event_said e = record { time = e.time; name = e.name.now; payload = e.payload.now; coalesce = e.coalesce }
+
+abbrev pub query_with : {F : Type 0} → List (List ℕ) → LentQuery F → Query
+query_with filters q = record {
+  time = q.time;
+  id = q.id;
+  addr = q.addr.now;
+  port = q.port;
+  source = q.source.now;
+  filters = filters;
+  flags = q.flags;
+  relay_factor = q.relay_factor;
+  timeout = q.timeout;
+  name = q.name.now;
+  payload = q.payload.now;
+}
+
+-- a query that is read, and one that is written
+abbrev pub query_said : LentQuery Texts → Query
+query_said q = query_with (texts_left q.filters) q
+
+abbrev pub query_of : LentQuery (Bor (List (List ℕ))) → Query
+query_of q = query_with q.filters.now q
+
+abbrev pub response_said : LentResponse → QueryResponse
+response_said r = record { time = r.time; id = r.id; from = r.from.now; flags = r.flags; payload = r.payload.now }
+
+abbrev pub push_pull_said : LentPushPull → PushPull
+push_pull_said m = record { member_clock = m.member_clock; status = status_left m.status; left = texts_left m.left; event_clock = m.event_clock; slots = slots_left m.slots; query_clock = m.query_clock }
+
 -- the meaning of a message whose texts lie in a packet
 abbrev pub message_of : Lent → Message
-message_of (lent.UserEvent time name payload coalesce) = user_event (record { time = time; name = name.now; payload = payload.now; coalesce = coalesce })
-message_of (lent.Query time id addr port source filters flags relay_factor timeout name payload) = query (record {
-  time = time;
-  id = id;
-  addr = addr.now;
-  port = port;
-  source = source.now;
-  filters = texts_left filters;
-  flags = flags;
-  relay_factor = relay_factor;
-  timeout = timeout;
-  name = name.now;
-  payload = payload.now;
-})
-message_of (lent.QueryResponse time id from flags payload) = query_response (record { time = time; id = id; from = from.now; flags = flags; payload = payload.now })
-message_of (lent.PushPull member_clock status left event_clock slots last) =
-    push_pull (record { member_clock = member_clock; status = status_left status; left = texts_left left; event_clock = event_clock; slots = slots_left slots; query_clock = last })
+message_of (lent.UserEvent e) = user_event (event_said e)
+message_of (lent.Query q) = query (query_said q)
+message_of (lent.QueryResponse r) = query_response (response_said r)
+message_of (lent.PushPull m) = push_pull (push_pull_said m)
 message_of (lent.Foreign kind) = foreign kind
-
--- the message that a user event is whose texts lie in a packet
-abbrev pub event_said : UserEventParts → Message
-event_said e = user_event_of e.time e.name.now e.payload.now e.coalesce

@@ -1,31 +1,15 @@
--- What the parts of a message mean that are handed in for writing it.
+-- What a push/pull means that is handed in for writing it.
 use Rattle.std.specs.Prelude.{ℕ, List, [], ◌∷◌, ◌++◌, length, codes, map}
 use Rattle.std.specs.List.{flat_map}
 use Rattle.serf_pack.specs.Canonical.{map_head, raw_bytes, uint_bytes}
 use Rattle.serf_wire.specs.declared.texts.EventBody.{EventBody}
 use Rattle.serf_wire.specs.declared.texts.TimeSlot.{TimeSlot}
-use Rattle.serf_wire.specs.declared.parts.QueryParts.{QueryParts}
-use Rattle.serf_wire.specs.declared.parts.PushPullParts.{PushPullParts}
+use Rattle.serf_wire.specs.declared.message.PushPullParts.{PushPullParts}
 use Rattle.serf_wire.specs.Slots.{SlotContent, held}
 use Rattle.serf_wire.specs.Buffers.{slots_lent}
 use Rattle.serf_wire.specs.Lists.{status_of}
-use Rattle.serf_wire.specs.Message.{Query, PushPull}
+use Rattle.serf_wire.specs.Message.{PushPull}
 use Rattle.serf_wire.specs.Canonical.{entry, list_bytes, status_time_bytes, slot_bytes}
-
-abbrev pub query_of : QueryParts → Query
-query_of p = record {
-  time = p.time;
-  id = p.id;
-  addr = p.addr.now;
-  port = p.port;
-  source = p.source.now;
-  filters = p.filters.now;
-  flags = p.flags;
-  relay_factor = p.relay_factor;
-  timeout = p.timeout;
-  name = p.name.now;
-  payload = p.payload.now;
-}
 
 abbrev pub slot_content : TimeSlot EventBody → SlotContent
 slot_content s = held s.time s.held.items

@@ -14,9 +14,10 @@ use Rattle.serf_wire.specs.declared.layout.MessageType.{MessageType}
 use Rattle.serf_wire.specs.declared.layout.MessageType.TheVariants as types
 use Rattle.serf_wire.specs.declared.layout.Class.{Class}
 use Rattle.serf_wire.specs.declared.layout.Class.TheVariants as classes
-use Rattle.serf_wire.specs.Layout.{class_of}
+use Rattle.serf_wire.specs.declared.layout.Layout.{Layout}
+use Rattle.serf_wire.specs.Layout.{class_of, layout_of}
 use Rattle.serf_wire.specs.Fields.{field, text, truth, number, time, signed, list, status, slot}
-use Rattle.serf_wire.specs.Faults.{message_faults, first}
+use Rattle.serf_wire.specs.Faults.{layout_faults, first}
 use Rattle.serf_wire.specs.Message.{Message, UserEvent, Query, QueryResponse, PushPull, user_event, query, query_response, push_pull, foreign}
 
 abbrev pub HasRawKeys : List (Tree × Tree) → Type 0
@@ -91,17 +92,17 @@ shifted (pack.Unsupported b p) = pack.Unsupported b (p + 1)
 shifted (pack.TooDeep p) = pack.TooDeep (p + 1)
 shifted (pack.Trailing p) = pack.Trailing (p + 1)
 
--- The first fault of bytes that are to be a map of such fields.
-pub data IsFirstMapFault : MessageType → List ℕ → WireFault → Type 0 where
+-- The first fault of bytes that are to be a map with the fields of a layout.
+pub data IsFirstMapFault : Layout → List ℕ → WireFault → Type 0 where
   -- they are no value
-  no_value : (message : MessageType) (bytes : List ℕ) (f : WireFault) (g : PackFault) → IsFaulty bytes g → f ≡ faults.Pack (shifted g) → IsFirstMapFault message bytes f
+  no_value : (layout : Layout) (bytes : List ℕ) (f : WireFault) (g : PackFault) → IsFaulty bytes g → f ≡ faults.Pack (shifted g) → IsFirstMapFault layout bytes f
   -- the value is no map
-  no_map : (message : MessageType) (bytes : List ℕ) (f : WireFault) (v : Tree) → Packs v 0 0 bytes → (kind_of v ≡ Map → ⊥) → f ≡ faults.NotAMap → IsFirstMapFault message bytes f
+  no_map : (layout : Layout) (bytes : List ℕ) (f : WireFault) (v : Tree) → Packs v 0 0 bytes → (kind_of v ≡ Map → ⊥) → f ≡ faults.NotAMap → IsFirstMapFault layout bytes f
   -- a place of the map has the fault, and no place before it has one
-  in_map : (message : MessageType) (bytes : List ℕ) (f : WireFault) (ps : Pairs) → Packs (pairs 0 ps) 0 0 bytes → first (message_faults message (pair_list ps)) ≡ Some f → IsFirstMapFault message bytes f
+  in_map : (layout : Layout) (bytes : List ℕ) (f : WireFault) (ps : Pairs) → Packs (pairs 0 ps) 0 0 bytes → first (layout_faults layout (pair_list ps)) ≡ Some f → IsFirstMapFault layout bytes f
 
 abbrev pub IsFirstFaultBehind : Class → ℕ → List ℕ → WireFault → Type 0
-IsFirstFaultBehind (classes.Read message) kind bytes f = IsFirstMapFault message bytes f
+IsFirstFaultBehind (classes.Read message) kind bytes f = IsFirstMapFault (layout_of message) bytes f
 IsFirstFaultBehind classes.Foreign kind bytes f = ⊥
 IsFirstFaultBehind classes.Unknown kind bytes f = f ≡ faults.UnknownType kind
 

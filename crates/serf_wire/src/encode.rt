@@ -4,23 +4,23 @@ ghost use Rattle.std.specs.Prelude.{◌≡◌, ◌<◌, ◌^◌, ◌++◌, ◌�
 ghost use Rattle.std.specs.List.{list_any, list_all};
 ghost use Rattle.serf_lamport.specs.Clock.{greatest_clock};
 ghost use Rattle.serf_pack.specs.Canonical.{raw_bytes, uint_bytes, int_bytes};
-ghost use Rattle.serf_wire.specs.Message.{query, push_pull, user_event_of, response_of};
+ghost use Rattle.serf_wire.specs.Message.{event_said, push_pull, query, query_of, query_response, response_said, user_event};
 ghost use Rattle.serf_wire.specs.Lists.{status_of};
-ghost use Rattle.serf_wire.specs.Parts.{query_of, push_pull_of, parts_bytes};
+ghost use Rattle.serf_wire.specs.Parts.{push_pull_of, parts_bytes};
 ghost use Rattle.serf_wire.specs.Canonical.{entry, list_bytes, canonical, without_empty_slots, is_long, is_long_slot, has_long};
 ghost use Rattle.serf_wire.specs.Spells.{Spells};
 ghost use Rattle.serf_wire.specs.Fields.{fits};
-ghost use Rattle.serf_wire.specs.Ranges.{IsRangedQuery, IsRangedPushPull};
+ghost use Rattle.serf_wire.specs.Ranges.{IsRangedPushPull, IsRangedQuery, IsRangedResponse};
 
 use crate::laws::laws_below;
 use crate::length::user_event_len;
 use crate::long::{is_long_push_pull, is_long_query, is_long_text};
-use crate::parts::{PushPullParts, QueryParts};
+use crate::message::{PushPullParts, Query, QueryResponse, UserEvent};
 use crate::put::{
     put_filters_field, put_flag_field, put_number_field, put_slots_field, put_status_field,
     put_text_field, put_texts_field, put_timeout_field,
 };
-use serf_lamport::Time;
+use crate::texts::Bytes;
 use serf_pack::put_map;
 use std::alloc::{AllocError, Global};
 use thiserror::Error;
@@ -48,32 +48,26 @@ impl From<AllocError> for EncodeFault {
 }
 
 #[tactic(auto, unfolding(crate::specs::Canonical::canonical))]
-fn write_user_event(
-    alloc: Global,
-    time: Time,
-    name: &[u8],
-    payload: &[u8],
-    coalesce: bool,
-) -> Result<Vec<u8>, AllocError>
-    requires name { length name.now < 2 ^ 32 }
-    requires payload { length payload.now < 2 ^ 32 }
+fn write_user_event(alloc: Global, event: &UserEvent) -> Result<Vec<u8>, AllocError>
+    requires name { length event.now.name.now < 2 ^ 32 }
+    requires payload { length event.now.payload.now < 2 ^ 32 }
     ensures bytes { IfOk result (λ packet. packet.items
-        ≡ canonical (user_event_of time name.now payload.now coalesce)) }
-    ensures time { OnOk result (time < greatest_clock) }
+        ≡ canonical (user_event (event_said event.now))) }
+    ensures time { OnOk result (event.now.time < greatest_clock) }
 {
-    let len = user_event_len(time, name, payload, coalesce);
+    let len = user_event_len(event);
     let mut out = Vec::with_capacity(alloc, len as usize)?;
     out.extend_from_slice(&[3])?;
     put_map(&mut out, 4)?;
-    put_number_field(&mut out, b"LTime", time.get())?;
-    put_text_field(&mut out, b"Name", name)?;
-    put_text_field(&mut out, b"Payload", payload)?;
-    put_flag_field(&mut out, b"CC", coalesce)?;
+    put_number_field(&mut out, b"LTime", event.time.get())?;
+    put_text_field(&mut out, b"Name", event.name)?;
+    put_text_field(&mut out, b"Payload", event.payload)?;
+    put_flag_field(&mut out, b"CC", event.coalesce)?;
     Ok(out)
 }
 
 /// Whom the query is from, and who is asked.
-fn put_query_route(out: &mut Vec<u8>, parts: &QueryParts) -> Result<(), AllocError>
+fn put_query_route(out: &mut Vec<u8>, parts: &Query<&[Bytes]>) -> Result<(), AllocError>
     requires addr { length parts.now.addr.now < 2 ^ 32 }
     requires source { length parts.now.source.now < 2 ^ 32 }
     requires filters { length parts.now.filters.now < 2 ^ 32 }
@@ -92,7 +86,7 @@ fn put_query_route(out: &mut Vec<u8>, parts: &QueryParts) -> Result<(), AllocErr
 }
 
 /// How the query is to be answered.
-fn put_query_terms(out: &mut Vec<u8>, parts: &QueryParts) -> Result<(), AllocError>
+fn put_query_terms(out: &mut Vec<u8>, parts: &Query<&[Bytes]>) -> Result<(), AllocError>
     ensures flags { OnOk result (parts.now.flags < 2 ^ 32) }
     ensures relay_factor { OnOk result (parts.now.relay_factor < 2 ^ 8) }
     ensures timeout { OnOk result (fits parts.now.timeout ≡ Some parts.now.timeout) }
@@ -107,7 +101,7 @@ fn put_query_terms(out: &mut Vec<u8>, parts: &QueryParts) -> Result<(), AllocErr
 }
 
 /// What is asked.
-fn put_question(out: &mut Vec<u8>, parts: &QueryParts) -> Result<(), AllocError>
+fn put_question(out: &mut Vec<u8>, parts: &Query<&[Bytes]>) -> Result<(), AllocError>
     requires name { length parts.now.name.now < 2 ^ 32 }
     requires payload { length parts.now.payload.now < 2 ^ 32 }
     ensures { OnOk result (out.new.items ≡ out.old.items
@@ -119,7 +113,7 @@ fn put_question(out: &mut Vec<u8>, parts: &QueryParts) -> Result<(), AllocError>
 }
 
 #[tactic(auto, unfolding(crate::specs::Canonical::canonical, crate::specs::Canonical::has_long))]
-fn write_query(alloc: Global, parts: &QueryParts) -> Result<Vec<u8>, AllocError>
+fn write_query(alloc: Global, parts: &Query<&[Bytes]>) -> Result<Vec<u8>, AllocError>
     requires { has_long (query (query_of parts.now)) ≡ false }
     ensures bytes { IfOk result (λ packet. packet.items ≡ canonical (query (query_of parts.now))) }
     ensures ranged { OnOk result (IsRangedQuery (query_of parts.now)) }
@@ -136,27 +130,21 @@ fn write_query(alloc: Global, parts: &QueryParts) -> Result<Vec<u8>, AllocError>
 }
 
 #[tactic(auto, unfolding(crate::specs::Canonical::canonical))]
-fn write_response(
-    alloc: Global,
-    time: u64,
-    id: u32,
-    from: &[u8],
-    flags: u32,
-    answer: &[u8],
-) -> Result<Vec<u8>, AllocError>
-    requires from { length from.now < 2 ^ 32 }
-    requires answer { length answer.now < 2 ^ 32 }
-    ensures { IfOk result (λ packet. packet.items
-        ≡ canonical (response_of time id from.now flags answer.now)) }
+fn write_response(alloc: Global, response: &QueryResponse) -> Result<Vec<u8>, AllocError>
+    requires from { length response.now.from.now < 2 ^ 32 }
+    requires payload { length response.now.payload.now < 2 ^ 32 }
+    ensures bytes { IfOk result (λ packet. packet.items
+        ≡ canonical (query_response (response_said response.now))) }
+    ensures ranged { OnOk result (IsRangedResponse (response_said response.now)) }
 {
     let mut out = Vec::new(alloc);
     out.extend_from_slice(&[5])?;
     put_map(&mut out, 5)?;
-    put_number_field(&mut out, b"LTime", time)?;
-    put_number_field(&mut out, b"ID", u64::from(id))?;
-    put_text_field(&mut out, b"From", from)?;
-    put_number_field(&mut out, b"Flags", u64::from(flags))?;
-    put_text_field(&mut out, b"Payload", answer)?;
+    put_number_field(&mut out, b"LTime", response.time)?;
+    put_number_field(&mut out, b"ID", u64::from(response.id))?;
+    put_text_field(&mut out, b"From", response.from)?;
+    put_number_field(&mut out, b"Flags", u64::from(response.flags))?;
+    put_text_field(&mut out, b"Payload", response.payload)?;
     Ok(out)
 }
 
@@ -180,30 +168,24 @@ fn write_push_pull(alloc: Global, parts: &PushPullParts) -> Result<Vec<u8>, Allo
 /// The canonical packet of a user event. `TooLong` comes where the name or the payload is longer than
 /// 4,294,967,295 bytes, and then `OutOfMemory` where the packet couldn't grow.
 #[tactic(auto, unfolding(crate::specs::Canonical::has_long))]
-pub fn encode_user_event(
-    alloc: Global,
-    time: Time,
-    name: &[u8],
-    payload: &[u8],
-    coalesce: bool,
-) -> Result<Vec<u8>, EncodeFault>
+pub fn encode_user_event(alloc: Global, event: &UserEvent) -> Result<Vec<u8>, EncodeFault>
     ensures canonical { IfOk result (λ packet. packet.items
-        ≡ canonical (user_event_of time name.now payload.now coalesce)) }
+        ≡ canonical (user_event (event_said event.now))) }
     ensures spells { IfOk result (λ packet.
-        Spells (user_event_of time name.now payload.now coalesce) packet.items) }
+        Spells (user_event (event_said event.now)) packet.items) }
     ensures too_long { (result ≡ Err EncodeFault.TooLong)
-        ↔ IsTrue (has_long (user_event_of time name.now payload.now coalesce)) }
+        ↔ IsTrue (has_long (user_event (event_said event.now))) }
 {
     laws_below();
-    if is_long_text(name) || is_long_text(payload) {
+    if is_long_text(event.name) || is_long_text(event.payload) {
         return Err(EncodeFault::TooLong);
     }
-    Ok(write_user_event(alloc, time, name, payload, coalesce)?)
+    Ok(write_user_event(alloc, event)?)
 }
 
 /// The canonical packet of a query. `TooLong` comes where a text or the list of filters is longer than
 /// 4,294,967,295, and then `OutOfMemory` where the packet couldn't grow.
-pub fn encode_query(alloc: Global, parts: &QueryParts) -> Result<Vec<u8>, EncodeFault>
+pub fn encode_query(alloc: Global, parts: &Query<&[Bytes]>) -> Result<Vec<u8>, EncodeFault>
     ensures canonical { IfOk result (λ packet. packet.items
         ≡ canonical (query (query_of parts.now))) }
     ensures spells { IfOk result (λ packet. Spells (query (query_of parts.now)) packet.items) }
@@ -220,26 +202,19 @@ pub fn encode_query(alloc: Global, parts: &QueryParts) -> Result<Vec<u8>, Encode
 /// The canonical packet of a query's response. `TooLong` comes where the name or the payload is longer than
 /// 4,294,967,295 bytes, and then `OutOfMemory` where the packet couldn't grow.
 #[tactic(auto, unfolding(crate::specs::Canonical::has_long))]
-pub fn encode_response(
-    alloc: Global,
-    time: u64,
-    id: u32,
-    from: &[u8],
-    flags: u32,
-    payload: &[u8],
-) -> Result<Vec<u8>, EncodeFault>
+pub fn encode_response(alloc: Global, response: &QueryResponse) -> Result<Vec<u8>, EncodeFault>
     ensures canonical { IfOk result (λ packet. packet.items
-        ≡ canonical (response_of time id from.now flags payload.now)) }
+        ≡ canonical (query_response (response_said response.now))) }
     ensures spells { IfOk result (λ packet.
-        Spells (response_of time id from.now flags payload.now) packet.items) }
+        Spells (query_response (response_said response.now)) packet.items) }
     ensures too_long { (result ≡ Err EncodeFault.TooLong)
-        ↔ IsTrue (has_long (response_of time id from.now flags payload.now)) }
+        ↔ IsTrue (has_long (query_response (response_said response.now))) }
 {
     laws_below();
-    if is_long_text(from) || is_long_text(payload) {
+    if is_long_text(response.from) || is_long_text(response.payload) {
         return Err(EncodeFault::TooLong);
     }
-    Ok(write_response(alloc, time, id, from, flags, payload)?)
+    Ok(write_response(alloc, response)?)
 }
 
 /// The canonical packet of a push/pull, in which a slot without events is nil. `TooLong` comes where a text or

@@ -5,12 +5,11 @@ ghost use Rattle.serf_pack.specs.Tree.{Tree};
 ghost use Rattle.serf_pack.specs.View.{tree_of, pairs_of, raw_of};
 ghost use Rattle.serf_wire.specs.Fields.{is_text};
 ghost use Rattle.serf_wire.specs.Found.{Finds};
-ghost use Rattle.serf_wire.specs.Layout.{layout_of};
-ghost use Rattle.serf_wire.specs.Faults.{value_faults, number_faults, time_faults, signed_faults, text_faults, truth_faults, list_faults, name_faults, status_time_faults, status_faults, key_faults, map_faults, faults_behind, message_faults, first};
+ghost use Rattle.serf_wire.specs.Faults.{value_faults, number_faults, time_faults, signed_faults, text_faults, truth_faults, list_faults, name_faults, status_time_faults, status_faults, key_faults, map_faults, faults_behind, layout_faults, first};
 
 use crate::fault::WireFault;
 use crate::found::FoundFields;
-use crate::layout::{Kind, Layout, MessageType, field_of, layout_for};
+use crate::layout::{Kind, Layout, field_of};
 use serf_pack::View;
 
 /// Whether a key is this name.
@@ -236,14 +235,12 @@ fn find_fields<'a>(
     Ok(found)
 }
 
-/// The values of the fields of a message's map, or the map's first fault.
-pub fn find_message<'a>(message: MessageType, map: &View<'a>) -> Result<FoundFields<'a>, WireFault>
-    ensures found { IfOk result (λ found.
-        Finds (layout_of message) found (pairs_of (tree_of map.now))) }
-    ensures none { OnOk result
-        (first (message_faults message (pairs_of (tree_of map.now))) ≡ None) }
+/// The values of the fields of a map with this layout, or the map's first fault.
+pub fn find_known<'a>(layout: Layout, map: &View<'a>) -> Result<FoundFields<'a>, WireFault>
+    ensures found { IfOk result (λ found. Finds layout found (pairs_of (tree_of map.now))) }
+    ensures none { OnOk result (first (layout_faults layout (pairs_of (tree_of map.now))) ≡ None) }
     ensures fault { IfErr result (λ f.
-        first (message_faults message (pairs_of (tree_of map.now))) ≡ Some f) }
+        first (layout_faults layout (pairs_of (tree_of map.now))) ≡ Some f) }
 {
-    find_fields(2, layout_for(message), map)
+    find_fields(2, layout, map)
 }

@@ -1,6 +1,7 @@
 //! What holds of packets, whichever they are.
 
 ghost use Rattle.serf_wire.specs.Below.{Below};
+ghost use Rattle.serf_wire.specs.Intent.{ReadsIntents, CanonicalIntents};
 ghost use Rattle.serf_wire.specs.Laws.{DecodesInRange, DecodesSpelled, DecodesFaulty, OneMessage, CanonicalSpells, PassesExactly, FaultsInOrder};
 
 use serf_pack::{canonical_heads, exact_reading};
@@ -45,7 +46,22 @@ pub fn exact_filters()
     laws_below();
 }
 
-/// A map's list of faults, whose first one `decode` answers, is in reading order: their places in the packet never
+/// Reading an intent, as a function of a byte list, is exact: it gives just the intent that the bytes spell, just the first
+/// fault of bytes that are to be one and spell none, and none just where the bytes are another message's.
+pub fn exact_intents()
+    ensures { ReadsIntents }
+{
+    laws_below();
+}
+
+/// The canonical packet of an intent spells it.
+pub fn canonical_intents()
+    ensures { CanonicalIntents }
+{
+    laws_below();
+}
+
+/// A map's list of faults, whose first one `decode` and `read_intent` answer, is in reading order: their places in the packet never
 /// fall. So no place before the first fault's has one.
 pub fn ordered_faults()
     ensures { FaultsInOrder }

@@ -14,6 +14,8 @@ pub enum Layout {
     PushPull,
     Slot,
     Event,
+    Join,
+    Leave,
 }
 
 /// A message that is read.
@@ -215,6 +217,34 @@ fn event_field(name: &[u8]) -> Option<Field>
     }
 }
 
+/// The field of a join intent with this name.
+fn join_field(name: &[u8]) -> Option<Field>
+    ensures { result ≡ field_in 0 name.now (fields_of layouts.Join) }
+{
+    if is_name(name, b"LTime") {
+        known(0, Kind::Time)
+    } else if is_name(name, b"Node") {
+        known(1, Kind::Text)
+    } else {
+        None
+    }
+}
+
+/// The field of a leave intent with this name.
+fn leave_field(name: &[u8]) -> Option<Field>
+    ensures { result ≡ field_in 0 name.now (fields_of layouts.Leave) }
+{
+    if is_name(name, b"LTime") {
+        known(0, Kind::Time)
+    } else if is_name(name, b"Node") {
+        known(1, Kind::Text)
+    } else if is_name(name, b"Prune") {
+        known(2, Kind::Flag)
+    } else {
+        None
+    }
+}
+
 /// The field with this name.
 pub fn field_of(layout: Layout, name: &[u8]) -> Option<Field>
     ensures { result ≡ field_in 0 name.now (fields_of layout) }
@@ -226,5 +256,7 @@ pub fn field_of(layout: Layout, name: &[u8]) -> Option<Field>
         Layout::PushPull => push_pull_field(name),
         Layout::Slot => slot_field(name),
         Layout::Event => event_field(name),
+        Layout::Join => join_field(name),
+        Layout::Leave => leave_field(name),
     }
 }

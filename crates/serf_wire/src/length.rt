@@ -3,16 +3,14 @@
 ghost use Rattle.std.specs.Prelude.{◌≡◌, ◌<◌, ◌≤◌, ◌*◌, ◌+◌, ◌^◌, length};
 ghost use Rattle.std.specs.List.{flat_map};
 ghost use Rattle.serf_pack.specs.Canonical.{array_head, raw_bytes, uint_bytes, int_bytes};
-ghost use Rattle.serf_wire.specs.Message.{query, user_event_of, response_of};
-ghost use Rattle.serf_wire.specs.Parts.{query_of};
+ghost use Rattle.serf_wire.specs.Message.{event_said, query, query_of, query_response, response_said, user_event};
 ghost use Rattle.serf_wire.specs.Canonical.{list_bytes, canonical};
 
-use crate::parts::QueryParts;
+use crate::message::{Query, QueryResponse, UserEvent};
 use crate::texts::Bytes;
-use serf_lamport::Time;
 
 /// How many bytes a text takes.
-fn text_len(text: &[u8]) -> u128
+pub fn text_len(text: &[u8]) -> u128
     ensures value { result ≡ length (raw_bytes text.now) }
     ensures small { result < 2 ^ 64 }
 {
@@ -27,7 +25,7 @@ fn text_len(text: &[u8]) -> u128
 }
 
 /// How many bytes a number takes.
-fn number_len(number: u64) -> u128
+pub fn number_len(number: u64) -> u128
     ensures value { result ≡ length (uint_bytes number) }
     ensures small { result < 10 }
 {
@@ -45,7 +43,7 @@ fn number_len(number: u64) -> u128
 }
 
 /// How many bytes the query's timeout takes.
-fn timeout_len(parts: &QueryParts) -> u128
+fn timeout_len(parts: &Query<&[Bytes]>) -> u128
     ensures value { result ≡ length (int_bytes parts.now.timeout) }
     ensures small { result < 10 }
 {
@@ -92,7 +90,7 @@ fn filters_len(filters: &[Bytes]) -> u128
 }
 
 /// How many bytes the texts of a query take.
-fn query_texts_len(parts: &QueryParts) -> u128
+fn query_texts_len(parts: &Query<&[Bytes]>) -> u128
     ensures value { result
         ≡ length (raw_bytes parts.now.addr.now) + length (raw_bytes parts.now.source.now)
         + length (raw_bytes parts.now.name.now) + length (raw_bytes parts.now.payload.now)
@@ -108,7 +106,7 @@ fn query_texts_len(parts: &QueryParts) -> u128
 }
 
 /// How many bytes the numbers of a query take.
-fn query_numbers_len(parts: &QueryParts) -> u128
+fn query_numbers_len(parts: &Query<&[Bytes]>) -> u128
     ensures value { result ≡ length (uint_bytes parts.now.time) + length (uint_bytes parts.now.id)
         + length (uint_bytes parts.now.port) + length (uint_bytes parts.now.flags)
         + length (uint_bytes parts.now.relay_factor) + length (int_bytes parts.now.timeout) }
@@ -125,17 +123,16 @@ fn query_numbers_len(parts: &QueryParts) -> u128
 /// The length of the canonical packet of a user event. The header of a text that no packet can hold, longer
 /// than 4,294,967,295 bytes, counts as five bytes. Takes no memory.
 #[tactic(auto, unfolding(crate::specs::Canonical::canonical))]
-pub fn user_event_len(time: Time, name: &[u8], payload: &[u8], coalesce: bool) -> u128
-    ensures { result ≡ length (canonical (user_event_of time name.now payload.now coalesce)) }
+pub fn user_event_len(event: &UserEvent) -> u128
+    ensures { result ≡ length (canonical (user_event (event_said event.now))) }
 {
-    let _ = coalesce;
-    25 + number_len(time.get()) + text_len(name) + text_len(payload)
+    25 + number_len(event.time.get()) + text_len(event.name) + text_len(event.payload)
 }
 
 /// The length of the canonical packet of a query. The header of a text or a list that no packet can hold,
 /// longer than 4,294,967,295, counts as five bytes. Takes no memory.
 #[tactic(auto, unfolding(crate::specs::Canonical::canonical))]
-pub fn query_len(parts: &QueryParts) -> u128
+pub fn query_len(parts: &Query<&[Bytes]>) -> u128
     ensures { result ≡ length (canonical (query (query_of parts.now))) }
 {
     79 + query_numbers_len(parts) + query_texts_len(parts)
@@ -144,12 +141,12 @@ pub fn query_len(parts: &QueryParts) -> u128
 /// The length of the canonical packet of a query's response. The header of a text that no packet can hold,
 /// longer than 4,294,967,295 bytes, counts as five bytes. Takes no memory.
 #[tactic(auto, unfolding(crate::specs::Canonical::canonical))]
-pub fn response_len(time: u64, id: u32, from: &[u8], flags: u32, payload: &[u8]) -> u128
-    ensures { result ≡ length (canonical (response_of time id from.now flags payload.now)) }
+pub fn response_len(response: &QueryResponse) -> u128
+    ensures { result ≡ length (canonical (query_response (response_said response.now))) }
 {
-    30 + number_len(time)
-        + number_len(id as u64)
-        + text_len(from)
-        + number_len(flags as u64)
-        + text_len(payload)
+    30 + number_len(response.time)
+        + number_len(response.id as u64)
+        + text_len(response.from)
+        + number_len(response.flags as u64)
+        + text_len(response.payload)
 }

@@ -2,9 +2,11 @@
 //!
 //! A packet is a type byte and one value of MessagePack. `decode` reads it where it lies, without memory, in
 //! every spelling that MessagePack has, and answers the message or the packet's first fault. The encoders write
-//! the one canonical packet of a message. `passes` says which nodes a query asks.
+//! the one canonical packet of a message. `passes` says which nodes a query asks. `read_intent` and `encode_intent` do the
+//! same for the two messages that a host of members needs beside these, and that `decode` leaves unread.
 #![tactic(auto)]
 
+mod checked;
 mod compact;
 mod encode;
 mod fast;
@@ -13,6 +15,8 @@ mod faults;
 mod fields;
 mod filter;
 mod found;
+mod intent;
+mod intent_put;
 mod key;
 mod laws;
 mod layout;
@@ -22,7 +26,6 @@ mod lists;
 mod long;
 mod message;
 mod packet;
-mod parts;
 mod put;
 mod roomy;
 mod steps;
@@ -31,12 +34,16 @@ mod texts;
 pub use encode::{EncodeFault, encode_push_pull, encode_query, encode_response, encode_user_event};
 pub use fault::WireFault;
 pub use filter::{node_filter, passes};
-pub use laws::{canonical_packets, decoded_ranges, exact_decoding, exact_filters, ordered_faults};
+pub use intent::{Intent, Join, Leave, read_intent};
+pub use intent_put::{encode_intent, intent_len};
+pub use laws::{
+    canonical_intents, canonical_packets, decoded_ranges, exact_decoding, exact_filters,
+    exact_intents, ordered_faults,
+};
 pub use length::{query_len, response_len, user_event_len};
 pub use lent_slots::{LentEventSlots, LentSlot, LentSlots};
 pub use lists::{EventView, EventViews, SlotView, SlotViews, StatusTime, StatusTimes, Texts};
-pub use message::Message;
+pub use message::{Message, PushPull, PushPullParts, Query, QueryResponse, UserEvent};
 pub use packet::{decode, decode_user_event};
-pub use parts::{PushPullParts, QueryParts, UserEventParts};
 pub use roomy::RoomyList;
 pub use texts::{Bytes, EventBodies, EventBody, Slot, TimeSlot};

@@ -3,11 +3,11 @@
 ghost use Rattle.std.specs.Prelude.{◌≡◌, ◌||◌};
 ghost use Rattle.std.specs.List.{list_any};
 ghost use Rattle.serf_wire.specs.Canonical.{is_long, is_long_event, is_long_slot, has_long};
-ghost use Rattle.serf_wire.specs.Message.{query, push_pull};
-ghost use Rattle.serf_wire.specs.Parts.{query_of, push_pull_of, slot_content};
+ghost use Rattle.serf_wire.specs.Message.{push_pull, query, query_of};
+ghost use Rattle.serf_wire.specs.Parts.{push_pull_of, slot_content};
 
 use crate::lists::StatusTime;
-use crate::parts::{PushPullParts, QueryParts};
+use crate::message::{PushPullParts, Query};
 use crate::texts::{Bytes, EventBody, Slot};
 
 /// The longest text or list whose length a header can say.
@@ -79,7 +79,7 @@ fn has_long_slot(slots: &[Slot]) -> bool
 
 /// Whether a text or a list of the query is too long.
 #[tactic(auto, unfolding(crate::specs::Canonical::has_long))]
-pub fn is_long_query(parts: &QueryParts) -> bool
+pub fn is_long_query(parts: &Query<&[Bytes]>) -> bool
     ensures { result ≡ has_long (query (query_of parts.now)) }
 {
     is_long_text(parts.addr)

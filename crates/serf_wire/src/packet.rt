@@ -14,30 +14,15 @@ ghost use Rattle.serf_wire.specs.Reading.{message_in, read_tree};
 ghost use Rattle.serf_wire.specs.Spells.{Spells, SpellsMap, IsFirstFault, shifted};
 ghost use Rattle.serf_wire.specs.Decoded.{GivesEvent, event_in, read_value, decoded};
 
+use crate::checked::find_checked;
 use crate::fast::{read_push_pull, read_user_event};
 use crate::fault::WireFault;
-use crate::faults::find_message;
 use crate::fields::{flag_or_false, natural_or_zero, signed_or_zero, text_or_empty, time_or_zero};
 use crate::found::FoundFields;
 use crate::laws::laws_below;
-use crate::layout::{Class, MessageType, class_for};
+use crate::layout::{Class, MessageType, class_for, layout_for};
 use crate::lists::{SlotViews, StatusTimes, Texts};
-use crate::message::Message;
-use crate::parts::UserEventParts;
-use serf_pack::{Kind, PackFault, View, check};
-
-/// The fault of the bytes behind the type byte, as one of the packet.
-fn shift(fault: PackFault) -> PackFault
-    requires { fault_place fault < 2 ^ 63 }
-    ensures { result ≡ shifted fault }
-{
-    match fault {
-        PackFault::Truncated(place) => PackFault::Truncated(place + 1),
-        PackFault::Unsupported(byte, place) => PackFault::Unsupported(byte, place + 1),
-        PackFault::TooDeep(place) => PackFault::TooDeep(place + 1),
-        PackFault::Trailing(place) => PackFault::Trailing(place + 1),
-    }
-}
+use crate::message::{Message, PushPull, Query, QueryResponse, UserEvent};
 
 /// The message of the fields of a sound map.
 fn message_of_fields<'a>(message: MessageType, found: &FoundFields<'a>) -> Message<'a>
@@ -45,13 +30,13 @@ fn message_of_fields<'a>(message: MessageType, found: &FoundFields<'a>) -> Messa
         → message_of result ≡ message_in message ps }
 {
     match message {
-        MessageType::UserEvent => Message::UserEvent {
+        MessageType::UserEvent => Message::UserEvent(UserEvent {
             time: time_or_zero(found.at(0)),
             name: text_or_empty(found.at(1)),
             payload: text_or_empty(found.at(2)),
             coalesce: flag_or_false(found.at(3)),
-        },
-        MessageType::Query => Message::Query {
+        }),
+        MessageType::Query => Message::Query(Query {
             time: time_or_zero(found.at(0)),
             id: natural_or_zero(found.at(1), 0xffff_ffff) as u32,
             addr: text_or_empty(found.at(2)),
@@ -63,35 +48,22 @@ fn message_of_fields<'a>(message: MessageType, found: &FoundFields<'a>) -> Messa
             timeout: signed_or_zero(found.at(8)),
             name: text_or_empty(found.at(9)),
             payload: text_or_empty(found.at(10)),
-        },
-        MessageType::QueryResponse => Message::QueryResponse {
+        }),
+        MessageType::QueryResponse => Message::QueryResponse(QueryResponse {
             time: natural_or_zero(found.at(0), u64::MAX),
             id: natural_or_zero(found.at(1), 0xffff_ffff) as u32,
             from: text_or_empty(found.at(2)),
             flags: natural_or_zero(found.at(3), 0xffff_ffff) as u32,
             payload: text_or_empty(found.at(4)),
-        },
-        MessageType::PushPull => Message::PushPull {
+        }),
+        MessageType::PushPull => Message::PushPull(PushPull {
             member_clock: natural_or_zero(found.at(0), u64::MAX),
             status: StatusTimes::of(found.at(1)),
             left: Texts::of(found.at(2)),
             event_clock: natural_or_zero(found.at(3), u64::MAX),
             slots: SlotViews::of(found.at(4)),
             query_clock: natural_or_zero(found.at(5), u64::MAX),
-        },
-    }
-}
-
-/// The message of a value, or its first fault.
-fn read<'a>(message: MessageType, value: &View<'a>) -> Result<Message<'a>, WireFault>
-    ensures { Gives message_of result (read_tree message (tree_of value.now)) }
-{
-    if value.kind() != Kind::Map {
-        return Err(WireFault::NotAMap);
-    }
-    match find_message(message, value) {
-        Ok(found) => Ok(message_of_fields(message, &found)),
-        Err(fault) => Err(fault),
+        }),
     }
 }
 
@@ -100,9 +72,9 @@ fn read<'a>(message: MessageType, value: &View<'a>) -> Result<Message<'a>, WireF
 fn read_checked(message: MessageType, bytes: &[u8]) -> Result<Message<'_>, WireFault>
     ensures { Gives message_of result (read_value message (whole_at 8 bytes.now)) }
 {
-    match check(bytes) {
-        Ok(value) => read(message, &value),
-        Err(fault) => Err(WireFault::Pack(shift(fault))),
+    match find_checked(layout_for(message), bytes) {
+        Ok(found) => Ok(message_of_fields(message, &found)),
+        Err(fault) => Err(fault),
     }
 }
 
@@ -113,50 +85,25 @@ fn read_event_map(bytes: &[u8]) -> Result<Message<'_>, WireFault>
 {
     laws_below();
     match read_user_event(bytes) {
-        Some(event) => Ok(Message::UserEvent {
-            time: event.time,
-            name: event.name,
-            payload: event.payload,
-            coalesce: event.coalesce,
-        }),
+        Some(event) => Ok(Message::UserEvent(event)),
         None => read_checked(MessageType::UserEvent, bytes),
-    }
-}
-
-/// The user event that a message is, if it is one.
-fn event_of<'a>(message: &Message<'a>) -> Option<UserEventParts<'a>>
-    ensures { option_map event_said result ≡ event_in (Ok (message_of message.now)) }
-{
-    match *message {
-        Message::UserEvent {
-            time,
-            name,
-            payload,
-            coalesce,
-        } => Some(UserEventParts {
-            time,
-            name,
-            payload,
-            coalesce,
-        }),
-        _ => None,
     }
 }
 
 /// The user event of a map in any spelling, if it spells one.
 #[inline(never)]
-fn event_checked(bytes: &[u8]) -> Option<UserEventParts<'_>>
+fn event_checked(bytes: &[u8]) -> Option<UserEvent<'_>>
     ensures { GivesEvent result (read_value MessageType.UserEvent (whole_at 8 bytes.now)) }
 {
     match read_checked(MessageType::UserEvent, bytes) {
-        Ok(message) => event_of(&message),
-        Err(_) => None,
+        Ok(Message::UserEvent(event)) => Some(event),
+        _ => None,
     }
 }
 
 /// The user event of a map, if it spells one: in one pass where it is spelled compactly.
 #[inline(always)]
-fn event_in_map(bytes: &[u8]) -> Option<UserEventParts<'_>>
+fn event_in_map(bytes: &[u8]) -> Option<UserEvent<'_>>
     ensures { GivesEvent result (read_value MessageType.UserEvent (whole_at 8 bytes.now)) }
 {
     laws_below();
@@ -172,7 +119,7 @@ fn read_state_map(bytes: &[u8]) -> Result<Message<'_>, WireFault>
 {
     laws_below();
     match read_push_pull(bytes) {
-        Some(found) => Ok(found),
+        Some(state) => Ok(Message::PushPull(state)),
         None => read_checked(MessageType::PushPull, bytes),
     }
 }
@@ -231,7 +178,7 @@ pub fn decode(packet: &[u8]) -> Result<Message<'_>, WireFault>
 /// Where `decode` gives another message or a fault, this is `None` too; what the fault is, `decode` says. Takes no memory.
 #[inline(always)]
 #[tactic(auto, unfolding(crate::specs::Decoded::decoded))]
-pub fn decode_user_event(packet: &[u8]) -> Option<UserEventParts<'_>>
+pub fn decode_user_event(packet: &[u8]) -> Option<UserEvent<'_>>
     ensures { GivesEvent result (decoded packet.now) }
 {
     let [kind, body @ ..] = packet else {

@@ -12,7 +12,7 @@ ghost use Rattle.serf_wire.specs.Canonical.{entry, list_bytes, status_bytes, eve
 
 use crate::lent_slots::LentEventSlots;
 use crate::lists::StatusTime;
-use crate::parts::QueryParts;
+use crate::message::Query;
 use crate::texts::{Bytes, EventBody, Slot};
 use serf_pack::{put_array, put_bool, put_int, put_map, put_nil, put_raw, put_uint};
 use std::alloc::AllocError;
@@ -35,7 +35,7 @@ pub fn put_number_field(out: &mut Vec<u8>, name: &[u8], number: u64) -> Result<(
 }
 
 /// The field of a query's timeout.
-pub fn put_timeout_field(out: &mut Vec<u8>, parts: &QueryParts) -> Result<(), AllocError>
+pub fn put_timeout_field(out: &mut Vec<u8>, parts: &Query<&[Bytes]>) -> Result<(), AllocError>
     ensures timeout { OnOk result (fits parts.now.timeout ≡ Some parts.now.timeout) }
     ensures bytes { OnOk result (out.new.items ≡ out.old.items
         ++ entry (codes "Timeout") (int_bytes parts.now.timeout)) }

@@ -49,6 +49,7 @@ pub use Rattle.serf_model.specs.Ready.{AreRepresentable, IsRepresentable}
 pub use Rattle.serf_model.specs.Runs.{AreConfigs, IsRun, ShowsKept, ShowsRun, first_bad, first_twice, has_name, twice_after}
 pub use Rattle.serf_model.specs.Sizes.{HasSizes}
 pub use Rattle.serf_model.specs.Trace.{Turn, outcome_of, turns_of}
+pub use Rattle.serf_model.specs.declared.action.Act.{Act}
 pub use Rattle.serf_model.specs.declared.action.Action.{Action}
 pub use Rattle.serf_model.specs.declared.fault.RunFault.{RunFault}
 pub use Rattle.serf_model.specs.declared.line.Answer.TheVariants.{Restarted}

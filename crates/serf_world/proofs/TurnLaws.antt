@@ -1,5 +1,5 @@
 -- Over a sink with a plan a call of an agent has one end.
-use Rattle.serf_world.proofs.Names.{zero, suc, ◌<◌, ◌≤◌, arith, length, set, get_or, ◌≡◌, ℕ, nat_le, cond, Bool, true, false, List, [], ◌∷◌, Option, Some, None, IsSome, MatchBool, map, Result, Ok, Err, refl, sym, ap, subst, ◌∙◌, slice_get, IfOk, AllByRecursion, AllocError, length-map, map-set, All-from_recursion, All-set, recursion_from_All, get_or_from_slice_get, slice_get_within, ClockKind, clock_line, Device, FailurePlan, SnapshotView, Writing, Kept, Failed, IsObservable, MayWrite, MayReplace, will_write, will_replace, durable_left_by, compaction_of, last_line, RespondFault, Handed, respond_fault, Call, Ends, Notes, Replaces, MayNote, MayEnd, planned, ended, will, will_note, IdealAgent, Steps, AgentState, ConcreteState, view_of, Action, Line, NoAgent, IdealNode, Cluster, Applied, Done, apply, called, line_only, on_agent, responds, responds_as, with_handed, AreRepresentable, IsRepresentable, append-nil, EventOut, event_line, only, ◌++◌, ◌≢◌}
+use Rattle.serf_world.proofs.Names.{zero, suc, ◌<◌, ◌≤◌, arith, length, set, get_or, ◌≡◌, ℕ, nat_le, cond, Bool, true, false, List, [], ◌∷◌, Option, Some, None, IsSome, MatchBool, map, Result, Ok, Err, refl, sym, ap, subst, ◌∙◌, slice_get, IfOk, AllByRecursion, AllocError, length-map, map-set, All-from_recursion, All-set, recursion_from_All, get_or_from_slice_get, slice_get_within, ClockKind, clock_line, Device, FailurePlan, SnapshotView, Writing, Kept, Failed, IsObservable, MayWrite, MayReplace, will_write, will_replace, durable_left_by, compaction_of, last_line, RespondFault, Handed, respond_fault, Call, Ends, Notes, Replaces, MayNote, MayEnd, planned, ended, will, will_note, IdealAgent, Steps, AgentState, ConcreteState, view_of, Act, Line, NoAgent, IdealNode, Cluster, Applied, Done, apply, called, line_only, on_agent, responds, responds_as, with_handed, AreRepresentable, IsRepresentable, append-nil, EventOut, event_line, only, ◌++◌, ◌≢◌}
 use Rattle.serf_snap.specs.declared.snapshot.NoteFault.{NoteFault}
 use Rattle.serf_model.specs.declared.line.Answer.{Answer}
 use Rattle.serf_model.specs.declared.line.Refusal.{Refusal}
@@ -166,26 +166,26 @@ all-at P xs a x all found = subst P (get_or_from_slice_get xs a x x found) (All-
 all-put : {X : Type 0} (P : X → Type 0) (xs : List X) (a : ℕ) (x : X) → AllByRecursion P xs → P x → AllByRecursion P (set xs a x)
 all-put P xs a x all new = recursion_from_All P (set xs a x) (All-set P xs a x new (All-from_recursion P xs all))
 
--- the law of `representable_agents`: an action leaves its agent representable
+-- the law of `representable_agents`: what an agent does leaves it representable
 abbrev pub KeepsRepresentable : Type 0
-KeepsRepresentable = (m : IdealNode) (sent : List (List ℕ)) (action : Action) → IsRepresentable m.agent → IsRepresentable (apply m sent action).node.agent
+KeepsRepresentable = (m : IdealNode) (sent : List (List ℕ)) (act : Act) → IsRepresentable m.agent → IsRepresentable (apply m sent act).node.agent
 
 -- what a world owes after a turn of the agent found
-abbrev Owes : Cluster → Action → ℕ → Option IdealNode → WorldState → Line → Type 0
-Owes c action a r w line = TakesStep (on_agent c action a r) w line
+abbrev Owes : Cluster → ℕ → Act → Option IdealNode → WorldState → Line → Type 0
+Owes c a act r w line = TakesStep (on_agent c a act r) w line
 
-owes-turn : KeepsRepresentable → (c : Cluster) (w : WorldState) (more : List (List ℕ)) (action : Action) (a : ℕ) (old new : NodeState) (line : Line) → IsViewed c w → AreRepresentable c → a < length w.nodes → old ≡ get_or w.nodes a old
-    → ((m : IdealNode) → IsRepresentable m.agent → old ≡ node_of m → TakesTurn a w.sent more (apply m w.sent action) new line)
-    → Owes c action a (slice_get c.nodes a) (record { nodes = set w.nodes a new; sent = more; poisoned = w.poisoned }) line
-owes-turn keeps c w more action a old new line v representable within at does = by (slice_get c.nodes a) refl
+owes-turn : KeepsRepresentable → (c : Cluster) (w : WorldState) (more : List (List ℕ)) (a : ℕ) (act : Act) (old new : NodeState) (line : Line) → IsViewed c w → AreRepresentable c → a < length w.nodes → old ≡ get_or w.nodes a old
+    → ((m : IdealNode) → IsRepresentable m.agent → old ≡ node_of m → TakesTurn a w.sent more (apply m w.sent act) new line)
+    → Owes c a act (slice_get c.nodes a) (record { nodes = set w.nodes a new; sent = more; poisoned = w.poisoned }) line
+owes-turn keeps c w more a act old new line v representable within at does = by (slice_get c.nodes a) refl
   where
-    by : (r : Option IdealNode) → slice_get c.nodes a ≡ r → Owes c action a r (record { nodes = set w.nodes a new; sent = more; poisoned = w.poisoned }) line
+    by : (r : Option IdealNode) → slice_get c.nodes a ≡ r → Owes c a act r (record { nodes = set w.nodes a new; sent = more; poisoned = w.poisoned }) line
     by None none = absurd (let past = none-past c.nodes a none in let n = ap length v.nodes in let l = length-map c.nodes node_of in omega arith)
     by (Some m) found =
         let well : IsRepresentable m.agent = all-at (λ m. IsRepresentable m.agent) c.nodes a m representable found in
         let same : old ≡ node_of m = same-at node_of w.nodes c.nodes a old m v.nodes within at found in
-        let did : TakesTurn a c.sent more (apply m c.sent action) new line = subst (λ (s : List (List ℕ)). TakesTurn a s more (apply m s action) new line) (sym v.sent) (does m well same) in
-        let o : Applied = apply m c.sent action in
+        let did : TakesTurn a c.sent more (apply m c.sent act) new line = subst (λ (s : List (List ℕ)). TakesTurn a s more (apply m s act) new line) (sym v.sent) (does m well same) in
+        let o : Applied = apply m c.sent act in
         let node : node_of (with_handed o.done.handed o.node) ≡ new = λ k. record { concrete = sym did.state k; handed = sym did.shows.kept k } in
         record {
           line_is = λ k. record { answer = did.shows.answer k; sent = did.shows.sent k; events = did.shows.events k; handed = did.shows.handed k };
@@ -193,21 +193,21 @@ owes-turn keeps c w more action a old new line v representable within at does = 
             nodes = map-set node_of c.nodes a (with_handed o.done.handed o.node) ∙ ap (λ l. set l a (node_of (with_handed o.done.handed o.node))) v.nodes ∙ ap (λ s. set w.nodes a s) node;
             sent = sym did.shows.packets;
           };
-          representable = all-put (λ m. IsRepresentable m.agent) c.nodes a (with_handed o.done.handed o.node) representable (keeps m c.sent action well);
+          representable = all-put (λ m. IsRepresentable m.agent) c.nodes a (with_handed o.done.handed o.node) representable (keeps m c.sent act well);
         }
 
-pub owes-turns : KeepsRepresentable → (c : Cluster) (w : WorldState) (more : List (List ℕ)) (action : Action) (a : ℕ) (old new : NodeState) (result : Result Line AllocError) → IsViewed c w → AreRepresentable c → a < length w.nodes → old ≡ get_or w.nodes a old
-    → ((m : IdealNode) → IsRepresentable m.agent → old ≡ node_of m → IfOk result (TakesTurn a w.sent more (apply m w.sent action) new))
-    → IfOk result (Owes c action a (slice_get c.nodes a) (record { nodes = set w.nodes a new; sent = more; poisoned = w.poisoned }))
-owes-turns keeps c w more action a old new (Ok line) v representable within at does = owes-turn keeps c w more action a old new line v representable within at does
-owes-turns keeps c w more action a old new (Err fault) v representable within at does = tt
+pub owes-turns : KeepsRepresentable → (c : Cluster) (w : WorldState) (more : List (List ℕ)) (a : ℕ) (act : Act) (old new : NodeState) (result : Result Line AllocError) → IsViewed c w → AreRepresentable c → a < length w.nodes → old ≡ get_or w.nodes a old
+    → ((m : IdealNode) → IsRepresentable m.agent → old ≡ node_of m → IfOk result (TakesTurn a w.sent more (apply m w.sent act) new))
+    → IfOk result (Owes c a act (slice_get c.nodes a) (record { nodes = set w.nodes a new; sent = more; poisoned = w.poisoned }))
+owes-turns keeps c w more a act old new (Ok line) v representable within at does = owes-turn keeps c w more a act old new line v representable within at does
+owes-turns keeps c w more a act old new (Err fault) v representable within at does = tt
 
-pub owes-none : (c : Cluster) (w : WorldState) (action : Action) (a : ℕ) (line : Line) → IsViewed c w → AreRepresentable c → length w.nodes ≤ a → line ≡ line_only (answers.Refused NoAgent) → Owes c action a (slice_get c.nodes a) w line
-owes-none c w action a line v representable past is =
+pub owes-none : (c : Cluster) (w : WorldState) (a : ℕ) (act : Act) (line : Line) → IsViewed c w → AreRepresentable c → length w.nodes ≤ a → line ≡ line_only (answers.Refused NoAgent) → Owes c a act (slice_get c.nodes a) w line
+owes-none c w a act line v representable past is =
     let n = ap length v.nodes in
     let l = length-map c.nodes node_of in
     let none : slice_get c.nodes a ≡ None = past-none c.nodes a (omega arith) in
-    subst (λ (r : Option IdealNode). Owes c action a r w line) (sym none) (record { line_is = is; view = v; representable = representable })
+    subst (λ (r : Option IdealNode). Owes c a act r w line) (sym none) (record { line_is = is; view = v; representable = representable })
 
 pub map-map : {X Y Z : Type 0} (f : Y → Z) (g : X → Y) (xs : List X) → map f (map g xs) ≡ map (λ x. f (g x)) xs
 map-map f g [] = refl

@@ -9,7 +9,7 @@ ghost use Rattle.serf_agent.specs.Restart.{IsInText, unopened};
 ghost use Rattle.serf_agent.specs.Config.{is_sound};
 ghost use Rattle.serf_agent.specs.Sound.{IsSound};
 ghost use Rattle.serf_agent.specs.View.{view_of};
-ghost use Rattle.serf_model.specs.Cluster.{IdealNode, breaks, closes, fires_event, fires_query, line_only, note_gives, reopened, restarts, sends_state};
+ghost use Rattle.serf_model.specs.Cluster.{IdealNode, breaks, closes, compacts, fires_event, fires_query, line_only, note_gives, reopened, restarts, saves, sends_state};
 ghost use Rattle.serf_model.specs.Ready.{IsRepresentable};
 ghost use Rattle.serf_world.specs.Turns.{TakesTurn};
 ghost use Rattle.serf_world.specs.View.{node_of};
@@ -19,8 +19,8 @@ use crate::line::{
 };
 use crate::node::Node;
 use crate::refusal::{fire_refusal, note_refusal, query_refusal, state_refusal};
-use serf_agent::{Agent, Config, Fired, FiredQuery, OpenFault, QueryParams};
-use serf_model::{Answer, Line, SinkCall, representable_agents};
+use serf_agent::{Agent, Config, Fired, FiredQuery, OpenFault};
+use serf_model::{Answer, Line, NewQuery, SinkCall, representable_agents};
 use serf_snap::{MemSink, NoteFault};
 use serf_wire::Bytes;
 use std::alloc::{AllocError, Global};
@@ -84,18 +84,21 @@ pub(crate) fn query_at(
     number: u64,
     node: &mut Node,
     sent: &mut Vec<Bytes>,
-    now: u64,
-    id: u32,
-    name: &[u8],
-    payload: &[u8],
-    params: &QueryParams,
+    query: &NewQuery,
 ) -> Result<Line, AllocError>
     ensures turn { (m : IdealNode) → IsRepresentable m.agent → node.old ≡ node_of m
         → IfOk result (TakesTurn number sent.old.items sent.new.items
-        (fires_query m now id name.now payload.now params.now) node.new) }
+        (fires_query m query.now) node.new) }
     ensures err { OnErr result (sent.new.items ≡ sent.old.items) }
 {
-    let fired = node.agent.query(alloc, now, id, name, payload, params);
+    let fired = node.agent.query(
+        alloc,
+        query.moment,
+        query.id,
+        query.name.as_slice(),
+        query.payload.as_slice(),
+        &query.params,
+    );
     let FiredQuery {
         time,
         packet,
@@ -120,7 +123,7 @@ pub(crate) fn query_at(
 }
 
 /// The line of a note of the member clock, or of a compaction.
-pub(crate) fn note_line(
+fn note_line(
     alloc: Global,
     answer: Answer,
     noted: Result<(), NoteFault>,
@@ -132,6 +135,26 @@ pub(crate) fn note_line(
         Ok(()) => Ok(line_only(alloc, answer)),
         Err(fault) => Ok(refused(alloc, note_refusal(fault)?)),
     }
+}
+
+/// An agent notes its member clock.
+pub(crate) fn save_at(alloc: Global, node: &mut Node) -> Result<Line, AllocError>
+    ensures { (m : IdealNode) (number : ℕ) (sent : List (List ℕ)) → IsRepresentable m.agent
+        → node.old ≡ node_of m → IfOk result (TakesTurn number sent sent (saves m) node.new) }
+{
+    let noted = node.agent.save_member_clock(alloc);
+    let line = note_line(alloc, Answer::Saved, noted)?;
+    Ok(line)
+}
+
+/// An agent replaces its snapshot's text by its last lines.
+pub(crate) fn compact_at(alloc: Global, node: &mut Node) -> Result<Line, AllocError>
+    ensures { (m : IdealNode) (number : ℕ) (sent : List (List ℕ)) → IsRepresentable m.agent
+        → node.old ≡ node_of m → IfOk result (TakesTurn number sent sent (compacts m) node.new) }
+{
+    let noted = node.agent.compact(alloc);
+    let line = note_line(alloc, Answer::Compacted, noted)?;
+    Ok(line)
 }
 
 /// An agent lets go of its open queries that are past their deadlines.

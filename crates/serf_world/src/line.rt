@@ -159,11 +159,7 @@ fn numbers_of(alloc: Global, first: u64, packets: &[Bytes]) -> Result<Numbers, A
 }
 
 /// Sends packets, and says their numbers. Where there is no memory for it, nothing was sent.
-pub(crate) fn send(
-    alloc: Global,
-    sent: &mut Vec<Bytes>,
-    packets: BytesList,
-) -> Result<Numbers, AllocError>
+fn send(alloc: Global, sent: &mut Vec<Bytes>, packets: BytesList) -> Result<Numbers, AllocError>
     ensures numbers { IfOk result (λ numbers. numbers
         ≡ numbers_from (length sent.old.items) packets) }
     ensures sent { OnOk result (sent.new.items ≡ sent.old.items ++ packets) }

@@ -9,9 +9,9 @@ ghost use Rattle.serf_world.specs.View.{node_of};
 
 use crate::line::{line_with_events, refused};
 use crate::node::Node;
-use serf_agent::{EventOut, MergeFault, PushPull};
+use serf_agent::{EventOut, MergeFault};
 use serf_model::{Answer, Line, Refusal, merged_agents, packet_at};
-use serf_wire::Bytes;
+use serf_wire::{Bytes, PushPull};
 use std::alloc::{AllocError, Global};
 
 /// What a merge answers.

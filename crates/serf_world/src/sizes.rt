@@ -3,7 +3,7 @@
 ghost use Rattle.std.specs.Prelude.{All};
 ghost use Rattle.serf_model.specs.Sizes.{HasSizes, IsSized};
 
-use serf_model::Action;
+use serf_model::{Act, Action};
 
 /// Numbers have their types' sizes. Does nothing.
 #[tactic(auto, using(crate::proofs::SizeLaws::fits_signed))]
@@ -16,9 +16,13 @@ pub(crate) fn read_numbers(action: &Action)
     ensures { HasSizes action.now }
 {
     match action {
-        Action::Query { id, params, .. } => {
-            let params = params.get();
-            know_sizes(*id, params.port, params.relay_factor, params.timeout);
+        Action::Of {
+            act: Act::Query(query),
+            ..
+        } => {
+            let query = query.get();
+            let params = &query.params;
+            know_sizes(query.id, params.port, params.relay_factor, params.timeout);
         }
         _ => {}
     }

@@ -10,20 +10,18 @@ ghost use Rattle.serf_model.specs.declared.line.Line.{Line};
 ghost use Rattle.serf_model.specs.Cluster.{Cluster, first_node, on_agent, start, step};
 ghost use Rattle.serf_model.specs.Ready.{AreRepresentable};
 ghost use Rattle.serf_model.specs.Runs.{AreConfigs};
-ghost use Rattle.serf_model.specs.Trace.{injects_of};
 ghost use Rattle.serf_world.specs.View.{HasDone, IsViewed, TakesStep, agent_at, node_of};
 
 use crate::calls::open_on;
 use crate::fault::StepFault;
-use crate::line::{refused, send};
+use crate::line::{line_with_packet, refused};
 use crate::node::Node;
 use crate::roster::Roster;
 use crate::sizes::read_numbers;
 use crate::turn::take_turn;
 use serf_agent::{Agent, BytesList, Config};
 use serf_model::{
-    Action, Answer, EventLines, Line, Numbers, Refusal, representable_agents, run_promises,
-    turns_shown,
+    Act, Action, Answer, Line, Refusal, representable_agents, run_promises, turns_shown,
 };
 use serf_snap::MemSink;
 use serf_wire::Bytes;
@@ -47,18 +45,6 @@ impl Model for World {
 
     ghost view = { λ w.
         record { nodes = w.nodes.items; sent = w.sent.items; poisoned = w.poisoned } };
-}
-
-/// The packets that an action injects.
-fn injected(alloc: Global, action: &Action) -> Result<BytesList, AllocError>
-    ensures { IfOk result (λ packets. packets ≡ injects_of action.now) }
-{
-    let mut packets = BytesList::new(alloc);
-    match action {
-        Action::Inject { bytes } => packets.push(Bytes::copy_of(alloc, bytes.as_slice())?)?,
-        _ => {}
-    }
-    Ok(packets)
 }
 
 /// Agents of these settings that have done nothing.
@@ -140,31 +126,21 @@ impl World {
         ensures poisoned { self.new.poisoned ≡ self.old.poisoned }
         ensures err { OnErr result (self.new.sent ≡ self.old.sent) }
     {
-        match action.actor() {
-            Some(agent) => self.apply_action(alloc, agent, action),
-            None => {
-                let packets = injected(alloc, action)?;
-                let sent = send(alloc, &mut self.sent, packets)?;
-                Ok(Line {
-                    answer: Answer::Injected,
-                    sent,
-                    events: EventLines::from_vec(Vec::new(alloc)),
-                    handed: None,
-                })
+        match action {
+            Action::Of { agent, act } => self.apply_act(alloc, *agent, act),
+            Action::Inject { bytes } => {
+                let packet = Bytes::copy_of(alloc, bytes.as_slice())?;
+                let line = line_with_packet(alloc, &mut self.sent, Answer::Injected, packet)?;
+                Ok(line)
             }
         }
     }
 
     /// The agent of this number acts.
-    fn apply_action(
-        &mut self,
-        alloc: Global,
-        agent: u64,
-        action: &Action,
-    ) -> Result<Line, AllocError>
+    fn apply_act(&mut self, alloc: Global, agent: u64, act: &Act) -> Result<Line, AllocError>
         ensures step { (c : Cluster) → IsViewed c self.old → AreRepresentable c
             → IfOk result (TakesStep
-            (on_agent c action.now agent (slice_get c.nodes agent)) self.new) }
+            (on_agent c agent act.now (slice_get c.nodes agent)) self.new) }
         ensures poisoned { self.new.poisoned ≡ self.old.poisoned }
         ensures err { OnErr result (self.new.sent ≡ self.old.sent) }
     {
@@ -173,13 +149,7 @@ impl World {
         if number >= self.nodes.len() {
             return Ok(refused(alloc, Refusal::NoAgent));
         }
-        take_turn(
-            alloc,
-            agent,
-            &mut self.nodes[number],
-            &mut self.sent,
-            action,
-        )
+        take_turn(alloc, agent, &mut self.nodes[number], &mut self.sent, act)
     }
 
     /// The agent of this number, lent for reading. Takes no memory.

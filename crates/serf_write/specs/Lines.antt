@@ -4,6 +4,8 @@ use Rattle.std.specs.Str.{bytes_eq}
 use Rattle.serf_agent.specs.declared.config.Config.{Config}
 use Rattle.serf_agent.specs.Config.{is_sound}
 use Rattle.serf_agent.specs.Defaults.{default_config}
+use Rattle.serf_model.specs.declared.action.Act.{Act}
+use Rattle.serf_model.specs.declared.action.Act.TheVariants as acts
 use Rattle.serf_model.specs.declared.action.Action.{Action}
 use Rattle.serf_model.specs.declared.action.Action.TheVariants as actions
 use Rattle.serf_model.specs.Runs.{has_name}
@@ -91,74 +93,73 @@ count_in place pieces =
     if nat_lt (length pieces) place then Ok 1
     else or_wrong place wanted.Count (between 1 (2 ^ 64 - 1) (number_of (word_at place pieces)))
 
-unfoldable pub firing_of : List Config → List Piece → Result (List Action) Fault
-firing_of configs pieces = do
+-- what the agent of the second piece does
+abbrev pub by_agent : List Config → List Piece → Result Act Fault → Result (List Action) Fault
+by_agent configs pieces said = do
   agent ← agent_in configs 2 pieces
+  act ← said
+  Ok (actions.Of agent act ∷ [])
+
+unfoldable pub firing_of : List Piece → Result Act Fault
+firing_of pieces = do
   name ← bytes_in 3 pieces
   payload ← bytes_or_none 4 pieces
   coalesce ← coalesce_in 5 pieces
   end ← ends_behind 5 pieces
-  Ok (actions.Fire agent name payload coalesce ∷ [])
+  Ok (acts.Fire name payload coalesce)
 
-unfoldable pub delivery_of : List Config → List Label → List Piece → Result (List Action) Fault
-delivery_of configs labels pieces = do
-  to ← agent_in configs 2 pieces
+unfoldable pub delivery_of : List Label → List Piece → Result Act Fault
+delivery_of labels pieces = do
   packet ← packet_in labels 3 pieces
   now ← moment_in 4 pieces
   end ← ends_behind 5 pieces
-  Ok (actions.Deliver to packet now ∷ [])
+  Ok (acts.Deliver packet now)
 
-unfoldable pub merging_of : List Config → List Label → List Piece → Result (List Action) Fault
-merging_of configs labels pieces = do
-  to ← agent_in configs 2 pieces
+unfoldable pub merging_of : List Label → List Piece → Result Act Fault
+merging_of labels pieces = do
   packet ← packet_in labels 3 pieces
   join ← mode_in 4 pieces
   end ← ends_behind 4 pieces
-  Ok (actions.Merge to packet join ∷ [])
+  Ok (acts.Merge packet join)
 
-unfoldable pub answer_of : List Config → List Piece → Result (List Action) Fault
-answer_of configs pieces = do
-  agent ← agent_in configs 2 pieces
+unfoldable pub answer_of : List Piece → Result Act Fault
+answer_of pieces = do
   handed ← number_in 3 pieces
   payload ← bytes_in 4 pieces
   now ← moment_in 5 pieces
   end ← ends_behind 6 pieces
-  Ok (actions.Respond agent handed now payload ∷ [])
+  Ok (acts.Respond handed now payload)
 
-unfoldable pub restart_of : List Config → List Piece → Result (List Action) Fault
-restart_of configs pieces = do
-  agent ← agent_in configs 2 pieces
+unfoldable pub restart_of : List Piece → Result Act Fault
+restart_of pieces = do
   tail ← tail_in 3 pieces
   end ← ends_behind 4 pieces
-  Ok (actions.Restart agent tail ∷ [])
+  Ok (acts.Restart tail)
 
-unfoldable pub break_of : List Config → List Piece → Result (List Action) Fault
-break_of configs pieces = do
-  agent ← agent_in configs 2 pieces
+unfoldable pub break_of : List Piece → Result Act Fault
+break_of pieces = do
   call ← sink_call_in 3 pieces
   count ← count_in 4 pieces
   end ← ends_behind 4 pieces
-  Ok (actions.Break agent call count ∷ [])
+  Ok (acts.Break call count)
+
+unfoldable pub closing_of : List Piece → Result Act Fault
+closing_of pieces = do
+  now ← moment_in 3 pieces
+  end ← ends_behind 4 pieces
+  Ok (acts.Close now)
+
+-- an act of which nothing more is said
+unfoldable pub lone_of : Act → List Piece → Result Act Fault
+lone_of act pieces = do
+  end ← ends_behind 2 pieces
+  Ok act
 
 unfoldable pub injection_of : List Piece → Result (List Action) Fault
 injection_of pieces = do
   bytes ← bytes_in 2 pieces
   end ← ends_behind 2 pieces
   Ok (actions.Inject bytes ∷ [])
-
-unfoldable pub closing_of : List Config → List Piece → Result (List Action) Fault
-closing_of configs pieces = do
-  agent ← agent_in configs 2 pieces
-  now ← moment_in 3 pieces
-  end ← ends_behind 4 pieces
-  Ok (actions.Close agent now ∷ [])
-
--- an action that has nothing but its agent
-unfoldable pub lone_of : (ℕ → Action) → List Config → List Piece → Result (List Action) Fault
-lone_of action configs pieces = do
-  agent ← agent_in configs 2 pieces
-  end ← ends_behind 2 pieces
-  Ok (action agent ∷ [])
 
 -- Bytes are injected, as the packet of this number, and the agent gets them.
 unfoldable pub giving_of : List Config → ℕ → List Piece → Result (List Action) Fault
@@ -167,7 +168,7 @@ giving_of configs sent pieces = do
   bytes ← bytes_in 3 pieces
   now ← moment_in 4 pieces
   end ← ends_behind 5 pieces
-  Ok (actions.Inject bytes ∷ actions.Deliver to sent now ∷ [])
+  Ok (actions.Inject bytes ∷ actions.Of to (acts.Deliver sent now) ∷ [])
 
 -- Or it merges them.
 unfoldable pub taking_of : List Config → ℕ → List Piece → Result (List Action) Fault
@@ -176,4 +177,4 @@ taking_of configs sent pieces = do
   bytes ← bytes_in 3 pieces
   join ← mode_in 4 pieces
   end ← ends_behind 4 pieces
-  Ok (actions.Inject bytes ∷ actions.Merge to sent join ∷ [])
+  Ok (actions.Inject bytes ∷ actions.Of to (acts.Merge sent join) ∷ [])

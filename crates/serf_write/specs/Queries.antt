@@ -1,16 +1,15 @@
 -- What a query's line says.
 use Rattle.std.specs.Prelude.{◌^◌, ◌-◌, ℕ, pos, ◌==◌, ◌+◌, ◌++◌, true, false, if◌then◌else◌, List, [], ◌∷◌, take, drop, codes, position, Option, Some, None, Result, Ok}
 use Rattle.std.specs.Str.{bytes_eq}
-use Rattle.serf_agent.specs.declared.config.Config.{Config}
-use Rattle.serf_model.specs.declared.action.Action.{Action}
-use Rattle.serf_model.specs.declared.action.Action.TheVariants as actions
+use Rattle.serf_model.specs.declared.action.Act.{Act}
+use Rattle.serf_model.specs.declared.action.Act.TheVariants as acts
 use Rattle.serf_text.specs.Words.{between, bytes_of, number_of}
 use Rattle.serf_write.specs.declared.fault.Fault.{Fault}
 use Rattle.serf_write.specs.declared.fault.Wanted.TheVariants as wanted
 use Rattle.serf_write.specs.declared.asked.Asked.{Asked}
 use Rattle.serf_write.specs.declared.piece.Piece.{Piece}
 use Rattle.serf_write.specs.Gives.{◌>>=◌, wrong, or_wrong}
-use Rattle.serf_write.specs.Values.{agent_in, bytes_in, time_in, time_of, word_at, word_of}
+use Rattle.serf_write.specs.Values.{bytes_in, time_in, time_of, word_at, word_of}
 
 -- a query of whose line nothing but its texts is said: answers are taken for a second
 abbrev pub plain_query : Asked
@@ -49,11 +48,10 @@ query_moment pieces = if bytes_eq (word_at 5 pieces) (codes "at") then time_in 6
 unfoldable pub options_in : List Piece → Result Asked Fault
 options_in pieces = if bytes_eq (word_at 5 pieces) (codes "at") then options_from 7 plain_query (drop 6 pieces) else options_from 5 plain_query (drop 4 pieces)
 
-unfoldable pub query_of : List Config → List Piece → Result (List Action) Fault
-query_of configs pieces = do
-  agent ← agent_in configs 2 pieces
+unfoldable pub query_of : List Piece → Result Act Fault
+query_of pieces = do
   name ← bytes_in 3 pieces
   payload ← bytes_in 4 pieces
-  now ← query_moment pieces
+  moment ← query_moment pieces
   asked ← options_in pieces
-  Ok (actions.Query agent now asked.id name payload asked.params ∷ [])
+  Ok (acts.Query record { moment = moment; id = asked.id; name = name; payload = payload; params = asked.params })

@@ -15,6 +15,7 @@ double_verb_of word =
 -- the verb of a command, and one of two actions where there is none; an agent's line is none of actions
 abbrev pub verb_by : Option Command → List ℕ → Option Verb
 verb_by (Some (commands.Act verb)) word = Some (verbs.Act verb)
+verb_by (Some commands.Inject) word = Some verbs.Inject
 verb_by (Some commands.Query) word = Some verbs.Query
 verb_by (Some commands.Agent) word = None
 verb_by None word = double_verb_of word

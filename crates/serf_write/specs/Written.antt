@@ -4,11 +4,12 @@ use Rattle.std.specs.List.{slice_split, list_any}
 use Rattle.std.specs.Option.{is_some}
 use Rattle.std.specs.Str.{bytes_eq}
 use Rattle.serf_agent.specs.declared.config.Config.{Config}
+use Rattle.serf_model.specs.declared.action.Act.{Act}
+use Rattle.serf_model.specs.declared.action.Act.TheVariants as acts
 use Rattle.serf_model.specs.declared.action.Action.{Action}
-use Rattle.serf_model.specs.declared.action.Action.TheVariants as actions
 use Rattle.serf_model.specs.Cluster.{run_of}
-use Rattle.serf_schedule.specs.declared.command.Verb.{Verb as Act}
-use Rattle.serf_schedule.specs.declared.command.Verb.TheVariants as acts
+use Rattle.serf_schedule.specs.declared.command.Verb.{Verb as ScheduleVerb}
+use Rattle.serf_schedule.specs.declared.command.Verb.TheVariants as verbs_of_schedules
 use Rattle.serf_schedule.specs.Line.{Parsed}
 use Rattle.serf_text.specs.Words.{number_of}
 use Rattle.serf_write.specs.declared.fault.Fault.{Fault}
@@ -18,7 +19,7 @@ use Rattle.serf_write.specs.declared.piece.Piece.{Piece}
 use Rattle.serf_write.specs.declared.verb.Verb.{Verb}
 use Rattle.serf_write.specs.declared.verb.Verb.TheVariants as verbs
 use Rattle.serf_write.specs.Gives.{◌>>=◌, wrong, or_wrong}
-use Rattle.serf_write.specs.Lines.{agent_behind, answer_of, break_of, closing_of, delivery_of, firing_of, giving_of, injection_of, lone_of, merging_of, restart_of, taking_of}
+use Rattle.serf_write.specs.Lines.{agent_behind, answer_of, break_of, by_agent, closing_of, delivery_of, firing_of, giving_of, injection_of, lone_of, merging_of, restart_of, taking_of}
 use Rattle.serf_write.specs.Pieces.{pieces_of}
 use Rattle.serf_write.specs.Queries.{query_of}
 use Rattle.serf_write.specs.Values.{label_named, word_at}
@@ -34,24 +35,24 @@ pub record Written : Type 0 where
 unfoldable pub sent_count : List Config → List Action → ℕ
 sent_count configs actions = length (run_of configs actions).cluster.sent
 
--- the action of a line, where it is one of a schedule's other than a query
-abbrev pub act_of : Act → List Config → List Label → List Piece → Result (List Action) Fault
-act_of acts.Deliver configs labels pieces = delivery_of configs labels pieces
-act_of acts.Fire configs labels pieces = firing_of configs pieces
-act_of acts.State configs labels pieces = lone_of (λ agent. actions.State agent) configs pieces
-act_of acts.Merge configs labels pieces = merging_of configs labels pieces
-act_of acts.Respond configs labels pieces = answer_of configs pieces
-act_of acts.Restart configs labels pieces = restart_of configs pieces
-act_of acts.Break configs labels pieces = break_of configs pieces
-act_of acts.Inject configs labels pieces = injection_of pieces
-act_of acts.Close configs labels pieces = closing_of configs pieces
-act_of acts.Save configs labels pieces = lone_of (λ agent. actions.Save agent) configs pieces
-act_of acts.Compact configs labels pieces = lone_of (λ agent. actions.Compact agent) configs pieces
+-- what an agent does, where the line's word is one of a schedule's other than a query's
+abbrev pub act_of : ScheduleVerb → List Label → List Piece → Result Act Fault
+act_of verbs_of_schedules.Deliver labels pieces = delivery_of labels pieces
+act_of verbs_of_schedules.Fire labels pieces = firing_of pieces
+act_of verbs_of_schedules.State labels pieces = lone_of acts.State pieces
+act_of verbs_of_schedules.Merge labels pieces = merging_of labels pieces
+act_of verbs_of_schedules.Respond labels pieces = answer_of pieces
+act_of verbs_of_schedules.Restart labels pieces = restart_of pieces
+act_of verbs_of_schedules.Break labels pieces = break_of pieces
+act_of verbs_of_schedules.Close labels pieces = closing_of pieces
+act_of verbs_of_schedules.Save labels pieces = lone_of acts.Save pieces
+act_of verbs_of_schedules.Compact labels pieces = lone_of acts.Compact pieces
 
 -- the actions of a line, where so many packets were sent before it
 abbrev pub acts_of : Verb → List Config → List Label → ℕ → List Piece → Result (List Action) Fault
-acts_of (verbs.Act act) configs labels sent pieces = act_of act configs labels pieces
-acts_of verbs.Query configs labels sent pieces = query_of configs pieces
+acts_of (verbs.Act verb) configs labels sent pieces = by_agent configs pieces (act_of verb labels pieces)
+acts_of verbs.Inject configs labels sent pieces = injection_of pieces
+acts_of verbs.Query configs labels sent pieces = by_agent configs pieces (query_of pieces)
 acts_of verbs.Give configs labels sent pieces = giving_of configs sent pieces
 acts_of verbs.Take configs labels sent pieces = taking_of configs sent pieces
 

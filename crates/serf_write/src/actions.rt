@@ -2,7 +2,6 @@
 
 ghost use Rattle.std.specs.Prelude.{◌^◌, ◌-◌, ◌≡◌, ◌<◌};
 ghost use Rattle.serf_text.specs.Words.{between};
-ghost use Rattle.serf_model.specs.declared.action.Action.TheVariants.{State, Save, Compact};
 ghost use Rattle.serf_write.specs.Gives.{Gives};
 ghost use Rattle.serf_write.specs.Lines.{actions_of, answer_of, break_of, closing_of, coalesce_in, count_in, delivery_of, firing_of, giving_of, injection_of, lone_of, merging_of, restart_of, tail_in, taking_of};
 
@@ -14,7 +13,7 @@ use crate::values::{
     sink_call_at, word,
 };
 use serf_agent::Config;
-use serf_model::Action;
+use serf_model::{Act, Action};
 use serf_text::{is_word, number};
 use serf_wire::Bytes;
 use std::alloc::Global;
@@ -79,92 +78,90 @@ fn count_at(pieces: &[Piece], place: usize) -> Result<u64, LineFault>
 }
 
 #[tactic(auto, unfolding(crate::specs::Lines::firing_of))]
-pub(crate) fn firing(alloc: Global, agents: &[Config], pieces: &[Piece]) -> Result<Deed, LineFault>
-    ensures { Gives actions_of result (firing_of agents.now pieces.now) }
+pub(crate) fn firing(alloc: Global, pieces: &[Piece]) -> Result<Act, LineFault>
+    ensures { Gives (λ a. a) result (firing_of pieces.now) }
 {
-    let agent = agent_at(agents, pieces, 2)?;
     let name = bytes_at(alloc, pieces, 3)?;
     let payload = optional_bytes_at(alloc, pieces, 4)?;
     let coalesce = coalesce_at(pieces, 5)?;
     end_behind(pieces, 5)?;
-    Ok(Deed::One(Action::Fire {
-        agent,
+    Ok(Act::Fire {
         name,
         payload,
         coalesce,
-    }))
+    })
 }
 
 #[tactic(auto, unfolding(crate::specs::Lines::delivery_of))]
-pub(crate) fn delivery(
-    agents: &[Config],
-    labels: &[Label],
-    pieces: &[Piece],
-) -> Result<Deed, LineFault>
-    ensures { Gives actions_of result (delivery_of agents.now labels.now pieces.now) }
+pub(crate) fn delivery(labels: &[Label], pieces: &[Piece]) -> Result<Act, LineFault>
+    ensures { Gives (λ a. a) result (delivery_of labels.now pieces.now) }
 {
-    let to = agent_at(agents, pieces, 2)?;
     let packet = packet_at(labels, pieces, 3)?;
     let now = moment_at(pieces, 4)?;
     end_behind(pieces, 5)?;
-    Ok(Deed::One(Action::Deliver { to, packet, now }))
+    Ok(Act::Deliver { packet, now })
 }
 
 #[tactic(auto, unfolding(crate::specs::Lines::merging_of))]
-pub(crate) fn merging(
-    agents: &[Config],
-    labels: &[Label],
-    pieces: &[Piece],
-) -> Result<Deed, LineFault>
-    ensures { Gives actions_of result (merging_of agents.now labels.now pieces.now) }
+pub(crate) fn merging(labels: &[Label], pieces: &[Piece]) -> Result<Act, LineFault>
+    ensures { Gives (λ a. a) result (merging_of labels.now pieces.now) }
 {
-    let to = agent_at(agents, pieces, 2)?;
     let packet = packet_at(labels, pieces, 3)?;
     let join = mode_at(pieces, 4)?;
     end_behind(pieces, 4)?;
-    Ok(Deed::One(Action::Merge { to, packet, join }))
+    Ok(Act::Merge { packet, join })
 }
 
 #[tactic(auto, unfolding(crate::specs::Lines::answer_of))]
-pub(crate) fn answer(alloc: Global, agents: &[Config], pieces: &[Piece]) -> Result<Deed, LineFault>
-    ensures { Gives actions_of result (answer_of agents.now pieces.now) }
+pub(crate) fn answer(alloc: Global, pieces: &[Piece]) -> Result<Act, LineFault>
+    ensures { Gives (λ a. a) result (answer_of pieces.now) }
 {
-    let agent = agent_at(agents, pieces, 2)?;
     let handed = number_at(pieces, 3)?;
     let payload = bytes_at(alloc, pieces, 4)?;
     let now = moment_at(pieces, 5)?;
     end_behind(pieces, 6)?;
-    Ok(Deed::One(Action::Respond {
-        agent,
+    Ok(Act::Respond {
         handed,
         now,
         payload,
-    }))
+    })
 }
 
 #[tactic(auto, unfolding(crate::specs::Lines::restart_of))]
-pub(crate) fn restarting(
-    alloc: Global,
-    agents: &[Config],
-    pieces: &[Piece],
-) -> Result<Deed, LineFault>
-    ensures { Gives actions_of result (restart_of agents.now pieces.now) }
+pub(crate) fn restarting(alloc: Global, pieces: &[Piece]) -> Result<Act, LineFault>
+    ensures { Gives (λ a. a) result (restart_of pieces.now) }
 {
-    let agent = agent_at(agents, pieces, 2)?;
     let tail = tail_at(alloc, pieces, 3)?;
     end_behind(pieces, 4)?;
-    Ok(Deed::One(Action::Restart { agent, tail }))
+    Ok(Act::Restart { tail })
 }
 
 #[tactic(auto, unfolding(crate::specs::Lines::break_of))]
-pub(crate) fn breaking(agents: &[Config], pieces: &[Piece]) -> Result<Deed, LineFault>
-    ensures { Gives actions_of result (break_of agents.now pieces.now) }
+pub(crate) fn breaking(pieces: &[Piece]) -> Result<Act, LineFault>
+    ensures { Gives (λ a. a) result (break_of pieces.now) }
 {
-    let agent = agent_at(agents, pieces, 2)?;
     let call = sink_call_at(pieces, 3)?;
     let count = count_at(pieces, 4)?;
     end_behind(pieces, 4)?;
-    Ok(Deed::One(Action::Break { agent, call, count }))
+    Ok(Act::Break { call, count })
+}
+
+#[tactic(auto, unfolding(crate::specs::Lines::closing_of))]
+pub(crate) fn closing(pieces: &[Piece]) -> Result<Act, LineFault>
+    ensures { Gives (λ a. a) result (closing_of pieces.now) }
+{
+    let now = moment_at(pieces, 3)?;
+    end_behind(pieces, 4)?;
+    Ok(Act::Close { now })
+}
+
+/// An act of which nothing more is said.
+#[tactic(auto, unfolding(crate::specs::Lines::lone_of))]
+pub(crate) fn lone(act: Act, pieces: &[Piece]) -> Result<Act, LineFault>
+    ensures { Gives (λ a. a) result (lone_of act pieces.now) }
+{
+    end_behind(pieces, 2)?;
+    Ok(act)
 }
 
 #[tactic(auto, unfolding(crate::specs::Lines::injection_of))]
@@ -174,43 +171,6 @@ pub(crate) fn injection(alloc: Global, pieces: &[Piece]) -> Result<Deed, LineFau
     let bytes = bytes_at(alloc, pieces, 2)?;
     end_behind(pieces, 2)?;
     Ok(Deed::One(Action::Inject { bytes }))
-}
-
-#[tactic(auto, unfolding(crate::specs::Lines::closing_of))]
-pub(crate) fn closing(agents: &[Config], pieces: &[Piece]) -> Result<Deed, LineFault>
-    ensures { Gives actions_of result (closing_of agents.now pieces.now) }
-{
-    let agent = agent_at(agents, pieces, 2)?;
-    let now = moment_at(pieces, 3)?;
-    end_behind(pieces, 4)?;
-    Ok(Deed::One(Action::Close { agent, now }))
-}
-
-#[tactic(auto, unfolding(crate::specs::Lines::lone_of))]
-pub(crate) fn sending_state(agents: &[Config], pieces: &[Piece]) -> Result<Deed, LineFault>
-    ensures { Gives actions_of result (lone_of (λ agent. State agent) agents.now pieces.now) }
-{
-    let agent = agent_at(agents, pieces, 2)?;
-    end_behind(pieces, 2)?;
-    Ok(Deed::One(Action::State { agent }))
-}
-
-#[tactic(auto, unfolding(crate::specs::Lines::lone_of))]
-pub(crate) fn saving(agents: &[Config], pieces: &[Piece]) -> Result<Deed, LineFault>
-    ensures { Gives actions_of result (lone_of (λ agent. Save agent) agents.now pieces.now) }
-{
-    let agent = agent_at(agents, pieces, 2)?;
-    end_behind(pieces, 2)?;
-    Ok(Deed::One(Action::Save { agent }))
-}
-
-#[tactic(auto, unfolding(crate::specs::Lines::lone_of))]
-pub(crate) fn compacting(agents: &[Config], pieces: &[Piece]) -> Result<Deed, LineFault>
-    ensures { Gives actions_of result (lone_of (λ agent. Compact agent) agents.now pieces.now) }
-{
-    let agent = agent_at(agents, pieces, 2)?;
-    end_behind(pieces, 2)?;
-    Ok(Deed::One(Action::Compact { agent }))
 }
 
 /// Bytes are injected, as the packet of the number `sent`, and the agent gets them.
@@ -223,18 +183,12 @@ pub(crate) fn giving(
 ) -> Result<Deed, LineFault>
     ensures { Gives actions_of result (giving_of agents.now sent pieces.now) }
 {
-    let to = agent_at(agents, pieces, 2)?;
+    let agent = agent_at(agents, pieces, 2)?;
     let bytes = bytes_at(alloc, pieces, 3)?;
     let now = moment_at(pieces, 4)?;
     end_behind(pieces, 5)?;
-    Ok(Deed::Two(
-        Action::Inject { bytes },
-        Action::Deliver {
-            to,
-            packet: sent,
-            now,
-        },
-    ))
+    let act = Act::Deliver { packet: sent, now };
+    Ok(Deed::Two(Action::Inject { bytes }, Action::Of { agent, act }))
 }
 
 /// Bytes are injected, as the packet of the number `sent`, and the agent merges them.
@@ -247,16 +201,10 @@ pub(crate) fn taking(
 ) -> Result<Deed, LineFault>
     ensures { Gives actions_of result (taking_of agents.now sent pieces.now) }
 {
-    let to = agent_at(agents, pieces, 2)?;
+    let agent = agent_at(agents, pieces, 2)?;
     let bytes = bytes_at(alloc, pieces, 3)?;
     let join = mode_at(pieces, 4)?;
     end_behind(pieces, 4)?;
-    Ok(Deed::Two(
-        Action::Inject { bytes },
-        Action::Merge {
-            to,
-            packet: sent,
-            join,
-        },
-    ))
+    let act = Act::Merge { packet: sent, join };
+    Ok(Deed::Two(Action::Inject { bytes }, Action::Of { agent, act }))
 }

@@ -1,22 +1,19 @@
 //! Queries.
 
 ghost use Rattle.std.specs.Prelude.{◌≡◌, ◌==◌, ◌<◌, ◌≤◌, IfOk, IfSome, position};
-ghost use Rattle.serf_model.specs.declared.action.Action.TheVariants.{Query};
 ghost use Rattle.serf_text.specs.Words.{between};
 ghost use Rattle.serf_write.specs.Gives.{Gives};
-ghost use Rattle.serf_write.specs.Lines.{actions_of};
 ghost use Rattle.serf_write.specs.Queries.{option_value, options_from, options_in, plain_query, query_moment, query_of, with_option, with_pair};
 
-use crate::actions::Deed;
 use crate::fault::{LineFault, Wanted, bad};
 use crate::piece::Piece;
 use crate::settings::{behind, word_in};
-use crate::values::{agent_at, bytes_at, halves, time, time_at, word};
-use serf_agent::{BytesList, Config, QueryParams};
-use serf_model::{Action, BoxedBytes, BoxedParams};
+use crate::values::{bytes_at, halves, time, time_at, word};
+use serf_agent::{BytesList, QueryParams};
+use serf_model::{Act, NewQuery};
 use serf_text::{hex_bytes, is_word, number};
 use serf_wire::Bytes;
-use std::alloc::{AllocError, Global};
+use std::alloc::Global;
 
 /// What a query's line says beside its texts.
 #[derive(Debug, Drop)]
@@ -158,37 +155,20 @@ fn options(alloc: Global, pieces: &[Piece]) -> Result<Asked, LineFault>
     }
 }
 
-/// The query of these parts, some of them in places of their own.
-fn boxed(
-    alloc: Global,
-    agent: u64,
-    now: u64,
-    name: Bytes,
-    payload: Bytes,
-    asked: Asked,
-) -> Result<Action, AllocError>
-    ensures { IfOk result (λ a. a ≡ Query agent now asked.id name payload asked.params) }
-{
-    let Asked { id, params } = asked;
-    Ok(Action::Query {
-        agent,
-        now,
-        id,
-        name: BoxedBytes::new(alloc, name)?,
-        payload: BoxedBytes::new(alloc, payload)?,
-        params: BoxedParams::new(alloc, params)?,
-    })
-}
-
 /// The query of a line.
 #[tactic(auto, unfolding(crate::specs::Queries::query_of))]
-pub(crate) fn query(alloc: Global, agents: &[Config], pieces: &[Piece]) -> Result<Deed, LineFault>
-    ensures { Gives actions_of result (query_of agents.now pieces.now) }
+pub(crate) fn query(alloc: Global, pieces: &[Piece]) -> Result<NewQuery, LineFault>
+    ensures { Gives (λ q. Act.Query q) result (query_of pieces.now) }
 {
-    let agent = agent_at(agents, pieces, 2)?;
     let name = bytes_at(alloc, pieces, 3)?;
     let payload = bytes_at(alloc, pieces, 4)?;
-    let now = moment(pieces)?;
-    let asked = options(alloc, pieces)?;
-    Ok(Deed::One(boxed(alloc, agent, now, name, payload, asked)?))
+    let moment = moment(pieces)?;
+    let Asked { id, params } = options(alloc, pieces)?;
+    Ok(NewQuery {
+        moment,
+        id,
+        name,
+        payload,
+        params,
+    })
 }

@@ -2,49 +2,77 @@
 
 ghost use Rattle.std.specs.Prelude.{◌≡◌};
 ghost use Rattle.serf_write.specs.Gives.{Gives, or_wrong};
-ghost use Rattle.serf_write.specs.Lines.{actions_of};
+ghost use Rattle.serf_write.specs.Lines.{actions_of, by_agent};
+ghost use Rattle.serf_write.specs.Queries.{query_of};
 ghost use Rattle.serf_write.specs.Values.{word_at};
 ghost use Rattle.serf_write.specs.Verbs.{verb_of};
 ghost use Rattle.serf_write.specs.Written.{act_of, acts_of, acts_said};
 ghost use Rattle.serf_write.specs.declared.fault.Wanted.TheVariants as wanted;
 
 use crate::actions::{
-    Deed, answer, breaking, closing, compacting, delivery, firing, giving, injection, merging,
-    restarting, saving, sending_state, taking,
+    Deed, answer, breaking, closing, delivery, firing, giving, injection, lone, merging,
+    restarting, taking,
 };
 use crate::asked::query;
 use crate::fault::{LineFault, Wanted, bad};
 use crate::label::Label;
 use crate::piece::Piece;
-use crate::values::word;
+use crate::values::{agent_at, word};
 use crate::verb::{Verb, verb_in};
 use serf_agent::Config;
+use serf_model::{Act, Action, Boxed};
 use serf_schedule::Verb as ReplayVerb;
 use std::alloc::Global;
 
-/// What a line does that is one of a schedule's, other than a query.
+/// What an agent does by a line whose word is one of a schedule's, other than a query's.
 fn act(
+    alloc: Global,
+    verb: ReplayVerb,
+    labels: &[Label],
+    pieces: &[Piece],
+) -> Result<Act, LineFault>
+    ensures { Gives (λ a. a) result (act_of verb labels.now pieces.now) }
+{
+    match verb {
+        ReplayVerb::Deliver => delivery(labels, pieces),
+        ReplayVerb::Fire => firing(alloc, pieces),
+        ReplayVerb::State => lone(Act::State, pieces),
+        ReplayVerb::Merge => merging(labels, pieces),
+        ReplayVerb::Respond => answer(alloc, pieces),
+        ReplayVerb::Restart => restarting(alloc, pieces),
+        ReplayVerb::Break => breaking(pieces),
+        ReplayVerb::Close => closing(pieces),
+        ReplayVerb::Save => lone(Act::Save, pieces),
+        ReplayVerb::Compact => lone(Act::Compact, pieces),
+    }
+}
+
+/// What the agent of a line does by such a word.
+fn acting(
     alloc: Global,
     verb: ReplayVerb,
     agents: &[Config],
     labels: &[Label],
     pieces: &[Piece],
 ) -> Result<Deed, LineFault>
-    ensures { Gives actions_of result (act_of verb agents.now labels.now pieces.now) }
+    ensures { Gives actions_of result
+        (by_agent agents.now pieces.now (act_of verb labels.now pieces.now)) }
 {
-    match verb {
-        ReplayVerb::Deliver => delivery(agents, labels, pieces),
-        ReplayVerb::Fire => firing(alloc, agents, pieces),
-        ReplayVerb::State => sending_state(agents, pieces),
-        ReplayVerb::Merge => merging(agents, labels, pieces),
-        ReplayVerb::Respond => answer(alloc, agents, pieces),
-        ReplayVerb::Restart => restarting(alloc, agents, pieces),
-        ReplayVerb::Break => breaking(agents, pieces),
-        ReplayVerb::Inject => injection(alloc, pieces),
-        ReplayVerb::Close => closing(agents, pieces),
-        ReplayVerb::Save => saving(agents, pieces),
-        ReplayVerb::Compact => compacting(agents, pieces),
-    }
+    let agent = agent_at(agents, pieces, 2)?;
+    let act = act(alloc, verb, labels, pieces)?;
+    Ok(Deed::One(Action::Of { agent, act }))
+}
+
+/// The query that the agent of a line fires.
+fn asking(alloc: Global, agents: &[Config], pieces: &[Piece]) -> Result<Deed, LineFault>
+    ensures { Gives actions_of result (by_agent agents.now pieces.now (query_of pieces.now)) }
+{
+    let agent = agent_at(agents, pieces, 2)?;
+    let query = Boxed::new(alloc, query(alloc, pieces)?)?;
+    Ok(Deed::One(Action::Of {
+        agent,
+        act: Act::Query(query),
+    }))
 }
 
 /// What a line of this verb does, where `sent` packets were sent before it.
@@ -59,8 +87,9 @@ fn deed(
     ensures { Gives actions_of result (acts_of verb agents.now labels.now sent pieces.now) }
 {
     match verb {
-        Verb::Act(verb) => act(alloc, verb, agents, labels, pieces),
-        Verb::Query => query(alloc, agents, pieces),
+        Verb::Act(verb) => acting(alloc, verb, agents, labels, pieces),
+        Verb::Inject => injection(alloc, pieces),
+        Verb::Query => asking(alloc, agents, pieces),
         Verb::Give => giving(alloc, agents, sent, pieces),
         Verb::Take => taking(alloc, agents, sent, pieces),
     }

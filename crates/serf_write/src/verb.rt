@@ -9,8 +9,10 @@ use serf_text::is_word;
 /// What a line does.
 #[derive(Clone, Copy, Debug, PartialEq, Eq)]
 pub(crate) enum Verb {
-    /// What such a line of a schedule does.
+    /// What an agent does by such a line of a schedule.
     Act(serf_schedule::Verb),
+    /// Bytes are injected.
+    Inject,
     Query,
     /// Bytes are injected, and an agent gets them.
     Give,
@@ -38,6 +40,7 @@ pub(crate) fn verb_in(word: &[u8]) -> Option<Verb>
 {
     match command_in(word) {
         Some(Command::Act(verb)) => Some(Verb::Act(verb)),
+        Some(Command::Inject) => Some(Verb::Inject),
         Some(Command::Query) => Some(Verb::Query),
         Some(Command::Agent) => None,
         None => double_verb(word),

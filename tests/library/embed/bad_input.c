@@ -42,17 +42,69 @@ static uint32_t asked(struct serf_agent *agent, int64_t timeout) {
     return serf_agent_query(agent, 5, 7, (const uint8_t *)"q", 1, NULL, 0, NULL, 0, &params);
 }
 
-/* Each call but open, unwritten, gave and close answers this. */
-static void each(struct serf_agent *agent, const char *when, uint32_t wanted) {
+/* The host's memory, for each thing that a getter reads. */
+static struct {
     struct serf_agent_event event;
     struct serf_agent_handed handed;
     struct serf_agent_clocks clocks;
     struct serf_agent_closed closed;
     struct serf_agent_response response;
-    uint64_t deadline;
+    struct serf_agent_answer answer;
+    struct serf_agent_gave gave;
+    struct serf_agent_bytes about;
+    uint64_t number;
+    size_t len;
+    bool should;
+    uint8_t text[4][64];
+} host;
+
+static bool has_only(uint8_t byte) {
+    for (size_t at = 0; at < sizeof host; at++) {
+        if (((const uint8_t *)&host)[at] != byte) {
+            return false;
+        }
+    }
+    return true;
+}
+
+/* Each getter answers this, and leaves the host's memory as it was. */
+static void reads_nothing(struct serf_agent *agent, uint32_t wanted) {
+    uint8_t(*text)[64] = host.text;
+    for (uint8_t byte = 0; byte < 2; byte++) {
+        memset(&host, byte, sizeof host);
+        is("event", serf_agent_event(agent, 0, &host.event, text[0], 64, text[1], 64), wanted);
+        is("packet", serf_agent_packet(agent, &host.len, text[0], 64), wanted);
+        is("ack", serf_agent_ack(agent, &host.len, text[0], 64), wanted);
+        is("handed", serf_agent_handed(agent, 1, &host.handed, text[0], 64, text[1], 64, text[2], 64, text[3], 64), wanted);
+        is("clocks", serf_agent_clocks(agent, &host.clocks), wanted);
+        is("next_deadline", serf_agent_next_deadline(agent, &host.number), wanted);
+        is("open_queries", serf_agent_open_queries(agent, &host.len), wanted);
+        is("closed", serf_agent_closed(agent, 0, &host.closed), wanted);
+        is("closed_ack", serf_agent_closed_ack(agent, 0, 0, &host.len, text[0], 64), wanted);
+        is("closed_response", serf_agent_closed_response(agent, 0, 0, &host.response, text[0], 64, text[1], 64), wanted);
+        is("should_compact", serf_agent_should_compact(agent, 0, &host.should), wanted);
+        is("asked_time", serf_agent_asked_time(agent, &host.number), wanted);
+        is("what stood in the host's memory stays", has_only(byte), true);
+    }
+}
+
+/* So do the getters that no unwritten byte stops, where there is no agent or no answer. */
+static void nothing_to_read(void) {
+    struct serf_agent agent = {0};
+    for (uint8_t byte = 0; byte < 2; byte++) {
+        memset(&host, byte, sizeof host);
+        is("gave", serf_agent_gave(&agent, &host.gave), SERF_AGENT_EMPTY);
+        is("unwritten", serf_agent_unwritten(&agent, &host.about, host.text[0], 64), SERF_AGENT_EMPTY);
+        is("outcomes", serf_agent_outcomes(&agent, &host.len), SERF_AGENT_EMPTY);
+        is("answer", serf_agent_answer(NULL, 0, &host.answer, host.text[0], 64, host.text[1], 64), SERF_AGENT_NOTHING);
+        is("what stood in the host's memory stays", has_only(byte), true);
+    }
+}
+
+/* Each call but open, unwritten, gave and close answers this. */
+static void each(struct serf_agent *agent, const char *when, uint32_t wanted) {
     size_t len;
     uint8_t byte = 0;
-    bool should;
     printf("each call, %s\n", when);
     is("fire", fired(agent, "x"), wanted);
     is("receive", serf_agent_receive(agent, 1, &byte, 1), wanted);
@@ -66,27 +118,14 @@ static void each(struct serf_agent *agent, const char *when, uint32_t wanted) {
     is("close_due", serf_agent_close_due(agent, 1, &len), wanted);
     is("save_member_clock", serf_agent_save_member_clock(agent), wanted);
     is("compact", serf_agent_compact(agent), wanted);
-    is("event", serf_agent_event(agent, 0, &event, &byte, 1, &byte, 1), wanted);
-    is("packet", serf_agent_packet(agent, &len, &byte, 1), wanted);
-    is("ack", serf_agent_ack(agent, &len, &byte, 1), wanted);
-    is("handed", serf_agent_handed(agent, 1, &handed, &byte, 1, &byte, 1, &byte, 1, &byte, 1), wanted);
-    is("clocks", serf_agent_clocks(agent, &clocks), wanted);
-    is("next_deadline", serf_agent_next_deadline(agent, &deadline), wanted);
-    is("open_queries", serf_agent_open_queries(agent, &len), wanted);
-    is("closed", serf_agent_closed(agent, 0, &closed), wanted);
-    is("closed_ack", serf_agent_closed_ack(agent, 0, 0, &len, &byte, 1), wanted);
-    is("closed_response", serf_agent_closed_response(agent, 0, 0, &response, &byte, 1, &byte, 1), wanted);
-    is("should_compact", serf_agent_should_compact(agent, 0, &should), wanted);
+    reads_nothing(agent, wanted);
 }
 
 static void empty_handles(void) {
     struct serf_agent agent = {0};
-    struct serf_agent_gave gave;
-    struct serf_agent_bytes about;
     each(&agent, "on a handle that was never opened", SERF_AGENT_EMPTY);
-    is("unwritten", serf_agent_unwritten(&agent, &about, room, sizeof room), SERF_AGENT_EMPTY);
+    nothing_to_read();
     is("written", serf_agent_written(&agent), SERF_AGENT_EMPTY);
-    is("gave", serf_agent_gave(&agent, &gave), SERF_AGENT_EMPTY);
     is("close", serf_agent_close(&agent), SERF_AGENT_EMPTY);
     is("open", opened(&agent, "a", ""), SERF_AGENT_OK);
     is("close", serf_agent_close(&agent), SERF_AGENT_OK);

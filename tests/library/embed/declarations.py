@@ -119,8 +119,10 @@ class Declared:
             if kind == "Global":
                 # it has no bytes: C passes nothing
                 continue
-            if kind in ("&[u8]", "&mut [u8]"):
-                found += ["uint8_t *" if "mut" in kind else "const uint8_t *", "size_t"]
+            listed = re.fullmatch(r"(&mut |&)\[(\w+)\]", kind)
+            if listed:
+                const = "const " if listed[1] == "&" else ""
+                found += [f"{const}{NUMBERS.get(listed[2]) or 'struct ' + structs.get(listed[2], listed[2])} *", "size_t"]
             elif pointer:
                 const = "const " if pointer[1] in ("&", "*const ") else ""
                 found.append(f"{const}{NUMBERS.get(pointer[2]) or 'struct ' + structs.get(pointer[2], pointer[2])} *")
@@ -145,7 +147,9 @@ def compare_declared(count, language, declared, header, layout):
     """A language's declarations: the same functions of the same types, and structs of the same fields and places."""
     structs = {}
     for name, (_, words) in declared.functions.items():
-        kinds = [re.sub(r"^(&mut |&|\*mut |\*const )", "", word.partition(":")[2].strip()) for word in words]
+        kinds = [
+            re.sub(r"^(&mut |&|\*mut |\*const )|[\[\]]", "", word.partition(":")[2].strip()) for word in words
+        ]
         in_c = [
             re.search(r"struct (\w+)", kind)[1] for kind in header.functions.get(name, ("", []))[1] if "struct" in kind
         ]

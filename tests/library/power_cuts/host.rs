@@ -54,7 +54,7 @@ impl Host {
                 self.tell_event(&event);
                 say(&format!("p {}", hex_of(&packet)));
             }
-            CallOutcome::Asked(Asked { packet, handed, ack }) => {
+            CallOutcome::Asked(Asked { packet, handed, ack, .. }) => {
                 say(&format!("p {}", hex_of(&packet)));
                 self.tell_query(handed, ack);
             }

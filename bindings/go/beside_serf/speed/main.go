@@ -3,10 +3,11 @@
 //
 //	speed FOLDER [EVENTS [ROUNDS]]
 //
-// A node gets the packets of another node's events, as many in a datagram as memberlist's gossip puts into one. 256 packets are
-// under way at most, so that none is dropped, and both nodes have room for all times, since memberlist takes what came last
-// first. The node has its snapshot in FOLDER, and its handler counts. A line is a round: seconds and events a second of each.
-// The last line has the best round of each.
+// A node gets the packets of another node's events, as many in a datagram as memberlist's gossip puts into one. 768 packets are
+// under way at most, so that none is dropped (memberlist queues 1,024), and both nodes have room for all times, since memberlist
+// takes what came last first. The node has its snapshot in FOLDER, and its handler counts. A line is a round: seconds and events
+// a second of each. Behind them are the best round of each, and the best of as many rounds of the bare calls of serfagent, without
+// a network: a packet a call, and 64 packets a burst.
 package main
 
 import (
@@ -14,6 +15,7 @@ import (
 	"fmt"
 	"io/ioutil"
 	"log"
+	"math"
 	"net"
 	"os"
 	"path/filepath"
@@ -30,7 +32,7 @@ import (
 
 // How many packets are under way at most, and how many times of events a node keeps.
 const (
-	underWay = 256
+	underWay = 768
 	buffer   = 32768
 )
 
@@ -147,6 +149,38 @@ func serfs(all [][]byte, path string) time.Duration {
 	return sent(all, fmt.Sprintf("%s:%d", local.Addr, local.Port), &handled)
 }
 
+// bare takes packets by calls of the agent alone, so many in a burst: events a second.
+func bare(all [][]byte, path string, size int) float64 {
+	settings := serfagent.DefaultSettings()
+	settings.EventBuffer = buffer
+	os.Remove(path)
+	agent, err := serfagent.Open("bare", path, settings)
+	check(err)
+	defer agent.Close()
+	began := time.Now()
+	for at := 0; at < len(all); at += size {
+		if size == 1 {
+			_, err := agent.Receive(0, all[at])
+			check(err)
+			continue
+		}
+		var burst serfagent.Burst
+		for _, packet := range all[at:min(at+size, len(all))] {
+			burst.Receive(0, packet)
+		}
+		_, err := agent.Burst(&burst)
+		check(err)
+	}
+	return float64(len(all)) / time.Since(began).Seconds()
+}
+
+func min(one, other int) int {
+	if one < other {
+		return one
+	}
+	return other
+}
+
 func number(at, without int) int {
 	if len(os.Args) <= at {
 		return without
@@ -178,5 +212,11 @@ func main() {
 		}
 	}
 	fmt.Printf("best: ours %.0f a second, Serf %.0f a second\n", rate(bestOwn), rate(bestOther))
+	bestAlone, bestMany := 0.0, 0.0
+	for round := number(3, 5); round > 0; round-- {
+		bestAlone = math.Max(bestAlone, bare(all[:len(all)/40], path, 1))
+		bestMany = math.Max(bestMany, bare(all, path, 64))
+	}
+	fmt.Printf("best of the bare calls: one by one %.0f a second, in bursts of 64 %.0f a second\n", bestAlone, bestMany)
 	os.Remove(path)
 }

@@ -1,9 +1,10 @@
 //! `clocks`: the clocks that a snapshot keeps.
 
-use crate::ending::{COMMAND_LINE, finish, no_memory};
+use crate::ending::{COMMAND_LINE, finish, no_memory, not_a_snapshot};
 use crate::input::input_of;
 use crate::options::{bare_command, place, with};
 use clap::{ArgMatches, Command};
+use serf_judge::{behind_leave, is_snapshot};
 use serf_text::clocks_text;
 use std::alloc::{AllocError, Global};
 use std::rt::Files;
@@ -21,8 +22,35 @@ pub(crate) fn command<'a>(alloc: Global) -> Result<Command<'a>, AllocError> {
     with(Ok(bare_command(alloc, "clocks", about, example)), file)
 }
 
-fn print_clocks<R: Print + Eprint + AllocGlobal>(rt: &R, snapshot: &[u8]) -> u8 {
-    match clocks_text(rt.alloc(), snapshot) {
+/// Appends these lines, each behind a few words.
+fn put_behind(text: &mut Vec<u8>, words: &[u8], lines: &[u8]) -> Result<(), AllocError> {
+    let mut begins = true;
+    for byte in lines {
+        if begins {
+            text.extend_from_slice(words)?;
+        }
+        text.push(*byte)?;
+        begins = *byte == b'\n';
+    }
+    Ok(())
+}
+
+/// The clocks of a snapshot; and those that Serf goes on from without `-rejoin`, where a line `leave` stands in it.
+fn all_clocks(alloc: Global, snapshot: &[u8]) -> Result<Vec<u8>, AllocError> {
+    let mut text = clocks_text(alloc, snapshot)?;
+    let counted = behind_leave(snapshot);
+    if counted.len() < snapshot.len() {
+        let lines = clocks_text(alloc, counted)?;
+        put_behind(&mut text, b"without -rejoin: ", &lines)?;
+    }
+    Ok(text)
+}
+
+fn print_clocks<R: Print + Eprint + AllocGlobal>(rt: &R, file: &str, snapshot: &[u8]) -> u8 {
+    if !is_snapshot(snapshot) {
+        return not_a_snapshot(rt, file);
+    }
+    match all_clocks(rt.alloc(), snapshot) {
         Ok(text) => finish(rt, &text),
         Err(_) => no_memory(rt),
     }
@@ -38,7 +66,7 @@ pub(crate) fn run<F: Files, R: Input + Print + Eprint + AllocGlobal>(
         return COMMAND_LINE;
     };
     match input_of(files, rt, Some(file)) {
-        Ok(snapshot) => print_clocks(rt, &snapshot),
+        Ok(snapshot) => print_clocks(rt, file, &snapshot),
         Err(status) => status,
     }
 }

@@ -3,6 +3,7 @@
 
 mod holding;
 mod report;
+mod reporting;
 mod seeds;
 mod shrinking;
 
@@ -23,6 +24,8 @@ struct Asked<'a> {
     agent: Option<u64>,
     rules: Rules,
     shrinking: Shrinking<'a>,
+    /// The file of the report for machines; `None` where none is asked for.
+    report: Option<&'a str>,
 }
 
 /// What the command takes for schedules of seeds.
@@ -37,7 +40,7 @@ fn with_seeds<'a>(
     with(command, actions(alloc))
 }
 
-/// What the command takes for fewer calls.
+/// What the command takes for fewer calls, and for a report.
 fn with_shrinking<'a>(
     alloc: Global,
     command: Result<Command<'a>, AllocError>,
@@ -47,7 +50,9 @@ fn with_shrinking<'a>(
     let save =
         "Where --shrink writes the schedule of what is left; standard error where it is left out";
     let command = with(command, flag(alloc, "shrink", shrink));
-    with(command, option_of(alloc, "save", "FILE", save))
+    let command = with(command, option_of(alloc, "save", "FILE", save));
+    let report = "Where a line of JSON is written for each disagreement, and one at the end";
+    with(command, option_of(alloc, "report", "FILE", report))
 }
 
 /// What the command takes.
@@ -97,6 +102,7 @@ fn asked_of<'a>(matches: &ArgMatches<'a>) -> Result<Asked<'a>, &'static str> {
         agent,
         rules,
         shrinking,
+        report: matches.get_str("report"),
     })
 }
 

@@ -4,7 +4,7 @@ use crate::ending::{DONE, REFUSED, bad_line_for, finish, no_memory, read_failed,
 use crate::options::{bare_command, place, with};
 use clap::{ArgMatches, Command};
 use hex::FromHexError;
-use serf_packets::{BadHex, Framing, FramingNotes, decode_lines};
+use serf_packets::{BadHex, Framing, FramingNotes, decode_lines, framing_of};
 use serf_text::{DecodeTextFault, StreamFault, decode_text};
 use std::alloc::{AllocError, Global};
 use std::io;
@@ -24,25 +24,36 @@ struct Told<'a, R> {
     rt: &'a R,
 }
 
-fn name_of(framing: Framing) -> &'static str {
+/// What is told of a packet.
+fn said_of(framing: Framing) -> &'static str {
     match framing {
-        Framing::Compound => "7, a compound message",
-        Framing::User => "8, a user message",
-        Framing::Compressed => "9, a compressed message",
-        Framing::Checksum => "12, a checksum",
+        Framing::Probe => "looks like memberlist's own: a ping or an ack",
+        Framing::Rumour => "looks like memberlist's own: that a node is suspect, alive or dead",
+        Framing::Compound => "begins as memberlist's framing: 7, a compound message",
+        Framing::User => "begins as memberlist's framing: 8, a user message",
+        Framing::Compressed => "begins as memberlist's framing: 9, a compressed message",
+        Framing::Checksum => "begins as memberlist's framing: 12, a checksum",
     }
 }
 
 impl<R: Eprint> FramingNotes for Told<'_, R> {
     fn framed(&mut self, line: u64, framing: Framing) {
-        let name = name_of(framing);
-        let _ = eprintln!(self.rt; "line {line} begins as memberlist's framing: {name}");
+        let said = said_of(framing);
+        let _ = eprintln!(self.rt; "line {line} {said}");
+    }
+}
+
+/// Tells of a packet that is given alone.
+fn tell_alone(rt: &impl Eprint, packet: &[u8]) {
+    if let Some(framing) = framing_of(packet) {
+        let said = said_of(framing);
+        let _ = eprintln!(rt; "the packet {said}");
     }
 }
 
 fn stopped(rt: &impl Eprint, fault: StreamFault<BadHex>) -> u8 {
     match fault {
-        StreamFault::ReadFault => read_failed(rt),
+        StreamFault::ReadFault => read_failed(rt, None),
         StreamFault::BadLine { line, .. } => bad_line_for(rt, line, "BadHex"),
         StreamFault::LineTooLong { line } => bad_line_for(rt, line, "TooLong"),
         StreamFault::OutOfMemory => no_memory(rt),
@@ -75,7 +86,10 @@ fn print_message<R: Print + Eprint + AllocGlobal>(rt: &R, packet: &[u8]) -> u8 {
 /// Prints the message of a packet in hex.
 fn answer_word<R: Print + Eprint + AllocGlobal>(rt: &R, text: &str) -> u8 {
     match hex::decode(rt.alloc(), text) {
-        Ok(packet) => print_message(rt, &packet),
+        Ok(packet) => {
+            tell_alone(rt, &packet);
+            print_message(rt, &packet)
+        }
         Err(FromHexError::OutOfMemory) => no_memory(rt),
         Err(_) => {
             let _ = eprintln!(rt; "bad hex");

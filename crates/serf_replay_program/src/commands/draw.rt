@@ -1,11 +1,11 @@
 //! `draw`: a picture of a schedule's run.
 
-use crate::ending::{bad_line, finish, no_memory};
+use crate::ending::{COMMAND_LINE, bad_line, finish, no_memory};
 use crate::input::input_of;
-use crate::options::{bad_option, bare_command, many_of, number_of, option_of, place, with};
+use crate::options::{bad_option, bare_command, flag, many_of, number_of, option_of, place, with};
 use clap::{ArgMatches, Command};
-use serf_draw::{Asked, Picture, draw_picture, mermaid_text, svg_text};
-use serf_schedule::ScheduleFault;
+use serf_draw::{Asked, DrawFault, Picture, draw_picture, mermaid_text, svg_text};
+use serf_wire::Bytes;
 use std::alloc::{AllocError, Global};
 use std::rt::Files;
 
@@ -31,7 +31,20 @@ pub(crate) fn command<'a>(alloc: Global) -> Result<Command<'a>, AllocError> {
     let command = with(command, option_of(alloc, "as", "FORM", form));
     let command = with(command, many_of(alloc, "agent", "AGENT", agent));
     let command = with(command, number_of(alloc, "from", "ACTION", from));
-    with(command, number_of(alloc, "to", "ACTION", to))
+    let command = with(command, number_of(alloc, "to", "ACTION", to));
+    with_choices(alloc, command)
+}
+
+/// The command, with what leaves actions out by what came of them, or by their event.
+fn with_choices<'a>(
+    alloc: Global,
+    command: Result<Command<'a>, AllocError>,
+) -> Result<Command<'a>, AllocError> {
+    let taken = "Leaves out what was ignored or refused";
+    let event =
+        "The name of the events whose firings, deliveries and hand-outs are drawn, as it is; all actions where it is left out";
+    let command = with(command, flag(alloc, "taken", taken));
+    with(command, option_of(alloc, "event", "NAME", event))
 }
 
 /// The form that the words ask for; `None` where they name none.
@@ -55,20 +68,45 @@ fn numbers_of(alloc: Global, words: &[&str]) -> Result<Option<Vec<u64>>, AllocEr
     Ok(Some(numbers))
 }
 
-/// What of a run the words ask for, with these agents.
-fn asked_of(matches: &ArgMatches, agents: Vec<u64>) -> Asked {
+/// The name that the words ask for, if they ask for one.
+fn event_of(alloc: Global, matches: &ArgMatches) -> Result<Option<Bytes>, AllocError> {
+    match matches.get_str("event") {
+        Some(name) => Ok(Some(Bytes::copy_of(alloc, name.as_bytes())?)),
+        None => Ok(None),
+    }
+}
+
+/// What of a run the words ask for, with these agents and events of this name.
+fn asked_of(matches: &ArgMatches, agents: Vec<u64>, event: Option<Bytes>) -> Asked {
     Asked {
         agents,
         from: matches.get_one::<u64>("from").unwrap_or(1),
         to: matches.get_one::<u64>("to").unwrap_or(u64::MAX),
+        taken: matches.get_flag("taken"),
+        event,
     }
 }
 
-/// Writes a picture; standard error says where it has no action.
-fn write_picture<R: Print + Eprint + AllocGlobal>(rt: &R, picture: &Picture, form: Form) -> u8 {
-    if picture.rows.is_empty() {
+/// Tells on standard error that a picture has nothing to show.
+fn tell_empty(rt: &impl Eprint, picture: &Picture) {
+    if picture.lanes.is_empty() {
+        let _ = eprintln!(rt; "the schedule has no agents: the picture is empty");
+    } else if picture.rows.is_empty() {
         let _ = eprintln!(rt; "no action is drawn");
     }
+}
+
+/// Tells of an agent that the schedule doesn't have.
+fn no_agent(rt: &impl Eprint, agent: u64, count: u64) -> u8 {
+    let _ = eprintln!(rt;
+        "error: --agent {agent}: the schedule has {count} agents, counted from 0"
+    );
+    COMMAND_LINE
+}
+
+/// Writes a picture; standard error says where it has no agent or no action.
+fn write_picture<R: Print + Eprint + AllocGlobal>(rt: &R, picture: &Picture, form: Form) -> u8 {
+    tell_empty(rt, picture);
     let text = match form {
         Form::Svg => svg_text(rt.alloc(), picture),
         Form::Mermaid => mermaid_text(rt.alloc(), picture),
@@ -88,8 +126,9 @@ fn draw_text<R: Print + Eprint + AllocGlobal>(
 ) -> u8 {
     match draw_picture(rt.alloc(), text, asked) {
         Ok(picture) => write_picture(rt, &picture, form),
-        Err(ScheduleFault::BadLine { line, cause }) => bad_line(rt, line, cause),
-        Err(ScheduleFault::OutOfMemory) => no_memory(rt),
+        Err(DrawFault::BadLine { line, cause }) => bad_line(rt, line, cause),
+        Err(DrawFault::NoAgent { agent, count }) => no_agent(rt, agent, count),
+        Err(DrawFault::OutOfMemory) => no_memory(rt),
     }
 }
 
@@ -121,6 +160,9 @@ pub(crate) fn run<F: Files, R: Input + Print + Eprint + AllocGlobal>(
     let Some(form) = form_of(matches) else {
         return bad_option(rt, "as");
     };
-    let asked = asked_of(matches, agents);
+    let Ok(event) = event_of(rt.alloc(), matches) else {
+        return no_memory(rt);
+    };
+    let asked = asked_of(matches, agents, event);
     draw_input(files, rt, matches.get_str("FILE"), &asked, form)
 }

@@ -18,7 +18,7 @@ pub(crate) fn command<'a>(alloc: Global) -> Result<Command<'a>, AllocError> {
 
 fn stopped(rt: &impl Eprint, fault: StreamFault<NeverBad>) -> u8 {
     match fault {
-        StreamFault::ReadFault => read_failed(rt),
+        StreamFault::ReadFault => read_failed(rt, None),
         StreamFault::BadLine { line, .. } => bad_line_for(rt, line, "BadText"),
         StreamFault::LineTooLong { line } => bad_line_for(rt, line, "TooLong"),
         StreamFault::OutOfMemory => no_memory(rt),

@@ -1,15 +1,16 @@
 //! `explain`: a schedule's trace with its reasons.
 
 use crate::ending::{DONE, replay_failed};
+use crate::input::opened;
 use crate::options::{bare_command, number_of, place, with};
 use crate::progress::Progress;
 use clap::{ArgMatches, Command};
 use serf_explain::{Range, explain};
 use serf_schedule::ReplayFault;
 use std::alloc::{AllocError, Global};
+use std::io;
 use std::rt::Files;
 use std::time::Clock;
-use std::{fs, io};
 
 /// What the command takes.
 pub(crate) fn command<'a>(alloc: Global) -> Result<Command<'a>, AllocError> {
@@ -36,7 +37,12 @@ fn range_of(matches: &ArgMatches) -> Range {
 }
 
 /// The status of an explanation. Where the range begins behind the last action, a line on standard error says so.
-fn explained(rt: &impl Eprint, range: &Range, outcome: Result<u64, ReplayFault>) -> u8 {
+fn explained(
+    rt: &impl Eprint,
+    file: Option<&str>,
+    range: &Range,
+    outcome: Result<u64, ReplayFault>,
+) -> u8 {
     match outcome {
         Ok(actions) => {
             if range.from > actions {
@@ -44,7 +50,7 @@ fn explained(rt: &impl Eprint, range: &Range, outcome: Result<u64, ReplayFault>)
             }
             DONE
         }
-        Err(fault) => replay_failed(rt, fault),
+        Err(fault) => replay_failed(rt, file, fault),
     }
 }
 
@@ -58,7 +64,8 @@ pub(crate) fn run<F: Files, R: Clock + Input + Print + Eprint + AllocGlobal>(
     let mut writer = io::writer(rt);
     let mut progress = Progress::new(rt, is_terminal);
     let range = range_of(matches);
-    let outcome = match matches.get_str("FILE") {
+    let file = matches.get_str("FILE");
+    let outcome = match file {
         None | Some("-") => explain(
             rt.alloc(),
             &mut rt.reader(),
@@ -66,10 +73,10 @@ pub(crate) fn run<F: Files, R: Clock + Input + Print + Eprint + AllocGlobal>(
             &range,
             &mut progress,
         ),
-        Some(path) => match fs::open(files, path) {
+        Some(path) => match opened(files, rt, path) {
             Ok(mut reader) => explain(rt.alloc(), &mut reader, &mut writer, &range, &mut progress),
-            Err(_) => Err(ReplayFault::ReadFault),
+            Err(status) => return status,
         },
     };
-    explained(rt, &range, outcome)
+    explained(rt, file, &range, outcome)
 }

@@ -2,6 +2,7 @@
 
 use crate::ending::{finish, no_memory};
 use crate::options::{KINDS, bad_option, bare_command, number, option, place, with};
+use clap::builder::ValueParser;
 use clap::{Arg, ArgMatches, Command, value_parser};
 use serf_conform::Rules;
 use serf_random::{Ask, Kind, common_schedule, random_schedule};
@@ -10,6 +11,9 @@ use std::alloc::{AllocError, Global};
 /// How many actions a schedule has where nobody says a number.
 const ACTIONS: u64 = 200;
 
+/// How many agents a schedule may have.
+const GREATEST_AGENTS: u64 = 64;
+
 /// The option that names a kind.
 pub(crate) fn kind<'a>(alloc: Global) -> Arg<'a> {
     option(alloc, "kind", KINDS)
@@ -17,8 +21,8 @@ pub(crate) fn kind<'a>(alloc: Global) -> Arg<'a> {
 
 /// The option that says how many agents there are.
 pub(crate) fn agents<'a>(alloc: Global) -> Arg<'a> {
-    let help = "How many agents, at most 64; by the seed where left out";
-    number(alloc, "agents", help)
+    let help = "How many agents, at most 64; by the seed where left out or 0";
+    option(alloc, "agents", help).value_parser(ValueParser::unsigned(0, GREATEST_AGENTS))
 }
 
 /// The option that says how many actions there are.

@@ -1,21 +1,26 @@
 //! `replay`: the trace of a schedule; or its summary; or its turns, line by line.
 
+mod forms;
 mod streaming;
 mod summary;
 
 use crate::ending::{DONE, replay_failed};
-use crate::options::{bare_command, flag, place, with};
+use crate::input::opened;
+use crate::options::{bad_word, bare_command, flag, option_of, place, with};
 use crate::progress::Progress;
 use clap::{Arg, ArgMatches, Command};
+use forms::Form;
 use serf_replay::replay;
-use serf_schedule::ReplayFault;
 use std::alloc::{AllocError, Global};
+use std::io;
 use std::rt::Files;
 use std::time::Clock;
-use std::{fs, io};
 
 pub(crate) const EXAMPLE: &str =
     "Example: serf-replay replay examples/deploy_gossiped_twice.schedule";
+
+/// What may stand behind `--as`.
+const FORMS: &str = "text, csv or json, where --summary is given too";
 
 /// The option for a schedule of any length; it stands without `--summary` alone.
 fn stream_flag<'a>(alloc: Global) -> Result<Arg<'a>, AllocError> {
@@ -37,7 +42,9 @@ pub(crate) fn command<'a>(alloc: Global) -> Result<Command<'a>, AllocError> {
     let bare = Ok(bare_command(alloc, "replay", about, EXAMPLE));
     let command = with(bare, place(alloc, "FILE", help));
     let command = with(command, stream);
-    with(command, flag(alloc, "summary", summary))
+    let command = with(command, flag(alloc, "summary", summary));
+    let form = "Of a summary: `text` (as when left out), `csv` or `json`";
+    with(command, option_of(alloc, "as", "FORM", form))
 }
 
 /// Writes the trace of the schedule in a file, or on standard input.
@@ -51,14 +58,37 @@ fn run_whole<F: Files, R: Clock + Input + Print + Eprint + AllocGlobal>(
     let mut progress = Progress::new(rt, is_terminal);
     let outcome = match file {
         None | Some("-") => replay(rt.alloc(), &mut rt.reader(), &mut writer, &mut progress),
-        Some(path) => match fs::open(files, path) {
+        Some(path) => match opened(files, rt, path) {
             Ok(mut reader) => replay(rt.alloc(), &mut reader, &mut writer, &mut progress),
-            Err(_) => Err(ReplayFault::ReadFault),
+            Err(status) => return status,
         },
     };
     match outcome {
         Ok(()) => DONE,
-        Err(fault) => replay_failed(rt, fault),
+        Err(fault) => replay_failed(rt, file, fault),
+    }
+}
+
+/// The form that the words ask for; `None` where they name none.
+fn form_of(matches: &ArgMatches) -> Option<Form> {
+    match matches.get_str("as") {
+        None | Some("text") => Some(Form::Text),
+        Some("csv") => Some(Form::Csv),
+        Some("json") => Some(Form::Json),
+        Some(_) => None,
+    }
+}
+
+/// Writes the summary of the schedule in a file, or on standard input.
+fn run_summary<F: Files, R: Clock + Input + Print + Eprint + AllocGlobal>(
+    files: &F,
+    rt: &R,
+    is_terminal: bool,
+    matches: &ArgMatches,
+) -> u8 {
+    match form_of(matches) {
+        Some(form) => summary::run(files, rt, is_terminal, form, matches.get_str("FILE")),
+        None => bad_word(rt, "as", FORMS),
     }
 }
 
@@ -70,10 +100,12 @@ pub(crate) fn run<F: Files, R: Clock + Input + Print + Eprint + AllocGlobal>(
     matches: &ArgMatches,
 ) -> u8 {
     let file = matches.get_str("FILE");
-    if matches.get_flag("stream") {
+    if matches.get_flag("summary") {
+        run_summary(files, rt, is_terminal, matches)
+    } else if matches.get_str("as").is_some() {
+        bad_word(rt, "as", FORMS)
+    } else if matches.get_flag("stream") {
         streaming::run(files, rt, file)
-    } else if matches.get_flag("summary") {
-        summary::run(files, rt, is_terminal, file)
     } else {
         run_whole(files, rt, is_terminal, file)
     }

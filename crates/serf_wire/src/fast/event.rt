@@ -3,15 +3,15 @@
 ghost use Rattle.std.specs.Prelude.{◌≡◌, ◌<◌, [], false, unwrap_or, IfSome};
 ghost use Rattle.std.specs.Option.{option_copied};
 ghost use Rattle.serf_lamport.specs.Clock.{greatest_clock};
-ghost use Rattle.serf_wire.specs.Fast.{Extends, IsEventSoFar, IsReadSoFar};
-ghost use Rattle.serf_wire.specs.Message.{event_said, user_event_of};
+ghost use Rattle.serf_wire.specs.Fast.{Extends, IsEventSoFar, IsReadSoFar, found_event};
+ghost use Rattle.serf_wire.specs.Message.{event_said, user_event};
 ghost use Rattle.serf_wire.specs.Spells.{SpellsMap};
 ghost use Rattle.serf_wire.specs.declared.layout.MessageType.TheVariants as types;
 
 use crate::compact::{once_flag, once_number, once_text, read_map_head};
 use crate::key::{EventKey, read_event_key};
 use crate::laws::laws_below;
-use crate::parts::UserEventParts;
+use crate::message::UserEvent;
 use serf_lamport::Time;
 
 /// What was found of a user event.
@@ -76,10 +76,8 @@ fn read_pairs(count: u8, bytes: &[u8]) -> Option<(EventFields<'_>, &[u8])>
 }
 
 /// The user event of what was found, where its time is one.
-fn event_of<'a>(found: &EventFields<'a>) -> Option<UserEventParts<'a>>
-    ensures event { IfSome result (λ e. event_said e
-        ≡ user_event_of (unwrap_or found.now.time 0) (unwrap_or (option_copied found.now.name) [])
-        (unwrap_or (option_copied found.now.payload) []) (unwrap_or found.now.coalesce false)) }
+fn event_of<'a>(found: &EventFields<'a>) -> Option<UserEvent<'a>>
+    ensures event { IfSome result (λ e. event_said e ≡ found_event found.now) }
     ensures time { IfSome result (λ e. unwrap_or found.now.time 0 < greatest_clock) }
 {
     let number = match found.time {
@@ -89,7 +87,7 @@ fn event_of<'a>(found: &EventFields<'a>) -> Option<UserEventParts<'a>>
     let Some(time) = Time::new(number) else {
         return None;
     };
-    Some(UserEventParts {
+    Some(UserEvent {
         time,
         name: match found.name {
             None => b"",
@@ -108,8 +106,8 @@ fn event_of<'a>(found: &EventFields<'a>) -> Option<UserEventParts<'a>>
 
 /// The user event that such a map is.
 #[inline(always)]
-pub fn read_user_event(bytes: &[u8]) -> Option<UserEventParts<'_>>
-    ensures { IfSome result (λ e. SpellsMap types.UserEvent (event_said e) bytes.now) }
+pub fn read_user_event(bytes: &[u8]) -> Option<UserEvent<'_>>
+    ensures { IfSome result (λ e. SpellsMap types.UserEvent (user_event (event_said e)) bytes.now) }
 {
     let (count, pairs) = read_map_head(bytes)?;
     let Some((found, end)) = read_pairs(count, pairs) else {

@@ -4,7 +4,7 @@ ghost use Rattle.std.specs.Prelude.{◌≡◌, [], unwrap_or, IfSome};
 ghost use Rattle.std.specs.Option.{option_map};
 ghost use Rattle.serf_wire.specs.Fast.{Extends, IsStateSoFar, IsReadSoFar, found_state};
 ghost use Rattle.serf_wire.specs.Lists.{status_left, slots_left};
-ghost use Rattle.serf_wire.specs.Message.{message_of, push_pull};
+ghost use Rattle.serf_wire.specs.Message.{push_pull, push_pull_said};
 ghost use Rattle.serf_wire.specs.Spells.{SpellsMap};
 ghost use Rattle.serf_wire.specs.declared.layout.MessageType.TheVariants as types;
 
@@ -14,7 +14,7 @@ use crate::compact::{once_number, once_texts, or_none, or_zero, read_map_head};
 use crate::key::{StateKey, read_state_key};
 use crate::laws::laws_below;
 use crate::lists::{SlotViews, StatusTimes, Texts};
-use crate::message::Message;
+use crate::message::PushPull;
 
 /// What was found of a state.
 #[derive(Clone, Copy)]
@@ -111,10 +111,10 @@ fn or_no_slots<'a>(found: Option<SlotViews<'a>>) -> SlotViews<'a>
 }
 
 /// The state of what was found.
-fn state_of<'a>(found: &StateFields<'a>) -> Message<'a>
-    ensures { message_of result ≡ push_pull (found_state found.now) }
+fn state_of<'a>(found: &StateFields<'a>) -> PushPull<'a>
+    ensures { push_pull_said result ≡ found_state found.now }
 {
-    Message::PushPull {
+    PushPull {
         member_clock: or_zero(found.member_clock),
         status: or_no_status(found.status),
         left: or_none(found.left),
@@ -126,8 +126,9 @@ fn state_of<'a>(found: &StateFields<'a>) -> Message<'a>
 
 /// The state that such a map is.
 #[inline(never)]
-pub fn read_push_pull(bytes: &[u8]) -> Option<Message<'_>>
-    ensures { IfSome result (λ m. SpellsMap types.PushPull (message_of m) bytes.now) }
+pub fn read_push_pull(bytes: &[u8]) -> Option<PushPull<'_>>
+    ensures { IfSome result (λ m.
+        SpellsMap types.PushPull (push_pull (push_pull_said m)) bytes.now) }
 {
     let (count, pairs) = read_map_head(bytes)?;
     let Some((found, end)) = read_pairs(count, pairs) else {

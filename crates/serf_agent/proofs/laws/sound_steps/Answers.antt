@@ -1,4 +1,4 @@
-use Rattle.serf_agent.proofs.SoundLaws.{admission-new, query_admission-new, sound-compact, sound-event_entered, sound-event_observed, sound-joined, sound-note_failed, sound-query_asked, sound-query_entered, sound-query_observed, sound-restarted, sound-saved, sound-unopened}
+use Rattle.serf_agent.proofs.SoundLaws.{admission-new, query_admission-new, sound-compact, sound-event_entered, sound-event_observed, sound-joined, sound-note_failed, sound-query_asked, sound-query_entered, sound-query_observed, sound-restarted, sound-saved, sound-unopened, sound-with_config}
 use Rattle.serf_agent.proofs.laws.sound_steps.Goals as goal
 
 pub returns-clause-sound : goal.returns-clause-sound
@@ -13,6 +13,7 @@ returns-clause-sound c = record {
   saves = sound-saved c.sound_snapshots.ensures;
   compacts = sound-compact c.sound_snapshots.ensures;
   restarts = sound-restarted c.sound_snapshots.ensures;
+  sets = sound-with_config;
   begins = sound-unopened c.sound_snapshots.ensures;
 }
 

@@ -1,24 +1,36 @@
-use Rattle.std.proofs.Common.{◌≡◌, ◌-◌, ◌∙◌, ap, sym, arith, take, drop, length}
+use Rattle.std.proofs.Common.{◌≡◌, ◌+◌, ◌-◌, ◌∙◌, ap, sym, subst, arith, take, drop, length}
 use Rattle.std.proofs.lemmas.Grind.{common_steps}
-use Rattle.serf_conform.proofs.SessionLemmas.{agreeing_few, next_at, next_ends}
+use Rattle.serf_conform.specs.declared.tally.Tally.{Tally}
+use Rattle.serf_conform.specs.Session.{IsFew, made_after, turn_at}
+use Rattle.serf_conform.proofs.SessionLemmas.{along_last, counted_few, next_at, next_ends}
 use Rattle.serf_conform.proofs.session.hold_on.Goals as goal
 
+pub returns-in-empty : goal.returns-in-empty
+returns-in-empty g c = λ config w held is h.
+    let at = c.turns.invariant.0 config w held is h in
+    let none : length c.turns.actions.now ≡ 0 = omega arith in
+    along_last _ _ _ _ _ _ _ _ _ config at.0 _ _ _ _ _ _ _ none at.2 (λ w' more. c.look_last.ensures c.args.agent config at.0 w' held at.1 more)
+
 pub returns-in-Some : goal.returns-in-Some
-returns-in-Some g c = λ w held h.
-    next_ends _ _ _ _ _ _ _ _ _ _ _ _ _ _ _ _ _ _ _ c.in-len1-up.len_at_least c.action-item.is c.in-len1-up-lines.len_at_least c.line-item.is
-    (c.turns.invariant.0 w held h) c.in_ok-asked-in-len1-up-lines.ensures.taken (sym c.ending.ensures ∙ c.in-Some.is)
+returns-in-Some g c = λ config w held is h.
+    let at = c.turns.invariant.0 config w held is h in
+    next_ends _ _ _ _ _ _ _ _ _ config at.0 _ _ _ _ _ _ _ _ _ _ _ c.in-len1-up.len_at_least c.action-item.is c.in-len1-up-lines.len_at_least c.line-item.is
+    at.2 (c.in_ok-due-in-len1-up-lines.ensures.due config at.0 at.1) c.in_ok-asked-in-len1-up-lines.ensures.taken (sym c.ending.ensures ∙ c.in-Some.is)
 
 pub turns-preserved : goal.turns-preserved
 turns-preserved g c =
     let more : take (length c.turns.actions.now - 1) (drop 1 c.turns.actions.now) ≡ drop 1 c.turns.actions.now = grind (arith, common_steps) in
     let behind : take (length c.turns.lines.now - 1) (drop 1 c.turns.lines.now) ≡ drop 1 c.turns.lines.now = grind (arith, common_steps) in
     let own : length c.as_slice.result.now ≡ length c.line-item.result.sent = ap length c.as_slice.ensures in
-    let few = agreeing_few c.in_ok-asked-in-len1-up-lines.asked in
     let fits = c.in_ok-asked-in-len1-up-lines.ensures.fits in (
-      λ v held h.
-          next_at _ _ _ _ _ _ _ _ _ _ _ _ _ _ _ _ _ _ _ _ _ _ c.in-len1-up.len_at_least c.action-item.is c.in-len1-up-lines.len_at_least c.line-item.is
-          (c.turns.invariant.0 v held h) c.in_ok-asked-in-len1-up-lines.ensures.taken (sym c.ending.ensures ∙ c.in_default.is) more behind own c.agreeing-agreeing.ensures,
+      λ config v held is h.
+          let at = c.turns.invariant.0 config v held is h in (
+            made_after c.args.agent (turn_at c.turns.count c.args.sent.now c.action-item.result c.line-item.result) at.0,
+            c.in_ok-due-in-len1-up-lines.ensures.lone config at.0 at.1,
+            next_at _ _ _ _ _ _ _ _ _ config at.0 _ _ _ _ _ _ _ _ _ _ _ _ _ _ c.in-len1-up.len_at_least c.action-item.is c.in-len1-up-lines.len_at_least c.line-item.is
+                at.2 (c.in_ok-due-in-len1-up-lines.ensures.due config at.0 at.1) c.in_ok-asked-in-len1-up-lines.ensures.taken (sym c.ending.ensures ∙ c.in_default.is) more behind own c.counted-more.ensures,
+          ),
       grind (arith, common_steps, more),
-      omega (arith, few, c.agreeing-agreeing.ensures),
+      subst (λ (t : Tally). IsFew t (c.turns.number + 1)) (sym c.counted-more.ensures) (counted_few c.in_ok-asked-in-len1-up-lines.asked c.turns.tally c.turns.number c.turns.invariant.2),
       omega (arith, own, fits),
     )

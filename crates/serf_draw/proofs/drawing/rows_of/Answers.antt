@@ -1,4 +1,4 @@
-use Rattle.std.proofs.Common.{◌≡◌, ◌+◌, ◌∷◌, [], refl, sym, ap, ◌∙◌, length, length-append, drop, arith}
+use Rattle.std.proofs.Common.{◌≡◌, ◌+◌, ◌∷◌, refl, sym, ap, ◌∙◌, drop, arith}
 use Rattle.std.specs.List.{fold}
 use Rattle.std.proofs.lemmas.Grind.{common_steps}
 use Rattle.serf_draw.specs.Drawing.{Drawing, blank, drawn}
@@ -24,11 +24,11 @@ loop-action-preserved c =
     let inv = c.loop-action.invariant in
     let d : Drawing = inv.0 in
     let next : drop c.loop-action.action-index c.args.actions.now ≡ c.action-item.result ∷ drop (c.loop-action.action-index + 1) c.args.actions.now = grind (arith, common_steps, c.action-item.is) in
-    let one : c.loop-action.number + 1 ≡ length d.rows + 1 = ap (λ n. n + 1) inv.2 in (
-      drawn d c.action-item.result,
+    let one : c.loop-action.number + 1 ≡ d.count + 1 = ap (λ n. n + 1) inv.2 in (
+      drawn c.args.asked.now d c.action-item.result,
       c.in_ok-draw_action.ensures.drawn d inv.1 one,
-      one ∙ sym (length-append d.rows (_ ∷ [])),
+      one,
       ap (λ n. n + 1) inv.3,
-      ap (fold drawn d) (sym next) ∙ inv.4,
+      ap (fold (drawn c.args.asked.now) d) (sym next) ∙ inv.4,
       c.in_ok-draw_action.ensures.unpoisoned,
     )

@@ -1,14 +1,14 @@
-use Rattle.std.proofs.Common.{◌+◌, ◌≤◌, ℕ, List, [], Option, length}
+use Rattle.std.proofs.Common.{◌+◌, ◌≤◌, [], length}
 use Rattle.serf_model.specs.Trace.{outcome_of, turns_of}
 use Rattle.serf_conform.specs.Rules.{is_serf}
-use Rattle.serf_hunt.specs.Sweep.{IsSweeping, sweep_from}
+use Rattle.serf_hunt.specs.Sweep.{IsSweeping, no_counts, sweep_from}
 use Rattle.serf_hunt.proofs.held.hold_configs.Given as goal
 
 -- The agents that are left, and what is left of the input, give what all give.
 abbrev pub invariant-agents : goal.invariant-agents
 invariant-agents g l = IsSweeping (g.R.Read.remaining l.fn.reader) (g.R.Read.remaining l.reader) (g.W.Write.contents l.fn.writer) (g.W.Write.contents l.writer)
-    (λ input. sweep_from (is_serf l.rules) (turns_of l.fn.actions (outcome_of l.fn.trace)) 0 0 [] l.fn.configs input)
-    (λ w rest. sweep_from (is_serf l.rules) (turns_of l.fn.actions (outcome_of l.fn.trace)) l.agent l.calls w l.left rest)
+    (λ input. sweep_from (is_serf l.rules) (turns_of l.fn.actions (outcome_of l.fn.trace)) 0 no_counts [] l.fn.configs input)
+    (λ w rest. sweep_from (is_serf l.rules) (turns_of l.fn.actions (outcome_of l.fn.trace)) l.agent l.counts w l.left rest)
     × (l.agent + length l.left ≤ length l.fn.configs)
 
 abbrev pub decreases-agents : goal.decreases-agents

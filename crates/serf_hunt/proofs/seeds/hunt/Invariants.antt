@@ -1,10 +1,11 @@
 use Rattle.std.proofs.Common.{◌-◌, []}
 use Rattle.serf_conform.specs.Rules.{is_serf}
 use Rattle.serf_hunt.specs.Hunt.{Hunts, IsHunting}
+use Rattle.serf_hunt.specs.Sweep.{no_counts}
 use Rattle.serf_hunt.proofs.seeds.hunt.Given as goal
 
 -- The seeds that are left, and what is left of the input, make a hunt of all.
 abbrev pub invariant-loop-seed : goal.invariant-loop-seed
 invariant-loop-seed g l = IsHunting (g.R.Read.remaining l.fn.reader) (g.R.Read.remaining l.reader) (g.W.Write.contents l.fn.writer) (g.W.Write.contents l.writer)
-    (λ input h. Hunts (g.M.Maker.makes l.fn.maker) (is_serf l.rules) (l.end - l.fn.first) l.fn.first 0 [] input h)
-    (λ w rest h. Hunts (g.M.Maker.makes l.fn.maker) (is_serf l.rules) (l.end - l.seed) l.seed l.calls w rest h)
+    (λ input h. Hunts (g.M.Maker.makes l.fn.maker) (is_serf l.rules) (l.end - l.fn.first) l.fn.first no_counts [] input h)
+    (λ w rest h. Hunts (g.M.Maker.makes l.fn.maker) (is_serf l.rules) (l.end - l.seed) l.seed l.counts w rest h)

@@ -2,12 +2,13 @@
 
 use super::Asked;
 use super::report::{report, status_of};
+use super::reporting::Reporting;
 use super::shrinking::{is_shrunk, shrink_found};
 use crate::ending::{DEVICE, DONE, REFUSED, bad_line, no_memory};
 use crate::input::file_of;
 use serf_agent::Config;
 use serf_conform::{ConformFault, hold};
-use serf_hunt::{Case, case_of};
+use serf_hunt::{Case, case_of, with_verdict};
 use serf_schedule::{ScheduleFault, parse_schedule};
 use std::alloc::Global;
 use std::io::{self, BufReader, Read, Write};
@@ -26,6 +27,7 @@ fn hold_agent<F: Files, R: Eprint + AllocGlobal, I: Read, O: Write>(
     text: &[u8],
     case: &Case,
     asked: &Asked,
+    reporting: &mut Reporting,
     number: u64,
     config: &Config,
     reader: &mut I,
@@ -42,7 +44,8 @@ fn hold_agent<F: Files, R: Eprint + AllocGlobal, I: Read, O: Write>(
         &case.trace,
     );
     let verdict = outcome.map_err(|fault| fault_told(rt, number, fault))?;
-    let status = report(rt, text, case, number, &verdict);
+    reporting.counts = with_verdict(reporting.counts, &verdict);
+    let status = report(rt, reporting, None, text, case, number, &verdict);
     if is_shrunk(&asked.shrinking, &verdict) {
         return Err(shrink_found(
             files,
@@ -69,6 +72,7 @@ fn hold_agents<F: Files, R: Eprint + AllocGlobal, I: Read, O: Write>(
     text: &[u8],
     case: &Case,
     asked: &Asked,
+    reporting: &mut Reporting,
     reader: &mut I,
     writer: &mut O,
 ) -> u8 {
@@ -80,7 +84,9 @@ fn hold_agents<F: Files, R: Eprint + AllocGlobal, I: Read, O: Write>(
         if asked.agent.is_some() && asked.agent != Some(number) {
             continue;
         }
-        match hold_agent(files, rt, text, case, asked, number, config, reader, writer) {
+        match hold_agent(
+            files, rt, text, case, asked, reporting, number, config, reader, writer,
+        ) {
             Ok(came) => status = status.max(came),
             Err(ended) => return ended,
         }
@@ -114,15 +120,18 @@ fn hold_case<F: Files, R: Input + Print + Eprint + AllocGlobal>(
     let Ok(mut reader) = BufReader::new(rt.alloc(), rt.reader()) else {
         return no_memory(rt);
     };
-    hold_agents(
+    let mut reporting = Reporting::new(rt.alloc(), asked.report);
+    let status = hold_agents(
         files,
         rt,
         text,
         case,
         asked,
+        &mut reporting,
         &mut reader,
         &mut io::writer(rt),
-    )
+    );
+    reporting.finish(files, rt, 1, status)
 }
 
 /// Holds the agents of a schedule's text. A schedule with a bad line is refused before a call is written.

@@ -1,9 +1,10 @@
 //! What is told of an agent that was held, on standard error.
 
+use super::reporting::Reporting;
 use crate::ending::{DEVICE, DONE, REFUSED, no_memory};
 use serf_conform::{
-    ConformFault, End, Reply, Verdict, given_packet, opening, put_call, put_open, put_reply_line,
-    wanted,
+    ConformFault, End, Look, Reply, Verdict, given_packet, look_line, look_reply, opening,
+    put_call, put_open, put_reply_line, wanted,
 };
 use serf_hunt::Case;
 use serf_model::Line;
@@ -120,19 +121,32 @@ fn call_and_wanted(
     }
 }
 
-/// Where a call stands: its agent, and its action with the line of the schedule, or no action for the opening.
+/// The text of a look, and the reply that is wanted of it.
+fn look_and_wanted(alloc: Global, look: &Look) -> Result<(Vec<u8>, Reply), AllocError> {
+    let call = Vec::from_slice(alloc, look_line())?;
+    let reply = look_reply(alloc, look)?;
+    Ok((call, reply))
+}
+
+/// Where a call stands: its agent, and its action with the line of the schedule, or no action for the opening. A look
+/// stands behind an action.
 fn place_text(
     alloc: Global,
     text: &[u8],
-    agents: usize,
+    case: &Case,
     agent: u64,
     number: u64,
+    is_look: bool,
 ) -> Result<String, AllocError> {
     if number == 0 {
         return format!(in alloc; "agent {agent}: ");
     }
-    let line = line_of_action(text, agents, number);
-    format!(in alloc; "agent {agent}: action {number}, line {line}: ")
+    if number > case.actions.len() as u64 {
+        return format!(in alloc; "agent {agent}: behind its last call: ");
+    }
+    let behind = if is_look { "behind " } else { "" };
+    let line = line_of_action(text, case.configs.len(), number);
+    format!(in alloc; "agent {agent}: {behind}action {number}, line {line}: ")
 }
 
 /// The place of a call, and its words.
@@ -143,33 +157,55 @@ fn head_of(alloc: Global, place: &str, call: &[u8]) -> Result<Vec<u8>, AllocErro
     Ok(head)
 }
 
-/// Tells where an agent is told apart from the reference, and how.
+/// Tells where an agent is told apart from the reference, and how, and adds it to the report.
 fn tell<R: Eprint + AllocGlobal>(
     rt: &R,
+    reporting: &mut Reporting,
+    seed: Option<u64>,
     text: &[u8],
     case: &Case,
     agent: u64,
-    number: u64,
+    verdict: &Verdict,
     got: &[u8],
 ) -> Result<(), AllocError> {
-    let (call, reply) = call_and_wanted(rt.alloc(), case, agent, number)?;
-    let place = place_text(rt.alloc(), text, case.configs.len(), agent, number)?;
+    let number = verdict.action;
+    let agents = case.configs.len();
+    let (call, reply) = match &verdict.look {
+        Some(look) => look_and_wanted(rt.alloc(), look)?,
+        None => call_and_wanted(rt.alloc(), case, agent, number)?,
+    };
+    let is_look = verdict.look.is_some();
+    let place = place_text(rt.alloc(), text, case, agent, number, is_look)?;
     let head = head_of(rt.alloc(), &place, &call)?;
     say(rt, &head);
     let wanted = reply_text(rt.alloc(), &reply)?;
+    let line = if number == 0 || number > case.actions.len() as u64 {
+        0
+    } else {
+        line_of_action(text, agents, number)
+    };
+    let words = &call[..call.len().saturating_sub(1)];
+    reporting.add(seed, agent, line, words, &wanted, verdict);
     say_lines(rt, b"  wanted: ", &wanted)?;
     say_lines(rt, b"  got: ", got)
 }
 
-/// Prints a verdict, and gives its status.
+/// Prints a verdict, adds it to the report where the agent did otherwise, and gives its status.
 pub(super) fn report<R: Eprint + AllocGlobal>(
     rt: &R,
+    reporting: &mut Reporting,
+    seed: Option<u64>,
     text: &[u8],
     case: &Case,
     agent: u64,
     verdict: &Verdict,
 ) -> u8 {
-    let Verdict { calls, action, end } = verdict;
+    let Verdict {
+        calls,
+        action,
+        end,
+        ..
+    } = verdict;
     match end {
         End::AllAgree => {
             let _ = eprintln!(rt; "agent {agent}: {calls} calls agree");
@@ -187,14 +223,20 @@ pub(super) fn report<R: Eprint + AllocGlobal>(
             );
             DONE
         }
-        End::Differs(got) => match tell(rt, text, case, agent, *action, got.as_slice()) {
-            Ok(()) => REFUSED,
-            Err(_) => no_memory(rt),
-        },
-        End::Ended => match tell(rt, text, case, agent, *action, b"the agent ended") {
-            Ok(()) => DEVICE,
-            Err(_) => no_memory(rt),
-        },
+        End::Differs(got) => {
+            let got = got.as_slice();
+            match tell(rt, reporting, seed, text, case, agent, verdict, got) {
+                Ok(()) => REFUSED,
+                Err(_) => no_memory(rt),
+            }
+        }
+        End::Ended => {
+            let got = b"the agent ended";
+            match tell(rt, reporting, seed, text, case, agent, verdict, got) {
+                Ok(()) => DEVICE,
+                Err(_) => no_memory(rt),
+            }
+        }
     }
 }
 

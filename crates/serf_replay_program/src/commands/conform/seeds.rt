@@ -2,6 +2,7 @@
 
 use super::Asked;
 use super::report::{report, status_of};
+use super::reporting::Reporting;
 use super::shrinking::{is_shrunk, shrink_found};
 use crate::commands::random::ask_with;
 use crate::ending::{DONE, no_memory};
@@ -53,6 +54,7 @@ fn tell_found<F: Files, R: Eprint + AllocGlobal, I: Read, O: Write>(
     rt: &R,
     seeds: &Seeds,
     asked: &Asked,
+    reporting: &mut Reporting,
     found: &Found,
     reader: &mut I,
     writer: &mut O,
@@ -61,7 +63,15 @@ fn tell_found<F: Files, R: Eprint + AllocGlobal, I: Read, O: Write>(
     let Ok((text, case)) = made_again(rt.alloc(), seeds.ask, *seed) else {
         return no_memory(rt);
     };
-    let status = report(rt, &text, &case, other.agent, &other.verdict);
+    let status = report(
+        rt,
+        reporting,
+        Some(*seed),
+        &text,
+        &case,
+        other.agent,
+        &other.verdict,
+    );
     if !is_shrunk(&asked.shrinking, &other.verdict) {
         return status;
     }
@@ -88,16 +98,28 @@ fn tell_hunted<F: Files, R: Eprint + AllocGlobal, I: Read, O: Write>(
     reader: &mut I,
     writer: &mut O,
 ) -> u8 {
-    let calls = hunted.calls;
+    let calls = hunted.counts.calls;
+    let mut reporting = Reporting::new(rt.alloc(), asked.report);
+    reporting.counts = hunted.counts;
     let Some(found) = &hunted.found else {
         let count = seeds.end.saturating_sub(seeds.first);
         let _ = eprintln!(rt; "{count} seeds and {calls} calls agree");
-        return DONE;
+        return reporting.finish(files, rt, count, DONE);
     };
     let seed = found.seed;
     let count = seed.saturating_sub(seeds.first);
     let _ = eprintln!(rt; "seed {seed}: {count} seeds and {calls} calls agree before");
-    tell_found(files, rt, seeds, asked, found, reader, writer)
+    let status = tell_found(
+        files,
+        rt,
+        seeds,
+        asked,
+        &mut reporting,
+        found,
+        reader,
+        writer,
+    );
+    reporting.finish(files, rt, count, status)
 }
 
 fn fault_told(rt: &impl Eprint, fault: &HuntFault) -> u8 {

@@ -19,6 +19,17 @@ pub(super) struct Shrinking<'a> {
     pub(super) save: Option<&'a str>,
 }
 
+/// How many calls there are up to the one at which an agent fails, or behind which its look does. The opening is none of
+/// them.
+fn failing_calls(verdict: &Verdict) -> usize {
+    let calls = verdict.calls as usize;
+    if verdict.look.is_some() {
+        calls.saturating_sub(1)
+    } else {
+        calls
+    }
+}
+
 /// The calls of an agent up to the one at which it fails, made fewer.
 fn shrunk_calls<R: Read, W: Write>(
     alloc: Global,
@@ -31,7 +42,7 @@ fn shrunk_calls<R: Read, W: Write>(
     verdict: &Verdict,
 ) -> Result<(usize, Option<Shrunk>), ConformFault> {
     let mut calls = calls_of(alloc, case, agent)?;
-    calls.truncate(verdict.calls as usize);
+    calls.truncate(failing_calls(verdict));
     let count = calls.len();
     match shrink(alloc, reader, writer, rules, config, calls) {
         Ok(shrunk) => Ok((count, shrunk)),

@@ -1,8 +1,9 @@
 //! The text of the verdicts on a log.
 
+use super::counts::put_counts;
 use serf_judge::{
-    EventEntry, LaterFault, Log, QueryEntry, first_above, first_event_twice, first_not_later,
-    first_query_twice, first_unfired,
+    EventEntry, LaterFault, Log, QueryEntry, first_event_twice, first_not_later, first_query_twice,
+    first_unfired,
 };
 use std::alloc::{AllocError, Global};
 
@@ -14,7 +15,7 @@ pub struct Verdicts {
 }
 
 /// Appends bytes between quotes: what is no printable ASCII, a quote and a backslash as `\xNN`.
-fn put_quoted(out: &mut Vec<u8>, bytes: &[u8]) -> Result<(), AllocError> {
+pub(super) fn put_quoted(out: &mut Vec<u8>, bytes: &[u8]) -> Result<(), AllocError> {
     const DIGITS: &[u8; 16] = b"0123456789abcdef";
     out.extend_from_slice(b" \"")?;
     for byte in bytes {
@@ -36,6 +37,14 @@ impl Verdicts {
             text: Vec::new(alloc),
             is_broken: false,
         }
+    }
+
+    /// Says of a promise that the log has no lines of this kind, so that it wasn't asked.
+    pub(super) fn put_not_asked(&mut self, promise: &str, lines: &str) -> Result<(), AllocError> {
+        self.text.extend_from_slice(promise.as_bytes())?;
+        self.text.extend_from_slice(b": not asked: no ")?;
+        self.text.extend_from_slice(lines.as_bytes())?;
+        self.text.extend_from_slice(b" lines\n")
     }
 
     fn put_holds(&mut self, promise: &str) -> Result<(), AllocError> {
@@ -114,22 +123,30 @@ impl Verdicts {
 
     /// Whether an event was handed to a node twice.
     fn judge_events(&mut self, alloc: Global, events: &[EventEntry]) -> Result<(), AllocError> {
+        if events.is_empty() {
+            return self.put_not_asked("Once", "event");
+        }
         if let Some((earlier, later)) = first_event_twice(alloc, events)?
             && let Some(first) = events.get(earlier)
             && let Some(second) = events.get(later)
         {
-            return self.put_event_repeat(alloc, first, second);
+            self.put_event_repeat(alloc, first, second)?;
+            return self.put_event_tallies(alloc, events);
         }
         self.put_holds("Once")
     }
 
     /// Whether a query was handed to a node twice.
     fn judge_queries(&mut self, alloc: Global, queries: &[QueryEntry]) -> Result<(), AllocError> {
+        if queries.is_empty() {
+            return self.put_not_asked("QueryOnce", "query");
+        }
         if let Some((earlier, later)) = first_query_twice(alloc, queries)?
             && let Some(first) = queries.get(earlier)
             && let Some(second) = queries.get(later)
         {
-            return self.put_query_repeat(alloc, first, second);
+            self.put_query_repeat(alloc, first, second)?;
+            return self.put_query_tallies(alloc, queries);
         }
         self.put_holds("QueryOnce")
     }
@@ -142,9 +159,10 @@ impl Verdicts {
         events: &[EventEntry],
     ) -> Result<(), AllocError> {
         if fired.is_empty() {
-            return self
-                .text
-                .extend_from_slice(b"Fired: not asked: no fired lines\n");
+            return self.put_not_asked("Fired", "fired");
+        }
+        if events.is_empty() {
+            return self.put_not_asked("Fired", "event");
         }
         if let Some(place) = first_unfired(alloc, fired, events)?
             && let Some(event) = events.get(place)
@@ -180,9 +198,10 @@ impl Verdicts {
         events: &[EventEntry],
     ) -> Result<(), AllocError> {
         if fired.is_empty() {
-            return self
-                .text
-                .extend_from_slice(b"Later: not asked: no fired lines\n");
+            return self.put_not_asked("Later", "fired");
+        }
+        if events.is_empty() {
+            return self.put_not_asked("Later", "event");
         }
         let found = match first_not_later(alloc, fired, events) {
             Ok(found) => found,
@@ -198,36 +217,21 @@ impl Verdicts {
         self.put_holds("Later")
     }
 
-    /// Judges a log.
-    pub fn judge(&mut self, alloc: Global, log: &Log) -> Result<(), AllocError> {
+    /// Judges a log, behind a line that says how much was read; and where it is wanted, tells what nodes missed.
+    pub fn judge(
+        &mut self,
+        alloc: Global,
+        log: &Log,
+        tells_missed: bool,
+    ) -> Result<(), AllocError> {
+        put_counts(&mut self.text, alloc, log)?;
         self.judge_events(alloc, log.events.as_slice())?;
         self.judge_queries(alloc, log.queries.as_slice())?;
         self.judge_fired(alloc, log.fired.as_slice(), log.events.as_slice())?;
-        self.judge_later(alloc, log.fired.as_slice(), log.events.as_slice())
-    }
-
-    /// Judges what a node's snapshot leaves open, by the event clock that it keeps.
-    pub fn judge_kept(
-        &mut self,
-        alloc: Global,
-        events: &[EventEntry],
-        node: &[u8],
-        clock: u64,
-    ) -> Result<(), AllocError> {
-        self.text.extend_from_slice(node)?;
-        let kept = format!(in alloc; " keeps event-clock {clock}")?;
-        self.text.extend_from_slice(kept.as_bytes())?;
-        if let Some(place) = first_above(events, node, clock)
-            && let Some(event) = events.get(place)
-        {
-            self.is_broken = true;
-            let (line, time) = (event.line, event.time);
-            let text = format!(in alloc;
-                ", and line {line} was handed out at {time}: it can be handed out again\n"
-            )?;
-            return self.text.extend_from_slice(text.as_bytes());
+        self.judge_later(alloc, log.fired.as_slice(), log.events.as_slice())?;
+        if tells_missed {
+            self.put_missed(alloc, log.events.as_slice())?;
         }
-        self.text
-            .extend_from_slice(b": nothing was handed out above it\n")
+        Ok(())
     }
 }

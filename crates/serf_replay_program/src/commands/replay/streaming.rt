@@ -1,10 +1,10 @@
 //! `replay --stream`: a schedule of any length, line by line.
 
 use crate::ending::{DONE, stopped};
+use crate::input::opened;
 use serf_replay::replay_lines;
-use serf_text::StreamFault;
+use std::io;
 use std::rt::Files;
-use std::{fs, io};
 
 /// Does the lines of a file, or of standard input, and gives the status. A line that is bad ends it, behind the text of
 /// those before.
@@ -16,13 +16,13 @@ pub(crate) fn run<F: Files, R: Input + Print + Eprint + AllocGlobal>(
     let mut writer = io::writer(rt);
     let outcome = match file {
         None | Some("-") => replay_lines(rt.alloc(), &mut rt.reader(), &mut writer),
-        Some(path) => match fs::open(files, path) {
+        Some(path) => match opened(files, rt, path) {
             Ok(mut reader) => replay_lines(rt.alloc(), &mut reader, &mut writer),
-            Err(_) => Err(StreamFault::ReadFault),
+            Err(status) => return status,
         },
     };
     match outcome {
         Ok(()) => DONE,
-        Err(fault) => stopped(rt, fault),
+        Err(fault) => stopped(rt, file, fault),
     }
 }

@@ -1,5 +1,6 @@
 //! `replay --summary`: what came of a schedule's run, in few lines.
 
+use super::forms::{Form, rows_text};
 use crate::ending::{bad_line, finish, no_memory};
 use crate::input::input_of;
 use crate::progress::Progress;
@@ -59,9 +60,19 @@ fn text_of(alloc: Global, summary: &Summary) -> Result<Vec<u8>, AllocError> {
     Ok(out)
 }
 
-/// Writes the text of a summary.
-fn print_summary<R: Print + Eprint + AllocGlobal>(rt: &R, summary: &Summary) -> u8 {
-    match text_of(rt.alloc(), summary) {
+/// Writes a summary of a schedule with so many agents.
+fn print_summary<R: Print + Eprint + AllocGlobal>(
+    rt: &R,
+    form: Form,
+    summary: &Summary,
+    agents: u64,
+) -> u8 {
+    let text = match form {
+        Form::Text => text_of(rt.alloc(), summary),
+        Form::Csv => rows_text(rt.alloc(), false, summary, agents),
+        Form::Json => rows_text(rt.alloc(), true, summary, agents),
+    };
+    match text {
         Ok(text) => finish(rt, &text),
         Err(_) => no_memory(rt),
     }
@@ -71,33 +82,41 @@ fn print_summary<R: Print + Eprint + AllocGlobal>(rt: &R, summary: &Summary) -> 
 fn summarized<R: Clock + Print + Eprint + AllocGlobal>(
     rt: &R,
     is_terminal: bool,
+    form: Form,
     schedule: Schedule,
 ) -> u8 {
+    let agents = schedule.agents.as_slice().len() as u64;
     let mut progress = Progress::new(rt, is_terminal);
     match summarize(rt.alloc(), schedule, &mut progress) {
-        Ok(summary) => print_summary(rt, &summary),
+        Ok(summary) => print_summary(rt, form, &summary, agents),
         Err(_) => no_memory(rt),
     }
 }
 
 /// Runs the schedule of a text, and writes its summary.
-fn run_text<R: Clock + Print + Eprint + AllocGlobal>(rt: &R, is_terminal: bool, text: &[u8]) -> u8 {
+fn run_text<R: Clock + Print + Eprint + AllocGlobal>(
+    rt: &R,
+    is_terminal: bool,
+    form: Form,
+    text: &[u8],
+) -> u8 {
     match parse_schedule(rt.alloc(), text) {
-        Ok(schedule) => summarized(rt, is_terminal, schedule),
+        Ok(schedule) => summarized(rt, is_terminal, form, schedule),
         Err(ScheduleFault::BadLine { line, cause }) => bad_line(rt, line, cause),
         Err(ScheduleFault::OutOfMemory) => no_memory(rt),
     }
 }
 
 /// Runs the schedule of a file, or of standard input, and writes its summary; gives the status.
-pub(crate) fn run<F: Files, R: Clock + Input + Print + Eprint + AllocGlobal>(
+pub(super) fn run<F: Files, R: Clock + Input + Print + Eprint + AllocGlobal>(
     files: &F,
     rt: &R,
     is_terminal: bool,
+    form: Form,
     file: Option<&str>,
 ) -> u8 {
     match input_of(files, rt, file) {
-        Ok(text) => run_text(rt, is_terminal, &text),
+        Ok(text) => run_text(rt, is_terminal, form, &text),
         Err(status) => status,
     }
 }

@@ -1,5 +1,8 @@
-use Rattle.serf_world.proofs.Names.{ℕ, List, [], Ok, Option, ap, refl, subst, ◌∙◌, fire_query, query_gives, Handed}
+use Rattle.serf_world.proofs.Names.{◌≡◌, ℕ, List, [], Ok, Option, Result, ap, refl, subst, ◌∙◌, fire_query, query_gives, Handed, IdealAgent, Call, Steps}
+use Rattle.serf_agent.specs.declared.outcome.FiredQuery.{FiredQuery}
+use Rattle.serf_agent.specs.declared.outcome.QueryFault.{QueryFault}
 use Rattle.serf_agent.specs.declared.outcome.QueryFault.TheVariants.{OutOfMemory}
+use Rattle.serf_agent.specs.declared.outcome.QueryParams.{QueryParams}
 use Rattle.serf_model.specs.Cluster.{query_refusal}
 use Rattle.serf_model.specs.declared.line.Answer.TheVariants.{Queried}
 use Rattle.serf_world.specs.Turns.{Shows}
@@ -7,22 +10,32 @@ use Rattle.serf_world.specs.View.{NodeState}
 use Rattle.serf_world.proofs.TurnLaws.{call-done, call-refused}
 use Rattle.serf_world.proofs.calls.query_at.Goals as goal
 
+-- the same query, with its texts where they lie
+same-query : (i : IdealAgent) (now id : ℕ) (name payload n p : List ℕ) (params : QueryParams) → n ≡ name → p ≡ payload → fire_query i now id n p params ≡ fire_query i now id name payload params
+same-query i now id name payload n p params first second = ap (λ (x : List ℕ). fire_query i now id x p params) first ∙ ap (λ (x : List ℕ). fire_query i now id name x params) second
+
 pub returns-in-Err-clause-turn : goal.returns-in-Err-clause-turn
 returns-in-Err-clause-turn c = λ m representable is.
     let was = c.node.view_is ∙ is in
-    call-refused m (fire_query m.agent c.args.now c.args.id c.args.name.now c.args.payload.now c.args.params.now) c.query-fired.result c.node.inside.agent.device c.query-fired.new.self query_gives query_refusal c.in-Err.fault OutOfMemory c.in_ok-query_refusal-in-Err.field-0
+    let q = c.args.query.now in
+    let same = same-query m.agent q.moment q.id q.name q.payload c.as_slice.result.now c.as_slice-2.result.now q.params c.as_slice.ensures c.as_slice-2.ensures in
+    call-refused m (fire_query m.agent q.moment q.id q.name q.payload q.params) c.query-fired.result c.node.inside.agent.device c.query-fired.new.self query_gives query_refusal c.in-Err.fault OutOfMemory c.in_ok-query_refusal-in-Err.field-0
     c.args.number c.args.sent.now.items c.node.inside.handed.items c.refused.result (λ e. refl) representable (ap (λ (s : NodeState). s.handed) was) c.in-Err.is
-    (c.query-fired.ensures.step m.agent representable.consistent.sound (ap (λ (s : NodeState). s.concrete) was)) c.in_ok-query_refusal-in-Err.ensures c.refused.ensures
+    (λ differs. subst (λ (k : Call (Result FiredQuery QueryFault)). Steps m.agent k c.query-fired.result c.node.inside.agent.device c.query-fired.new.self) same
+    (c.query-fired.ensures.step m.agent representable.consistent.sound (ap (λ (s : NodeState). s.concrete) was) differs)) c.in_ok-query_refusal-in-Err.ensures c.refused.ensures
 
 pub returns-clause-turn : goal.returns-clause-turn
 returns-clause-turn c = λ m representable is.
     let was = c.node.view_is ∙ is in
+    let q = c.args.query.now in
+    let same = same-query m.agent q.moment q.id q.name q.payload c.as_slice.result.now c.as_slice-2.result.now q.params c.as_slice.ensures c.as_slice-2.ensures in
     let before : List (List ℕ) = c.args.sent.now.items in
     let after : List (List ℕ) = c.line_with_query.new.sent.items in
     let new : List (Option Handed) = c.line_with_query.new.handed.items in
     let packets = subst (λ (p : List (List ℕ)). Shows c.args.number before after c.node.inside.handed.items new (record { answer = Queried c.in-Ok.fired.time; packets = p; events = []; handed = c.in-Ok.fired.handed }) c.in_ok-line.line)
     c.in_ok-packets.ensures c.in_ok-line.ensures.shows in
-    call-done m (fire_query m.agent c.args.now c.args.id c.args.name.now c.args.payload.now c.args.params.now) c.query-fired.result c.node.inside.agent.device c.query-fired.new.self query_gives c.in-Ok.fired OutOfMemory
+    call-done m (fire_query m.agent q.moment q.id q.name q.payload q.params) c.query-fired.result c.node.inside.agent.device c.query-fired.new.self query_gives c.in-Ok.fired OutOfMemory
     c.args.number before after new c.in_ok-line.line representable c.in-Ok.is
-    (c.query-fired.ensures.step m.agent representable.consistent.sound (ap (λ (s : NodeState). s.concrete) was))
+    (λ differs. subst (λ (k : Call (Result FiredQuery QueryFault)). Steps m.agent k c.query-fired.result c.node.inside.agent.device c.query-fired.new.self) same
+    (c.query-fired.ensures.step m.agent representable.consistent.sound (ap (λ (s : NodeState). s.concrete) was) differs))
     (subst (λ (old : List (Option Handed)). Shows c.args.number before after old new (query_gives (Ok c.in-Ok.fired)) c.in_ok-line.line) (ap (λ (s : NodeState). s.handed) was) packets)

@@ -1,11 +1,16 @@
-use Rattle.serf_agent.proofs.Names.{ap, sym, subst, refl, ◌∙◌, Ok, Err, event_of, WindowOf, EventBody, Kept, Failed}
+use Rattle.std.proofs.lemmas.Result.{err_from_is_err_and}
+use Rattle.serf_agent.proofs.Names.{◌≡◌, ap, sym, subst, refl, ◌∙◌, Ok, Err, event_of, WindowOf, EventBody, NoteFault, Kept, Failed}
 use Rattle.serf_snap.specs.declared.kind.ClockKind.TheVariants as kinds
 use Rattle.serf_agent.specs.Calls.{MayNote}
 use Rattle.serf_agent.specs.Devices.{device_noted}
 use Rattle.serf_agent.specs.declared.outcome.EventOut.{EventOut}
-use Rattle.serf_agent.specs.declared.outcome.LineFault.{LineFault}
+use Rattle.serf_agent.specs.Faults.{receive_fault_of}
+use Rattle.serf_agent.specs.declared.outcome.ReceiveFault.{ReceiveFault}
 use Rattle.serf_agent.specs.declared.outcome.Outcome.TheVariants.{Event}
+use Rattle.serf_agent.specs.Events.{receive_event}
+use Rattle.serf_agent.specs.Steps.{Steps}
 use Rattle.serf_agent.specs.View.{AgentState, ConcreteState}
+use Rattle.serf_agent.proofs.NoteLaws.{by-fault}
 use Rattle.serf_agent.proofs.StepLaws.{steps-event_ignored, steps-event_entered, steps-event_failed}
 use Rattle.serf_agent.proofs.ViewLaws.{event_observed-view, failed-view}
 use Rattle.serf_agent.proofs.agent.Agent.receive_event.Goals as goal
@@ -17,22 +22,27 @@ returns-in-Some-clause-step g c = λ i sound is _.
     steps-event_ignored i c.args.time (event_of c.args.name.now c.args.payload.now) c.args.coalesce c.in-Some.reason c.args.self.now.device _ sound (sym (c.in-Some.ensures.reason i sound is))
     (event_observed-view i _ _ c.args.time was e.clock e.minimum (ap (λ (w : WindowOf EventBody). w.slots) e.window)) (ap (λ (a : AgentState). a.device) c.self.view_is)
 
-pub returns-in-Ok-clause-step : goal.returns-in-Ok-clause-step
-returns-in-Ok-clause-step g c = λ i sound is _.
+pub returns-in_ok-event-in-None-clause-step : goal.returns-in_ok-event-in-None-clause-step
+returns-in_ok-event-in-None-clause-step g c = λ i sound is _.
     let what = event_of c.args.name.now c.args.payload.now in
     let new = c.in-None.ensures in
-    let e = c.in-Ok.ensures in
+    let e = c.in_ok-event-in-None.ensures in
     let runs = sym (ap (λ (s : ConcreteState). s.snapshot.stopped) is) ∙ c.requires in
-    let may = subst (λ (s : ConcreteState). MayNote kinds.Event c.args.time s.snapshot Kept) is e.allowed in
-    let device = e.device ∙ ap (λ (s : ConcreteState). device_noted kinds.Event c.args.time s.snapshot c.args.self.now.device) is in
+    let may = subst (λ (s : ConcreteState). MayNote kinds.Event c.args.time s.snapshot Kept) is e.line.allowed in
+    let device = e.line.device ∙ ap (λ (s : ConcreteState). device_noted kinds.Event c.args.time s.snapshot c.args.self.now.device) is in
     steps-event_entered c.sound_snapshots.ensures i c.args.time what c.args.coalesce _ c.args.self.now.device c.take_in.new.self sound runs (new.small refl) (sym (new.reason i sound is)) may (ap (λ (o : EventOut). Ok (Event o)) e.out) (e.entered i is) device
 
-pub returns-in-Err-SinkFault-clause-step : goal.returns-in-Err-SinkFault-clause-step
-returns-in-Err-SinkFault-clause-step g c = λ i sound is _.
+pub returns-in_err-event-in-None-clause-step : goal.returns-in_err-event-in-None-clause-step
+returns-in_err-event-in-None-clause-step g c = λ i sound is memory.
     let what = event_of c.args.name.now c.args.payload.now in
-    let e = c.in-Err-SinkFault.ensures in
-    let at = ap (λ (x : LineFault). Err x) c.in-Err-SinkFault.field-0-is in
+    let p = err_from_is_err_and c.from_residual.result c.from_residual.ensures.1 in
+    let result = c.from_residual.result in
+    let fault = c.in_err-event-in-None.field-0.0 in
+    let ended : result ≡ Err (receive_fault_of fault) = p.1 ∙ ap (λ (x : ReceiveFault). Err x) p.2 in
+    let old = c.args.self.now in
+    let new = c.take_in.new.self in
+    by-fault kinds.Event c.args.time old new fault (λ (f : NoteFault). result ≡ Err (receive_fault_of f) → Steps i (receive_event i c.args.time what c.args.coalesce) result old.device new) c.in_err-event-in-None.ensures.line (λ _ at. absurd (memory at)) (λ e answers.
     let durable = c.take_in.new.self.concrete.snapshot.durable in
-    let may = subst (λ (s : ConcreteState). MayNote kinds.Event c.args.time s.snapshot (Failed durable)) is (e.fault_allowed at) in
-    steps-event_failed c.sound_snapshots.ensures i c.args.time what c.args.coalesce durable _ c.args.self.now.device c.take_in.new.self sound (sym (c.in-None.ensures.reason i sound is)) may refl
-    (failed-view i c.args.self.now.concrete c.take_in.new.self.concrete kinds.Event c.args.time durable is (e.failed at)) (e.fault_device at)
+    let may = subst (λ (s : ConcreteState). MayNote kinds.Event c.args.time s.snapshot (Failed durable)) is e.allowed in
+    steps-event_failed c.sound_snapshots.ensures i c.args.time what c.args.coalesce durable result old.device new sound (sym (c.in-None.ensures.reason i sound is)) may answers
+    (failed-view i c.args.self.now.concrete c.take_in.new.self.concrete kinds.Event c.args.time durable is e.failed) e.device) ended

@@ -2,7 +2,7 @@ use Rattle.serf_agent.proofs.Names.{◌≡◌, ◌<◌, ℕ, List, Option, Some,
 use Rattle.std.proofs.Common.{All}
 use Rattle.serf_agent.specs.declared.open_query.OpenQuery.{OpenQuery}
 use Rattle.serf_agent.specs.declared.outcome.Outcome.{Outcome}
-use Rattle.serf_agent.specs.Lent.{response_in}
+use Rattle.serf_wire.specs.Message.{response_said}
 use Rattle.serf_agent.specs.Queries.{answer_ignore_reason, asked_at, counted, is_full, with_asked_at}
 use Rattle.serf_agent.specs.View.{AgentState, ConcreteState}
 use Rattle.serf_agent.proofs.OpenQueries.{set_value-keys}
@@ -12,9 +12,9 @@ use Rattle.serf_agent.proofs.agent.Agent.receive_response.Goals as goal
 pub invariant_of-self-2 : goal.invariant_of-self-2
 invariant_of-self-2 g c =
     let t = c.args.answer.now.time in
-    let r = response_in c.args.answer.now in
+    let r = response_said c.args.answer.now in
     let there : asked_at t c.self.inside.asked ≡ Some c.in-Some.query.now = sym c.get.ensures ∙ ap option_copied c.in-Some.is in
-    let new = subst (λ (o : Option OpenQuery). IfSome o (λ q. c.count.new.self ≡ with_asked_at t (counted r q) c.self.inside.asked)) there c.in-Ok.ensures.ok in
+    let new = subst (λ (o : Option OpenQuery). IfSome o (λ q. c.count.new.self ≡ with_asked_at t (counted r q) c.self.inside.asked)) there c.in_ok-count.ensures.ok in
     let built = c.self.invariant in
     record {
       config_sound = built.config_sound;
@@ -28,12 +28,12 @@ invariant_of-self-2 g c =
 pub returns-clause-step : goal.returns-clause-step
 returns-clause-step g c = λ i sound is _.
     let t = c.args.answer.now.time in
-    let r = response_in c.args.answer.now in
+    let r = response_said c.args.answer.now in
     let q = c.in-Some.query.now in
     let was = ap (λ (a : AgentState). a.concrete) c.self.view_is ∙ is in
     let asked = ap (λ (s : ConcreteState). s.asked) was in
     let there : asked_at t c.self.inside.asked ≡ Some q = sym c.get.ensures ∙ ap option_copied c.in-Some.is in
-    let new = subst (λ (o : Option OpenQuery). IfSome o (λ p. c.count.new.self ≡ with_asked_at t (counted r p) c.self.inside.asked)) there c.in-Ok.ensures.ok in
+    let new = subst (λ (o : Option OpenQuery). IfSome o (λ p. c.count.new.self ≡ with_asked_at t (counted r p) c.self.inside.asked)) there c.in_ok-count.ensures.ok in
     let at : asked_at t i.asked ≡ Some q = ap (λ (l : List (ℕ × OpenQuery)). asked_at t l) (sym asked) ∙ there in
     let none : answer_ignore_reason c.args.now r q ≡ None = sym c.ignore_reason.ensures ∙ c.in-None.is in
     let room : is_full i.config.responders r q ≡ false = ap (λ (s : ConcreteState). is_full s.config.responders r q) (sym was) ∙ sym c.if-is_full.ensures in

@@ -1,0 +1,237 @@
+package record
+
+import (
+	"bytes"
+	"errors"
+	"fmt"
+	"io"
+	"log"
+	"os"
+	"path/filepath"
+	"regexp"
+	"strings"
+	"syscall"
+	"testing"
+
+	"kitchenrue.example/agent/internal/gossip"
+	"kitchenrue.example/serfagent"
+)
+
+// opened opens a proved agent whose calls are recorded: the agent, and the record's path.
+func opened(t *testing.T, name, folder string, limit int64, logger *log.Logger) *Agent {
+	t.Helper()
+	settings := serfagent.DefaultSettings()
+	settings.IgnoreOld = true
+	proved, err := serfagent.Open(name, filepath.Join(folder, name), settings)
+	if err != nil {
+		t.Fatal(err)
+	}
+	file, err := Open(filepath.Join(folder, name+".record"), limit)
+	if err != nil {
+		t.Fatal(err)
+	}
+	agent, err := Start(gossip.Proved{Agent: proved}, file, name, settings, logger)
+	if err != nil {
+		t.Fatal(err)
+	}
+	t.Cleanup(func() { agent.Close() })
+	return agent
+}
+
+var quiet = log.New(io.Discard, "", 0)
+
+// recorded is the text of a record, without its moments.
+func recorded(t *testing.T, path string) string {
+	t.Helper()
+	text, err := os.ReadFile(path)
+	if err != nil {
+		t.Fatal(err)
+	}
+	return regexp.MustCompile(`(?m)^at \d{19}\n`).ReplaceAllString(string(text), "")
+}
+
+func TestCallsAndReplies(t *testing.T) {
+	folder := t.TempDir()
+	a, b := opened(t, "a", folder, 1<<20, quiet), opened(t, "b", folder, 1<<20, quiet)
+	_, fired, err := a.Fire([]byte("deploy"), []byte("v1"), false)
+	if err != nil {
+		t.Fatal(err)
+	}
+	asked, err := a.Query(5, 7, []byte("load"), nil, serfagent.QueryParams{Timeout: 1000, WantAck: true})
+	if err != nil {
+		t.Fatal(err)
+	}
+	outcomes, err := b.ReceiveAll(9, [][]byte{fired, fired, asked.Packet, {}, []byte("\x03\x81\xa4Name\xa1"), {9}})
+	if err != nil || len(outcomes) != 6 {
+		t.Fatal(outcomes, err)
+	}
+	reply, err := b.Respond(10, outcomes[2].Received.Query.Number, []byte("1"))
+	if err != nil {
+		t.Fatal(err)
+	}
+	if _, err := b.Respond(10, outcomes[2].Received.Query.Number, nil); err != serfagent.NotHanded {
+		t.Error(err)
+	}
+	if _, err := b.Respond(10, 99, nil); err != serfagent.NotHanded {
+		t.Error(err)
+	}
+	if _, err := a.ReceiveAll(20, [][]byte{outcomes[2].Received.Ack, reply, reply}); err != nil {
+		t.Error(err)
+	}
+	if _, _, err := a.Fire(bytes.Repeat([]byte("x"), 600), nil, true); err != serfagent.TooLarge {
+		t.Error(err)
+	}
+	for i := uint64(0); i < 3; i++ {
+		if _, err := a.CloseDue(900 + 200*i); err != nil {
+			t.Error(err)
+		}
+	}
+	hexed := func(data []byte) string { return fmt.Sprintf("%x", data) }
+	want := "# kitchenrue-agent record 1\nopen 61 512 512 512 1024 ignore 1024 -\nopened 1 1 1\n\n" +
+		"fire 6465706c6f79 7631 0\nfired 1\nsent " + hexed(fired) + "\nevent 1 6465706c6f79 7631 0\n\n" +
+		"query 5 7 6c6f6164 - 1000 1\nqueried 1\nsent " + hexed(asked.Packet) + "\nsent " + hexed(asked.Ack) + "\nhanded 0 1 7 6c6f6164 -\n\n" +
+		"deliver " + hexed(outcomes[2].Received.Ack) + " 20\nack\ncounted ack 1 7 62\n\n" +
+		"deliver " + hexed(reply) + " 20\nresponse\ncounted response 1 7 62 31\n\n" +
+		"deliver " + hexed(reply) + " 20\nignored ResponseTwice\n\n" +
+		"fire " + strings.Repeat("78", 600) + " - 1\nrefused TooLarge\n\nclose 1100\nclosed 1\n\n"
+	if found := recorded(t, filepath.Join(folder, "a.record")); found != want {
+		t.Errorf("%s\nand not\n%s", found, want)
+	}
+	want = "# kitchenrue-agent record 1\nopen 62 512 512 512 1024 ignore 1024 -\nopened 1 1 1\n\n" +
+		"deliver " + hexed(fired) + " 9\nnew\nsent " + hexed(fired) + "\nevent 1 6465706c6f79 7631 0\n\n" +
+		"deliver " + hexed(fired) + " 9\nignored Seen\n\n" +
+		"deliver " + hexed(asked.Packet) + " 9\nquery\nsent " + hexed(asked.Packet) + "\nsent " + hexed(outcomes[2].Received.Ack) + "\nhanded 0 1 7 6c6f6164 -\n\n" +
+		"deliver - 9\nrefused Wire Empty\n\ndeliver 0381a44e616d65a1 9\nrefused Wire Truncated 7\n\ndeliver 09 9\nforeign 9\n\n" +
+		"respond 0 10 31\nreplied\nsent " + hexed(reply) + "\n\nrespond 0 10 -\nrefused NoQuery\n\n"
+	if found := recorded(t, filepath.Join(folder, "b.record")); found != want {
+		t.Errorf("%s\nand not\n%s", found, want)
+	}
+}
+
+func TestStatesClocksAndLives(t *testing.T) {
+	folder := t.TempDir()
+	a, b := opened(t, "a", folder, 1<<20, quiet), opened(t, "b", folder, 1<<20, quiet)
+	if _, _, err := a.Fire([]byte("x"), nil, false); err != nil {
+		t.Fatal(err)
+	}
+	state, err := a.LocalState([]serfagent.Status{{Name: "a", Time: 3}}, nil)
+	if err != nil {
+		t.Fatal(err)
+	}
+	if _, err := b.Merge(state, false); err != nil {
+		t.Error(err)
+	}
+	if _, err := b.Merge([]byte{3, 0x80}, true); err != serfagent.NotPushPull {
+		t.Error(err)
+	}
+	for i := 0; i < 2; i++ {
+		if err := b.ObserveMember(6); err != nil {
+			t.Error(err)
+		}
+		if err := b.SaveMemberClock(); err != nil {
+			t.Error(err)
+		}
+	}
+	if time, err := b.NextMemberTime(); time != 7 || err != nil {
+		t.Error(time, err)
+	}
+	if err := b.Compact(); err != nil {
+		t.Error(err)
+	}
+	b.Close()
+	opened(t, "b", folder, 1<<20, quiet)
+	observed := func(time uint64) string { return fmt.Sprintf("merge 0281a54c54696d65cf%016x sync\nmerged\n\n", time+1) }
+	want := "# kitchenrue-agent record 1\nopen 62 512 512 512 1024 ignore 1024 -\nopened 1 1 1\n\n" +
+		fmt.Sprintf("merge %x sync\nmerged\nevent 1 78 - 0\n\n", state) + "merge 0380 join\nrefused NotPushPull\n\n" +
+		observed(6) + "save\nsaved\n\n" + observed(7) + "save\nsaved\n\ncompact\ncompacted\n\n" +
+		"\n# kitchenrue-agent record 1\n" +
+		fmt.Sprintf("open 62 512 512 512 1024 ignore 1024 %x\nopened 8 2 1\n\n", "clock: 7\nevent-clock: 1\n")
+	if found := recorded(t, filepath.Join(folder, "b.record")); found != want {
+		t.Errorf("%s\nand not\n%s", found, want)
+	}
+	if found := recorded(t, filepath.Join(folder, "a.record")); !strings.Contains(found, fmt.Sprintf("state\nstate\nsent %x\n\n", state)) {
+		t.Error(found)
+	}
+}
+
+func TestFilesTurnOver(t *testing.T) {
+	folder := t.TempDir()
+	a := opened(t, "a", folder, 1<<12, quiet)
+	for i := 0; i < 1000; i++ {
+		if _, _, err := a.Fire([]byte("x"), []byte("y"), false); err != nil {
+			t.Fatal(err)
+		}
+	}
+	path := filepath.Join(folder, "a.record")
+	last := uint64(0)
+	for number := Kept; number >= 0; number-- {
+		name := path
+		if number > 0 {
+			name = fmt.Sprint(path, ".", number)
+		}
+		text := recorded(t, name)
+		var first uint64
+		head := "# kitchenrue-agent record 1\n# goes on\nopen 61 512 512 512 1024 ignore 1024 "
+		if _, err := fmt.Sscanf(text[strings.Index(text, "opened"):], "opened 1 %d 1", &first); err != nil || !strings.HasPrefix(text, head) {
+			t.Fatalf("%s: %v %.200s", name, err, text)
+		}
+		if number < Kept && first != last+1 {
+			t.Errorf("%s begins at %d, and %d was before", name, first, last)
+		}
+		last = first + uint64(strings.Count(text, "\nfired ")) - 1
+		if len(text) > 1<<12+400 {
+			t.Errorf("%s has %d bytes", name, len(text))
+		}
+	}
+	if last != 1000 {
+		t.Errorf("it ends at %d", last)
+	}
+	if _, err := os.Stat(path + ".9"); !errors.Is(err, os.ErrNotExist) {
+		t.Error("the oldest goes", err)
+	}
+}
+
+func TestRecordsThatCannotBe(t *testing.T) {
+	folder := t.TempDir()
+	pipe := filepath.Join(folder, "pipe")
+	if err := syscall.Mkfifo(pipe, 0o600); err != nil {
+		t.Fatal(err)
+	}
+	first, err := Open(filepath.Join(folder, "locked"), 1)
+	if err != nil {
+		t.Fatal(err)
+	}
+	defer first.Close()
+	other := filepath.Join(folder, "other")
+	if err := os.WriteFile(other, []byte("event-clock: 1\n"), 0o600); err != nil {
+		t.Fatal(err)
+	}
+	for path, says := range map[string]string{
+		folder: "is a directory", filepath.Join(folder, "none", "none"): "no such file", filepath.Join(folder, "locked"): "another program has",
+		pipe: "is no plain file", "/dev/null": "is no plain file", other: "is no record", "/sys/none": "permission denied",
+	} {
+		if file, err := Open(path, 1); err == nil || !strings.Contains(err.Error(), says) {
+			t.Errorf("%s: %v %v", path, file, err)
+		}
+	}
+}
+
+// A record that can't be written any more ends, with one line in the log, and the agent goes on.
+func TestFullDisk(t *testing.T) {
+	var said bytes.Buffer
+	a := opened(t, "a", t.TempDir(), 1<<20, log.New(&said, "", 0))
+	full, err := os.OpenFile("/dev/full", os.O_WRONLY, 0)
+	if err != nil {
+		t.Skip(err)
+	}
+	a.file.file.Close()
+	a.file.file = full
+	for i := 0; i < 3; i++ {
+		if _, _, err := a.Fire([]byte("x"), nil, false); err != nil {
+			t.Fatal(err)
+		}
+	}
+	if strings.Count(said.String(), "the record ends, and the agent goes on without it") != 1 {
+		t.Error(said.String())
+	}
+}

@@ -1,0 +1,122 @@
+package serfagent
+
+import (
+	"bytes"
+	"reflect"
+	"strings"
+	"testing"
+)
+
+// Intents off the wire between agents of Serf.
+var intents = []struct {
+	packet string
+	intent Intent
+}{
+	{"\x01\x82\xa5LTime\x01\xa4Node\xa4beta", Intent{1, []byte("beta"), false, false}},
+	{"\x00\x83\xa5LTime\x03\xa4Node\xa5gamma\xa5Prune\xc2", Intent{3, []byte("gamma"), true, false}},
+	{"\x00\x83\xa5LTime\x06\xa4Node\xa5delta\xa5Prune\xc3", Intent{6, []byte("delta"), true, true}},
+}
+
+func TestIntents(t *testing.T) {
+	for _, one := range intents {
+		found, err := IntentOf([]byte(one.packet))
+		if err != nil || !reflect.DeepEqual(*found, one.intent) {
+			t.Errorf("%x: %v %v", one.packet, found, err)
+		}
+		packet, err := one.intent.Packet()
+		if err != nil || !bytes.Equal(packet, []byte(one.packet)) {
+			t.Errorf("%v: %x %v", one.intent, packet, err)
+		}
+	}
+}
+
+func TestNoIntents(t *testing.T) {
+	for _, packet := range []string{"\x03", "\x09\xc1"} {
+		found, err := IntentOf([]byte(packet))
+		if found != nil || err != nil {
+			t.Errorf("%x: %v %v", packet, found, err)
+		}
+		if fault, has := IntentFaultOf([]byte(packet)); has {
+			t.Errorf("%x: %v", packet, fault)
+		}
+	}
+	faulty := map[string]PacketFault{
+		"":                                      {FaultEmpty, 0, 0},
+		"\x63":                                  {FaultUnknownType, 0, 99},
+		"\x01\x81\xa4Node\xdb\xff\xff\xff\xffa": {FaultTruncated, 7, 0},
+		"\x00\x81\xa5Prune\x01":                 {FaultWrongKind, 8, 0},
+		"\x01\x81\xa5LTime\xcf" + strings.Repeat("\xff", 8): {FaultGreatestTime, 8, 0},
+	}
+	for packet, fault := range faulty {
+		if _, err := IntentOf([]byte(packet)); err != NoMessage {
+			t.Errorf("%x: %v", packet, err)
+		}
+		if found, has := IntentFaultOf([]byte(packet)); !has || found != fault {
+			t.Errorf("%x: %v %v", packet, has, found)
+		}
+	}
+	if _, err := (Intent{Time: ^uint64(0)}).Packet(); err != Exhausted {
+		t.Errorf("the time 2^64 - 1: %v", err)
+	}
+}
+
+func TestMembers(t *testing.T) {
+	agent, err := Open("a", t.TempDir()+"/snapshot", DefaultSettings())
+	if err != nil {
+		t.Fatal(err)
+	}
+	defer agent.Close()
+	statuses, left := []Status{{"b", 7}, {"", 0}, {"b", 9}}, []string{"gone", ""}
+	packet, err := agent.LocalState(statuses, left)
+	if err != nil {
+		t.Fatal(err)
+	}
+	wanted := &Members{1, statuses, left}
+	if found, err := MembersOf(packet); err != nil || !reflect.DeepEqual(found, wanted) {
+		t.Errorf("%v %v", found, err)
+	}
+	for _, other := range []string{"", "\x03\x80", "\x02", intents[0].packet} {
+		if found, err := MembersOf([]byte(other)); found != nil || err != nil {
+			t.Errorf("%x: %v %v", other, found, err)
+		}
+	}
+	if found, err := MembersOf([]byte("\x02\x80")); err != nil || !reflect.DeepEqual(found, &Members{}) {
+		t.Errorf("%v %v", found, err)
+	}
+}
+
+func TestTimeOfAQuery(t *testing.T) {
+	agent, err := Open("a", t.TempDir()+"/snapshot", DefaultSettings())
+	if err != nil {
+		t.Fatal(err)
+	}
+	defer agent.Close()
+	for time := uint64(1); time < 4; time++ {
+		asked, err := agent.Query(0, 7, []byte("load"), nil, QueryParams{Timeout: 1000})
+		if err != nil || asked.Time != time || asked.Query.Time != time {
+			t.Errorf("%v %v", asked, err)
+		}
+	}
+}
+
+func TestMemberTimes(t *testing.T) {
+	path := t.TempDir() + "/snapshot"
+	for life, wanted := range []uint64{1, 9} {
+		agent, err := Open("a", path, DefaultSettings())
+		if err != nil {
+			t.Fatal(err)
+		}
+		for _, time := range []uint64{wanted, wanted + 7} {
+			if found, err := agent.NextMemberTime(); err != nil || found != time {
+				t.Errorf("life %d: %d %v", life, found, err)
+			}
+			if err := agent.ObserveMember(wanted + 6); err != nil {
+				t.Error(err)
+			}
+		}
+		if err := agent.ObserveMember(^uint64(0)); err != Exhausted {
+			t.Error(err)
+		}
+		agent.Close()
+	}
+}

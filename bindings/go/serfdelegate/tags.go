@@ -1,0 +1,188 @@
+package serfdelegate
+
+import (
+	"context"
+	"errors"
+	"fmt"
+	"regexp"
+	"sort"
+	"time"
+
+	"github.com/hashicorp/memberlist"
+
+	"kitchenrue.example/serfagent"
+)
+
+// ErrTags: the tags take more than the 512 bytes that memberlist carries of a node.
+var ErrTags = errors.New("serfdelegate: the tags take more than 512 bytes")
+
+// tagsMark begins a node's tags. Nodes of old say their role alone, without it.
+const tagsMark = 0xff
+
+// encodeTags gives tags as memberlist carries them, in the order of their names.
+func encodeTags(tags map[string]string) ([]byte, error) {
+	names := make([]string, 0, len(tags))
+	for name := range tags {
+		names = append(names, name)
+	}
+	sort.Strings(names)
+	meta := appendPairs([]byte{tagsMark}, len(names))
+	for _, name := range names {
+		if meta = appendRaw(appendRaw(meta, name), tags[name]); len(meta) > memberlist.MetaMaxSize {
+			return nil, fmt.Errorf("%w: with %q", ErrTags, name)
+		}
+	}
+	return meta, nil
+}
+
+// tagsOf are the tags that a node says; none where they can't be read.
+func tagsOf(meta []byte) map[string]string {
+	if len(meta) == 0 || meta[0] != tagsMark {
+		return map[string]string{"role": string(meta)}
+	}
+	tags, r := map[string]string{}, reader{rest: meta[1:]}
+	r.fields(func(name string) bool {
+		tags[name] = string(r.raw())
+		return true
+	})
+	if r.end() != nil {
+		return map[string]string{}
+	}
+	return tags
+}
+
+// Tags are this node's.
+func (d *Delegate) Tags() map[string]string {
+	d.tagging.Lock()
+	defer d.tagging.Unlock()
+	return tagsOf(d.meta)
+}
+
+// SetTags changes this node's tags to these, and tells the others. It returns when a member was told, or with the context's
+// error when that is over: the others hear of it then by memberlist's states. The error is ErrTags where they are too long, and
+// the tags stay as they were.
+func (d *Delegate) SetTags(ctx context.Context, tags map[string]string) error {
+	meta, err := encodeTags(tags)
+	if err != nil {
+		return err
+	}
+	d.tagging.Lock()
+	d.meta = meta
+	d.tagging.Unlock()
+	return during(ctx, func() error {
+		limit := time.Duration(0)
+		if end, has := ctx.Deadline(); has {
+			if limit = time.Until(end); limit <= 0 {
+				return ctx.Err()
+			}
+		}
+		return d.List().UpdateNode(limit)
+	})
+}
+
+// NodeMeta are this node's tags, as memberlist carries them.
+func (d *Delegate) NodeMeta(int) []byte {
+	d.tagging.Lock()
+	defer d.tagging.Unlock()
+	return d.meta
+}
+
+// Types of packets, and of filters.
+const (
+	leaveType = 0
+	joinType  = 1
+	queryType = 4
+	tagFilter = 1
+)
+
+// given is the packet as the agent gets it. The agent knows no tags, and a query that asks for some excludes every node; so where
+// this node has what they ask for it gets the query without these filters. What is sent on is the packet as it came.
+func (d *Delegate) given(packet []byte) []byte {
+	if packet[0] != queryType {
+		return packet
+	}
+	if _, isFaulty := serfagent.PacketFaultOf(packet); isFaulty {
+		return packet
+	}
+	filters, from, to := filtersOf(packet)
+	kept, asked := withoutTags(filters)
+	if len(asked) == 0 || !passes(asked, d.Tags()) {
+		return packet
+	}
+	without := append([]byte(nil), packet[:from]...)
+	without = appendValues(without, len(kept))
+	for _, filter := range kept {
+		without = appendRaw(without, string(filter))
+	}
+	return append(without, packet[to:]...)
+}
+
+// filtersOf are the filters of a query that the library takes for a message, and where they stand in its packet.
+func filtersOf(packet []byte) (filters [][]byte, from, to int) {
+	r := reader{rest: packet[1:]}
+	at := func() int { return len(packet) - len(r.rest) }
+	r.fields(func(key string) bool {
+		if key != "Filters" {
+			return false
+		}
+		from = at()
+		for count := r.values(); count > 0 && r.err == nil; count-- {
+			filters = append(filters, r.raw())
+		}
+		to = at()
+		return true
+	})
+	if r.end() != nil {
+		return nil, 0, 0
+	}
+	return filters, from, to
+}
+
+// withoutTags parts the filters of tags from the others.
+func withoutTags(filters [][]byte) (others, tags [][]byte) {
+	for _, filter := range filters {
+		if len(filter) > 0 && filter[0] == tagFilter {
+			tags = append(tags, filter)
+		} else {
+			others = append(others, filter)
+		}
+	}
+	return others, tags
+}
+
+// passes says whether tags have what each of these filters asks for: somewhere in the tag's value its expression is found, and
+// a tag that isn't there is empty. A filter that can't be read lets no node pass.
+func passes(filters [][]byte, tags map[string]string) bool {
+	for _, filter := range filters {
+		var tag, expression string
+		r := reader{rest: filter[1:]}
+		r.fields(func(key string) bool {
+			switch key {
+			case "Tag":
+				tag = string(r.raw())
+			case "Expr":
+				expression = string(r.raw())
+			default:
+				return false
+			}
+			return true
+		})
+		wanted, err := regexp.Compile(expression)
+		if r.end() != nil || err != nil || !wanted.MatchString(tags[tag]) {
+			return false
+		}
+	}
+	return true
+}
+
+// during does what may last, and returns when it is done, or with the context's error when that is over.
+func during(ctx context.Context, done func() error) error {
+	result := make(chan error, 1)
+	go func() { result <- done() }()
+	select {
+	case err := <-result:
+		return err
+	case <-ctx.Done():
+		return ctx.Err()
+	}
+}

@@ -1,0 +1,43 @@
+"""The members that another agent's whole state names."""
+
+import ctypes
+from dataclasses import dataclass
+from typing import Optional, Tuple
+
+from .checks import Buffer, texts
+from .library import AgentError, CMember, CMembers, Code, Library
+
+
+@dataclass(frozen=True)
+class Members:
+    """What a push/pull says of members: the sender's member clock, names with the times of their status, and who left."""
+
+    member_clock: int
+    statuses: Tuple[Tuple[bytes, int], ...]
+    left: Tuple[bytes, ...]
+
+
+def state_members(packet: Buffer, library: Optional[Library] = None) -> Optional[Members]:
+    """What a push/pull's packet says of members: ``Members``, or None where the packet is none. It needs no agent.
+
+    ``Agent.merge`` takes the same packet, whose events are its own.
+    """
+    library = library or Library()
+    all, named, names = CMembers(), (CMember * 0)(), ctypes.create_string_buffer(0)
+    # first the sizes, and then the members
+    for _ in range(2):
+        named, names = (CMember * all.members)(), ctypes.create_string_buffer(all.names_len)
+        code = library.state_members(*texts(packet), all, named, len(named), names, len(names))
+        if code == Code.NOTHING:
+            return None
+        if code != Code.OK:
+            raise AgentError(code)
+    statuses, left, at = [], [], 0
+    for one in named:
+        name = names.raw[at : at + one.name_len]
+        at += one.name_len
+        if one.left:
+            left.append(name)
+        else:
+            statuses.append((name, one.status_time))
+    return Members(all.member_clock, tuple(statuses), tuple(left))

@@ -1,0 +1,72 @@
+//! Intents: a node's word that it joins, and the word that a node leaves.
+
+use crate::error::{answered, Code, Error};
+use crate::raw;
+
+/// A node's word that it joins, or the word that a node leaves, of a time of the member clock.
+#[derive(Clone, Debug, PartialEq, Eq)]
+pub enum Intent {
+    /// The node joins.
+    Join {
+        /// The time of the word. 2^64 - 1 is none.
+        time: u64,
+        /// The name of the node that joins.
+        node: Vec<u8>,
+    },
+    /// The node leaves, by itself or by another's order.
+    Leave {
+        /// The time of the word. 2^64 - 1 is none.
+        time: u64,
+        /// The name of the node that leaves.
+        node: Vec<u8>,
+        /// Whether the members are to forget the node at once.
+        prune: bool,
+    },
+}
+
+impl Intent {
+    /// The intent that a packet is; `None` where it is another message, at which nobody looks. It needs no agent.
+    ///
+    /// [`Code::NoMessage`] where it is no message, or a faulty intent: [`crate::intent_fault`] says why.
+    pub fn of_packet(packet: &[u8]) -> Result<Option<Intent>, Error> {
+        let (mut about, mut node) = (raw::Intent::default(), Vec::new());
+        // first the length, and then the name
+        for _ in 0..2 {
+            node = vec![0; about.node_len];
+            // SAFETY: each pointer comes with its length, and `about` is of the type that the library writes.
+            let code = unsafe { raw::serf_agent_intent(packet.as_ptr(), packet.len(), &mut about, node.as_mut_ptr(), node.len()) };
+            match answered(code) {
+                Err(Error::Refused(Code::Nothing)) => return Ok(None),
+                other => other?,
+            }
+        }
+        let raw::Intent { time, leave, prune, .. } = about;
+        Ok(Some(if leave { Intent::Leave { time, node, prune } } else { Intent::Join { time, node } }))
+    }
+
+    /// The packet to send. It needs no agent. [`Code::Exhausted`] where the time is 2^64 - 1, which is none.
+    pub fn packet(&self) -> Result<Vec<u8>, Error> {
+        let (mut len, mut packet) = (0, Vec::new());
+        for _ in 0..2 {
+            packet = vec![0; len];
+            // SAFETY: each pointer comes with its length.
+            answered(unsafe {
+                match self {
+                    Intent::Join { time, node } => {
+                        raw::serf_agent_join_packet(*time, node.as_ptr(), node.len(), &mut len, packet.as_mut_ptr(), packet.len())
+                    }
+                    Intent::Leave { time, node, prune } => raw::serf_agent_leave_packet(
+                        *time,
+                        node.as_ptr(),
+                        node.len(),
+                        *prune,
+                        &mut len,
+                        packet.as_mut_ptr(),
+                        packet.len(),
+                    ),
+                }
+            })?;
+        }
+        Ok(packet)
+    }
+}

@@ -1,0 +1,57 @@
+//! The members that another agent's whole state names.
+
+use crate::error::{answered, Code, Error};
+use crate::raw;
+
+/// What a push/pull says of members.
+#[derive(Clone, Debug, PartialEq, Eq)]
+pub struct Members {
+    /// The sender's member clock.
+    pub member_clock: u64,
+    /// Names with the times of their status, in the packet's order.
+    pub statuses: Vec<(Vec<u8>, u64)>,
+    /// The names of those that left.
+    pub left: Vec<Vec<u8>>,
+}
+
+impl Members {
+    /// What a push/pull's packet says of members; `None` where the packet is none. It needs no agent.
+    ///
+    /// [`crate::Agent::merge`] takes the same packet, whose events are its own.
+    pub fn of_packet(packet: &[u8]) -> Result<Option<Members>, Error> {
+        let (mut all, mut named, mut names) = (raw::Members::default(), Vec::new(), Vec::new());
+        // first the sizes, and then the members
+        for _ in 0..2 {
+            named = vec![raw::Member::default(); all.members];
+            names = vec![0; all.names_len];
+            // SAFETY: each pointer comes with its length, and `all` is of the type that the library writes.
+            let code = unsafe {
+                raw::serf_agent_state_members(
+                    packet.as_ptr(),
+                    packet.len(),
+                    &mut all,
+                    named.as_mut_ptr(),
+                    named.len(),
+                    names.as_mut_ptr(),
+                    names.len(),
+                )
+            };
+            match answered(code) {
+                Err(Error::Refused(Code::Nothing)) => return Ok(None),
+                other => other?,
+            }
+        }
+        let mut found = Members { member_clock: all.member_clock, statuses: Vec::new(), left: Vec::new() };
+        let mut rest = names.as_slice();
+        for one in named {
+            let (name, behind) = rest.split_at(one.name_len);
+            rest = behind;
+            if one.left {
+                found.left.push(name.to_vec());
+            } else {
+                found.statuses.push((name.to_vec(), one.status_time));
+            }
+        }
+        Ok(Some(found))
+    }
+}

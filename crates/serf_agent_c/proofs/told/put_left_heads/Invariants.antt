@@ -1,0 +1,8 @@
+use Rattle.std.proofs.Common.{◌≡◌, ◌++◌, map}
+use Rattle.serf_wire.specs.Lists.{texts_left}
+use Rattle.serf_agent_c.specs.Told.{left_head}
+use Rattle.serf_agent_c.proofs.told.put_left_heads.Given as goal
+
+-- what was put so far, and then what is left
+abbrev pub invariant-loop-name : goal.invariant-loop-name
+invariant-loop-name l = l.out.items ++ map left_head (texts_left l.name-iterator) ≡ l.fn.out.items ++ map left_head (texts_left l.fn.left)

@@ -1,0 +1,8 @@
+use Rattle.std.proofs.Common.{◌≡◌, ◌++◌}
+use Rattle.std.specs.List.{flat_map}
+use Rattle.serf_wire.specs.Lists.{status_left}
+use Rattle.serf_agent_c.proofs.told.put_status_names.Given as goal
+
+-- what was put so far, and then what is left
+abbrev pub invariant-loop-entry : goal.invariant-loop-entry
+invariant-loop-entry l = l.out.items ++ flat_map (λ p. p.0) (status_left l.entry-iterator) ≡ l.fn.out.items ++ flat_map (λ p. p.0) (status_left l.fn.status)

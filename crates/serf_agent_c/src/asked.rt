@@ -1,0 +1,59 @@
+//! What C reads of the query that the last call fired.
+
+ghost use Rattle.std.specs.Prelude.{◌≡◌, ◌≢◌};
+ghost use Rattle.serf_agent_c.specs.AskedTime.{asked_time_in};
+ghost use Rattle.serf_agent_c.specs.Exports.{Shows};
+ghost use Rattle.serf_agent_c.specs.Reads.{ReadsAs};
+ghost use Rattle.serf_agent_c.specs.Sessions.{is_ready};
+
+use crate::code::Code;
+use crate::gave::Gave;
+use crate::handle::Handle;
+use crate::session::Session;
+use std::alloc::Global;
+
+impl Gave {
+    /// The time of the query that was fired.
+    fn asked_time(&self) -> Option<u64>
+        ensures { result ≡ asked_time_in self.now }
+    {
+        match self {
+            Gave::Asked(Ok(fired)) => Some(fired.time.get()),
+            _ => None,
+        }
+    }
+}
+
+impl Session {
+    /// The time of the query that the last call fired.
+    fn read_asked_time(&self, time: &mut u64) -> Code
+        ensures reads { ReadsAs (is_ready self.now) (asked_time_in self.now.gave)
+            (λ t. time.new ≡ t) result }
+        ensures same { result ≢ Code.Done → time.new ≡ time.old }
+    {
+        if !self.is_ready() {
+            return Code::Unwritten;
+        }
+        let Some(asked) = self.gave.asked_time() else {
+            return Code::Nothing;
+        };
+        *time = asked;
+        Code::Done
+    }
+}
+
+/// The time of the query that the last call fired: with its ID, the host knows by it to which of its queries an answer is.
+#[unsafe(no_mangle)]
+pub extern "C" fn serf_agent_asked_time(alloc: Global, handle: &mut Handle, time: &mut u64) -> u32
+    ensures reads { Shows (λ s code. ReadsAs (is_ready s) (asked_time_in s.gave)
+        (λ t. time.new ≡ t) code) handle.old handle.new result }
+    ensures same { Shows (λ s code. code ≢ Code.Done → time.new ≡ time.old)
+        handle.old handle.new result }
+{
+    let Some(session) = handle.take(alloc) else {
+        return Code::Empty.number();
+    };
+    let code = session.read_asked_time(time);
+    *handle = Handle::of(session);
+    code.number()
+}

@@ -1,0 +1,188 @@
+//! What C reads of intents, and has written.
+
+ghost use Rattle.std.specs.Prelude.{◌≡◌, ◌≢◌, ◌<◌, true, false, length};
+ghost use Rattle.serf_lamport.specs.Clock.{greatest_clock};
+ghost use Rattle.serf_wire.specs.Canonical.{is_long};
+ghost use Rattle.serf_wire.specs.Intent.{intent_of, intent_node, intent_read, canonical_intent, join_of, leave_of};
+ghost use Rattle.serf_agent_c.specs.Codes.{number_of};
+ghost use Rattle.serf_agent_c.specs.Intents.{encode_code, ReadsIntent, ReadsIntentFault, WritesIntent, intent_head, said_intent};
+ghost use Rattle.serf_agent_c.specs.Texts.{copied};
+
+use crate::code::Code;
+use crate::copies::copy_into;
+use crate::faults::head_of_fault;
+use crate::heads::FaultHead;
+use serf_lamport::Time;
+use serf_wire::{EncodeFault, Intent, Join, Leave, encode_intent, read_intent};
+use std::alloc::Global;
+
+/// What an intent says, beside the node's name.
+#[repr(C)]
+#[derive(Clone, Copy)]
+pub struct IntentHead {
+    pub time: u64,
+    pub node_len: usize,
+    pub leave: bool,
+    pub prune: bool,
+}
+
+fn head_of_intent(intent: &Intent) -> IntentHead
+    ensures { result ≡ intent_head (intent_of intent.now) }
+{
+    match *intent {
+        Intent::Join(Join { time, node }) => IntentHead {
+            time: time.get(),
+            node_len: node.len(),
+            leave: false,
+            prune: false,
+        },
+        Intent::Leave(Leave { time, node, prune }) => IntentHead {
+            time: time.get(),
+            node_len: node.len(),
+            leave: true,
+            prune,
+        },
+    }
+}
+
+fn node_of<'a>(intent: &Intent<'a>) -> &'a [u8]
+    ensures { result.now ≡ intent_node (intent_of intent.now) }
+{
+    match *intent {
+        Intent::Join(Join { node, .. }) => node,
+        Intent::Leave(Leave { node, .. }) => node,
+    }
+}
+
+/// The intent that a packet is.
+fn read(packet: &[u8], intent: &mut IntentHead, node: &mut [u8]) -> Code
+    ensures reads { ReadsIntent (intent_read packet.now) (λ i. (intent.new ≡ intent_head i)
+        × (node.new ≡ copied (intent_node i) node.old)) result }
+    ensures same { result ≢ Code.Done → (intent.new ≡ intent.old) × (node.new ≡ node.old) }
+{
+    match read_intent(packet) {
+        Ok(Some(said)) => {
+            *intent = head_of_intent(&said);
+            copy_into(node, node_of(&said));
+            Code::Done
+        }
+        Ok(None) => Code::Nothing,
+        Err(_) => Code::NoMessage,
+    }
+}
+
+/// Why a packet is no intent, where its type is an intent's or no message's.
+fn read_fault(packet: &[u8], fault: &mut FaultHead) -> Code
+    ensures { ReadsIntentFault (intent_read packet.now) fault.old fault.new result }
+{
+    match read_intent(packet) {
+        Ok(_) => Code::Nothing,
+        Err(found) => {
+            *fault = head_of_fault(found);
+            Code::Done
+        }
+    }
+}
+
+fn code_of(fault: EncodeFault) -> Code
+    ensures { result ≡ encode_code fault }
+{
+    match fault {
+        EncodeFault::TooLong => Code::TooLong,
+        EncodeFault::OutOfMemory => Code::OutOfMemory,
+    }
+}
+
+/// The packet of an intent.
+fn write(alloc: Global, intent: &Intent, len: &mut usize, to: &mut [u8]) -> Code
+    ensures too_long { is_long (intent_node (intent_of intent.now)) ≡ true
+        → result ≡ Code.TooLong }
+    ensures memory { is_long (intent_node (intent_of intent.now)) ≡ false → result ≢ Code.Done
+        → result ≡ Code.OutOfMemory }
+    ensures writes { result ≡ Code.Done
+        → (len.new ≡ length (canonical_intent (intent_of intent.now)))
+        × (to.new ≡ copied (canonical_intent (intent_of intent.now)) to.old) }
+    ensures same { result ≢ Code.Done → (len.new ≡ len.old) × (to.new ≡ to.old) }
+{
+    match encode_intent(alloc, intent) {
+        Ok(packet) => {
+            *len = packet.len();
+            copy_into(to, packet.as_slice());
+            Code::Done
+        }
+        Err(fault) => code_of(fault),
+    }
+}
+
+/// The packet of a leave, where it is said whether the members are to prune the node, or else of a join.
+fn write_said(
+    alloc: Global,
+    time: u64,
+    node: &[u8],
+    prune: Option<bool>,
+    len: &mut usize,
+    to: &mut [u8],
+) -> Code
+    ensures { WritesIntent (said_intent time node.now prune) len.old len.new to.old to.new result }
+{
+    let Some(time) = Time::new(time) else {
+        return Code::Exhausted;
+    };
+    match prune {
+        None => write(alloc, &Intent::Join(Join { time, node }), len, to),
+        Some(prune) => write(alloc, &Intent::Leave(Leave { time, node, prune }), len, to),
+    }
+}
+
+/// What a packet says that is an intent, and as much of the node's name as fits. Of another message's packet it says
+/// `NOTHING`, and of one that is no message, or a faulty intent, `NO_MESSAGE`.
+#[unsafe(no_mangle)]
+pub extern "C" fn serf_agent_intent(packet: &[u8], intent: &mut IntentHead, node: &mut [u8]) -> u32
+    ensures { (code : Code) × (result ≡ number_of code)
+        × ReadsIntent (intent_read packet.now) (λ i. (intent.new ≡ intent_head i)
+        × (node.new ≡ copied (intent_node i) node.old)) code
+        × (code ≢ Code.Done → (intent.new ≡ intent.old) × (node.new ≡ node.old)) }
+{
+    read(packet, intent, node).number()
+}
+
+/// Why a packet is no intent: its first fault, where `serf_agent_intent` says `NO_MESSAGE`. Else it says `NOTHING`, and the
+/// fault stays as it was.
+#[unsafe(no_mangle)]
+pub extern "C" fn serf_agent_intent_fault(packet: &[u8], fault: &mut FaultHead) -> u32
+    ensures { (code : Code) × (result ≡ number_of code)
+        × ReadsIntentFault (intent_read packet.now) fault.old fault.new code }
+{
+    read_fault(packet, fault).number()
+}
+
+/// The packet of a join: its length, and as much of it as fits.
+#[unsafe(no_mangle)]
+pub extern "C" fn serf_agent_join_packet(
+    alloc: Global,
+    time: u64,
+    node: &[u8],
+    len: &mut usize,
+    to: &mut [u8],
+) -> u32
+    ensures { (code : Code) × (result ≡ number_of code)
+        × WritesIntent (join_of time node.now) len.old len.new to.old to.new code }
+{
+    write_said(alloc, time, node, None, len, to).number()
+}
+
+/// The packet of a leave: its length, and as much of it as fits.
+#[unsafe(no_mangle)]
+pub extern "C" fn serf_agent_leave_packet(
+    alloc: Global,
+    time: u64,
+    node: &[u8],
+    prune: bool,
+    len: &mut usize,
+    to: &mut [u8],
+) -> u32
+    ensures { (code : Code) × (result ≡ number_of code)
+        × WritesIntent (leave_of time node.now prune) len.old len.new to.old to.new code }
+{
+    write_said(alloc, time, node, Some(prune), len, to).number()
+}

@@ -1,0 +1,200 @@
+//! What C reads of the members that a push/pull's packet names: what a host does with them, it has to know.
+
+ghost use Rattle.std.specs.Prelude.{◌≡◌, ◌≢◌, ◌++◌, ◌∷◌, [], map, IfOk, OnOk};
+ghost use Rattle.std.specs.List.{flat_map};
+ghost use Rattle.std.specs.Option.{option_map};
+ghost use Rattle.serf_wire.specs.Decoded.{decoded};
+ghost use Rattle.serf_wire.specs.Lists.{status_left, status_of, texts_left};
+ghost use Rattle.serf_wire.specs.Message.{message_of};
+ghost use Rattle.serf_agent_c.specs.Codes.{number_of};
+ghost use Rattle.serf_agent_c.specs.Texts.{copied};
+ghost use Rattle.serf_agent_c.specs.Told.{ReadsMembers, left_head, member_heads, member_names, members_head, members_in, members_lent, members_of, status_head};
+
+use crate::code::Code;
+use crate::copies::copy_into;
+use serf_wire::{Message, StatusTimes, Texts, decode};
+use std::alloc::{AllocError, Global};
+
+/// A member that a push/pull names.
+#[repr(C)]
+#[derive(Clone, Copy)]
+pub struct MemberHead {
+    pub status_time: u64,
+    pub name_len: usize,
+    pub left: bool,
+}
+
+/// How many members a push/pull names, and how long their names are together.
+#[repr(C)]
+#[derive(Clone, Copy)]
+pub struct MembersHead {
+    pub member_clock: u64,
+    pub members: usize,
+    pub names_len: usize,
+}
+
+/// What a push/pull says of members, lent from its packet.
+#[derive(Clone, Copy)]
+pub struct LentMembers<'a> {
+    clock: u64,
+    status: StatusTimes<'a>,
+    left: Texts<'a>,
+}
+
+/// What a message says of members, if it is a push/pull.
+fn members_of<'a>(message: &Message<'a>) -> Option<LentMembers<'a>>
+    ensures { option_map members_lent result ≡ members_of (message_of message.now) }
+{
+    match *message {
+        Message::PushPull(state) => Some(LentMembers {
+            clock: state.member_clock,
+            status: state.status,
+            left: state.left,
+        }),
+        _ => None,
+    }
+}
+
+/// What a packet says of members, if it is a push/pull.
+fn lent_members(packet: &[u8]) -> Option<LentMembers<'_>>
+    ensures { option_map members_lent result ≡ members_in (decoded packet.now) }
+{
+    match decode(packet) {
+        Ok(message) => members_of(&message),
+        Err(_) => None,
+    }
+}
+
+fn put_head(out: &mut Vec<MemberHead>, head: MemberHead) -> Result<(), AllocError>
+    ensures { OnOk result (out.new.items ≡ out.old.items ++ head ∷ []) }
+{
+    out.push(head)?;
+    Ok(())
+}
+
+fn put_status_heads(out: &mut Vec<MemberHead>, status: StatusTimes) -> Result<(), AllocError>
+    ensures { OnOk result (out.new.items ≡ out.old.items
+        ++ map status_head (status_left status.entry)) }
+{
+    for entry in status {
+        put_head(
+            out,
+            MemberHead {
+                status_time: entry.time,
+                name_len: entry.name.len(),
+                left: false,
+            },
+        )?;
+    }
+    Ok(())
+}
+
+fn put_left_heads(out: &mut Vec<MemberHead>, left: Texts) -> Result<(), AllocError>
+    ensures { OnOk result (out.new.items ≡ out.old.items ++ map left_head (texts_left left.entry)) }
+{
+    for name in left {
+        put_head(
+            out,
+            MemberHead {
+                status_time: 0,
+                name_len: name.len(),
+                left: true,
+            },
+        )?;
+    }
+    Ok(())
+}
+
+fn put_status_names(out: &mut Vec<u8>, status: StatusTimes) -> Result<(), AllocError>
+    ensures { OnOk result (out.new.items ≡ out.old.items
+        ++ flat_map (λ p. p.0) (status_left status.entry)) }
+{
+    for entry in status {
+        out.extend_from_slice(entry.name)?;
+    }
+    Ok(())
+}
+
+fn put_left_names(out: &mut Vec<u8>, left: Texts) -> Result<(), AllocError>
+    ensures { OnOk result (out.new.items ≡ out.old.items
+        ++ flat_map (λ name. name) (texts_left left.entry)) }
+{
+    for name in left {
+        out.extend_from_slice(name)?;
+    }
+    Ok(())
+}
+
+/// The members as C reads them.
+fn heads_of(alloc: Global, lent: &LentMembers) -> Result<Vec<MemberHead>, AllocError>
+    ensures { IfOk result (λ heads. heads.items ≡ member_heads (members_lent lent.now)) }
+{
+    let mut heads = Vec::new(alloc);
+    put_status_heads(&mut heads, lent.status)?;
+    put_left_heads(&mut heads, lent.left)?;
+    Ok(heads)
+}
+
+/// Their names, one behind the other.
+fn names_of(alloc: Global, lent: &LentMembers) -> Result<Vec<u8>, AllocError>
+    ensures { IfOk result (λ names. names.items ≡ member_names (members_lent lent.now)) }
+{
+    let mut names = Vec::new(alloc);
+    put_status_names(&mut names, lent.status)?;
+    put_left_names(&mut names, lent.left)?;
+    Ok(names)
+}
+
+/// The members that a push/pull's packet names.
+fn read_members(
+    alloc: Global,
+    packet: &[u8],
+    all: &mut MembersHead,
+    members: &mut [MemberHead],
+    names: &mut [u8],
+) -> Code
+    ensures reads { ReadsMembers (members_in (decoded packet.now))
+        (λ m. (all.new ≡ members_head m) × (members.new ≡ copied (member_heads m) members.old)
+        × (names.new ≡ copied (member_names m) names.old)) result }
+    ensures same { result ≢ Code.Done
+        → (all.new ≡ all.old) × (members.new ≡ members.old) × (names.new ≡ names.old) }
+{
+    let Some(lent) = lent_members(packet) else {
+        return Code::Nothing;
+    };
+    let Ok(heads) = heads_of(alloc, &lent) else {
+        return Code::OutOfMemory;
+    };
+    let Ok(told) = names_of(alloc, &lent) else {
+        return Code::OutOfMemory;
+    };
+    *all = MembersHead {
+        member_clock: lent.clock,
+        members: heads.len(),
+        names_len: told.len(),
+    };
+    copy_into(members, heads.as_slice());
+    copy_into(names, told.as_slice());
+    Code::Done
+}
+
+/// What a push/pull's packet says of members: its sender's member clock, and how many members it names; as many of them
+/// as fit, and as much of their names, one behind the other, as fits. First come those with a status time, in the packet's
+/// order, and then those that left. Of another packet it says `NOTHING`.
+#[unsafe(no_mangle)]
+pub extern "C" fn serf_agent_state_members(
+    alloc: Global,
+    packet: &[u8],
+    all: &mut MembersHead,
+    members: &mut [MemberHead],
+    names: &mut [u8],
+) -> u32
+    ensures { (code : Code) × (result ≡ number_of code)
+        × ReadsMembers (members_in (decoded packet.now))
+        (λ m. (all.new ≡ members_head m) × (members.new ≡ copied (member_heads m) members.old)
+        × (names.new ≡ copied (member_names m) names.old)) code
+        × (code ≢ Code.Done
+        → (all.new ≡ all.old) × (members.new ≡ members.old) × (names.new ≡ names.old)) }
+{
+    read_members(alloc, packet, all, members, names).number()
+}

@@ -1,0 +1,22 @@
+-- A world of one agent: private to the crate.
+use Rattle.std.specs.Prelude.{◌≡◌, ℕ, List, [], ◌∷◌}
+use Rattle.std.specs.Option.{option_to_list}
+use Rattle.serf_agent.specs.declared.config.Config.{Config}
+use Rattle.serf_model.specs.declared.action.Act.{Act}
+use Rattle.serf_model.specs.Alone.{AgentCall, alone, of_one_packet}
+use Rattle.serf_model.specs.Cluster.{Cluster, IdealNode, apply}
+use Rattle.serf_model.specs.Ready.{AreRepresentable}
+use Rattle.serf_world.specs.View.{IsViewed, WorldState}
+
+-- the agent of these settings after these calls, where these packets were sent
+abbrev pub lone_cluster : Config → List AgentCall → WorldState → Cluster
+lone_cluster config made w = record { nodes = (alone config made).node ∷ []; sent = w.sent }
+
+-- the world stores it
+pub record IsLone (config : Config) (made : List AgentCall) (w : WorldState) : Type 0 where
+  pub view : IsViewed (lone_cluster config made w) w
+  pub representable : AreRepresentable (lone_cluster config made w)
+
+-- an act does, where these packets were sent, what a call does
+abbrev pub DoesAs : List (List ℕ) → Act → AgentCall → Type 0
+DoesAs sent act call = (m : IdealNode) → apply m sent act ≡ apply m (option_to_list call.given) (of_one_packet call.act)

@@ -1,0 +1,99 @@
+-- What an agent has: its clocks, its least times, and what its disk keeps. When that is asked for, and what agrees.
+use Rattle.std.specs.Prelude.{ℕ, ◌==◌, ◌&&◌, ◌++◌, Bool, true, false, if◌then◌else◌, List, [], ◌∷◌, codes, Option, Some, None, unwrap_or, Result, Ok, Err}
+use Rattle.std.specs.Str.{bytes_eq}
+use Rattle.serf_snap.specs.Clocks.{last_clock}
+use Rattle.serf_snap.specs.declared.kind.ClockKind.{ClockKind}
+use Rattle.serf_snap.specs.declared.kind.ClockKind.TheVariants as clocks
+use Rattle.serf_agent.specs.declared.config.Config.{Config}
+use Rattle.serf_agent.specs.View.{ConcreteState, view_of}
+use Rattle.serf_model.specs.declared.line.Answer.{Answer}
+use Rattle.serf_model.specs.declared.line.Answer.TheVariants as answers
+use Rattle.serf_model.specs.Alone.{AgentCall, alone}
+use Rattle.serf_text.specs.Gives.{BadLine}
+use Rattle.serf_conform.specs.declared.look.Look.{Look}
+use Rattle.serf_conform.specs.declared.reply_line.ReplyLine.{ReplyLine}
+use Rattle.serf_conform.specs.declared.reply_line.ReplyLine.TheVariants as lines
+use Rattle.serf_conform.specs.CallText.{number_word}
+use Rattle.serf_conform.specs.Reply.{Said}
+use Rattle.serf_conform.specs.declared.judging.Judgement.{Judgement}
+use Rattle.serf_conform.specs.declared.judging.Judgement.TheVariants as judgements
+use Rattle.serf_conform.specs.Wanted.{is_unsupported}
+
+-- What is asked, and what is wanted
+
+-- the call
+unfoldable pub look_line : List ℕ
+look_line = codes "look\n"
+
+-- what an agent has that stores this
+abbrev pub look_of : ConcreteState → Look
+look_of s =
+    record {
+      member_clock = s.member_clock;
+      event_clock = s.events.clock;
+      query_clock = s.queries.clock;
+      event_minimum = s.events.minimum;
+      query_minimum = s.queries.minimum;
+      kept = unwrap_or s.snapshot.durable [];
+    }
+
+-- what the model's agent of these settings has after these calls
+abbrev pub look_after : Config → List AgentCall → Look
+look_after config made = look_of (view_of (alone config made).node.agent)
+
+-- the three clocks and the two least times
+unfoldable pub look_answer : Look → List ℕ
+look_answer look = codes "looked" ++ number_word look.member_clock ++ number_word look.event_clock ++ number_word look.query_clock
+    ++ number_word look.event_minimum ++ number_word look.query_minimum
+
+abbrev pub look_said : Look → Said
+look_said look = record { answer = look_answer look; lines = lines.Kept look.kept ∷ [] }
+
+-- When it is asked: behind an opening, behind each of these answers, and behind the last call.
+
+abbrev pub is_looked_behind : Answer → Bool
+is_looked_behind (answers.Refused refusal) = true
+is_looked_behind (answers.Restarted member_clock event_clock query_clock) = true
+is_looked_behind answers.Compacted = true
+is_looked_behind _ = false
+
+-- What agrees
+
+-- two texts are read as the same clock of a kind
+abbrev pub same_clock : ClockKind → List ℕ → List ℕ → Bool
+same_clock kind x y = last_clock kind x == last_clock kind y
+
+abbrev pub same_clocks : List ℕ → List ℕ → Bool
+same_clocks x y = same_clock clocks.Member x y && (same_clock clocks.Event x y && same_clock clocks.Query x y)
+
+-- By Serf's rules a text counts by the clocks that are read in it, and else by its bytes.
+abbrev pub kept_alike : Bool → List ℕ → List ℕ → Bool
+kept_alike serf wanted got = if serf then same_clocks wanted got else bytes_eq wanted got
+
+-- the text of a line that says what is kept
+abbrev pub kept_in : ReplyLine → Option (List ℕ)
+kept_in (lines.Kept text) = Some text
+kept_in (lines.Sent packet) = None
+kept_in (lines.Event time name payload coalesce) = None
+kept_in (lines.Handed index time id name payload) = None
+kept_in (lines.CountedAck time id from) = None
+kept_in (lines.CountedResponse time id from payload) = None
+
+-- the text of a reply's only line
+abbrev pub only_kept : List ReplyLine → Option (List ℕ)
+only_kept [] = None
+only_kept (line ∷ []) = kept_in line
+only_kept (line ∷ other ∷ rest) = None
+
+abbrev pub kept_means : Bool → List ℕ → Option (List ℕ) → Bool
+kept_means serf wanted None = false
+kept_means serf wanted (Some got) = kept_alike serf wanted got
+
+-- equal clocks and least times, and a text that is alike
+abbrev pub look_means : Bool → Look → Said → Bool
+look_means serf look said = bytes_eq (look_answer look) said.answer && kept_means serf look.kept (only_kept said.lines)
+
+-- a reply that can't be read differs
+abbrev pub look_judged : Bool → Look → Result Said BadLine → Judgement
+look_judged serf look (Err bad) = judgements.Differs
+look_judged serf look (Ok said) = if is_unsupported said then judgements.Unsupported else if look_means serf look said then judgements.Agrees else judgements.Differs

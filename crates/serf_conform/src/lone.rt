@@ -1,0 +1,169 @@
+//! The model's agent, which gets the calls of the agent that is held, and nothing else.
+
+ghost use Rattle.std.specs.Prelude.{◌≡◌, ◌++◌, ◌∷◌, List, [], IfOk, OnOk, Some, slice_get};
+ghost use Rattle.serf_agent.specs.declared.config.Config.{Config};
+ghost use Rattle.serf_model.specs.Alone.{AgentCall};
+ghost use Rattle.serf_conform.specs.Lone.{DoesAs, IsLone};
+ghost use Rattle.serf_conform.specs.Look.{is_looked_behind as looked_behind, look_after};
+ghost use Rattle.serf_conform.specs.Session.{due_if, due_of, made_after, turn_at};
+
+use crate::asking::{given_packet, is_of};
+use crate::look::{Look, is_looked_behind};
+use crate::verdict::ConformFault;
+use serf_agent::Config;
+use serf_model::{Act, Action, Answer, Line};
+use serf_wire::Bytes;
+use serf_world::{Roster, RosterFault, World};
+use std::alloc::Global;
+
+fn lone_roster(alloc: Global, config: &Config) -> Result<Roster, ConformFault>
+    ensures { IfOk result (λ roster. roster ≡ config.now ∷ []) }
+{
+    let Ok(copy) = config.try_clone(alloc) else {
+        return Err(ConformFault::OutOfMemory);
+    };
+    let mut roster = Roster::new(alloc);
+    match roster.add(alloc, copy) {
+        Ok(()) => Ok(roster),
+        Err(RosterFault::OutOfMemory) => Err(ConformFault::OutOfMemory),
+        Err(_) => Err(ConformFault::NoAgent),
+    }
+}
+
+/// The model's agent of these settings, on an empty snapshot. `NoAgent` where they are out of bounds.
+pub(crate) fn open_lone(alloc: Global, config: &Config) -> Result<World, ConformFault>
+    ensures { IfOk result (λ world. IsLone config.now [] world) }
+{
+    let roster = lone_roster(alloc, config)?;
+    match World::new(alloc, roster) {
+        Ok(world) => Ok(world),
+        Err(_) => Err(ConformFault::OutOfMemory),
+    }
+}
+
+/// The agent acts, by an act that does what this call does.
+fn act_lone(alloc: Global, world: &mut World, act: Act) -> Result<(), ConformFault>
+    ensures { (config : Config) (made : List AgentCall) (call : AgentCall)
+        → IsLone config made world.old → DoesAs world.old.sent act call
+        → OnOk result (IsLone config (made ++ call ∷ []) world.new) }
+{
+    match world.step(alloc, &Action::Of { agent: 0, act }) {
+        Ok(_) => Ok(()),
+        Err(_) => Err(ConformFault::OutOfMemory),
+    }
+}
+
+/// A packet is sent that the agent did not make, and its number is given.
+fn send_lone(alloc: Global, world: &mut World, given: &[u8]) -> Result<u64, ConformFault>
+    ensures lone { (config : Config) (made : List AgentCall) → IsLone config made world.old
+        → OnOk result (IsLone config made world.new) }
+    ensures sent { (config : Config) (made : List AgentCall) → IsLone config made world.old
+        → IfOk result (λ number. slice_get world.new.sent number ≡ Some given.now) }
+{
+    let number = world.sent().len() as u64;
+    let Ok(bytes) = Bytes::copy_of(alloc, given) else {
+        return Err(ConformFault::OutOfMemory);
+    };
+    match world.step(alloc, &Action::Inject { bytes }) {
+        Ok(_) => Ok(number),
+        Err(_) => Err(ConformFault::OutOfMemory),
+    }
+}
+
+/// The agent makes a call, which gives it this packet.
+fn call_lone(alloc: Global, world: &mut World, act: &Act, given: &[u8]) -> Result<(), ConformFault>
+    ensures { (config : Config) (made : List AgentCall) → IsLone config made world.old
+        → OnOk result (IsLone config
+        (made ++ record { act = act.now; given = Some given.now } ∷ []) world.new) }
+{
+    match act {
+        Act::Deliver { now, .. } => {
+            let packet = send_lone(alloc, world, given)?;
+            act_lone(alloc, world, Act::Deliver { packet, now: *now })
+        }
+        Act::Merge { join, .. } => {
+            let packet = send_lone(alloc, world, given)?;
+            act_lone(
+                alloc,
+                world,
+                Act::Merge {
+                    packet,
+                    join: *join,
+                },
+            )
+        }
+        _ => match act.try_clone(alloc) {
+            Ok(copy) => act_lone(alloc, world, copy),
+            Err(_) => Err(ConformFault::OutOfMemory),
+        },
+    }
+}
+
+/// What the agent has.
+pub(crate) fn look_at(alloc: Global, world: &World) -> Result<Look, ConformFault>
+    ensures { (config : Config) (made : List AgentCall) → IsLone config made world.now
+        → IfOk result (λ look. look ≡ look_after config made) }
+{
+    let Some(agent) = world.agent(0) else {
+        return Err(ConformFault::NoAgent);
+    };
+    let Ok(kept) = Bytes::copy_of(alloc, agent.sink().durable()) else {
+        return Err(ConformFault::OutOfMemory);
+    };
+    Ok(Look {
+        member_clock: agent.member_time(),
+        event_clock: agent.event_time(),
+        query_clock: agent.query_time(),
+        event_minimum: agent.event_minimum(),
+        query_minimum: agent.query_minimum(),
+        kept,
+    })
+}
+
+/// The look that is due behind a call of this answer.
+fn due_look(alloc: Global, world: &World, answer: Answer) -> Result<Option<Look>, ConformFault>
+    ensures { (config : Config) (made : List AgentCall) → IsLone config made world.now
+        → IfOk result (λ due. due ≡ due_if (looked_behind answer) (look_after config made)) }
+{
+    if is_looked_behind(answer) {
+        let look = look_at(alloc, world)?;
+        Ok(Some(look))
+    } else {
+        Ok(None)
+    }
+}
+
+/// The agent makes the call of a turn, where it is one of the agent of this number, and the look is given that is due
+/// behind it. So many packets were sent before; `OtherTrace` where there are fewer.
+pub(crate) fn follow_turn(
+    alloc: Global,
+    world: &mut World,
+    agent: u64,
+    action: &Action,
+    line: &Line,
+    sent: &[Bytes],
+    count: usize,
+) -> Result<Option<Look>, ConformFault>
+    ensures lone { (config : Config) (made : List AgentCall) → IsLone config made world.old
+        → OnOk result (IsLone config
+        (made_after agent (turn_at count sent.now action.now line.now) made) world.new) }
+    ensures due { (config : Config) (made : List AgentCall) → IsLone config made world.old
+        → IfOk result (λ due. due ≡ due_of agent config
+        (made_after agent (turn_at count sent.now action.now line.now) made)
+        (turn_at count sent.now action.now line.now)) }
+{
+    if count > sent.len() {
+        return Err(ConformFault::OtherTrace);
+    }
+    if !is_of(action, agent) {
+        return Ok(None);
+    }
+    let Some(given) = given_packet(action, &sent[..count]) else {
+        return Ok(None);
+    };
+    let Action::Of { act, .. } = action else {
+        return Ok(None);
+    };
+    call_lone(alloc, world, act, given)?;
+    due_look(alloc, world, line.answer)
+}

@@ -1,0 +1,180 @@
+//! What an agent has: its clocks, its least times, and what its disk keeps.
+
+ghost use Rattle.std.specs.Prelude.{◌≡◌, ◌++◌, ◌∷◌, [], IfOk, OnOk};
+ghost use Rattle.std.specs.Option.{option_copied};
+ghost use Rattle.serf_conform.specs.CallText.{number_word};
+ghost use Rattle.serf_conform.specs.Look.{is_looked_behind as looked_behind, kept_alike, kept_in, look_answer, look_judged, look_line as line_of_look, look_means, look_said, only_kept, same_clocks};
+ghost use Rattle.serf_conform.specs.Reply.{reply_of, said_in};
+ghost use Rattle.serf_conform.specs.Rules.{is_serf};
+
+use crate::judging::{Judgement, is_refused};
+use crate::put::put_number_word;
+use crate::reply::{Reply, ReplyFault, read_reply};
+use crate::reply_line::ReplyLine;
+use crate::verdict::Rules;
+use serf_model::Answer;
+use serf_snap::read_clocks;
+use serf_wire::Bytes;
+use std::alloc::{AllocError, Global};
+
+/// What an agent has.
+#[derive(Debug, Drop)]
+pub struct Look {
+    pub member_clock: u64,
+    pub event_clock: u64,
+    pub query_clock: u64,
+    /// The least time of an event that is taken.
+    pub event_minimum: u64,
+    /// The least time of a query that is taken.
+    pub query_minimum: u64,
+    /// The text that its disk keeps.
+    pub kept: Bytes,
+}
+
+/// The line of the call that asks for it.
+#[tactic(auto, unfolding(crate::specs::Look::look_line))]
+pub fn look_line() -> &'static [u8]
+    ensures { result.now ≡ line_of_look }
+{
+    b"look\n"
+}
+
+/// Whether it is asked for behind a call of this answer: behind a refusal, a restart and a compaction.
+pub fn is_looked_behind(answer: Answer) -> bool
+    ensures { result ≡ looked_behind answer }
+{
+    match answer {
+        Answer::Refused(_) => true,
+        Answer::Restarted { .. } => true,
+        Answer::Compacted => true,
+        _ => false,
+    }
+}
+
+/// Appends the answer that is wanted.
+#[tactic(auto, unfolding(crate::specs::Look::look_answer))]
+fn put_look_answer(out: &mut Vec<u8>, look: &Look) -> Result<(), AllocError>
+    ensures { OnOk result (out.new.items ≡ out.old.items ++ look_answer look.now) }
+{
+    out.extend_from_slice(b"looked")?;
+    put_number_word(out, look.member_clock)?;
+    put_number_word(out, look.event_clock)?;
+    put_number_word(out, look.query_clock)?;
+    put_number_word(out, look.event_minimum)?;
+    put_number_word(out, look.query_minimum)
+}
+
+fn answer_of(alloc: Global, look: &Look) -> Result<Vec<u8>, AllocError>
+    ensures { IfOk result (λ answer. answer.items ≡ look_answer look.now) }
+{
+    let mut out = Vec::new(alloc);
+    put_look_answer(&mut out, look)?;
+    Ok(out)
+}
+
+/// The reply that is wanted of an agent that has this. An `AllocError` comes only where there is no memory for it.
+pub fn look_reply(alloc: Global, look: &Look) -> Result<Reply, AllocError>
+    ensures { IfOk result (λ reply. said_in reply ≡ look_said look.now) }
+{
+    let answer = answer_of(alloc, look)?;
+    let kept = Bytes::copy_of(alloc, look.kept.as_slice())?;
+    let mut lines = Vec::new(alloc);
+    lines.push(ReplyLine::Kept(kept))?;
+    Ok(Reply {
+        answer: Bytes::from_vec(answer),
+        lines,
+    })
+}
+
+/// Whether the same clocks are read in two texts.
+fn have_same_clocks(one: &[u8], other: &[u8]) -> bool
+    ensures { result ≡ same_clocks one.now other.now }
+{
+    let wanted = read_clocks(one);
+    let got = read_clocks(other);
+    wanted.member_clock == got.member_clock
+        && wanted.event_clock == got.event_clock
+        && wanted.query_clock == got.query_clock
+}
+
+/// Whether a text that is kept is as it is wanted.
+fn is_kept_alike(rules: Rules, wanted: &[u8], got: &[u8]) -> bool
+    ensures { result ≡ kept_alike (is_serf rules) wanted.now got.now }
+{
+    if rules.is_serf() {
+        have_same_clocks(wanted, got)
+    } else {
+        wanted == got
+    }
+}
+
+/// The text of a line that says what is kept.
+fn kept_in(line: &ReplyLine) -> Option<&[u8]>
+    ensures { option_copied result ≡ kept_in line.now }
+{
+    match line {
+        ReplyLine::Kept(text) => Some(text.as_slice()),
+        ReplyLine::Sent(_) => None,
+        ReplyLine::Event { .. } => None,
+        ReplyLine::Handed { .. } => None,
+        ReplyLine::CountedAck { .. } => None,
+        ReplyLine::CountedResponse { .. } => None,
+    }
+}
+
+/// The text of a reply's only line.
+fn only_kept(lines: &[ReplyLine]) -> Option<&[u8]>
+    ensures { option_copied result ≡ only_kept lines.now }
+{
+    match lines {
+        [] => None,
+        [line, rest @ ..] => match rest {
+            [] => kept_in(line),
+            [_, ..] => None,
+        },
+    }
+}
+
+/// Whether a reply has the clocks and the least times that are wanted, and a text that is alike.
+fn is_wanted_look(alloc: Global, rules: Rules, look: &Look, got: &Reply) -> Result<bool, AllocError>
+    ensures { IfOk result (λ b. b
+        ≡ look_means (is_serf rules) look.now (said_in got.now)) }
+{
+    let answer = answer_of(alloc, look)?;
+    if answer.as_slice() != got.answer.as_slice() {
+        return Ok(false);
+    }
+    match only_kept(&got.lines) {
+        Some(text) => Ok(is_kept_alike(rules, look.kept.as_slice(), text)),
+        None => Ok(false),
+    }
+}
+
+/// What the text of a reply to `look` is against what is wanted: its clocks and least times are equal. So are the bytes
+/// of what is kept, or by Serf's rules the clocks that are read in it ([`serf_snap::read_clocks`]).
+///
+/// A reply that can't be read differs. An `AllocError` comes only where there is no memory to read or compare it.
+pub fn judge_look(
+    alloc: Global,
+    rules: Rules,
+    look: &Look,
+    text: &[u8],
+) -> Result<Judgement, AllocError>
+    ensures { IfOk result (λ j. j
+        ≡ look_judged (is_serf rules) look.now (reply_of text.now)) }
+{
+    match read_reply(alloc, text) {
+        Err(ReplyFault::BadLine { .. }) => Ok(Judgement::Differs),
+        Err(ReplyFault::OutOfMemory) => Err(AllocError),
+        Ok(reply) => {
+            if is_refused(&reply) {
+                return Ok(Judgement::Unsupported);
+            }
+            if is_wanted_look(alloc, rules, look, &reply)? {
+                Ok(Judgement::Agrees)
+            } else {
+                Ok(Judgement::Differs)
+            }
+        }
+    }
+}

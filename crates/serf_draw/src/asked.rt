@@ -1,0 +1,199 @@
+//! Which part of a run is drawn.
+
+ghost use Rattle.std.specs.Prelude.{◌≡◌, ◌==◌, ◌&&◌, ◌||◌, ◌++◌, ◌∷◌, [], IfOk, OnOk, filter};
+ghost use Rattle.std.specs.List.{list_any};
+ghost use Rattle.std.specs.Option.{option_copied};
+ghost use Rattle.serf_model.specs.Trace.{actor_of};
+ghost use Rattle.serf_draw.specs.Asked.{act_names, action_names, hands_out, has_name, is_chosen, is_kept, is_taken as is_taken_answer, missing_agent, named, names, packet_brings, shows};
+
+use serf_model::{Act, Action, Answer, EventLine, EventLines, Line};
+use serf_wire::{Bytes, Message, decode};
+use std::alloc::{AllocError, Global};
+
+/// Which part of a run is drawn: the actions from one number to another; of them those of some agents, or of all where
+/// none is named; of them those that were neither ignored nor refused, where `taken` asks for that; and of them those
+/// that fire, inject, deliver or hand out an event of a name, where one is given.
+#[derive(Debug, Drop)]
+pub struct Asked {
+    pub agents: Vec<u64>,
+    pub from: u64,
+    pub to: u64,
+    pub taken: bool,
+    pub event: Option<Bytes>,
+}
+
+/// Whether a number is among these.
+fn is_among(numbers: &[u64], number: u64) -> bool
+    ensures { result ≡ list_any (λ n. n == number) numbers.now }
+{
+    numbers.iter().any(|n| *n == number)
+}
+
+/// Whether an action was neither ignored nor refused.
+fn is_taken(answer: Answer) -> bool
+    ensures { result ≡ is_taken_answer answer }
+{
+    match answer {
+        Answer::Ignored(_) => false,
+        Answer::Refused(_) => false,
+        _ => true,
+    }
+}
+
+/// Whether a packet is an event of this name.
+fn is_event_of(name: &[u8], packet: &[u8]) -> bool
+    ensures { result ≡ packet_brings name.now (Some packet.now) }
+{
+    match decode(packet) {
+        Ok(Message::UserEvent(event)) => event.name == name,
+        _ => false,
+    }
+}
+
+fn act_is_of(name: &[u8], act: &Act, given: Option<&[u8]>) -> bool
+    ensures { result ≡ act_names name.now act.now (option_copied given.entry) }
+{
+    match act {
+        Act::Fire { name: fired, .. } => fired.as_slice() == name,
+        Act::Deliver { .. } => match given {
+            Some(packet) => is_event_of(name, packet),
+            None => false,
+        },
+        _ => false,
+    }
+}
+
+/// Whether an action fires, injects or delivers an event of this name, where this packet is given.
+fn action_is_of(name: &[u8], action: &Action, given: Option<&[u8]>) -> bool
+    ensures { result ≡ action_names name.now action.now (option_copied given.entry) }
+{
+    match action {
+        Action::Inject { bytes } => is_event_of(name, bytes.as_slice()),
+        Action::Of { act, .. } => act_is_of(name, act, given),
+    }
+}
+
+/// Whether an event that was handed out has this name.
+fn is_named(name: &[u8], event: &EventLine) -> bool
+    ensures { result ≡ has_name name.now event.now }
+{
+    event.name.as_slice() == name
+}
+
+/// Whether one of these events has this name.
+fn any_named(name: &[u8], events: &[EventLine]) -> bool
+    ensures { result ≡ list_any (has_name name.now) events.now }
+{
+    events.iter().any(|event| event.name.as_slice() == name)
+}
+
+/// Adds an event, where it has this name.
+fn add_named(events: &mut Vec<EventLine>, name: &[u8], event: EventLine) -> Result<(), AllocError>
+    ensures { OnOk result (events.new.items ≡ events.old.items
+        ++ filter (has_name name.now) (event ∷ [])) }
+{
+    if is_named(name, &event) {
+        events.push(event)?;
+    }
+    Ok(())
+}
+
+/// Those of these events that have this name.
+fn those_named(
+    alloc: Global,
+    name: &[u8],
+    events: Vec<EventLine>,
+) -> Result<Vec<EventLine>, AllocError>
+    ensures { IfOk result (λ those. those.items ≡ filter (has_name name.now) events.items) }
+{
+    let mut those = Vec::new(alloc);
+    for event in events {
+        add_named(&mut those, name, event)?;
+    }
+    Ok(those)
+}
+
+impl Asked {
+    /// Whether an agent has a lane. Takes no memory.
+    pub(crate) fn is_chosen(&self, agent: u64) -> bool
+        ensures { result ≡ is_chosen self.now.agents.items agent }
+    {
+        if self.agents.is_empty() {
+            return true;
+        }
+        is_among(self.agents.as_slice(), agent)
+    }
+
+    /// Whether an action of an agent, or of none, is in the range and of an agent that is drawn. Takes no memory.
+    fn shows(&self, action: u64, agent: Option<u64>) -> bool
+        ensures { result ≡ shows self.now.agents.items self.now.from self.now.to action agent }
+    {
+        if action < self.from || self.to < action {
+            return false;
+        }
+        match agent {
+            Some(agent) => self.is_chosen(agent),
+            None => self.agents.is_empty(),
+        }
+    }
+
+    /// The first agent that is named and isn't among so many, which are numbered from 0. Takes no memory.
+    pub(crate) fn missing_agent(&self, count: u64) -> Option<u64>
+        ensures { result ≡ missing_agent self.now.agents.items count }
+    {
+        self.agents.iter().copied().find(|agent| count <= *agent)
+    }
+
+    /// Whether an action's answer leaves it drawn. Takes no memory.
+    fn keeps(&self, answer: Answer) -> bool
+        ensures { result ≡ is_kept self.now.taken answer }
+    {
+        !self.taken || is_taken(answer)
+    }
+
+    /// Whether an action fires, injects or delivers an event that is asked for, where this packet is given. Takes no memory.
+    pub(crate) fn names(&self, action: &Action, given: Option<&[u8]>) -> bool
+        ensures { result ≡ names self.now.event action.now (option_copied given.entry) }
+    {
+        match &self.event {
+            Some(name) => action_is_of(name.as_slice(), action, given),
+            None => true,
+        }
+    }
+
+    /// Whether one of these events is asked for. Takes no memory.
+    fn hands_out(&self, events: &[EventLine]) -> bool
+        ensures { result ≡ hands_out self.now.event events.now }
+    {
+        match &self.event {
+            Some(name) => any_named(name.as_slice(), events),
+            None => true,
+        }
+    }
+
+    /// Whether an action is drawn of which this came, where it is known whether it names an event that is asked for.
+    /// Takes no memory.
+    pub(crate) fn draws(&self, number: u64, action: &Action, is_named: bool, line: &Line) -> bool
+        ensures { result ≡ (shows self.now.agents.items self.now.from self.now.to number
+            (actor_of action.now) && is_kept self.now.taken line.now.answer
+            && (is_named || hands_out self.now.event line.now.events)) }
+    {
+        self.shows(number, action.actor())
+            && self.keeps(line.answer)
+            && (is_named || self.hands_out(line.events.as_slice()))
+    }
+
+    /// Those of these events that are asked for.
+    pub(crate) fn named(
+        &self,
+        alloc: Global,
+        events: EventLines,
+    ) -> Result<Vec<EventLine>, AllocError>
+        ensures { IfOk result (λ those. those.items ≡ named self.now.event events) }
+    {
+        match &self.event {
+            Some(name) => those_named(alloc, name.as_slice(), events.into_vec()),
+            None => Ok(events.into_vec()),
+        }
+    }
+}

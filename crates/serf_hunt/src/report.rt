@@ -1,0 +1,194 @@
+//! The report of agents that were held, for machines: a JSON object a line.
+
+ghost use Rattle.std.specs.Prelude.{◌≡◌, ◌++◌, ◌<◌, OnOk};
+ghost use Rattle.std.specs.List.{flat_map};
+ghost use Rattle.serf_hunt.specs.Report.{disagreement_text, hex_digit as hex_digit_of, json_byte, json_text, kind_text, name_text, object_text, seed_text, sums_text};
+ghost use Rattle.serf_hunt.specs.Members.{member_text};
+
+use serf_text::put_number;
+use std::alloc::AllocError;
+
+/// Where an agent did otherwise than the reference.
+#[derive(Clone, Copy, Debug)]
+pub struct Disagreement<'a> {
+    /// The seed of the schedule; `None` where it came from a file.
+    pub seed: Option<u64>,
+    /// The agent's number.
+    pub agent: u64,
+    /// How many of its calls agree before.
+    pub agreed: u64,
+    /// The number of the action, counted from 1; 0 for the opening.
+    pub action: u64,
+    /// The line of the schedule, counted from 1; 0 for the opening.
+    pub line: u64,
+    /// The call, without its newline.
+    pub call: &'a [u8],
+    /// The lines of the reply that was wanted, with newlines between them.
+    pub wanted: &'a [u8],
+    /// The lines of the reply that came; none where the agent ended.
+    pub got: &'a [u8],
+    /// Whether the agent ended in place of a reply.
+    pub has_ended: bool,
+}
+
+/// What came of all agents together.
+#[derive(Clone, Copy, Debug)]
+pub struct Sums {
+    /// How many seeds, or 1 for the schedule of a file, were held to their end.
+    pub schedules: u64,
+    /// How many calls agree.
+    pub calls: u64,
+    /// How many agents did otherwise.
+    pub disagreements: u64,
+    /// The status with which the command ends.
+    pub status: u64,
+}
+
+/// A member of an object: its name and its value.
+#[derive(Clone, Copy)]
+pub(crate) enum Member<'a> {
+    Number(&'a [u8], u64),
+    Text(&'a [u8], &'a [u8]),
+    Null(&'a [u8]),
+}
+
+/// A digit of hex, in lower case.
+fn hex_digit(digit: u8) -> u8
+    requires { digit < 16 }
+    ensures { result ≡ hex_digit_of digit }
+{
+    if digit < 10 { 48 + digit } else { 87 + digit }
+}
+
+/// Appends a byte as it stands in a JSON text: a quote or a backslash behind a backslash, and one that is no printable ASCII
+/// by its number.
+fn put_json_byte(out: &mut Vec<u8>, byte: u8) -> Result<(), AllocError>
+    ensures { OnOk result (out.new.items ≡ out.old.items ++ json_byte byte) }
+{
+    if byte == b'"' || byte == b'\\' {
+        out.extend_from_slice(&[b'\\', byte])
+    } else if byte < 32 || 126 < byte {
+        let (high, low) = (hex_digit(byte / 16), hex_digit(byte % 16));
+        out.extend_from_slice(&[b'\\', b'u', b'0', b'0', high, low])
+    } else {
+        out.extend_from_slice(&[byte])
+    }
+}
+
+fn put_json_bytes(out: &mut Vec<u8>, text: &[u8]) -> Result<(), AllocError>
+    ensures { OnOk result (out.new.items ≡ out.old.items ++ flat_map json_byte text.now) }
+{
+    for byte in text {
+        put_json_byte(out, *byte)?;
+    }
+    Ok(())
+}
+
+/// Appends a JSON text.
+fn put_json_text(out: &mut Vec<u8>, text: &[u8]) -> Result<(), AllocError>
+    ensures { OnOk result (out.new.items ≡ out.old.items ++ json_text text.now) }
+{
+    out.extend_from_slice(b"\"")?;
+    put_json_bytes(out, text)?;
+    out.extend_from_slice(b"\"")
+}
+
+/// Appends a comma and a member's name.
+fn put_name(out: &mut Vec<u8>, name: &[u8]) -> Result<(), AllocError>
+    ensures { OnOk result (out.new.items ≡ out.old.items ++ name_text name.now) }
+{
+    out.extend_from_slice(b",\"")?;
+    out.extend_from_slice(name)?;
+    out.extend_from_slice(b"\":")
+}
+
+fn put_member(out: &mut Vec<u8>, member: Member) -> Result<(), AllocError>
+    ensures { OnOk result (out.new.items ≡ out.old.items ++ member_text member.entry) }
+{
+    match member {
+        Member::Number(name, number) => {
+            put_name(out, name)?;
+            put_number(out, number)
+        }
+        Member::Text(name, text) => {
+            put_name(out, name)?;
+            put_json_text(out, text)
+        }
+        Member::Null(name) => {
+            put_name(out, name)?;
+            out.extend_from_slice(b"null")
+        }
+    }
+}
+
+fn put_members(out: &mut Vec<u8>, members: &[Member]) -> Result<(), AllocError>
+    ensures { OnOk result (out.new.items ≡ out.old.items ++ flat_map member_text members.now) }
+{
+    for member in members {
+        put_member(out, *member)?;
+    }
+    Ok(())
+}
+
+/// Appends the line of an object of this kind and these members.
+fn put_object(out: &mut Vec<u8>, kind: &[u8], members: &[Member]) -> Result<(), AllocError>
+    ensures { OnOk result (out.new.items ≡ out.old.items
+        ++ object_text kind.now (flat_map member_text members.now)) }
+{
+    out.extend_from_slice(b"{\"report\":")?;
+    put_json_text(out, kind)?;
+    put_members(out, members)?;
+    out.extend_from_slice(b"}\n")
+}
+
+fn seed_in<'a>(seed: Option<u64>) -> Member<'a>
+    ensures { member_text result ≡ seed_text seed }
+{
+    match seed {
+        Some(seed) => Member::Number(b"seed", seed),
+        None => Member::Null(b"seed"),
+    }
+}
+
+/// What an object tells: that an agent ended, or replied otherwise.
+fn kind_of(has_ended: bool) -> &'static [u8]
+    ensures { result.now ≡ kind_text has_ended }
+{
+    if has_ended { b"ended" } else { b"differs" }
+}
+
+/// Appends the line that tells of a disagreement: a JSON object with the members `report` (`differs`, or `ended`), `seed`,
+/// `agent`, `agreed`, `action`, `line`, `call`, `wanted` and `got`. After an `AllocError`, which comes where there is no memory for
+/// it, `out` may have a front of it.
+#[tactic(auto, unfolding(crate::specs::Report::disagreement_text))]
+pub fn put_disagreement(out: &mut Vec<u8>, told: &Disagreement) -> Result<(), AllocError>
+    ensures { OnOk result (out.new.items ≡ out.old.items ++ disagreement_text told.now) }
+{
+    let members = [
+        seed_in(told.seed),
+        Member::Number(b"agent", told.agent),
+        Member::Number(b"agreed", told.agreed),
+        Member::Number(b"action", told.action),
+        Member::Number(b"line", told.line),
+        Member::Text(b"call", told.call),
+        Member::Text(b"wanted", told.wanted),
+        Member::Text(b"got", told.got),
+    ];
+    put_object(out, kind_of(told.has_ended), &members)
+}
+
+/// Appends the line that ends a report: a JSON object with the members `report` (`end`), `schedules`, `calls`,
+/// `disagreements` and `status`. After an `AllocError`, which comes where there is no memory for it, `out` may have a
+/// front of it.
+#[tactic(auto, unfolding(crate::specs::Report::sums_text))]
+pub fn put_sums(out: &mut Vec<u8>, sums: &Sums) -> Result<(), AllocError>
+    ensures { OnOk result (out.new.items ≡ out.old.items ++ sums_text sums.now) }
+{
+    let members = [
+        Member::Number(b"schedules", sums.schedules),
+        Member::Number(b"calls", sums.calls),
+        Member::Number(b"disagreements", sums.disagreements),
+        Member::Number(b"status", sums.status),
+    ];
+    put_object(out, b"end", &members)
+}

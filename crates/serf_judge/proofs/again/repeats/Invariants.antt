@@ -1,0 +1,7 @@
+use Rattle.std.proofs.Common.{take}
+use Rattle.std.specs.HashSet.{contains}
+use Rattle.serf_judge.specs.Seen.{AreRepeats}
+use Rattle.serf_judge.proofs.again.repeats.Given as goal
+
+abbrev pub invariant-loop-line : goal.invariant-loop-line
+invariant-loop-line g l = AreRepeats g.K.PartialEq.eq (take l.line-index l.lines) l.found.items (contains g.K.PartialEq.eq l.noted)

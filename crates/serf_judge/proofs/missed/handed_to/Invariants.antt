@@ -1,0 +1,6 @@
+use Rattle.std.proofs.Common.{take}
+use Rattle.serf_judge.specs.Handed.{HasHanded}
+use Rattle.serf_judge.proofs.missed.handed_to.Given as goal
+
+abbrev pub invariant-loop-entry : goal.invariant-loop-entry
+invariant-loop-entry l = HasHanded (take l.entry-index l.entries) l.handed

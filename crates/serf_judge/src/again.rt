@@ -1,0 +1,84 @@
+//! What stands in a list again, and what stands there first, by hashes.
+
+ghost use Rattle.std.specs.Prelude.{◌≡◌, ◌++◌, ◌∷◌, [], IfOk, List, OnOk, map};
+ghost use Rattle.std.specs.HashSet.{contains};
+ghost use Rattle.serf_judge.specs.Again.{firsts_of, repeats_of};
+ghost use Rattle.serf_judge.specs.Seen.{AreFirsts, AreRepeats};
+ghost use Rattle.serf_judge.specs.declared.again.Keyed.{Keyed as Line};
+
+use crate::tally::Handed;
+use std::alloc::{AllocError, Global};
+use std::collections::HashSet;
+use std::hash::Hash;
+
+/// A line that hands something to a node, and a key of what it hands.
+#[derive(Clone, Copy)]
+pub(crate) struct Keyed<'a, K> {
+    pub(crate) key: K,
+    pub(crate) handed: Handed<'a>,
+}
+
+/// Notes a key, and keeps it where none that is noted equals it.
+fn keep_first<K: Eq + Hash + Copy>(
+    noted: &mut HashSet<K>,
+    found: &mut Vec<K>,
+    key: K,
+) -> Result<(), AllocError>
+    ensures { (keys : List K) → AreFirsts K.eq keys found.old.items (contains K.eq noted.old)
+        → OnOk result (AreFirsts K.eq (keys ++ key ∷ []) found.new.items
+        (contains K.eq noted.new)) }
+{
+    let is_new = noted.insert(key)?;
+    if !is_new {
+        return Ok(());
+    }
+    found.push(key)?;
+    Ok(())
+}
+
+/// Those of some keys that equal none in front of them, in order.
+pub(crate) fn firsts<K: Eq + Hash + Copy>(alloc: Global, keys: &[K]) -> Result<Vec<K>, AllocError>
+    ensures { IfOk result (λ found. found.items ≡ firsts_of K.eq keys.now) }
+{
+    let mut noted = HashSet::new(alloc);
+    let mut found = Vec::new(alloc);
+    for key in keys {
+        keep_first(&mut noted, &mut found, *key)?;
+    }
+    Ok(found)
+}
+
+/// Notes a line's key, and keeps the line where one that is noted equals it.
+fn keep_repeat<'a, K: Eq + Hash + Copy>(
+    noted: &mut HashSet<K>,
+    found: &mut Vec<Handed<'a>>,
+    line: &Keyed<'a, K>,
+) -> Result<(), AllocError>
+    ensures { (lines : List (Line K))
+        → AreRepeats K.eq lines found.old.items (contains K.eq noted.old)
+        → OnOk result (AreRepeats K.eq (lines ++ line.now ∷ []) found.new.items
+        (contains K.eq noted.new)) }
+{
+    let is_new = noted.insert(line.key)?;
+    if is_new {
+        return Ok(());
+    }
+    found.push(line.handed)?;
+    Ok(())
+}
+
+/// The lines whose key equals that of a line in front of them, in order.
+pub(crate) fn repeats<'a, K: Eq + Hash + Copy>(
+    alloc: Global,
+    lines: &[Keyed<'a, K>],
+) -> Result<Vec<Handed<'a>>, AllocError>
+    ensures { IfOk result (λ found. found.items
+        ≡ map (λ l. l.handed) (repeats_of (λ x y. K.eq x.key y.key) lines.entry.now)) }
+{
+    let mut noted = HashSet::new(alloc);
+    let mut found = Vec::new(alloc);
+    for line in lines {
+        keep_repeat(&mut noted, &mut found, line)?;
+    }
+    Ok(found)
+}

@@ -1,0 +1,182 @@
+//! Which events some node was never handed.
+
+ghost use Rattle.std.specs.Prelude.{◌≡◌, ◌+◌, ◌≤◌, ◌++◌, ◌∷◌, [], IfOk, List, OnOk, filter, length, map, not, take};
+ghost use Rattle.serf_judge.specs.declared.entry.EventEntry.{EventEntry as Entry};
+ghost use Rattle.serf_judge.specs.Fired.{content_of, key_content};
+ghost use Rattle.serf_judge.specs.Handed.{HasHanded};
+ghost use Rattle.serf_judge.specs.Missed.{contents_of, has_nodes, missed_of, missing_at, missing_view, was_handed};
+ghost use Rattle.serf_judge.specs.Nodes.{texts_of};
+
+use crate::again::firsts;
+use crate::entry::EventEntry;
+use crate::fired::{ContentKey, content_key};
+use crate::key::{EventKey, key_of};
+use crate::nodes::event_receivers;
+use std::alloc::{AllocError, Global};
+use std::collections::HashSet;
+
+/// An event that some node was never handed.
+#[derive(Debug, Drop)]
+pub struct MissedEvent<'a> {
+    pub time: u64,
+    pub name: &'a [u8],
+    pub payload: &'a [u8],
+    /// The nodes that never had it, or the first of them.
+    pub nodes: Vec<&'a [u8]>,
+}
+
+/// What a log says of the events that some node was never handed.
+#[derive(Debug, Drop)]
+pub struct Missed<'a> {
+    /// How many events were handed out. One that came to many nodes, or again, counts once.
+    pub events: usize,
+    pub missed: Vec<MissedEvent<'a>>,
+}
+
+fn content_keys<'a>(
+    alloc: Global,
+    entries: &'a [EventEntry],
+) -> Result<Vec<ContentKey<'a>>, AllocError>
+    ensures { IfOk result (λ keys. map key_content keys.items ≡ map content_of entries.entry.now) }
+{
+    let mut keys = Vec::new(alloc);
+    for entry in entries {
+        keys.push(content_key(entry))?;
+    }
+    Ok(keys)
+}
+
+/// Each event once.
+fn contents<'a>(alloc: Global, entries: &'a [EventEntry]) -> Result<Vec<ContentKey<'a>>, AllocError>
+    ensures { IfOk result (λ events. map key_content events.items
+        ≡ contents_of entries.entry.now) }
+{
+    let keys = content_keys(alloc, entries)?;
+    firsts(alloc, keys.as_slice())
+}
+
+/// Notes what each node was handed.
+fn handed_to<'a>(
+    alloc: Global,
+    entries: &'a [EventEntry],
+) -> Result<HashSet<EventKey<'a>>, AllocError>
+    ensures { IfOk result (HasHanded entries.entry.now) }
+{
+    let mut handed = HashSet::new(alloc);
+    for entry in entries {
+        let _ = handed.insert(key_of(entry))?;
+    }
+    Ok(handed)
+}
+
+fn is_missing<'a>(handed: &HashSet<EventKey<'a>>, event: ContentKey<'a>, node: &'a [u8]) -> bool
+    ensures { (events : List Entry) → HasHanded events handed.now
+        → result ≡ not (was_handed events (key_content event.entry) node.now) }
+{
+    let key = EventKey {
+        node,
+        time: event.time,
+        name: event.name,
+        payload: event.payload,
+    };
+    !handed.contains(&key)
+}
+
+/// Puts a node behind the others, where it was never handed an event.
+fn keep_missing<'a>(
+    handed: &HashSet<EventKey<'a>>,
+    missing: &mut Vec<&'a [u8]>,
+    event: ContentKey<'a>,
+    node: &'a [u8],
+) -> Result<(), AllocError>
+    ensures kept { (events : List Entry) → HasHanded events handed.now
+        → OnOk result (texts_of missing.new.items ≡ texts_of missing.old.items
+        ++ filter (λ n. not (was_handed events (key_content event.entry) n)) (node.now ∷ [])) }
+    ensures few { OnOk result (length missing.new.items ≤ length missing.old.items + 1) }
+{
+    let is_wanted = is_missing(handed, event, node);
+    if !is_wanted {
+        return Ok(());
+    }
+    missing.push(node)?;
+    Ok(())
+}
+
+/// At most so many of the nodes that were never handed an event.
+fn missing_nodes<'a>(
+    alloc: Global,
+    handed: &HashSet<EventKey<'a>>,
+    nodes: &[&'a [u8]],
+    event: ContentKey<'a>,
+    most: usize,
+) -> Result<Vec<&'a [u8]>, AllocError>
+    ensures { (events : List Entry) → HasHanded events handed.entry.now
+        → IfOk result (λ missing. texts_of missing.items
+        ≡ take most (filter (λ n. not (was_handed events (key_content event.entry) n))
+        (texts_of nodes.entry.now))) }
+{
+    let mut missing = Vec::new(alloc);
+    for node in nodes {
+        let is_full = missing.as_slice().len() == most;
+        if is_full {
+            return Ok(missing);
+        }
+        keep_missing(handed, &mut missing, event, *node)?;
+    }
+    Ok(missing)
+}
+
+/// Puts an event behind the others, where some node never had it.
+fn put_missed<'a>(
+    missed: &mut Vec<MissedEvent<'a>>,
+    event: ContentKey<'a>,
+    nodes: Vec<&'a [u8]>,
+) -> Result<(), AllocError>
+    ensures { OnOk result (map missing_view missed.new.items
+        ≡ map missing_view missed.old.items ++ filter has_nodes
+        (missing_at (key_content event.entry) (texts_of nodes.entry.items) ∷ [])) }
+{
+    let is_had = nodes.as_slice().is_empty();
+    if is_had {
+        return Ok(());
+    }
+    missed.push(MissedEvent {
+        time: event.time,
+        name: event.name,
+        payload: event.payload,
+        nodes,
+    })?;
+    Ok(())
+}
+
+/// Each event that some node was never handed, in the order in which they come first in a log, with these nodes: of the
+/// nodes that were handed any event, in their order. At most `most` nodes are given for each event, and so none where
+/// `most` is 0.
+///
+/// Each entry is looked up once by its hash, and each event once for each node up to the last that is given. It is an
+/// `AllocError` only where there is no memory for that.
+pub fn missed_events<'a>(
+    alloc: Global,
+    entries: &'a [EventEntry],
+    most: usize,
+) -> Result<Missed<'a>, AllocError>
+    ensures events { IfOk result (λ said. said.events
+        ≡ length (contents_of entries.entry.now)) }
+    ensures missed { IfOk result (λ said. map missing_view said.missed.items
+        ≡ missed_of most entries.entry.now) }
+{
+    let events = contents(alloc, entries)?;
+    let nodes = event_receivers(alloc, entries)?;
+    let handed = handed_to(alloc, entries)?;
+    let receivers = nodes.as_slice();
+    let all = events.as_slice();
+    let mut missed = Vec::new(alloc);
+    for event in all {
+        let missing = missing_nodes(alloc, &handed, receivers, *event, most)?;
+        put_missed(&mut missed, *event, missing)?;
+    }
+    Ok(Missed {
+        events: all.len(),
+        missed,
+    })
+}

@@ -1,0 +1,83 @@
+//! The nodes that a log names.
+
+ghost use Rattle.std.specs.Prelude.{◌≡◌, ◌++◌, IfOk, OnOk};
+ghost use Rattle.serf_judge.specs.Again.{firsts_of};
+ghost use Rattle.serf_judge.specs.Nodes.{event_nodes, event_receivers_of, log_nodes_of, query_nodes, query_receivers_of, texts_of};
+ghost use Rattle.std.specs.Str.{bytes_eq};
+
+use crate::again::firsts;
+use crate::entry::{EventEntry, QueryEntry};
+use crate::log::Log;
+use std::alloc::{AllocError, Global};
+
+fn add_event_nodes<'a>(
+    nodes: &mut Vec<&'a [u8]>,
+    entries: &'a [EventEntry],
+) -> Result<(), AllocError>
+    ensures { OnOk result (texts_of nodes.new.items
+        ≡ texts_of nodes.old.items ++ event_nodes entries.entry.now) }
+{
+    for entry in entries {
+        nodes.push(entry.node.as_slice())?;
+    }
+    Ok(())
+}
+
+fn add_query_nodes<'a>(
+    nodes: &mut Vec<&'a [u8]>,
+    entries: &'a [QueryEntry],
+) -> Result<(), AllocError>
+    ensures { OnOk result (texts_of nodes.new.items
+        ≡ texts_of nodes.old.items ++ query_nodes entries.entry.now) }
+{
+    for entry in entries {
+        nodes.push(entry.node.as_slice())?;
+    }
+    Ok(())
+}
+
+/// Each of some nodes once.
+pub(crate) fn each_once<'a>(alloc: Global, nodes: &[&'a [u8]]) -> Result<Vec<&'a [u8]>, AllocError>
+    ensures { IfOk result (λ once. texts_of once.items
+        ≡ firsts_of bytes_eq (texts_of nodes.entry.now)) }
+{
+    firsts(alloc, nodes)
+}
+
+/// Each node that was handed one of these events, once, in the order in which they come first.
+///
+/// Each entry is looked up once by its hash. It is an `AllocError` only where there is no memory for that.
+pub fn event_receivers<'a>(
+    alloc: Global,
+    entries: &'a [EventEntry],
+) -> Result<Vec<&'a [u8]>, AllocError>
+    ensures { IfOk result (λ nodes. texts_of nodes.items ≡ event_receivers_of entries.entry.now) }
+{
+    let mut nodes = Vec::new(alloc);
+    add_event_nodes(&mut nodes, entries)?;
+    each_once(alloc, nodes.as_slice())
+}
+
+/// As [`event_receivers`], of queries.
+pub fn query_receivers<'a>(
+    alloc: Global,
+    entries: &'a [QueryEntry],
+) -> Result<Vec<&'a [u8]>, AllocError>
+    ensures { IfOk result (λ nodes. texts_of nodes.items ≡ query_receivers_of entries.entry.now) }
+{
+    let mut nodes = Vec::new(alloc);
+    add_query_nodes(&mut nodes, entries)?;
+    each_once(alloc, nodes.as_slice())
+}
+
+/// Each node that a log names, once: as one that was handed an event or a query, or that fired an event. It takes the
+/// time and has the faults of [`event_receivers`].
+pub fn log_nodes<'a>(alloc: Global, log: &'a Log) -> Result<Vec<&'a [u8]>, AllocError>
+    ensures { IfOk result (λ nodes. texts_of nodes.items ≡ log_nodes_of log.entry.now) }
+{
+    let mut nodes = Vec::new(alloc);
+    add_event_nodes(&mut nodes, log.events.as_slice())?;
+    add_query_nodes(&mut nodes, log.queries.as_slice())?;
+    add_event_nodes(&mut nodes, log.fired.as_slice())?;
+    each_once(alloc, nodes.as_slice())
+}

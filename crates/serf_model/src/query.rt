@@ -1,0 +1,57 @@
+//! A query that an agent fires.
+
+ghost use Rattle.std.specs.Prelude.{◌≡◌, IfOk};
+
+use serf_agent::{BytesList, QueryParams};
+use serf_wire::Bytes;
+use std::alloc::{AllocError, Global};
+
+/// A query before it is fired.
+#[derive(Debug, Drop)]
+pub struct NewQuery {
+    /// When it is fired, in nanoseconds.
+    pub moment: u64,
+    pub id: u32,
+    pub name: Bytes,
+    pub payload: Bytes,
+    pub params: QueryParams,
+}
+
+impl NewQuery {
+    /// A copy, or `AllocError` where there is no memory for it.
+    pub fn try_clone(&self, alloc: Global) -> Result<NewQuery, AllocError>
+        ensures { IfOk result (λ copy. copy ≡ self.now) }
+    {
+        Ok(NewQuery {
+            moment: self.moment,
+            id: self.id,
+            name: Bytes::copy_of(alloc, self.name.as_slice())?,
+            payload: Bytes::copy_of(alloc, self.payload.as_slice())?,
+            params: copy_params(alloc, &self.params)?,
+        })
+    }
+}
+
+fn copy_lists(alloc: Global, lists: &[Bytes]) -> Result<BytesList, AllocError>
+    ensures { IfOk result (λ copies. copies ≡ lists.now) }
+{
+    let mut copies = Vec::new(alloc);
+    for list in lists {
+        copies.push(Bytes::copy_of(alloc, list.as_slice())?)?;
+    }
+    Ok(BytesList::from_vec(copies))
+}
+
+fn copy_params(alloc: Global, params: &QueryParams) -> Result<QueryParams, AllocError>
+    ensures { IfOk result (λ copy. copy ≡ params.now) }
+{
+    Ok(QueryParams {
+        filters: copy_lists(alloc, params.filters.as_slice())?,
+        want_ack: params.want_ack,
+        no_broadcast: params.no_broadcast,
+        timeout: params.timeout,
+        addr: Bytes::copy_of(alloc, params.addr.as_slice())?,
+        port: params.port,
+        relay_factor: params.relay_factor,
+    })
+}

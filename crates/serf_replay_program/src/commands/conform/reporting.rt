@@ -1,0 +1,122 @@
+//! `conform --report`: what came of each agent, for machines, in a file.
+
+use crate::ending::{DEVICE, DONE, REFUSED, write_failed};
+use serf_conform::{End, Verdict};
+use serf_hunt::{Counts, Disagreement, Sums, no_counts, put_disagreement, put_sums};
+use std::alloc::{AllocError, Global};
+use std::fs;
+use std::rt::Files;
+
+/// A report as it grows, and where it goes.
+#[derive(Drop)]
+pub(super) struct Reporting<'a> {
+    /// Its file; `None` where no report is asked for.
+    path: Option<&'a str>,
+    text: Vec<u8>,
+    /// The sums over the agents that were held.
+    pub(super) counts: Counts,
+    disagreements: u64,
+    /// Whether memory ran out for a line.
+    is_cut: bool,
+}
+
+impl<'a> Reporting<'a> {
+    /// A report of nothing.
+    pub(super) fn new(alloc: Global, path: Option<&'a str>) -> Reporting<'a> {
+        Reporting {
+            path,
+            text: Vec::new(alloc),
+            counts: no_counts(),
+            disagreements: 0,
+            is_cut: false,
+        }
+    }
+
+    /// Adds where an agent did otherwise. Its reply stands in the verdict.
+    pub(super) fn add(
+        &mut self,
+        seed: Option<u64>,
+        agent: u64,
+        line: u64,
+        call: &[u8],
+        wanted: &[u8],
+        verdict: &Verdict,
+    ) {
+        let (got, has_ended): (&[u8], bool) = match &verdict.end {
+            End::Differs(got) => (got.as_slice(), false),
+            _ => (&[], true),
+        };
+        let told = Disagreement {
+            seed,
+            agent,
+            agreed: verdict.calls,
+            action: verdict.action,
+            line,
+            call,
+            wanted,
+            got,
+            has_ended,
+        };
+        self.disagreements = self.disagreements.saturating_add(1);
+        if put_disagreement(&mut self.text, &told).is_err() {
+            self.is_cut = true;
+        }
+    }
+
+    /// The whole text, once it is known how many schedules were held to their end, and how all ends.
+    fn whole(&mut self, schedules: u64, status: u8) -> Result<(), AllocError> {
+        let sums = Sums {
+            schedules,
+            calls: self.counts.calls,
+            disagreements: self.disagreements,
+            status: u64::from(status),
+        };
+        put_sums(&mut self.text, &sums)
+    }
+
+    /// Tells of agents and looks that are unsupported, and writes the report, where one is asked for. Gives the status:
+    /// this one, that of a disagreement where no call but `open` was compared, or that of a device that failed.
+    pub(super) fn finish<F: Files>(
+        &mut self,
+        files: &F,
+        rt: &impl Eprint,
+        schedules: u64,
+        status: u8,
+    ) -> u8 {
+        let status = told_unsupported(rt, self.counts, status);
+        let Some(path) = self.path else {
+            return status;
+        };
+        if self.whole(schedules, status).is_err() || self.is_cut {
+            let _ = eprintln!(rt; "no memory");
+            return DEVICE;
+        }
+        match fs::write(files, path, &self.text) {
+            Ok(()) => status,
+            Err(_) => write_failed(rt),
+        }
+    }
+}
+
+/// Tells of how many agents the comparison ended at an unsupported call, and how many looks are unsupported. Where by that
+/// no call but the openings was compared, all that agrees says nothing, and the status is that of a disagreement.
+fn told_unsupported(rt: &impl Eprint, counts: Counts, status: u8) -> u8 {
+    let Counts {
+        agents,
+        calls,
+        unsupported_agents,
+        unsupported_looks,
+    } = counts;
+    if unsupported_looks > 0 {
+        let _ = eprintln!(rt; "{unsupported_looks} looks are unsupported");
+    }
+    if unsupported_agents == 0 {
+        return status;
+    }
+    let _ = eprintln!(rt; "of {agents} agents {unsupported_agents} ended at an unsupported call");
+    if calls > agents || status != DONE {
+        return status;
+    }
+    let _ = eprintln!(rt; "no call but open was compared");
+    REFUSED
+}

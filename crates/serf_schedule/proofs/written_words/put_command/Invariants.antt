@@ -1,6 +1,0 @@
-use Rattle.serf_schedule.proofs.TextNames.{◌≡◌, ◌++◌, take, flat_map}
-use Rattle.serf_schedule.specs.Words.{word_behind}
-use Rattle.serf_schedule.proofs.written_words.put_command.Given as goal
-
-abbrev pub invariant-loop-word : goal.invariant-loop-word
-invariant-loop-word l = l.out.items ≡ (l.fn.out.items ++ l.command) ++ flat_map word_behind (take l.word-index l.words)

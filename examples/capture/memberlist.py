@@ -1,0 +1,232 @@
+"""memberlist's frames: what of a packet or a connection is Serf's, and which node has which address."""
+
+import ipaddress
+import struct
+import zlib
+
+STATE, COMPOUND, USER, COMPRESSED, ENCRYPTED, CHECKSUM, LABEL = 6, 7, 8, 9, 10, 12, 244
+
+# A packet's own type of message in which a node is named with its address.
+ALIVE = 4
+
+# How deep frames may stand in one another, and how many bytes one may unpack to.
+DEEPEST = 8
+LONGEST = 1 << 26
+
+
+class Fault(Exception):
+    """Bytes that are no frame."""
+
+
+def part(data, at, length):
+    if length < 0 or at + length > len(data):
+        raise Fault("it ends too early")
+    return data[at : at + length]
+
+
+def number(data, at, width):
+    return int.from_bytes(part(data, at, width), "big")
+
+
+# Of MessagePack, the first byte of a value with a length, and how many bytes the length has.
+RAW = {0xC4: 1, 0xC5: 2, 0xC6: 4, 0xD9: 1, 0xDA: 2, 0xDB: 4}
+LISTS = {0xDC: 2, 0xDD: 4}
+MAPS = {0xDE: 2, 0xDF: 4}
+NUMBERS = {0xCC: 1, 0xCD: 2, 0xCE: 4, 0xCF: 8, 0xD0: 1, 0xD1: 2, 0xD2: 4, 0xD3: 8}
+WHOLE = {0xC0: None, 0xC2: False, 0xC3: True}
+
+
+def value_at(data, at, depth=0):
+    """A MessagePack value, and where it ends."""
+    if depth > DEEPEST:
+        raise Fault("a value is too deep")
+    first = number(data, at, 1)
+    at += 1
+    if first < 0x80 or first >= 0xE0:
+        return first if first < 0x80 else first - 0x100, at
+    if first in WHOLE:
+        return WHOLE[first], at
+    if first in NUMBERS:
+        width = NUMBERS[first]
+        return int.from_bytes(part(data, at, width), "big", signed=first >= 0xD0), at + width
+    if 0xA0 <= first < 0xC0 or first in RAW:
+        width = RAW.get(first, 0)
+        length = number(data, at, width) if width else first & 0x1F
+        return part(data, at + width, length), at + width + length
+    if 0x90 <= first < 0xA0 or first in LISTS:
+        width = LISTS.get(first, 0)
+        count = number(data, at, width) if width else first & 0x0F
+        return items_at(data, at + width, count, depth)
+    if first < 0x90 or first in MAPS:
+        width = MAPS.get(first, 0)
+        count = number(data, at, width) if width else first & 0x0F
+        items, at = items_at(data, at + width, 2 * count, depth)
+        keys = [key if isinstance(key, bytes) else b"" for key in items[::2]]
+        return dict(zip(keys, items[1::2])), at
+    raise Fault("a value of MessagePack that isn't read here")
+
+
+def items_at(data, at, count, depth):
+    items = []
+    for _ in range(count):
+        item, at = value_at(data, at, depth + 1)
+        items.append(item)
+    return items, at
+
+
+def map_at(data, at):
+    found, at = value_at(data, at)
+    if not isinstance(found, dict):
+        raise Fault("a map is missing")
+    return found, at
+
+
+def unpacked(data):
+    """Bytes that were packed by LZW, the least bit first, in codes of 9 to 12 bits."""
+    clear, end, most = 256, 257, 1 << 12
+    out, table, last = bytearray(), [bytes([b]) for b in range(256)] + [b"", b""], None
+    width, bits, held = 9, 0, 0
+    for byte in data:
+        held |= byte << bits
+        bits += 8
+        if bits < width:
+            continue
+        code = held & ((1 << width) - 1)
+        held >>= width
+        bits -= width
+        if code == end:
+            return bytes(out)
+        if code == clear:
+            table, last, width = table[:258], None, 9
+            continue
+        if code < len(table):
+            text = table[code]
+        elif code == len(table) and last is not None:
+            text = last + last[:1]
+        else:
+            raise Fault("a code of LZW that stands for nothing")
+        out += text
+        if len(out) > LONGEST:
+            raise Fault("it unpacks to too much")
+        if last is not None and len(table) < most:
+            table.append(last + text[:1])
+        last = text
+        if len(table) + 1 > 1 << width and width < 12:
+            width += 1
+    raise Fault("a packed text has no end")
+
+
+def opened(data, key, extra):
+    """What was encrypted by AES-GCM: a version, a nonce of 12 bytes, the text and its tag."""
+    if key is None:
+        raise Fault("it is encrypted, and no --key is given")
+    try:
+        from cryptography.exceptions import InvalidTag
+        from cryptography.hazmat.primitives.ciphers.aead import AESGCM
+    except ImportError:
+        raise Fault("it is encrypted, and Python has no package `cryptography`") from None
+    try:
+        text = AESGCM(key).decrypt(part(data, 1, 12), data[13:], extra)
+    except (InvalidTag, ValueError):
+        raise Fault("the key opens nothing") from None
+    if data[0] == 0 and text:
+        return text[: -text[-1]]
+    return text
+
+
+def unlabelled(data):
+    """A packet without the label of its cluster, and this label."""
+    if data[:1] == bytes([LABEL]):
+        length = number(data, 1, 1)
+        return data[2 + length :], part(data, 2, length)
+    return data, b""
+
+
+def messages_of(payload, key, depth=0):
+    """memberlist's messages in a UDP packet, out of their frames."""
+    if depth == 0:
+        payload, label = unlabelled(payload)
+        if key is not None:
+            payload = opened(payload, key, label)
+    if depth > DEEPEST:
+        raise Fault("frames are too deep")
+    kind = number(payload, 0, 1)
+    if kind == CHECKSUM:
+        if zlib.crc32(payload[5:]) != number(payload, 1, 4):
+            raise Fault("a checksum is another one")
+        yield from messages_of(payload[5:], key, depth + 1)
+    elif kind == COMPRESSED:
+        packed, _ = map_at(payload, 1)
+        yield from messages_of(unpacked(packed.get(b"Buf") or b""), key, depth + 1)
+    elif kind == COMPOUND:
+        count, at = number(payload, 1, 1), 2
+        lengths = [number(payload, at + 2 * n, 2) for n in range(count)]
+        at += 2 * count
+        for length in lengths:
+            yield from messages_of(part(payload, at, length), key, depth + 1)
+            at += length
+    else:
+        yield payload
+
+
+def stream_of(payload, key):
+    """What a side of a connection sent, out of its frames."""
+    payload, label = unlabelled(payload)
+    if payload[:1] == bytes([ENCRYPTED]):
+        length = number(payload, 1, 4)
+        payload = opened(part(payload, 5, length), key, payload[:5] + label)
+    if payload[:1] == bytes([COMPRESSED]):
+        packed, _ = map_at(payload, 1)
+        payload = unpacked(packed.get(b"Buf") or b"")
+    return payload
+
+
+def nodes_of_state(payload):
+    """The header of a whole state, its nodes, and where Serf's part begins."""
+    header, at = map_at(payload, 1)
+    nodes = []
+    for _ in range(header.get(b"Nodes") or 0):
+        node, at = map_at(payload, at)
+        nodes.append(node)
+    return header, nodes, at
+
+
+def state_of(payload, key):
+    """What a side of a connection sent that is Serf's: its kind, whether it is of a join, and the bytes; None of others."""
+    payload = stream_of(payload, key)
+    if payload[:1] == bytes([STATE]):
+        header, _, at = nodes_of_state(payload)
+        return STATE, header.get(b"Join") is True, part(payload, at, header.get(b"UserStateLen") or 0)
+    if payload[:1] == bytes([USER]):
+        header, at = map_at(payload, 1)
+        return USER, False, part(payload, at, header.get(b"UserMsgLen") or 0)
+    return None
+
+
+def address_of(node):
+    """A node's name and its address, where a map has both."""
+    name, host, port = node.get(b"Node") or node.get(b"Name"), node.get(b"Addr"), node.get(b"Port")
+    if not isinstance(name, bytes) or not isinstance(host, bytes) or len(host) not in (4, 16) or not isinstance(port, int):
+        return {}
+    host = ipaddress.ip_address(host)
+    host = getattr(host, "ipv4_mapped", None) or host
+    return {(str(host), port): name.decode("utf-8", "replace")}
+
+
+def nodes_in(payload, key):
+    """The names of addresses that a packet, or a side of a connection, tells."""
+    found = {}
+    is_state = False
+    try:
+        stream = stream_of(payload, key)
+        is_state = stream[:1] == bytes([STATE])
+        for node in nodes_of_state(stream)[1] if is_state else []:
+            found.update(address_of(node))
+    except Fault:
+        if is_state:
+            return found
+    if not is_state:
+        for message in messages_of(payload, key):
+            if message[:1] == bytes([ALIVE]):
+                found.update(address_of(map_at(message, 1)[0]))
+    return found

@@ -1,0 +1,251 @@
+#!/usr/bin/env python3
+"""schedule_of_records.py [--taken] RECORD..: a schedule of what agents recorded (`kitchenrue-agent -record`).
+
+Each RECORD is the record of a node; the files beside it that turned over (RECORD.1 and so on) are read before it. The
+schedule goes to standard output, for `serf-replay write`:
+
+    schedule_of_records.py web1.record web2.record | serf-replay write | serf-replay explain
+
+A packet that one of these nodes sent and another got is one packet; what came from others is injected. The calls of a node
+stay in their order, a packet is sent before it is given, and beside that the earlier moment comes first. Behind each action a
+comment says when it was, in UTC, and what the agent answered: the trace has to say the same. States that nobody merged are left
+out, and so is what the agents said of members alone. --taken leaves out the packets that were ignored, too.
+Standard error says what isn't known: a record that begins in the middle of a life, and calls that were cut off.
+Status 1 where a record can't be read.
+"""
+
+import argparse
+import datetime
+import os
+import sys
+
+# What the agent writes for a word of a member: a state with a member clock, and nothing else.
+CLOCK = "0281a54c54696d65cf"
+
+
+class Fault(Exception):
+    """Why a record can't be read."""
+
+
+class Call:
+    """A call of a record: when it was made, its words, and the words of each line of its reply."""
+
+    def __init__(self, moment, words, reply):
+        self.moment, self.words, self.reply = moment, words, reply
+        self.kind, self.answer = words[0], reply[0][0]
+        self.goes_on = False
+
+    def lines(self, word):
+        """The lines of the reply that begin with a word, without it."""
+        return [line[1:] for line in self.reply if line[0] == word]
+
+    def sent(self):
+        """The packets that it sent, in hex."""
+        return [line[0] for line in self.lines("sent")]
+
+    def is_of_members(self):
+        """Whether it says something of members alone, so that no event rests on it."""
+        return self.kind == "save" or (self.kind == "merge" and self.words[1].startswith(CLOCK) and len(self.words[1]) == 34)
+
+
+def calls_of(path, told):
+    """The calls of a file. One that was cut off is left out."""
+    calls, block, moment, goes_on = [], [], 0, False
+    with open(path, encoding="ascii", errors="replace") as file:
+        for line in file:
+            words = line.split()
+            if words and line.endswith("\n") and not line.startswith("#"):
+                if words[0] == "at" and not block:
+                    moment = int(words[1])
+                else:
+                    block.append(words)
+                continue
+            if not words and len(block) > 1:
+                calls.append(Call(moment, block[0], block[1:]))
+                calls[-1].goes_on, goes_on = goes_on, False
+            elif block:
+                told(f"{path}: the call `{block[0][0]}` was cut off")
+            block = []
+            goes_on = goes_on or line.startswith("# goes on")
+    return calls
+
+
+def files_of(path):
+    """The files of a record, the oldest first."""
+    numbers = []
+    while os.path.exists(f"{path}.{len(numbers) + 1}"):
+        numbers.append(len(numbers) + 1)
+    return [f"{path}.{number}" for number in reversed(numbers)] + [path]
+
+
+class Node:
+    """A node: its calls, in their order, and how far they are written."""
+
+    def __init__(self, path, told):
+        self.calls, self.at = [], 0
+        for name in files_of(path):
+            for call in calls_of(name, told):
+                # a file that turned over begins with the clocks of the one before
+                if not (call.goes_on and self.calls):
+                    self.calls.append(call)
+        if not self.calls or self.calls[0].kind != "open":
+            raise Fault(f"{path}: no record of an agent")
+        self.name = bytes.fromhex(self.calls[0].words[1])
+        self.begins_late = self.calls[0].goes_on
+        if self.begins_late:
+            told(f"{path}: it begins in the middle of a life: what was taken before counts as below the least time")
+        # the queries that it was handed in this life: the number that the record has, and the one that the schedule has
+        self.handed = {}
+        self.agents, self.clocks = [], [1, 1, 1]
+
+    def next(self):
+        return self.calls[self.at] if self.at < len(self.calls) else None
+
+    def note(self, call):
+        """Notes how far the clocks are, and what was handed out."""
+        for time, *_ in call.lines("event"):
+            self.clocks[1] = max(self.clocks[1], int(time) + 1)
+        for number, time, *_ in call.lines("handed"):
+            self.clocks[2] = max(self.clocks[2], int(time) + 1)
+            self.handed[number] = len(self.handed)
+
+
+def text(data):
+    """Bytes in hex as `serf-replay write` reads them: a text in quotes."""
+    raw = b"" if data == "-" else bytes.fromhex(data)
+    return '"' + "".join(chr(b) if 32 <= b < 127 and b not in b'"\\' else f"\\x{b:02x}" for b in raw) + '"'
+
+
+class Schedule:
+    """The schedule, as it is written."""
+
+    def __init__(self, nodes, taken):
+        self.nodes, self.taken = nodes, taken
+        self.heads, self.lines = [], []
+        # of each packet, where it stands: a label, or a label and a number
+        self.packets = {}
+        # the packets that these nodes made, and the states that somebody merged
+        self.made = {packet for node in nodes for call in node.calls for _, packet in self.made_by(node, call)}
+        self.merged = {call.words[1] for node in nodes for call in node.calls if call.kind == "merge"}
+
+    def made_by(self, node, call):
+        """The packets that a call made, each with its number among those that it sent. What a life that begins late answers
+        isn't known here, so its answers are no packets of its own."""
+        if node.begins_late and call.kind not in ("fire", "query", "state"):
+            return []
+        return [(number, packet) for number, packet in enumerate(call.sent()) if packet not in call.words]
+
+    def is_ready(self, call):
+        """Whether what it is given was sent above, or by nobody here."""
+        if call.kind not in ("deliver", "merge"):
+            return True
+        return call.words[1] in self.packets or call.words[1] not in self.made
+
+    def write(self):
+        """Writes all calls of all nodes."""
+        while True:
+            waiting = [node for node in self.nodes if node.next()]
+            if not waiting:
+                return "\n".join(self.heads + self.lines) + "\n"
+            # (where each waits for another, lines are missing: the earliest goes on)
+            ready = [node for node in waiting if self.is_ready(node.next())] or waiting
+            node = min(ready, key=lambda node: node.next().moment)
+            call = node.next()
+            node.at += 1
+            if call.kind == "open":
+                self.opened(node, call)
+            elif not call.is_of_members():
+                self.action(node, call)
+            node.note(call)
+
+    def opened(self, node, call):
+        """A life: the first makes the agent. One whose clocks are below those before is another agent: its file was lost."""
+        clocks = [int(word) for word in call.reply[0][1:]]
+        if not node.agents or any(now < before for now, before in zip(clocks[1:], node.clocks[1:])):
+            more = f" ({len(node.agents) + 1})" if node.agents else ""
+            name = text((node.name + more.encode()).hex())
+            _, _, events, queries, limit, responders, mode, per_time, _ = call.words
+            self.heads.append(f"agent {name} events={events} queries={queries} limit={limit} responders={responders} pertime={per_time} {mode}")
+            node.agents.append(name)
+            is_new = True
+        else:
+            is_new = False
+        node.handed, node.clocks = {}, clocks
+        if not is_new or call.words[8] != "-":
+            self.lines.append(f"restart {node.agents[-1]} tail {text(call.words[8])}")
+
+    def packet(self, data):
+        """Where a packet stands; what nobody here sent is injected."""
+        if data not in self.packets:
+            self.packets[data] = f"p{len(self.lines)}"
+            self.lines.append(f"{self.packets[data]}: inject {data}")
+        return self.packets[data]
+
+    def action(self, node, call):
+        """Writes an action, and notes the packets that it sends first."""
+        written = getattr(self, call.kind)(node.agents[-1], node, call)
+        if written is None:
+            return
+        label = f"p{len(self.lines)}"
+        made = self.made_by(node, call)
+        for number, packet in made:
+            self.packets[packet] = f"{label}/{number}"
+        moment = datetime.datetime.fromtimestamp(call.moment // 1000 / 10**6, datetime.timezone.utc)
+        answer = f"# {moment:%Y-%m-%dT%H:%M:%S.%f} {' '.join(call.reply[0])}"
+        self.lines.append((f"{label}: " if made else "") + f"{written} {answer}")
+
+    def fire(self, agent, node, call):
+        _, name, payload, coalesce = call.words
+        return f"fire {agent} {text(name)} {text(payload)}" + (" coalesce" if coalesce == "1" else "")
+
+    def deliver(self, agent, node, call):
+        if self.taken and call.answer == "ignored":
+            return None
+        return f"deliver {agent} {self.packet(call.words[1])} at {call.words[2]}"
+
+    def merge(self, agent, node, call):
+        return f"merge {agent} {self.packet(call.words[1])} {call.words[2]}"
+
+    def state(self, agent, node, call):
+        return f"state {agent}" if self.merged.intersection(call.sent()) else None
+
+    def query(self, agent, node, call):
+        _, now, number, name, payload, timeout, flags, *filters = call.words
+        words = [f"query {agent} {text(name)} {text(payload)} at {now} id={number} timeout={timeout}"]
+        words += ["ack"] if int(flags) & 1 else []
+        words += ["quiet"] if int(flags) & 2 else []
+        return " ".join(words + [f"filter={one}" for one in filters])
+
+    def respond(self, agent, node, call):
+        _, number, now, payload = call.words
+        if number not in node.handed:
+            return None
+        return f"respond {agent} {node.handed[number]} {text(payload)} at {now}"
+
+    def close(self, agent, node, call):
+        return f"close {agent} at {call.words[1]}"
+
+    def compact(self, agent, node, call):
+        return f"compact {agent}"
+
+
+def main():
+    words = argparse.ArgumentParser(description=__doc__, formatter_class=argparse.RawDescriptionHelpFormatter)
+    words.add_argument("--taken", action="store_true")
+    words.add_argument("records", nargs="+", metavar="RECORD")
+    asked = words.parse_args()
+    try:
+        nodes = [Node(path, lambda what: print(what, file=sys.stderr)) for path in asked.records]
+        names = [node.name for node in nodes]
+        if len(set(names)) < len(names):
+            raise Fault("two records are of one node")
+        written = Schedule(nodes, asked.taken).write()
+    except (OSError, ValueError, Fault) as fault:
+        print(f"schedule_of_records: {fault}", file=sys.stderr)
+        return 1
+    sys.stdout.write(written)
+    return 0
+
+
+if __name__ == "__main__":
+    sys.exit(main())

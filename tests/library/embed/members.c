@@ -1,0 +1,259 @@
+/* What a host of members asks: intents read and written, the members that a state names, and the time of a query; with
+ * little room, faulty packets and no memory.
+ *
+ * Linked with malloc and realloc wrapped. Prints `FAILED ..` for each that doesn't hold, and `N passed, M failed`. */
+#include "serf_agent.h"
+
+#include <stdio.h>
+#include <stdlib.h>
+#include <string.h>
+
+void *__real_malloc(size_t size);
+void *__real_realloc(void *old, size_t size);
+void *__wrap_malloc(size_t size);
+void *__wrap_realloc(void *old, size_t size);
+
+/* How many requests are granted from now on (below 0: all). */
+static long granted = -1;
+
+static bool is_refused(void) {
+    if (granted == 0) {
+        return true;
+    }
+    granted -= granted > 0;
+    return false;
+}
+
+void *__wrap_malloc(size_t size) {
+    return is_refused() ? NULL : __real_malloc(size);
+}
+
+void *__wrap_realloc(void *old, size_t size) {
+    return is_refused() ? NULL : __real_realloc(old, size);
+}
+
+static int passed, failed;
+
+static void holds(const char *what, bool is) {
+    passed += is;
+    failed += !is;
+    if (!is) {
+        printf("FAILED %s\n", what);
+    }
+}
+
+static void is(const char *what, uint32_t code, uint32_t wanted) {
+    holds(what, code == wanted);
+}
+
+#define BYTES(literal) (const uint8_t *)literal, sizeof(literal) - 1
+
+/* Intents off the wire between agents of Serf. */
+#define BETA_JOINS "\x01\x82\xa5LTime\x01\xa4Node\xa4" "beta"
+#define GAMMA_LEAVES "\x00\x83\xa5LTime\x03\xa4Node\xa5gamma\xa5Prune\xc2"
+#define DELTA_IS_FORGOTTEN "\x00\x83\xa5LTime\x06\xa4Node\xa5" "delta\xa5Prune\xc3"
+
+static uint8_t room[4096];
+
+static void reads(const char *what, const uint8_t *packet, size_t len, uint64_t time, const char *node, bool leave, bool prune) {
+    struct serf_agent_intent intent;
+    memset(room, 'x', 8);
+    is(what, serf_agent_intent(packet, len, &intent, room, 2), SERF_AGENT_OK);
+    holds("two bytes of the name, and no more", memcmp(room, node, 2) == 0 && room[2] == 'x');
+    is("with room", serf_agent_intent(packet, len, &intent, room, sizeof room), SERF_AGENT_OK);
+    holds("what it says", intent.time == time && intent.leave == leave && intent.prune == prune);
+    holds("whose word", intent.node_len == strlen(node) && memcmp(room, node, intent.node_len) == 0);
+}
+
+static void says_nothing(const char *what, const uint8_t *packet, size_t len, uint32_t wanted) {
+    struct serf_agent_intent intent = {77, 78, true, true};
+    room[0] = 'x';
+    is(what, serf_agent_intent(packet, len, &intent, room, sizeof room), wanted);
+    holds("what stood there stays", intent.time == 77 && intent.node_len == 78 && intent.leave && intent.prune && room[0] == 'x');
+}
+
+static void has_fault(const char *what, const uint8_t *packet, size_t len, uint32_t kind, size_t offset, uint8_t byte) {
+    struct serf_agent_packet_fault fault = {77, 78, 79};
+    says_nothing(what, packet, len, SERF_AGENT_NO_MESSAGE);
+    is(what, serf_agent_intent_fault(packet, len, &fault), SERF_AGENT_OK);
+    holds("its fault", fault.kind == kind && fault.offset == offset && fault.byte == byte);
+}
+
+static void has_none(const char *what, const uint8_t *packet, size_t len) {
+    struct serf_agent_packet_fault fault = {77, 78, 79};
+    is(what, serf_agent_intent_fault(packet, len, &fault), SERF_AGENT_NOTHING);
+    holds("what stood there stays", fault.offset == 77 && fault.kind == 78 && fault.byte == 79);
+}
+
+static void intents(void) {
+    reads("a join", BYTES(BETA_JOINS), 1, "beta", false, false);
+    reads("a leave", BYTES(GAMMA_LEAVES), 3, "gamma", true, false);
+    reads("a leave that prunes", BYTES(DELTA_IS_FORGOTTEN), 6, "delta", true, true);
+    reads("one of an older agent", BYTES("\x00\x82\xa4Node\xa5gamma\xa5LTime\xd3\0\0\0\0\0\0\0\x03"), 3, "gamma", true, false);
+    has_none("a join", BYTES(BETA_JOINS));
+    says_nothing("an event", BYTES("\x03\x80"), SERF_AGENT_NOTHING);
+    says_nothing("a relay of any bytes", BYTES("\x09\xc1"), SERF_AGENT_NOTHING);
+    has_none("a relay of any bytes", BYTES("\x09\xc1"));
+    has_fault("nothing", NULL, 0, SERF_AGENT_FAULT_EMPTY, 0, 0);
+    has_fault("a type that no message has", BYTES("\x63\x80"), SERF_AGENT_FAULT_UNKNOWN_TYPE, 0, 99);
+    has_fault("a length that nobody believes", BYTES("\x01\x81\xa4Node\xdb\xff\xff\xff\xff" "a"), SERF_AGENT_FAULT_TRUNCATED, 7, 0);
+    has_fault("a float", BYTES("\x01\x81\xa5LTime\xca\0\0\0\0"), SERF_AGENT_FAULT_UNSUPPORTED, 8, 0xca);
+    has_fault("a byte behind", BYTES("\x00\x80\x00"), SERF_AGENT_FAULT_TRAILING, 2, 0);
+    has_fault("nil", BYTES("\x00\xc0"), SERF_AGENT_FAULT_NOT_A_MAP, 0, 0);
+    has_fault("a name twice", BYTES("\x01\x82\xa4Node\xa0\xa4Node\xa0"), SERF_AGENT_FAULT_TWICE, 8, 0);
+    has_fault("a number as a prune", BYTES("\x00\x81\xa5Prune\x01"), SERF_AGENT_FAULT_WRONG_KIND, 8, 0);
+    has_fault("2^64 - 1 as a time", BYTES("\x01\x81\xa5LTime\xcf\xff\xff\xff\xff\xff\xff\xff\xff"), SERF_AGENT_FAULT_GREATEST_TIME, 8, 0);
+}
+
+static uint32_t join(uint64_t time, size_t *len, size_t size) {
+    return serf_agent_join_packet(time, BYTES("beta"), len, room, size);
+}
+
+static void written_intents(void) {
+    size_t len = 0;
+    is("a join", join(1, &len, sizeof room), SERF_AGENT_OK);
+    holds("its bytes", len == sizeof BETA_JOINS - 1 && memcmp(room, BETA_JOINS, len) == 0);
+    is("a leave", serf_agent_leave_packet(3, BYTES("gamma"), false, &len, room, sizeof room), SERF_AGENT_OK);
+    holds("its bytes", len == sizeof GAMMA_LEAVES - 1 && memcmp(room, GAMMA_LEAVES, len) == 0);
+    is("a prune", serf_agent_leave_packet(6, BYTES("delta"), true, &len, room, sizeof room), SERF_AGENT_OK);
+    holds("its bytes", len == sizeof DELTA_IS_FORGOTTEN - 1 && memcmp(room, DELTA_IS_FORGOTTEN, len) == 0);
+    memset(room, 'x', 8);
+    is("a join, with little room", join(1, &len, 3), SERF_AGENT_OK);
+    holds("a front of it, and no more", len == sizeof BETA_JOINS - 1 && memcmp(room, BETA_JOINS, 3) == 0 && room[3] == 'x');
+    uint8_t nobody[64];
+    struct serf_agent_intent intent = {77, 78, true, true};
+    is("a name of no bytes", serf_agent_join_packet(0, NULL, 0, &len, nobody, sizeof nobody), SERF_AGENT_OK);
+    room[0] = 'x';
+    is("a join of nobody", serf_agent_intent(nobody, len, &intent, room, sizeof room), SERF_AGENT_OK);
+    holds("says so", intent.time == 0 && intent.node_len == 0 && !intent.leave && !intent.prune && room[0] == 'x');
+    len = 77;
+    room[0] = 'x';
+    is("2^64 - 1", join(UINT64_MAX, &len, sizeof room), SERF_AGENT_EXHAUSTED);
+    granted = 0;
+    is("no memory", join(1, &len, sizeof room), SERF_AGENT_OUT_OF_MEMORY);
+    is("no memory", serf_agent_leave_packet(1, BYTES("a"), true, &len, room, sizeof room), SERF_AGENT_OUT_OF_MEMORY);
+    granted = -1;
+    holds("what stood there stays", len == 77 && room[0] == 'x');
+}
+
+static const struct serf_agent_settings settings = {8, 8, 512, 8, 8, false};
+
+/* The state of an agent that names three members with status times and two that left. */
+static size_t state_of_five(uint8_t *to, size_t size) {
+    struct serf_agent agent = {0};
+    size_t len = 0;
+    is("open", serf_agent_open(&agent, BYTES("a"), &settings, BYTES("clock: 3\n")), SERF_AGENT_OK);
+    is("b", serf_agent_add_status(&agent, BYTES("b"), 7), SERF_AGENT_OK);
+    is("no name", serf_agent_add_status(&agent, NULL, 0, 0), SERF_AGENT_OK);
+    is("b again", serf_agent_add_status(&agent, BYTES("b"), 9), SERF_AGENT_OK);
+    is("gone", serf_agent_add_left(&agent, BYTES("gone")), SERF_AGENT_OK);
+    is("nobody", serf_agent_add_left(&agent, NULL, 0), SERF_AGENT_OK);
+    is("a state", serf_agent_local_state(&agent), SERF_AGENT_OK);
+    is("its packet", serf_agent_packet(&agent, &len, to, size), SERF_AGENT_OK);
+    is("close", serf_agent_close(&agent), SERF_AGENT_OK);
+    return len;
+}
+
+static void members(void) {
+    static uint8_t state[1024];
+    struct serf_agent_members all = {77, 78, 79};
+    struct serf_agent_member named[6];
+    size_t len = state_of_five(state, sizeof state);
+    memset(named, 0x55, sizeof named);
+    is("the sizes", serf_agent_state_members(state, len, &all, named, 0, room, 0), SERF_AGENT_OK);
+    holds("of five", all.member_clock == 4 && all.members == 5 && all.names_len == 6 && named[0].name_len > 5);
+    memset(room, 'x', 8);
+    is("two of them", serf_agent_state_members(state, len, &all, named, 2, room, 3), SERF_AGENT_OK);
+    holds("two, and no more", all.members == 5 && named[1].name_len == 0 && named[2].name_len > 5);
+    holds("three bytes, and no more", memcmp(room, "bbgx", 4) == 0);
+    is("all", serf_agent_state_members(state, len, &all, named, 6, room, sizeof room), SERF_AGENT_OK);
+    const struct serf_agent_member wanted[5] = {{7, 1, false}, {0, 0, false}, {9, 1, false}, {0, 4, true}, {0, 0, true}};
+    for (int i = 0; i < 5; i++) {
+        holds("a member", named[i].status_time == wanted[i].status_time && named[i].name_len == wanted[i].name_len && named[i].left == wanted[i].left);
+    }
+    holds("their names", memcmp(room, "bbgone", 6) == 0 && named[5].name_len > 5);
+    is("a state of none", serf_agent_state_members(BYTES("\x02\x80"), &all, named, 6, room, sizeof room), SERF_AGENT_OK);
+    holds("of none", all.member_clock == 0 && all.members == 0 && all.names_len == 0);
+    all.members = 78;
+    is("an event", serf_agent_state_members(BYTES("\x03\x80"), &all, named, 6, room, sizeof room), SERF_AGENT_NOTHING);
+    is("a cut state", serf_agent_state_members(state, len - 1, &all, named, 6, room, sizeof room), SERF_AGENT_NOTHING);
+    is("nothing", serf_agent_state_members(NULL, 0, &all, named, 6, room, sizeof room), SERF_AGENT_NOTHING);
+    uint32_t code = SERF_AGENT_OUT_OF_MEMORY;
+    long requests = 0;
+    for (; code == SERF_AGENT_OUT_OF_MEMORY && requests < 99; requests++) {
+        holds("what stood there stays", all.members == 78);
+        granted = requests;
+        code = serf_agent_state_members(state, len, &all, named, 6, room, sizeof room);
+    }
+    granted = -1;
+    is("memory was wanting, and then there", code, SERF_AGENT_OK);
+    holds("two requests at least", requests > 2 && all.members == 5);
+}
+
+static void times_of_queries(void) {
+    struct serf_agent agent = {0};
+    struct serf_agent_params params = {.timeout = 1000};
+    struct serf_agent_bytes about;
+    uint64_t time = 77;
+    is("an empty handle", serf_agent_asked_time(&agent, &time), SERF_AGENT_EMPTY);
+    is("open", serf_agent_open(&agent, BYTES("a"), &settings, BYTES("query-clock: 8\n")), SERF_AGENT_OK);
+    is("no query", serf_agent_asked_time(&agent, &time), SERF_AGENT_NOTHING);
+    is("query", serf_agent_query(&agent, 5, 7, BYTES("q"), NULL, 0, NULL, 0, &params), SERF_AGENT_OK);
+    is("its line isn't written", serf_agent_asked_time(&agent, &time), SERF_AGENT_UNWRITTEN);
+    holds("what stood there stays", time == 77);
+    is("its line", serf_agent_unwritten(&agent, &about, room, sizeof room), SERF_AGENT_OK);
+    is("written", serf_agent_written(&agent), SERF_AGENT_OK);
+    is("its time", serf_agent_asked_time(&agent, &time), SERF_AGENT_OK);
+    holds("the time", time == 9);
+    is("fire", serf_agent_fire(&agent, BYTES("x"), NULL, 0, false), SERF_AGENT_OK);
+    is("written", serf_agent_written(&agent), SERF_AGENT_OK);
+    is("no query any more", serf_agent_asked_time(&agent, &time), SERF_AGENT_NOTHING);
+    is("close", serf_agent_close(&agent), SERF_AGENT_OK);
+}
+
+/* What the library has for the file is written: here to nowhere. */
+static void is_written(struct serf_agent *agent) {
+    is("written", serf_agent_written(agent), SERF_AGENT_OK);
+}
+
+static void times_of_members(void) {
+    struct serf_agent agent = {0};
+    struct serf_agent_clocks clocks;
+    struct serf_agent_gave gave;
+    struct serf_agent_bytes lacks;
+    is("an empty handle", serf_agent_observe_member(&agent, 1), SERF_AGENT_EMPTY);
+    is("open", serf_agent_open(&agent, BYTES("a"), &settings, BYTES("clock: 3\n")), SERF_AGENT_OK);
+    is("an old time", serf_agent_observe_member(&agent, 2), SERF_AGENT_OK);
+    is("its clocks", serf_agent_clocks(&agent, &clocks), SERF_AGENT_OK);
+    holds("are as before", clocks.member == 4 && clocks.event == 1 && clocks.query == 1);
+    is("a new time", serf_agent_observe_member(&agent, 9), SERF_AGENT_OK);
+    is("its clocks", serf_agent_clocks(&agent, &clocks), SERF_AGENT_OK);
+    holds("the member clock is above it", clocks.member == 10 && clocks.event == 1 && clocks.event_minimum == 1);
+    is("2^64 - 1", serf_agent_observe_member(&agent, UINT64_MAX), SERF_AGENT_EXHAUSTED);
+    granted = 0;
+    is("its own time, with no memory", serf_agent_observe_member(&agent, clocks.member), SERF_AGENT_OK);
+    granted = -1;
+    is("save", serf_agent_save_member_clock(&agent), SERF_AGENT_OK);
+    is("not yet written", serf_agent_observe_member(&agent, 99), SERF_AGENT_UNWRITTEN);
+    is("its line", serf_agent_unwritten(&agent, &lacks, room, sizeof room), SERF_AGENT_OK);
+    holds("says the time that was taken", lacks.len == 10 && memcmp(room, "clock: 10\n", 10) == 0);
+    is_written(&agent);
+    is("fire", serf_agent_fire(&agent, BYTES("x"), NULL, 0, false), SERF_AGENT_OK);
+    is_written(&agent);
+    is("the last time", serf_agent_observe_member(&agent, UINT64_MAX - 1), SERF_AGENT_OK);
+    is("what was given", serf_agent_gave(&agent, &gave), SERF_AGENT_OK);
+    holds("stays", gave.kind == SERF_AGENT_GAVE_FIRED && gave.events == 1);
+    is("its clocks", serf_agent_clocks(&agent, &clocks), SERF_AGENT_OK);
+    holds("the member clock is exhausted", clocks.member == UINT64_MAX && clocks.event == 2);
+    is("close", serf_agent_close(&agent), SERF_AGENT_OK);
+}
+
+int main(void) {
+    times_of_members();
+    intents();
+    written_intents();
+    members();
+    times_of_queries();
+    printf("%d passed, %d failed\n", passed, failed);
+    return failed != 0;
+}

@@ -1,0 +1,108 @@
+"""What a host of members asks, through the binding in Python: prints `FAILED ..` for what isn't as said, and 'N passed, M failed'.
+
+    members.py FOLDER
+"""
+
+import os
+import sys
+
+sys.path.insert(0, os.path.join(os.path.dirname(os.path.abspath(__file__)), "..", "..", "..", "bindings", "python"))
+from serf_agent import Agent, AgentError, Code, Fault, intent, intent_fault, Join, Leave, Members, PacketFault, state_members
+
+FOLDER = sys.argv[1]
+passed = failed = 0
+
+
+def check(name, holds, said=""):
+    global passed, failed
+    if holds:
+        passed += 1
+    else:
+        failed += 1
+        print(f"FAILED {name}: {said}")
+
+
+def refused(name, wanted, call, *words):
+    """A call that has to be refused: with this code, or with this error."""
+    try:
+        said = call(*words)
+    except AgentError as error:
+        said = error.code
+    except Exception as error:
+        said = type(error)
+    check(name, said == wanted, f"{said}, and {wanted} was wanted")
+
+
+# Intents off the wire between agents of Serf.
+OF_SERF = {
+    b"\x01\x82\xa5LTime\x01\xa4Node\xa4beta": Join(1, b"beta"),
+    b"\x00\x83\xa5LTime\x03\xa4Node\xa5gamma\xa5Prune\xc2": Leave(3, b"gamma"),
+    b"\x00\x83\xa5LTime\x06\xa4Node\xa5delta\xa5Prune\xc3": Leave(6, b"delta", prune=True),
+}
+
+FAULTY = {
+    b"": PacketFault(Fault.EMPTY, 0, 0),
+    b"\x63": PacketFault(Fault.UNKNOWN_TYPE, 0, 99),
+    b"\x01\x81\xa4Node\xdb\xff\xff\xff\xffa": PacketFault(Fault.TRUNCATED, 7, 0),
+    b"\x00\x81\xa5Prune\x01": PacketFault(Fault.WRONG_KIND, 8, 0),
+    b"\x01\x81\xa5LTime\xcf" + b"\xff" * 8: PacketFault(Fault.GREATEST_TIME, 8, 0),
+}
+
+
+def intents():
+    for packet, wanted in OF_SERF.items():
+        check(f"the intent {packet}", intent(packet) == wanted and intent_fault(packet) is None, intent(packet))
+        check(f"the packet of {wanted}", wanted.packet() == packet, wanted.packet())
+    for packet in (b"\x03", b"\x09\xc1"):
+        check(f"no intent in {packet}", intent(packet) is None and intent_fault(packet) is None)
+    for packet, wanted in FAULTY.items():
+        refused(f"the packet {packet}", Code.NO_MESSAGE, intent, packet)
+        check(f"the fault of {packet}", intent_fault(packet) == wanted, intent_fault(packet))
+    refused("no time", Code.EXHAUSTED, Join(2**64 - 1, b"a").packet)
+    refused("no number of 64 bits", OverflowError, Leave(2**64, b"a").packet)
+    refused("a name that is no bytes", TypeError, Join(1, "a").packet)
+    refused("a prune that is no bool", TypeError, Leave(1, b"a", 1).packet)
+
+
+def members():
+    with Agent(b"a", os.path.join(FOLDER, "a")) as agent:
+        statuses, left = ((b"b", 7), (b"", 0), (b"b", 9)), (b"gone", b"")
+        found = state_members(agent.local_state(statuses, left))
+        check("members", found == Members(1, statuses, left), found)
+        check("none", state_members(agent.local_state()) == Members(1, (), ()))
+    for packet in (b"", b"\x02", b"\x03\x80", *OF_SERF):
+        check(f"no members in {packet}", state_members(packet) is None)
+
+
+def times():
+    with Agent(b"a", os.path.join(FOLDER, "b")) as agent:
+        for time in range(1, 4):
+            asked = agent.query(1, 7, b"q", timeout=1000)
+            check("the time of a query", asked.time == asked.query.time == time, asked)
+
+
+def member_times():
+    path = os.path.join(FOLDER, "c")
+    with Agent(b"a", path) as agent:
+        check("the first time", agent.next_member_time() == 1)
+        agent.observe_member(7)
+        agent.observe_member(3)
+        check("one above what was observed", agent.next_member_time() == 8)
+        with open(path, "rb") as file:
+            text = file.read()
+        check("its lines", text == b"clock: 1\nclock: 8\n", text)
+        refused("no time", Code.EXHAUSTED, agent.observe_member, 2**64 - 1)
+        refused("no number of 64 bits", OverflowError, agent.observe_member, 2**64)
+        agent.observe_member(90)
+    with Agent(b"a", path) as agent:
+        # what was only observed is forgotten, and what was taken isn't
+        check("the next life", agent.next_member_time() == 9)
+        agent.observe_member(2**64 - 2)
+        refused("exhausted", Code.EXHAUSTED, agent.next_member_time)
+    refused("closed", Code.EMPTY, agent.observe_member, 1)
+
+
+for part in (intents, members, times, member_times):
+    part()
+print(f"{passed} passed, {failed} failed")
+sys.exit(1 if failed else 0)

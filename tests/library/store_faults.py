@@ -1,0 +1,176 @@
+"""Wrong bodies of the bindings' stores: two at least of each step, each found by the check that is named of it.
+
+    tests/library/store_faults.py [--only LANGUAGE] [--library FILE] [--over-ci]
+
+They are planted into a copy of each store (store_faults/planted.py), which the drivers of tests/library/embed run. The
+copy passes every check where none is on. Where one is, the check that is named of it fails. Calls of the system that
+fail are injected by strace. --library and --over-ci are those of tests/library/embed.py. A language that isn't there is
+left out, which is printed.
+"""
+
+import argparse
+import os
+import shutil
+import sys
+import tempfile
+
+sys.dont_write_bytecode = True
+sys.path.insert(0, os.path.dirname(os.path.dirname(os.path.abspath(__file__))))
+import checks
+import c_library
+
+LIBRARY = os.path.join(checks.TOP, "tests", "library")
+sys.path[:0] = [os.path.join(LIBRARY, name) for name in ("store_faults", "embed", "power_cuts")]
+import failing
+import faults
+import languages
+import planted
+import stores
+
+BINDINGS = os.path.join(checks.TOP, "bindings")
+EMBED = os.path.join(LIBRARY, "embed")
+
+
+class NotBuilt(Exception):
+    """A driver could not be built; the text says why."""
+
+
+class Failures:
+    """The names of the checks that failed."""
+
+    def __init__(self):
+        self.names = []
+
+    def check(self, name, holds, _=""):
+        if not holds:
+            self.names.append(name)
+
+
+class Places:
+    """Where what is built and run here stands."""
+
+    def __init__(self, folder, library):
+        self.folder, self.library = folder, library
+
+    def of(self, *names):
+        return os.path.join(self.folder, *names)
+
+    def copy(self, source, *to):
+        """A copy of a folder of the bindings."""
+        not_taken = shutil.ignore_patterns("target", "__pycache__")
+        return shutil.copytree(os.path.join(BINDINGS, source), self.of(*to), ignore=not_taken)
+
+    def fresh(self, name):
+        """A new and empty folder that everybody may read."""
+        path = tempfile.mkdtemp(prefix=name, dir=self.folder)
+        os.chmod(path, 0o755)
+        return path
+
+
+def built(words, **more):
+    status, said = c_library.ran(words, **more)
+    if status:
+        raise NotBuilt(f"{' '.join(words)[:200]}: {said[-1500:]}")
+
+
+def in_c(places):
+    copy, path = places.copy("c", "c"), places.of("c_driver")
+    faults.edit(copy, languages.C)
+    sources = [os.path.join(copy, name) for name in ("serf_agent_store.c", "serf_agent_heap.c")]
+    cc = os.environ.get("CC", "cc")
+    built([cc, *c_library.STRICT, "-O1", "-o", path, os.path.join(EMBED, "store_driver.c"), *sources, places.library])
+    return [path]
+
+
+def in_python(places):
+    faults.edit(places.copy("python", "bindings", "python"), languages.PYTHON)
+    # the driver finds the package from its own place
+    driver = places.of("tests", "library", "embed", "store_driver.py")
+    os.makedirs(os.path.dirname(driver))
+    return [sys.executable, shutil.copyfile(os.path.join(EMBED, "store_driver.py"), driver)]
+
+
+def in_go(places):
+    module, path = places.copy("go", "go"), places.of("go_driver")
+    faults.edit(module, languages.GO)
+    env = dict(
+        os.environ,
+        CGO_LDFLAGS=f"-L{os.path.dirname(places.library)}",
+        GOFLAGS="-mod=mod",
+        GOPROXY="off",
+        GO111MODULE="on",
+        GOCACHE=places.of("go_cache"),
+    )
+    built(["go", "build", "-o", path, "./store_driver"], cwd=module, env=env)
+    return [path]
+
+
+def in_rust(places):
+    crate, target = places.copy("rust", "rust"), places.of("target")
+    faults.edit(crate, languages.RUST)
+    env = dict(os.environ, SERF_AGENT_LIBRARY=places.library, CARGO_TARGET_DIR=target)
+    built(["cargo", "build", "--quiet", "--offline", "--example", "store_driver"], cwd=crate, env=env)
+    return [os.path.join(target, "debug", "examples", "store_driver")]
+
+
+# How the driver of each language is built, and the command that has to be there for it.
+LANGUAGES = {"C": (in_c, None), "Python": (in_python, None), "Go": (in_go, "go"), "Rust": (in_rust, "cargo")}
+
+
+def found(language, places, words, name, fault):
+    """The checks that fail in a fault's part where it is on."""
+    failures = Failures()
+    os.environ[planted.FAULT_NAME] = name
+    try:
+        failing.PARTS[fault.part](stores.Cases(failures, language, places, words))
+    except OSError as error:
+        # a file that a part reads isn't there
+        failures.names.append(str(error))
+    finally:
+        del os.environ[planted.FAULT_NAME]
+    return failures.names
+
+
+def try_language(count, language, places):
+    build, command = LANGUAGES[language]
+    if command and shutil.which(command) is None:
+        print(f"not run: {language}, since {command} isn't on PATH")
+        return
+    try:
+        words = build(places)
+    except (NotBuilt, faults.NotThere) as fault:
+        count.check(f"{language}'s store, with wrong bodies, is built", False, fault)
+        return
+    for part in failing.PARTS.values():
+        part(stores.Cases(count, language, places, words))
+    for name, fault in planted.FAULTS.items():
+        failed = found(language, places, words, name, fault)
+        wanted = f"{language}'s store: {fault.check}"
+        said = f"{language}, planted: {fault.what}, is found by {fault.part}, {fault.check}"
+        count.check(said, wanted in failed, failed)
+
+
+def main():
+    words = argparse.ArgumentParser(description=__doc__, formatter_class=argparse.RawDescriptionHelpFormatter)
+    words.add_argument("--only", choices=LANGUAGES, action="append")
+    words.add_argument("--library")
+    words.add_argument("--over-ci", action="store_true")
+    asked = words.parse_args()
+    count = checks.Checks()
+    os.environ.pop(planted.FAULT_NAME, None)
+    fault = None if shutil.which("strace") else "strace isn't on PATH, and no call can be made to fail without it"
+    if not fault and not asked.library:
+        fault = c_library.fault_of_library(asked.over_ci)
+    if fault:
+        count.check("there is what it needs", False, fault)
+        return count.finish()
+    library = os.path.abspath(asked.library or c_library.LIBRARY)
+    for language in asked.only or LANGUAGES:
+        with tempfile.TemporaryDirectory(prefix="store-faults-") as folder:
+            os.chmod(folder, 0o755)
+            try_language(count, language, Places(folder, library))
+    return count.finish()
+
+
+if __name__ == "__main__":
+    sys.exit(main())

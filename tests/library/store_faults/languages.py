@@ -1,0 +1,322 @@
+"""The edits that plant the wrong bodies (planted.py) into a copy of each binding's store: what stands there once, and
+what comes there."""
+
+C = {
+    "serf_agent_store.c": [
+        ("#define _GNU_SOURCE\n", """#define _GNU_SOURCE
+#include <stdbool.h>
+#include <stdlib.h>
+#include <string.h>
+static bool is(const char *fault) {
+    const char *planted = getenv("STORE_FAULT");
+    return planted != NULL && strcmp(planted, fault) == 0;
+}
+"""),
+        ("realpath(path, NULL)", 'is("link") || is("link_replaced") ? strdup(path) : realpath(path, NULL)'),
+        ("&named, AT_SYMLINK_NOFOLLOW)", '&named, is("link_replaced") ? 0 : AT_SYMLINK_NOFOLLOW)'),
+        (
+            "own.st_dev == named.st_dev && own.st_ino == named.st_ino",
+            '(is("stale") || (own.st_dev == named.st_dev && (is("stale_device") || own.st_ino == named.st_ino)))',
+        ),
+        (
+            "if (!S_ISREG(about.st_mode)) {",
+            'if (!S_ISREG(about.st_mode) && !(is("device") && S_ISCHR(about.st_mode)) &&'
+            ' !(is("pipe") && S_ISFIFO(about.st_mode))) {',
+        ),
+        ("| O_NOFOLLOW |", '| (is("link_replaced") ? 0 : O_NOFOLLOW) |'),
+        ("store->name, how, 0600)", 'store->name, how, is("made_for_all") ? 0644 : 0600)'),
+        ("flock(store->file, LOCK_EX | LOCK_NB) != 0", '(!is("lock") && flock(store->file, LOCK_EX | LOCK_NB) != 0)'),
+        (
+            "if (unlinkat(store->folder, beside, 0) != 0 && errno != ENOENT) {",
+            'if (!is("left") && unlinkat(store->folder, beside, 0) != 0 && errno != ENOENT && !is("left_ok")) {',
+        ),
+        (
+            "return fsync(store->file) == 0 && fsync(store->folder) == 0;",
+            'return (fsync(store->file) == 0 || is("opened_text_ok")) &&'
+            ' (fsync(store->folder) == 0 || is("opened_name_ok"));',
+        ),
+        ("size = (size_t)about.st_size,", 'size = is("read_nothing") ? 0 : (size_t)about.st_size,'),
+        (
+            "if (count <= 0) {\n            free(bytes);",
+            'if (count <= 0) {\n            if (is("read_ok")) {\n                size = at;\n'
+            "                break;\n            }\n            free(bytes);",
+        ),
+        (
+            "!write_all(store->file, bytes, len) || fdatasync(store->file) != 0",
+            '(!(is("write_in_part") ? write(store->file, bytes, len) > 0 : write_all(store->file, bytes, len))'
+            ' && !is("write_ok")) || (fdatasync(store->file) != 0 && !is("line_ok"))',
+        ),
+        (
+            "if (flock(file, LOCK_EX | LOCK_NB) == 0 && fchmod(file, about.st_mode & 0777) == 0"
+            " && write_all(file, bytes, len) &&\n        fsync(file) == 0) {",
+            'if ((is("lock_beside") || flock(file, LOCK_EX | LOCK_NB) == 0) &&'
+            ' fchmod(file, is("rights") ? 0600 : about.st_mode & 0777) == 0 &&'
+            ' ((is("beside_in_part") ? write(file, bytes, len) > 0 : write_all(file, bytes, len)) || is("beside_ok")) &&'
+            ' (fsync(file) == 0 || is("beside_sync_ok"))) {',
+        ),
+        (
+            "if (renameat(store->folder, beside, store->folder, store->name) != 0) {",
+            'if (!is("no_rename") && renameat(store->folder, beside, store->folder, store->name) != 0 && !is("rename_ok")) {',
+        ),
+        ("if (fsync(store->folder) != 0) {", 'if (fsync(store->folder) != 0 && !is("folder_ok")) {'),
+        ("store->is_broken = true;", 'store->is_broken = !is("goes_on");'),
+        (
+            "        return SERF_AGENT_STORE_BROKEN;\n    }\n    if (len == 0) {",
+            '        store->is_broken = store->is_broken && !is("refused_once");\n'
+            '        if (store->is_open && is("writes_broken")) {\n            write_all(store->file, bytes, len);\n        }\n'
+            "        return SERF_AGENT_STORE_BROKEN;\n    }\n    if (len == 0) {",
+        ),
+    ]
+}
+
+PYTHON = {
+    "serf_agent/store.py": [
+        ("\nclass Store:\n", '''
+FAULT = os.environ.get("STORE_FAULT")
+
+
+def but(fault, done, *words, **more):
+    try:
+        return done(*words, **more)
+    except OSError:
+        if FAULT != fault:
+            raise
+
+
+def put(file, data, in_part, failed):
+    if FAULT == in_part:
+        os.write(file, data)
+    else:
+        but(failed, write_all, file, data)
+
+
+class Store:
+'''),
+        (
+            "    if os.path.exists(path):",
+            '    if FAULT in ("link", "link_replaced"):\n        return path\n    if os.path.exists(path):',
+        ),
+        ("os.O_NOFOLLOW |", '(0 if FAULT == "link_replaced" else os.O_NOFOLLOW) |'),
+        ("how, 0o600, dir_fd", 'how, 0o644 if FAULT == "made_for_all" else 0o600, dir_fd'),
+        (
+            "if not stat.S_ISREG(own.st_mode):",
+            'if not stat.S_ISREG(own.st_mode) and not (FAULT == "device" and stat.S_ISCHR(own.st_mode))'
+            ' and not (FAULT == "pipe" and stat.S_ISFIFO(own.st_mode)):',
+        ),
+        ("fcntl.flock(self._file,", 'FAULT == "lock" or fcntl.flock(self._file,'),
+        (
+            "if os.path.samestat(own, os.stat(self._name, dir_fd=self._folder, follow_symlinks=False)):",
+            'now = os.stat(self._name, dir_fd=self._folder, follow_symlinks=FAULT == "link_replaced")\n'
+            '                if FAULT == "stale" or (FAULT == "stale_device" and own.st_dev == now.st_dev)'
+            " or os.path.samestat(own, now):",
+        ),
+        (
+            'os.unlink(self._name + ".new", dir_fd=self._folder)\n        os.fsync(self._file)\n        os.fsync(self._folder)',
+            'FAULT == "left" or but("left_ok", os.unlink, self._name + ".new", dir_fd=self._folder)\n'
+            '        but("opened_text_ok", os.fsync, self._file)\n        but("opened_name_ok", os.fsync, self._folder)',
+        ),
+        (
+            "while part := os.pread(self._file, 1 << 20, at):",
+            'while part := FAULT != "read_nothing" and but("read_ok", os.pread, self._file, 1 << 20, at):',
+        ),
+        (
+            "        if self._file is None or self._is_broken:\n",
+            "        if self._file is None or self._is_broken:\n"
+            '            self._is_broken = self._is_broken and FAULT != "refused_once"\n'
+            '            if self._file is not None and FAULT == "writes_broken":\n                yield\n',
+        ),
+        ("self._is_broken = True\n", 'self._is_broken = FAULT != "goes_on"\n'),
+        (
+            "write_all(self._file, data)\n                os.fdatasync(self._file)",
+            'put(self._file, data, "write_in_part", "write_ok")\n                but("line_ok", os.fdatasync, self._file)',
+        ),
+        ("fcntl.flock(file,", 'FAULT == "lock_beside" or fcntl.flock(file,'),
+        ("os.fchmod(file, stat.S_IMODE", 'os.fchmod(file, 0o600 if FAULT == "rights" else stat.S_IMODE'),
+        (
+            "write_all(file, data)\n                os.fsync(file)\n",
+            'put(file, data, "beside_in_part", "beside_ok")\n                but("beside_sync_ok", os.fsync, file)\n',
+        ),
+        ("os.rename(", 'FAULT == "no_rename" or but("rename_ok", os.rename, '),
+        ("self._file = file\n            os.fsync(self._folder)", 'self._file = file\n            but("folder_ok", os.fsync, self._folder)'),
+    ]
+}
+
+GO = {
+    "store_driver/main.go": [
+        # strace counts the calls of each thread
+        ("\nfunc main() {\n", "\nfunc init() { runtime.LockOSThread() }\n\nfunc main() {\n"),
+        ('\t"os/signal"\n', '\t"os/signal"\n\t"runtime"\n'),
+    ],
+    "serfagent/store.go": [
+        ("\nfunc syncFolder(", """
+func is(fault string) bool { return os.Getenv("STORE_FAULT") == fault }
+
+func unless(fault string, done func() error) error {
+	if is(fault) {
+		return nil
+	}
+	return done()
+}
+
+func but(fault string, err error) error {
+	if is(fault) {
+		return nil
+	}
+	return err
+}
+
+func put(file *os.File, data []byte, inPart, failed string) error {
+	if is(inPart) {
+		_, err := syscall.Write(int(file.Fd()), data)
+		return err
+	}
+	_, err := file.Write(data)
+	return but(failed, err)
+}
+
+func isCurrent(own, now os.FileInfo) bool {
+	isOfDisk := own.Sys().(*syscall.Stat_t).Dev == now.Sys().(*syscall.Stat_t).Dev
+	return is("stale") || is("stale_device") && isOfDisk || os.SameFile(own, now)
+}
+
+func isOther(kind os.FileMode) bool {
+	return is("device") && kind&os.ModeCharDevice != 0 || is("pipe") && kind&os.ModeNamedPipe != 0
+}
+
+func syncFolder("""),
+        (
+            "filepath.Abs(path)\n\tif err != nil {\n\t\treturn \"\", err",
+            'filepath.Abs(path)\n\tif err != nil || is("link") || is("link_replaced") {\n\t\treturn whole, err',
+        ),
+        (
+            "\tfile, err := os.OpenFile(path, os.O_RDWR|os.O_APPEND|os.O_CREATE|syscall.O_NOFOLLOW|syscall.O_NONBLOCK, 0600)",
+            "\tfollow, rights, look := syscall.O_NOFOLLOW, os.FileMode(0600), os.Lstat\n"
+            '\tif is("link_replaced") {\n\t\tfollow, look = 0, os.Stat\n\t}\n'
+            '\tif is("made_for_all") {\n\t\trights = 0644\n\t}\n'
+            "\tfile, err := os.OpenFile(path, os.O_RDWR|os.O_APPEND|os.O_CREATE|follow|syscall.O_NONBLOCK, rights)",
+        ),
+        ("!own.Mode().IsRegular() {", "!own.Mode().IsRegular() && !isOther(own.Mode()) {"),
+        ("\t\terr = lock(file)\n", '\t\terr = unless("lock", func() error { return lock(file) })\n'),
+        (
+            "now, err := os.Lstat(path); err == nil && os.SameFile(own, now) {",
+            "now, err := look(path); err == nil && isCurrent(own, now) {",
+        ),
+        ('err = os.Remove(real + ".new")', 'err = unless("left", func() error { return os.Remove(real + ".new") })'),
+        (
+            "if err == nil || errors.Is(err, os.ErrNotExist) {\n\t\terr = file.Sync()",
+            'if err == nil || errors.Is(err, os.ErrNotExist) || is("left_ok") {\n\t\terr = but("opened_text_ok", file.Sync())',
+        ),
+        ("err = syncFolder(real)", 'err = but("opened_name_ok", syncFolder(real))'),
+        (
+            "text := make([]byte, about.Size())\n",
+            'text := make([]byte, about.Size())\n\tif is("read_nothing") {\n\t\ttext = nil\n\t}\n',
+        ),
+        ("return text, named(s.path, err)", 'return text, named(s.path, but("read_ok", err))'),
+        (
+            "\tif s.file == nil || s.isBroken {\n",
+            '\tif s.file == nil || s.isBroken {\n\t\ts.isBroken = s.isBroken && !is("refused_once")\n'
+            '\t\tif s.file != nil && is("writes_broken") {\n\t\t\tdone()\n\t\t}\n',
+        ),
+        ("s.isBroken = err != nil", 's.isBroken = err != nil && !is("goes_on")'),
+        ("if _, err := s.file.Write(data); err != nil {", 'if err := put(s.file, data, "write_in_part", "write_ok"); err != nil {'),
+        ("return syscall.Fdatasync(int(s.file.Fd()))", 'return but("line_ok", syscall.Fdatasync(int(s.file.Fd())))'),
+        ("return syncFolder(s.path)", 'return but("folder_ok", syncFolder(s.path))'),
+        (
+            "\tsteps := []func() error{\n\t\tfunc() error { return lock(file) },\n"
+            "\t\tfunc() error { return file.Chmod(about.Mode().Perm()) },\n"
+            "\t\tfunc() error { _, err := file.Write(data); return err },\n\t\tfile.Sync,\n",
+            '\trights := about.Mode().Perm()\n\tif is("rights") {\n\t\trights = 0600\n\t}\n'
+            '\tsteps := []func() error{\n\t\tfunc() error { return unless("lock_beside", func() error { return lock(file) }) },\n'
+            "\t\tfunc() error { return file.Chmod(rights) },\n"
+            '\t\tfunc() error { return put(file, data, "beside_in_part", "beside_ok") },\n'
+            '\t\tfunc() error { return but("beside_sync_ok", file.Sync()) },\n',
+        ),
+        (
+            "return os.Rename(beside, s.path)",
+            'return but("rename_ok", unless("no_rename", func() error { return os.Rename(beside, s.path) }))',
+        ),
+    ],
+}
+
+RUST = {
+    "src/store.rs": [
+        ("\nfn sync_folder(", """
+fn is(fault: &str) -> bool {
+    std::env::var("STORE_FAULT").as_deref() == Ok(fault)
+}
+
+fn but<T: Default>(fault: &str, done: io::Result<T>) -> io::Result<T> {
+    if is(fault) { Ok(done.unwrap_or_default()) } else { done }
+}
+
+fn put(file: &mut File, bytes: &[u8], in_part: &str, failed: &str) -> io::Result<()> {
+    if is(in_part) { file.write(bytes).map(|_| ()) } else { but(failed, file.write_all(bytes)) }
+}
+
+fn is_other(kind: fs::FileType) -> bool {
+    use std::os::unix::fs::FileTypeExt;
+    is("device") && kind.is_char_device() || is("pipe") && kind.is_fifo()
+}
+
+fn sync_folder("""),
+        (
+            "    match fs::canonicalize(path) {",
+            '    if is("link") || is("link_replaced") {\n        return Ok(path.to_path_buf());\n    }\n'
+            "    match fs::canonicalize(path) {",
+        ),
+        ("create(true).mode(0o600)", 'create(true).mode(if is("made_for_all") { 0o644 } else { 0o600 })'),
+        ("custom_flags(NO_FOLLOW | NO_WAIT)", 'custom_flags(if is("link_replaced") { NO_WAIT } else { NO_FOLLOW | NO_WAIT })'),
+        ("if !own.is_file() {", "if !own.is_file() && !is_other(own.file_type()) {"),
+        (
+            "file.try_lock()?;\n        match fs::symlink_metadata(path) {",
+            'if !is("lock") {\n            file.try_lock()?;\n        }\n'
+            '        match if is("link_replaced") { fs::metadata(path) } else { fs::symlink_metadata(path) } {',
+        ),
+        (
+            "if (named.dev(), named.ino()) == (own.dev(), own.ino()) =>",
+            'if is("stale") || (named.dev() == own.dev() && (is("stale_device") || named.ino() == own.ino())) =>',
+        ),
+        (
+            "match fs::remove_file(beside(&path)) {\n            Err(error) if error.kind() != io::ErrorKind::NotFound =>",
+            'match if is("left") { Ok(()) } else { fs::remove_file(beside(&path)) } {\n'
+            '            Err(error) if error.kind() != io::ErrorKind::NotFound && !is("left_ok") =>',
+        ),
+        (
+            # (a device has no sync, and the system says of it what it says of a path that names no file)
+            "file.sync_all()?;\n        sync_folder(&path)?;",
+            'if !is("device") && !is("pipe") {\n            but("opened_text_ok", file.sync_all())?;\n        }\n'
+            '        but("opened_name_ok", sync_folder(&path))?;',
+        ),
+        (
+            "        loop {\n            match self.file.read_at(&mut part, text.len() as u64)? {",
+            '        if is("read_nothing") {\n            return Ok(text);\n        }\n'
+            '        loop {\n            match but("read_ok", self.file.read_at(&mut part, text.len() as u64))? {',
+        ),
+        (
+            "store.file.write_all(bytes)?;\n                store.file.sync_data()?;",
+            'put(&mut store.file, bytes, "write_in_part", "write_ok")?;\n'
+            '                but("line_ok", store.file.sync_data())?;',
+        ),
+        ("Ok(sync_folder(&store.path)?)", 'Ok(but("folder_ok", sync_folder(&store.path))?)'),
+        (
+            "file.try_lock()?;\n        let rights = self.file.metadata()?.permissions().mode() & 0o777;",
+            'if !is("lock_beside") {\n            file.try_lock()?;\n        }\n'
+            '        let rights = if is("rights") { 0o600 } else { self.file.metadata()?.permissions().mode() & 0o777 };',
+        ),
+        (
+            "file.write_all(bytes)?;\n        file.sync_all()?;\n        fs::rename(beside, &self.path)?;",
+            'put(&mut file, bytes, "beside_in_part", "beside_ok")?;\n'
+            '        but("beside_sync_ok", file.sync_all())?;\n'
+            '        if !is("no_rename") {\n            but("rename_ok", fs::rename(beside, &self.path))?;\n        }',
+        ),
+        (
+            "        if self.is_broken {\n            return",
+            '        if self.is_broken {\n            self.is_broken = !is("refused_once");\n'
+            '            if is("writes_broken") {\n                let _ = done(self);\n            }\n            return',
+        ),
+        (
+            "self.is_broken = true;\n        done(self)?;\n        self.is_broken = false;",
+            'let answer = done(self);\n        self.is_broken = answer.is_err() && !is("goes_on");\n        answer?;',
+        ),
+    ]
+}

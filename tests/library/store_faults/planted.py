@@ -1,0 +1,75 @@
+"""The wrong bodies of the bindings' stores, planted into copies of their sources: each step of a store has two or more.
+
+One copy of a store has them all, and the environment's STORE_FAULT says which is on. languages.py has the edits.
+"""
+
+from collections import namedtuple
+
+# Which fault is on, in the environment.
+FAULT_NAME = "STORE_FAULT"
+
+# A wrong body: the step that it is of, what it does, the part that finds it, and the check of that part that fails.
+Fault = namedtuple("Fault", "step what part check")
+
+PATH = "an opening resolves the path"
+LOCK = "the text is locked"
+CURRENT = "a file that was replaced before its lock is opened anew"
+PLAIN = "what is no plain file is refused"
+LEFTOVER = "an opening removes what a crash left"
+READ = "the text is read"
+OPENED_TEXT = "an opening syncs the text"
+OPENED_NAME = "an opening syncs the folder"
+RIGHTS = "a file has its rights"
+WRITE = "an append writes"
+LINE = "an append syncs"
+BESIDE = "a replacement writes beside"
+TEXT = "a replacement syncs its text"
+RENAME = "a replacement renames"
+NAME = "a replacement syncs the folder"
+BROKEN = "a store that failed takes nothing more"
+
+FAULTS = {
+    "link": Fault(PATH, "a link isn't followed", "locks", "by a link"),
+    "link_replaced": Fault(PATH, "a link is replaced in its file's place", "locks", "the link stays"),
+    "lock": Fault(LOCK, "the text isn't locked", "locks", "in another process"),
+    "lock_beside": Fault(LOCK, "what replaces the text isn't locked", "locks", "behind a replacement"),
+    "stale": Fault(CURRENT, "any file is the current one", "replaced_before_its_lock", "the new text is read"),
+    "stale_device": Fault(
+        CURRENT, "any file of that disk is the current one", "replaced_before_its_lock", "the new text is read"
+    ),
+    "device": Fault(PLAIN, "a device is taken for a file", "no_plain_files", "a device"),
+    "pipe": Fault(PLAIN, "a pipe is taken for a file", "no_plain_files", "a pipe"),
+    "left": Fault(LEFTOVER, "what a crash left stays", "what_crashes_leave", "that is gone"),
+    "left_ok": Fault(LEFTOVER, "a failed removal is Ok", "failed_removal", "open"),
+    "read_nothing": Fault(READ, "nothing of the text is read", "what_crashes_leave", "the text stays"),
+    "read_ok": Fault(READ, "a failed read is an empty text", "failed_read", "read"),
+    "opened_text_ok": Fault(OPENED_TEXT, "a failed sync of the opened text is Ok", "failed_sync_of_the_opened_text", "open"),
+    "opened_name_ok": Fault(
+        OPENED_NAME, "a failed sync of the opened folder is Ok", "failed_sync_of_the_opened_folder", "open"
+    ),
+    "made_for_all": Fault(RIGHTS, "all may read a file that is made", "made", "nobody else may read it"),
+    "rights": Fault(RIGHTS, "a replacement has other rights", "plain_file", "it keeps its rights"),
+    "write_ok": Fault(WRITE, "a failed write is Ok", "full", "append to a full disk"),
+    "write_in_part": Fault(WRITE, "a write in part is Ok", "full", "append to a full disk"),
+    "line_ok": Fault(LINE, "a failed sync of a line is Ok", "failed_sync_of_a_line", "append"),
+    "beside_ok": Fault(BESIDE, "a failed write beside is Ok", "full", "replace on a full disk"),
+    "beside_in_part": Fault(BESIDE, "a write beside in part is Ok", "full", "replace on a full disk"),
+    "beside_sync_ok": Fault(TEXT, "a failed sync beside is Ok", "failed_sync_beside", "replace"),
+    "no_rename": Fault(RENAME, "nothing is renamed", "plain_file", "it is another file then"),
+    "rename_ok": Fault(RENAME, "a failed rename is Ok", "failed_rename", "replace"),
+    "folder_ok": Fault(NAME, "a failed sync of the folder is Ok", "failed_sync_of_the_folder", "replace"),
+    "goes_on": Fault(BROKEN, "a failure is forgotten at once", "full", "and nothing more"),
+    "refused_once": Fault(BROKEN, "a failure is forgotten once a call was refused", "full", "nor a replacement"),
+    "writes_broken": Fault(BROKEN, "a refused append is written", "read_only", "its text stays"),
+}
+
+# Of these steps the power cuts have a wrong body too: its name there (tests/library/power_cuts/faults.py).
+OF_POWER_CUTS = {OPENED_TEXT: "opened_text", OPENED_NAME: "opened_name", LINE: "line", TEXT: "text", NAME: "name"}
+
+
+def steps():
+    """Each step, with its wrong bodies that are planted here."""
+    found = {}
+    for fault in FAULTS.values():
+        found.setdefault(fault.step, []).append(fault)
+    return found

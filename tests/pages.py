@@ -1,0 +1,164 @@
+"""The commands that the pages show in indented blocks, and which script of tests/ runs each.
+
+A script takes its commands by `of`, and runs them as they stand. So what a page shows anew is run too, and what no script
+takes is a fault of tests/repository/documents.py (`faults`).
+"""
+
+import fnmatch
+import glob
+import os
+import re
+
+import checks
+
+# Folders that hold no documents of ours.
+SKIPPED = {"out", "target", ".git", "node_modules"}
+
+BLOCK = re.compile(r"(?:^(?: {4}|\t).*\n(?:\n(?= {4}|\t))?)+", re.M)
+
+# How a command begins: with its variables, and then with one of these words.
+COMMAND = re.compile(
+    r"(?:[A-Z_]+=\S* )*(?:\./[\w.-]+|agent/[\w/]+|examples/[\w.]+|serf|serf-replay|kitchenrue-agent|cut|grep|mkfifo|seq|sh|python3?|pip|go|cargo|dpkg"
+    r"|make|cmake|cc|rt|apt-get|tar|sha256sum)(?=[ ;]|$)"
+)
+
+AGENT = "tests/library/agent.py"
+CAPTURE = "tests/program/capture.py"
+EMBED = "tests/library/embed.py"
+PACKAGES = "tests/library/packages.py"
+COMMAND_LINE = "tests/program/command_line.py"
+CONFORM = "tests/program/conform.py"
+FIRST_CALL = "tests/repository/first_call.py"
+
+# Who runs a command: the pages, how it begins, and the script. The first row that fits counts.
+RUN_BY = (
+    ("README.md", "SERF_UNPROVED=1 ", FIRST_CALL),
+    ("*", "kitchenrue-agent |agent/|dpkg |serf ", AGENT),
+    ("docs/AGENT.md", "examples/schedule_of_records.py |serf-replay ", AGENT),
+    ("*", "mkfifo |./my-agent ", EMBED),
+    ("*", "python3 conformance/|seq |sh ", CONFORM),
+    ("bindings/*", "", PACKAGES),
+    ("examples/capture/README.md", "python3 ", CAPTURE),
+    ("*", "(?:./)?serf-replay |cut |grep ", COMMAND_LINE),
+)
+
+# The pages whose blocks are a script as they stand, with what they print, and who runs it.
+SCRIPTS = {"docs/START.md": PACKAGES}
+
+# What is run by no script, and why.
+NOT_RUN = {("README.md", "./test"): "it is what runs them all"}
+
+# The blocks that aren't commands, by the page and the word that they begin with: what compares them, or what they are.
+LISTINGS = {
+    "README.md": {
+        "serf_agent_receive(&agent,": PACKAGES,
+        "with": PACKAGES,
+        "let": PACKAGES,
+        "agent,": EMBED,
+    },
+    "bindings/go/README.md": {"require": "two lines of a go.mod"},
+    "bindings/rust/README.md": {"[dependencies]": "two lines of a Cargo.toml"},
+    "crates/*/CALLING.md": {"": "contracts, made of the sources by tools/calling.py"},
+    "docs/ARCHITECTURE.md": {"program": "the crates, as a picture"},
+    "docs/CONFORMANCE.md": {"agent": CONFORM, "seed": CONFORM},
+    "docs/EMBEDDING.md": {
+        "fired": "a run with Serf's own agents, by hand",
+        "agent,": "what an example of bindings/go/serfdelegate compiles and runs",
+    },
+    "docs/PIPE.md": {"open": CONFORM, "opened": CONFORM},
+    "docs/PROMISES.md": {"--": "tests/repository/documents.py", "fn": "lines of the toolchain, cut short"},
+    "examples/capture/README.md": {"tcpdump": "a capture of a reader's own cluster, which needs root"},
+    "tests/README.md": {"tests/": "the folders, as a picture"},
+}
+
+
+class Shown:
+    """A command that a page shows: the page, its line there, the command, and the lines right under it, which it writes."""
+
+    def __init__(self, page, line, text):
+        self.page, self.line, self.text, self.output = page, line, text, ""
+
+    def name(self):
+        return f"{self.page}:{self.line}: {self.text}"
+
+
+def documents():
+    """All pages, by their path from the top."""
+    found = []
+    for folder, folders, names in os.walk(checks.TOP):
+        folders[:] = [name for name in folders if name not in SKIPPED and not name.startswith(".")]
+        found += [os.path.relpath(os.path.join(folder, name), checks.TOP) for name in names if name.endswith(".md")]
+    return sorted(found)
+
+
+def blocks(page):
+    """The indented blocks of a page, without their indent: the line of each, and its text."""
+    text = checks.text_of(page)
+    for found in BLOCK.finditer(text):
+        indent = re.match(r"\s+", found[0])[0]
+        yield text.count("\n", 0, found.start()) + 1, re.sub(rf"^{indent}", "", found[0], flags=re.M)
+
+
+def commands_in(page, line, block):
+    """The commands of a block that begins with one. A command goes on behind a backslash at its line's end."""
+    found, went_on = [], False
+    for at, text in enumerate(block.split("\n")[:-1]):
+        if went_on:
+            found[-1].text += " " + text.strip().removesuffix("\\").rstrip()
+        elif COMMAND.match(text):
+            found.append(Shown(page, line + at, text.removesuffix("\\").rstrip()))
+        else:
+            found[-1].output += text + "\n"
+        went_on = (went_on or COMMAND.match(text)) and text.endswith("\\")
+    for shown in found:
+        shown.output = shown.output.strip("\n") + "\n" if shown.output.strip("\n") else ""
+    return found
+
+
+def shown():
+    """All commands of all pages, but for those whose blocks are scripts."""
+    for page in documents():
+        for line, block in blocks(page):
+            if page not in SCRIPTS and COMMAND.match(block):
+                yield from commands_in(page, line, block)
+
+
+def runner(command):
+    """The script that runs a command, or None."""
+    for pages, beginning, script in RUN_BY:
+        if fnmatch.fnmatch(command.page, pages) and re.match(beginning, command.text):
+            return script
+    return None
+
+
+def of(script, pages="*"):
+    """The commands that a script has to run, of these pages."""
+    return [it for it in shown() if runner(it) == script and fnmatch.fnmatch(it.page, pages)]
+
+
+def listing(page, block):
+    """What is told of a block that isn't a command, or None."""
+    word = block.split()[0]
+    told = [own for pages, own in LISTINGS.items() if fnmatch.fnmatch(page, pages)]
+    return next((own.get(word, own.get("")) for own in told), None)
+
+
+def faults():
+    """Each block and each command, its page, and what is wrong with it, or None."""
+    for page in documents():
+        for line, block in blocks(page):
+            if page not in SCRIPTS and not COMMAND.match(block):
+                told = listing(page, block)
+                yield f"line {line}", None if told else "is no command, and tests/pages.py says not what it is", page
+    for command in shown():
+        script = runner(command)
+        if not script and (command.page, command.text) not in NOT_RUN:
+            yield command.text, "no script of tests/ runs it", command.page
+        elif command.output and script != COMMAND_LINE:
+            yield command.text, "no script compares the lines under it, or they are commands that tests/pages.py doesn't know", command.page
+        else:
+            yield command.text, None, command.page
+    for script in sorted({script for *_, script in RUN_BY}):
+        parts = [script, *glob.glob(f"{script[:-3]}/*.py", root_dir=checks.TOP)]
+        takes = any("pages.of(" in checks.text_of(part) for part in parts)
+        yield script, None if takes else "doesn't take the commands that tests/pages.py gives it", "tests/pages.py"

@@ -1,0 +1,247 @@
+"""`examples/capture/schedule_of.py`: the capture that stands there, against its handlers' log; frames, connections and files
+that the test makes itself; and captures that are cut or changed.
+"""
+
+import os
+import random
+import struct
+import subprocess
+import sys
+import tempfile
+import zlib
+
+sys.dont_write_bytecode = True
+sys.path.insert(0, os.path.dirname(os.path.dirname(os.path.abspath(__file__))))
+import checks
+import pages
+
+FOLDER = os.path.join(checks.EXAMPLES, "capture")
+SCRIPT, CAPTURE = os.path.join(FOLDER, "schedule_of.py"), os.path.join(FOLDER, "gossip.pcap")
+DOWN = ("--down", "beta=6.3-9.3", "--ignore", "beta")
+
+sys.path.insert(0, FOLDER)
+import memberlist
+
+EVENT = b"\x03\x84\xa5LTime\x01\xa4Name\xa6deploy\xa7Payload\xa2v1\xa2CC\xc2"
+ALPHA, BETA = "10.0.0.1", "10.0.0.2"
+NAMES = ("--node", f"alpha={ALPHA}", "--node", f"beta={BETA}")
+BOTH = f'agent "alpha"\nagent "beta"\ngive "alpha" {EVENT.hex()} at 0us\ngive "beta" {EVENT.hex()} at 0us\n'
+
+
+def script(path, *words):
+    done = subprocess.run([sys.executable, SCRIPT, path, *words], capture_output=True, text=True, timeout=checks.LIMIT)
+    return done.returncode, done.stdout, done.stderr
+
+
+# A capture of frames
+
+
+def ip(sender, receiver, protocol, payload):
+    ends = bytes(int(part) for end in (sender, receiver) for part in end.split("."))
+    return struct.pack(">BBHHHBBH", 0x45, 0, 20 + len(payload), 0, 0, 64, protocol, 0) + ends + payload
+
+
+def udp(payload, sender=ALPHA, receiver=BETA):
+    return ip(sender, receiver, 17, struct.pack(">4H", 7946, 7946, 8 + len(payload), 0) + payload)
+
+
+def tcp(payload, sequence, flags=16, sender=ALPHA, receiver=BETA, port=40000):
+    return ip(sender, receiver, 6, struct.pack(">2H2IBBHHH", port, 7946, sequence, 0, 0x50, flags, 0, 0, 0) + payload)
+
+
+def capture(packets, link=1, order="<", magic=0xA1B2C3D4):
+    head = {1: bytes(12) + b"\x08\x00", 113: bytes(14) + b"\x08\x00", 101: b""}[link]
+    data = struct.pack(order + "IHHiIII", magic, 2, 4, 0, 0, 65535, link)
+    for time, packet in packets:
+        data += struct.pack(order + "4I", time // 1_000_000, time % 1_000_000, len(head + packet), len(head + packet)) + head + packet
+    return data
+
+
+def read(data, *words):
+    with tempfile.TemporaryDirectory() as folder:
+        path = os.path.join(folder, "it.pcap")
+        with open(path, "wb") as file:
+            file.write(data)
+        return script(path, *words)
+
+
+# memberlist's frames
+
+
+def raw(data):
+    return b"\xc6" + struct.pack(">I", len(data)) + data
+
+
+def packed(data):
+    """LZW in codes of 9 bits that stand for a byte each, with the table cleared before it would grow over them."""
+    codes = []
+    for at, byte in enumerate(data):
+        codes += ([256] if at % 200 == 0 else []) + [byte]
+    bits = sum(code << (9 * at) for at, code in enumerate([*codes, 257]))
+    return b"\x09\x82\xa4Algo\x00\xa3Buf" + raw(bits.to_bytes((9 * len(codes) + 16) // 8, "little"))
+
+
+def summed(data):
+    return b"\x0c" + struct.pack(">I", zlib.crc32(data)) + data
+
+
+def compound(*parts):
+    return b"\x07" + bytes([len(parts)]) + b"".join(struct.pack(">H", len(part)) for part in parts) + b"".join(parts)
+
+
+def state(content, is_join=True):
+    return b"\x06\x83\xa5Nodes\x00\xa4Join" + (b"\xc3" if is_join else b"\xc2") + b"\xacUserStateLen" + b"\xcd" + struct.pack(">H", len(content)) + content
+
+
+USER = b"\x08" + EVENT
+FRAMES = (
+    ("a user message", USER),
+    ("a checksum", summed(USER)),
+    ("a compound message", compound(b"\x00\x80", USER)),
+    ("LZW", packed(USER)),
+    ("all of them", summed(packed(compound(b"\x02\x80", USER)))),
+    ("a label", b"\xf4\x02dc" + summed(USER)),
+)
+FAULTS = (
+    ("another checksum", b"\x0c\x00\x00\x00\x00" + USER, "a checksum is another one"),
+    ("a compound message that ends", compound(USER)[:-1], "it ends too early"),
+    ("LZW without an end", packed(USER)[:-4], "it ends too early"),
+    ("nothing", b"", "it ends too early"),
+    ("frames without end", b"\x0c" + b"\x07\x01\x00\xff" * 3, "a checksum is another one"),
+)
+
+
+def frames(count):
+    for name, payload in FRAMES:
+        got = read(capture([(5, udp(payload))]), *NAMES)
+        count.check(name, got[:2] == (0, BOTH), got)
+    for name, payload, fault in FAULTS:
+        got = read(capture([(5, udp(USER)), (6, udp(payload))]), *NAMES)
+        count.check(name, got[:2] == (1, BOTH) and fault in got[2], got)
+    deep = USER
+    for _ in range(40):
+        deep = compound(deep)
+    got = read(capture([(5, udp(deep))]), *NAMES)
+    count.check("frames too deep", got[0] == 1 and "too deep" in got[2], got)
+    texts = [random.Random(seed).randbytes(seed) * 3 for seed in range(0, 300, 37)]
+    for text in texts:
+        held = memberlist.map_at(packed(text), 1)[0][b"Buf"]
+        count.check(f"{len(text)} bytes by LZW", memberlist.unpacked(held) == text)
+
+
+def files(count):
+    packet = udp(summed(USER))
+    for name, data in (
+        ("Linux's any", capture([(5, packet)], link=113)),
+        ("no link", capture([(5, packet)], link=101)),
+        ("the other order of bytes", capture([(5, packet)], order=">")),
+        ("nanoseconds", capture([(5, packet)], magic=0xA1B23C4D)),
+    ):
+        got = read(data, *NAMES)
+        count.check(name, got[:2] == (0, BOTH), got)
+    for name, data in (("no capture", b"serf"), ("an empty file", b""), ("pcapng", b"\x0a\x0d\x0d\x0a" * 9)):
+        got = read(data)
+        count.check(name, got[:2] == (2, "") and got[2].count("\n") == 1, got)
+    got = script("/nowhere")
+    count.check("no file", got[:2] == (2, "") and "No such file" in got[2], got)
+    got = read(capture([(5, packet)]))
+    count.check("nodes without names", got[:2] == (0, "") and "--node" in got[2], got)
+    alive = b"\x04\x83\xa4Node\xa5gamma\xa4Addr" + raw(bytes((10, 0, 0, 2))) + b"\xa4Port\xcd\x1f\x0a"
+    got = read(capture([(5, udp(summed(compound(alive, USER))))]))
+    count.check("a name that memberlist tells", got[1] == f'agent "gamma"\ngive "gamma" {EVENT.hex()} at 0us\n', got)
+
+
+def connections(count):
+    content = b"\x02\x81\xaaEventLTime\x09"
+    sent = state(content)
+    taken = f'agent "beta"\ntake "beta" {content.hex()} join # at 3us\n'
+    opening, first, second = (0, tcp(b"", 99, flags=2)), tcp(sent[:20], 100), tcp(sent[20:], 120)
+    for name, packets in (
+        ("in order", [opening, (1, first), (3, second)]),
+        ("out of order", [opening, (1, second), (3, first)]),
+        ("sent again", [opening, (1, first), (2, first), (3, second), (4, second)]),
+    ):
+        got = read(capture(packets), *NAMES)
+        count.check(f"a connection {name}", got[0] == 0 and got[1].split("#")[0] == taken.split("#")[0], got)
+    again = [(9, tcp(b"", 4999, flags=2)), (11, tcp(sent, 5000))]
+    got = read(capture([opening, (1, first), (3, second), *again]), *NAMES)
+    count.check("a second connection of the same ends", got[0] == 0 and got[1].count("take ") == 2, got)
+    got = read(capture([(0, first), (3, second)]), *NAMES)
+    count.check("a connection without its beginning", got[:2] == (0, "") and "beginning" in got[2], got)
+    got = read(capture([opening, (1, first)]), *NAMES)
+    count.check("a connection with a gap", got[:2] == (1, "") and "too early" in got[2], got)
+    got = read(capture([opening, (1, tcp(sent[:-2], 100)), (3, tcp(sent[-2:], 100 + len(sent)))]), *NAMES)
+    count.check("a connection with a part missing", got[:2] == (1, "") and "too early" in got[2], got)
+    got = read(capture([opening, (1, tcp(state(content, False), 100))]), *NAMES)
+    count.check("a state that is no join's", "sync" in got[1], got)
+
+
+def keys(count):
+    payload = b"\x01" + bytes(40)
+    got = read(capture([(5, udp(payload))]), *NAMES)
+    count.check("an encrypted packet without a key", got[1] == "", got)
+    got = read(capture([(5, udp(payload))]), *NAMES, "--key", "AAAAAAAAAAAAAAAAAAAAAA==")
+    said = ("the key opens nothing", "no package `cryptography`")
+    count.check("a key that isn't the right one", got[:2] == (1, "") and any(one in got[2] for one in said), got)
+    try:
+        from cryptography.hazmat.primitives.ciphers.aead import AESGCM
+    except ImportError:
+        print("capture: Python has no package cryptography, so no packet is opened")
+        return
+    sealed = b"\x01" + bytes(12) + AESGCM(bytes(16)).encrypt(bytes(12), summed(USER), b"")
+    got = read(capture([(5, udp(sealed))]), *NAMES, "--key", "AAAAAAAAAAAAAAAAAAAAAA==")
+    count.check("an encrypted packet", got[:2] == (0, BOTH), got)
+
+
+def handed(trace, names):
+    """The events that a trace hands out, as lines of a handlers' log."""
+    for line in trace.splitlines():
+        words = line.split(" ")
+        if words[1] == "event":
+            texts = [bytes.fromhex(word).decode() if word != "-" else "-" for word in words[4:6]]
+            yield " ".join(["event", names[int(words[2])], words[3], *texts])
+
+
+def story(count):
+    """The capture of examples/capture: its run hands out what its handlers ran."""
+    status, text, said = script(CAPTURE, *DOWN)
+    count.check("the capture is read", status == 0 and "could not be read" not in said, said)
+    count.check("it is the stored one", text == checks.text_of(FOLDER, "gossip.written"), text[:300])
+    names = [line.split('"')[1] for line in text.splitlines() if line.startswith("agent ")]
+    count.check("its nodes", names == ["alpha", "beta", "gamma"], names)
+    schedule = checks.ran(["write"], text.encode())
+    count.check("it is a written schedule", schedule[0] == 0 and not schedule[2], schedule)
+    trace = checks.ran(["replay"], schedule[1])[1].decode()
+    ran = [line for line in checks.text_of(FOLDER, "handlers.log").splitlines() if line.startswith("event ")]
+    got = list(handed(trace, names))
+    count.check("each node is handed what its handler ran", sorted(got) == sorted(ran), (got, ran))
+    reasons = checks.ran(["explain", "--agent", "1"], schedule[1])[1].decode()
+    count.check("why beta lacks one", 'event 3 "reload" "n1": below the least time 4, which stands since action 105' in reasons)
+    trace = checks.ran(["replay"], checks.ran(["write"], script(CAPTURE)[1].encode())[1])[1].decode()
+    count.check("without --down beta would have it", len(list(handed(trace, names))) == len(ran) + 1, trace[-300:])
+
+
+def shown(count):
+    """What its page shows, run as it stands, but that it writes elsewhere."""
+    with tempfile.TemporaryDirectory() as folder:
+        written = os.path.join(folder, "gossip.written")
+        for command in pages.of(pages.CAPTURE):
+            text = command.text.replace("> examples/capture/gossip.written", f"> {written}")
+            done = subprocess.run(["sh", "-ec", text], cwd=checks.TOP, capture_output=True, text=True, timeout=checks.LIMIT)
+            same = os.path.exists(written) and checks.text_of(written) == checks.text_of(FOLDER, "gossip.written")
+            count.check(command.name(), done.returncode == 0 and same, done.stderr)
+
+
+def changed(count):
+    """A capture that is cut, or has other bytes, is read as far as it goes: no traceback, whatever is in it."""
+    data, chance = checks.read(FOLDER, "gossip.pcap"), random.Random(44)
+    for turn in range(40):
+        other = bytearray(data[: chance.randrange(len(data))] if turn % 2 else data)
+        for _ in range(turn):
+            other[chance.randrange(24, len(other)) if len(other) > 24 else 0] = chance.randrange(256)
+        got = read(bytes(other), *DOWN)
+        count.check(f"changed {turn}", got[0] in (0, 1, 2) and "Traceback" not in got[2], got[2])
+
+
+if __name__ == "__main__":
+    sys.exit(checks.over_program(frames, files, connections, keys, story, shown, changed))

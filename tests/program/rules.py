@@ -1,0 +1,476 @@
+"""docs/RULES.md, and the order of faults in docs/FORMATS.md, asked of the program: a schedule for each row.
+
+A case is what agent 0 is told to do, a call a line, and what it has to answer to each. A call has no agent's number. A packet
+that it names is injected before all others. Of an answer all lines are compared, in place of a packet's bytes `sent`.
+"""
+
+import glob
+import os
+import re
+import sys
+
+sys.dont_write_bytecode = True
+sys.path.insert(0, os.path.dirname(os.path.dirname(os.path.abspath(__file__))))
+import checks
+
+sys.path.insert(0, os.path.join(checks.TOP, "conformance", "python"))
+from serf_agent import messages
+
+AGENT = "agent 61 4 4 512 8 keep"
+IGNORING = "agent 61 4 4 512 8 ignore"
+GREATEST = (1 << 64) - 1
+
+
+def event(time, name=b"x", payload=b"", coalesce=False):
+    return messages.encode_event(messages.UserEvent(time, name, payload, coalesce))
+
+
+def query(time, id=1, name=b"q", filters=(), flags=0, timeout=1000):
+    return messages.encode_query(messages.Query(time, id, b"", 0, b"b", list(filters), flags, 0, timeout, name, b""))
+
+
+def answer(time, id, source, flags=0, payload=b""):
+    return messages.encode_response(messages.Response(time, id, source, flags, payload))
+
+
+def state(member=0, events=0, queries=0, slots=()):
+    """A push/pull. A slot is its time and its events' names."""
+    held = [messages.Slot(time, [messages.Texts(name, b"") for name in names]) for time, names in slots]
+    return messages.encode_state(messages.PushPull(member, [], [], events, held, queries))
+
+
+def deliver(packet, now=0):
+    return ("deliver", packet, now)
+
+
+def merge(packet, mode="sync"):
+    return ("merge", packet, mode)
+
+
+def got(time, name="78"):
+    """The answer to an event that is new."""
+    return f"new, sent, event 0 {time} {name} - 0"
+
+
+def answers(calls, agent=AGENT):
+    """What agent 0 answers to each call, its lines joined by commas."""
+    packets = [call[1] for call in calls if isinstance(call, tuple)]
+    lines = [agent, *(f"inject {packet.hex() or '-'}" for packet in packets)]
+    taken = 0
+    for call in calls:
+        if isinstance(call, tuple):
+            lines.append(f"{call[0]} 0 {taken} {call[2]}")
+            taken += 1
+        else:
+            word, _, rest = call.partition(" ")
+            lines.append(f"{word} 0 {rest}".strip())
+    status, out, said = checks.ran(["replay"], "\n".join(lines).encode())
+    found = {}
+    for line in out.decode().splitlines():
+        number, shown = line.split(" ", 1)
+        found.setdefault(int(number), []).append("sent" if shown.startswith("sent ") else shown)
+    return [", ".join(found.get(len(packets) + at + 1, [said.decode()])) for at in range(len(calls))]
+
+
+FIRE, FIRED = "fire 78 - 0", "fired {0}, sent, event 0 {0} 78 - 0"
+BREAK, BROKEN = "break append 1", "broken"
+FAILED, STOPPED = "refused SinkFault", "refused Stopped"
+RESTART = "restart -"
+
+
+def fired(time):
+    return FIRED.format(time)
+
+
+def asked(time, id=1):
+    """The answer to `ASK` where no ack is asked for."""
+    return f"queried {time}, sent, handed 0 0 {time} {id} 71 -"
+
+
+ASK = "query 100 1 71 - 50 0"
+ASK_FOR_ACKS = "query 100 1 71 - 50 1"
+ASKED_FOR_ACKS = "queried 1, sent, sent, handed 0 0 1 1 71 -"
+EXHAUSTED = (deliver(event(GREATEST - 1)), got(GREATEST - 1))
+EXHAUSTED_QUERIES = (deliver(query(GREATEST - 1)), f"query, sent, handed 0 0 {GREATEST - 1} 1 71 -")
+LARGE = "fire 78 " + "00" * 600 + " 0"
+OVERSIZE = event(50, b"x", bytes(9216))
+BIN_EVENT = b"\x03\x82\xc4\x05LTime\x05\xc4\x04Name\xc4\x01x"
+DEEP = b"\x03\x81\xa1u" + b"\x91" * 7
+
+# Of each rule, by its name on the page: calls and their answers, or a pair of such a list and another agent.
+CASES = {
+    "a clock observes": [(deliver(event(7)), got(7)), (FIRE, fired(8)), (deliver(event(5)), got(5)), (FIRE, fired(9))],
+    "an ignored time counts": [
+        (deliver(OVERSIZE), "ignored Oversize"),
+        (FIRE, fired(51)),
+        (deliver(query(9)), "query, sent, handed 0 0 9 1 71 -"),
+        (deliver(query(9)), "ignored Seen"),
+        (ASK, "queried 10, sent, handed 0 1 10 1 71 -"),
+    ],
+    "a fault moves nothing": [(deliver(event(50) + b"\x00"), f"refused Wire Trailing {len(event(50))}"), (FIRE, fired(1))],
+    "the window": [
+        (deliver(event(10)), got(10)),
+        (deliver(event(7)), got(7)),
+        (deliver(event(6)), "ignored TooOld"),
+        (deliver(query(10)), "query, sent, handed 0 0 10 1 71 -"),
+        (deliver(query(7)), "query, sent, handed 0 1 7 1 71 -"),
+        (deliver(query(6)), "ignored TooOld"),
+    ],
+    "the first reason": (
+        [
+            ("restart " + b"event-clock: 5\n".hex(), "restarted 1 6 1"),
+            (deliver(event(20)), got(20)),
+            (deliver(event(5, payload=bytes(9216))), "ignored Oversize"),
+            (deliver(event(5)), "ignored BelowMinimum"),
+            (deliver(event(6)), "ignored TooOld"),
+            (deliver(event(20)), "ignored Seen"),
+            (deliver(event(20, b"y")), "ignored TimeFull"),
+        ],
+        AGENT + " 1",
+    ),
+    "the same event": [
+        (deliver(event(5)), got(5)),
+        (deliver(event(5, coalesce=True)), "ignored Seen"),
+        (deliver(event(5, payload=b"p")), "new, sent, event 0 5 78 70 0"),
+        (deliver(event(6)), got(6)),
+    ],
+    "the same query": [
+        (deliver(query(5, 9)), "query, sent, handed 0 0 5 9 71 -"),
+        (deliver(query(5, 9, b"another")), "ignored Seen"),
+        (deliver(query(5, 8)), "query, sent, handed 0 1 5 8 71 -"),
+    ],
+    "a full time": (
+        [
+            (deliver(event(5)), got(5)),
+            (deliver(event(5, b"y")), got(5, "79")),
+            (deliver(event(5, b"z")), "ignored TimeFull"),
+            (deliver(event(6, b"z")), got(6, "7a")),
+        ],
+        AGENT + " 2",
+    ),
+    "clocks of a life": [
+        ("restart " + b"clock: 3\nevent-clock: 5\nquery-clock: 7\n".hex(), "restarted 4 6 8"),
+        (FIRE, fired(6)),
+    ],
+    "least times of a life": [
+        ("restart " + b"event-clock: 5\nquery-clock: 7\n".hex(), "restarted 1 6 8"),
+        (deliver(event(5)), "ignored BelowMinimum"),
+        (deliver(event(6)), got(6)),
+        (deliver(query(7)), "ignored BelowMinimum"),
+        (deliver(query(8)), "query, sent, handed 0 0 8 1 71 -"),
+    ],
+    "lines that are skipped": [
+        (
+            "restart " + b"event-clock: 9\r\nevent-clock:  9\nevent-clock: +9\nevent-clock: %d\nclock: 2\n".replace(b"%d", str(GREATEST).encode()).hex(),
+            "restarted 3 1 1",
+        ),
+    ],
+    "what a restart forgets": [
+        (ASK, asked(1)),
+        (RESTART, "restarted 1 1 2"),
+        ("respond 0 100 -", "refused NoQuery"),
+        (deliver(answer(1, 1, b"b"), 100), "ignored NotOpen"),
+        ("close 1000", "closed 0"),
+    ],
+    "when a line is written": [
+        (deliver(event(7)), got(7)),
+        ("break append 2", BROKEN),
+        (deliver(event(6)), got(6)),
+        (deliver(event(7, b"y")), got(7, "79")),
+        (deliver(event(8)), got(8)),
+        (deliver(event(9)), FAILED),
+    ],
+    "what `save` writes": [
+        (BREAK, BROKEN),
+        ("save", "saved"),
+        (merge(state(member=7)), "merged"),
+        ("break append 2", BROKEN),
+        ("save", "saved"),
+        ("save", "saved"),
+        (RESTART, "restarted 7 1 1"),
+    ],
+    "a line that fails": [
+        ("break flush 1", BROKEN),
+        (deliver(event(7)), FAILED),
+        (RESTART, "restarted 1 1 1"),
+        (deliver(event(7)), got(7)),
+    ],
+    "a query whose line fails": [(BREAK, BROKEN), (ASK, FAILED), ("close 1000", "closed 0"), ("respond 0 100 -", "refused NoQuery")],
+    "a second plan": [
+        (FIRE, fired(1)),
+        ("break replace-new 1", BROKEN),
+        ("break replace-old 2", BROKEN),
+        ("break append 1", BROKEN),
+        ("break append 3", BROKEN),
+        ("compact", "compacted"),
+        (FIRE, fired(2)),
+        (FIRE, fired(3)),
+        ("compact", FAILED),
+        (RESTART, "restarted 1 4 1"),
+    ],
+    "a stopped agent": [
+        (ASK, asked(1)),
+        ("break append 1", BROKEN),
+        (FIRE, FAILED),
+        (FIRE, STOPPED),
+        (ASK, STOPPED),
+        (deliver(event(9)), STOPPED),
+        (deliver(b"\x06"), STOPPED),
+        (deliver(b""), STOPPED),
+        (deliver(answer(1, 1, b"b"), 100), STOPPED),
+        (merge(state()), STOPPED),
+        ("state", STOPPED),
+        ("save", STOPPED),
+        ("compact", STOPPED),
+        ("respond 0 100 -", "replied, sent"),
+        ("close 1000", "closed 1"),
+        ("break flush 1", BROKEN),
+        (RESTART, "restarted 1 1 2"),
+    ],
+    "a firing's time": [(FIRE, fired(1)), (deliver(event(1)), "ignored Seen"), (FIRE, fired(2))],
+    "a state's clocks": [
+        (merge(state(12, 12, 12)), "merged"),
+        (FIRE, fired(12)),
+        (ASK, asked(12)),
+        ("save", "saved"),
+        (RESTART, "restarted 12 13 13"),
+        (merge(state(2, 2, 2)), "merged"),
+        (FIRE, fired(13)),
+    ],
+    "a join that ignores": (
+        [
+            (merge(state(12, 12, 12), "join"), "merged"),
+            (deliver(event(11)), "ignored BelowMinimum"),
+            (deliver(event(12)), got(12)),
+            (deliver(query(11)), "query, sent, handed 0 0 11 1 71 -"),
+            (merge(state(2, 2, 2), "join"), "merged"),
+            (deliver(event(11)), "ignored BelowMinimum"),
+        ],
+        IGNORING,
+    ),
+    "a merge that doesn't join": (
+        [(merge(state(12, 12, 12)), "merged"), (deliver(event(11)), got(11))],
+        IGNORING,
+        [(merge(state(12, 12, 12), "join"), "merged"), (deliver(event(11)), got(11))],
+        AGENT,
+    ),
+    "the events of a state": [
+        (
+            merge(state(1, 9, 1, [(8, (b"b",)), (6, (b"d", b"c")), (8, (b"b", b"a"))])),
+            "merged, event 0 8 62 - 0, event 0 6 64 - 0, event 0 6 63 - 0, event 0 8 61 - 0",
+        ),
+        (deliver(event(6, b"d", b"", True)), "ignored Seen"),
+        (FIRE, fired(9)),
+    ],
+    "an empty slot": [
+        (merge(bytes.fromhex("0281a64576656e74739182a54c54696d6532a64576656e747390")), "merged"),
+        (FIRE, fired(1)),
+    ],
+    "the lines of a merge": [
+        ("break flush 3", BROKEN),
+        (merge(state(1, 1, 1, [(5, (b"a", b"b")), (4, (b"c",)), (6, (b"d",))])), "merged, event 0 5 61 - 0, event 0 5 62 - 0, event 0 4 63 - 0, event 0 6 64 - 0"),
+        (deliver(event(7)), FAILED),
+    ],
+    "a merge that fails": (
+        [
+            ("break append 2", BROKEN),
+            (merge(state(9, 9, 9, [(9, (b"a",)), (10, (b"b",)), (9, (b"c",))]), "join"), "refused SinkFault, event 0 9 61 - 0"),
+            (RESTART, "restarted 1 10 1"),
+            (deliver(event(10, b"b")), got(10, "62")),
+        ],
+        IGNORING,
+    ),
+    "a slot's place": None,
+    "a slot behind the window": None,
+    "a deadline": [
+        (deliver(query(1, 1, timeout=-5), 100), "query, sent, handed 0 0 1 1 71 -"),
+        (deliver(query(2, 2, timeout=0), 100), "query, sent, handed 0 1 2 2 71 -"),
+        (deliver(query(3, 3, timeout=5), GREATEST), "query, sent, handed 0 2 3 3 71 -"),
+        ("respond 0 101 -", "refused PastDeadline"),
+        ("respond 0 100 -", "replied, sent"),
+        ("respond 1 101 -", "refused PastDeadline"),
+        ("respond 1 100 -", "replied, sent"),
+        (f"respond 2 {GREATEST} -", "replied, sent"),
+    ],
+    "at the deadline": [
+        (ASK_FOR_ACKS, ASKED_FOR_ACKS),
+        ("close 150", "closed 0"),
+        (deliver(answer(1, 1, b"b", 1), 150), "ack"),
+        (deliver(answer(1, 1, b"b"), 151), "ignored Closed"),
+        ("respond 0 151 -", "refused PastDeadline"),
+        ("respond 0 150 -", "replied, sent"),
+        ("close 151", "closed 1"),
+    ],
+    "a query that filters hold back": [
+        (deliver(query(5, filters=[b"\x00\x91\xa1b"], flags=1)), "query, sent"),
+        (deliver(query(5, filters=[b"\x00\x91\xa1b"], flags=1)), "ignored Seen"),
+        (RESTART, "restarted 1 1 6"),
+    ],
+    "the ack of one's own query": [
+        (ASK_FOR_ACKS, ASKED_FOR_ACKS),
+        (deliver(answer(1, 1, b"a", 1), 100), "ack"),
+        (deliver(answer(1, 1, b"a", 1), 100), "ignored AckTwice"),
+    ],
+    "how many names": (
+        [
+            (ASK_FOR_ACKS, ASKED_FOR_ACKS),
+            (deliver(answer(1, 1, b"b", 1), 100), "ack"),
+            (deliver(answer(1, 1, b"c"), 100), "response"),
+            (deliver(answer(1, 1, b"c", 1), 100), "refused RespondersFull"),
+            (deliver(answer(1, 1, b"b"), 100), "refused RespondersFull"),
+        ],
+        "agent 61 4 4 512 1 keep",
+    ),
+    "a name that comes twice": (
+        [
+            (ASK_FOR_ACKS, ASKED_FOR_ACKS),
+            (deliver(answer(1, 1, b"b", 1), 100), "ack"),
+            (deliver(answer(1, 1, b"b", 1), 100), "ignored AckTwice"),
+            (deliver(answer(1, 1, b"b"), 100), "response"),
+            (deliver(answer(1, 1, b"b"), 100), "ignored ResponseTwice"),
+        ],
+        "agent 61 4 4 512 1 keep",
+    ),
+    "one answer a query": [
+        (ASK, asked(1)),
+        ("respond 0 100 " + "00" * 1024, "refused TooLarge"),
+        ("respond 0 100 -", "replied, sent"),
+        ("respond 0 100 -", "refused NoQuery"),
+    ],
+    "text and bytes": [(deliver(BIN_EVENT), got(5))],
+    "an unknown key": [(deliver(b"\x03\x84\xa1u\x01\xa5LTime\x05\xa1u\x90\xa4Name\xa1x"), got(5))],
+    "too short or too deep": [
+        (deliver(DEEP), f"refused Wire Truncated {len(DEEP)}"),
+        (deliver(DEEP + b"\xdc\x00"), f"refused Wire Truncated {len(DEEP)}"),
+        (deliver(DEEP + b"\x90"), f"refused Wire TooDeep {len(DEEP)}"),
+    ],
+    "nil in place of a key": [
+        (deliver(b"\x03\x81\xc0\x01"), "refused Wire BadKey 2"),
+        (deliver(b"\x02\x81\xacStatusLTimes\x81\xc0\x01"), "refused Wire BadKey 16"),
+    ],
+    "behind a foreign type": [(deliver(bytes([kind]) + b"\xc1\xff"), f"foreign {kind}") for kind in (0, 1, 6, 7, 8, 9)],
+}
+
+# Of each pair of faults that one action can have at once, the calls, the last of which has both.
+STOP = [BREAK, FIRE]
+PAIRS = {
+    ("fire", "Stopped", "TooLarge"): [*STOP, LARGE],
+    ("fire", "TooLarge", "Exhausted"): [EXHAUSTED[0], LARGE],
+    ("fire", "Exhausted", "SinkFault"): [EXHAUSTED[0], BREAK, FIRE],
+    ("query", "Stopped", "TooLarge"): [*STOP, "query 0 1 71 " + "00" * 1024 + " 50 0"],
+    ("query", "TooLarge", "ZeroTimeout"): ["query 0 1 71 " + "00" * 1024 + " 0 0"],
+    ("query", "ZeroTimeout", "Exhausted"): [EXHAUSTED_QUERIES[0], "query 0 1 71 - 0 0"],
+    ("query", "Exhausted", "SinkFault"): [EXHAUSTED_QUERIES[0], BREAK, ASK],
+    ("deliver", "Stopped", "Wire"): [*STOP, deliver(b"")],
+    ("deliver", "NoMessage", "Stopped"): [*STOP, "deliver 99 0"],
+    ("merge", "Stopped", "Wire"): [*STOP, merge(b"")],
+    ("merge", "NoMessage", "Stopped"): [*STOP, "merge 99 sync"],
+    ("respond", "NoQuery", "PastDeadline"): [ASK, "respond 0 100 -", "respond 0 151 -"],
+    ("respond", "PastDeadline", "TooLarge"): [ASK, "respond 0 151 " + "00" * 1024],
+    ("save", "Stopped", "SinkFault"): [merge(state(member=7)), *STOP, BREAK, "save"],
+    ("compact", "Stopped", "SinkFault"): [*STOP, "break replace-old 1", "compact"],
+}
+
+# No schedule has a list or a text of 2^32 items or bytes.
+OUT_OF_REACH = {("state", "Stopped", "TooLong")}
+
+
+def rows_of(page):
+    """The cells of the rows of a page's tables, their heads aside."""
+    for line in page.splitlines():
+        cells = [cell.strip() for cell in line.strip("|").split("|")]
+        if line.startswith("|") and not set(line) <= set("|-"):
+            yield cells
+
+
+def rules():
+    """The rules of the page, by name, and the definitions of each."""
+    return {cells[0]: re.findall(r"`([^`]+)`", cells[2]) for cells in rows_of(checks.text_of("docs", "RULES.md")) if cells[0] != "Rule"}
+
+
+def is_defined(name):
+    """Whether some crate's specs have this definition in the file of this name."""
+    file, _, defined = name.partition(".")
+    paths = glob.glob(os.path.join(checks.TOP, "crates", "*", "specs", file + ".antt"))
+    return any(re.search(rf"^(?:abbrev|unfoldable) pub {defined} :", checks.text_of(path), re.M) for path in paths)
+
+
+def on_the_page(count):
+    page = rules()
+    count.check("each rule has its case, and each case its rule", page.keys() == CASES.keys(), page.keys() ^ CASES.keys())
+    for rule, names in page.items():
+        for name in names:
+            count.check(f"{rule}: {name}", is_defined(name), "no such definition")
+        count.check(f"{rule}: a definition", bool(names), "none is named")
+
+
+def cases(count):
+    for rule, case in CASES.items():
+        parts = case if isinstance(case, tuple) else (case or [], AGENT)
+        for asked_of, agent in zip(parts[::2], parts[1::2]):
+            got_back = answers([call for call, _ in asked_of], agent)
+            for (call, wanted), said in zip(asked_of, got_back):
+                count.check(f"{rule}: {call}", said == wanted, f"wanted {wanted}, got {said}")
+
+
+def slots_after(*times):
+    """The places and times of the slots that aren't empty, in the state of an agent that fires nothing and gets these."""
+    calls = "".join(f"inject {event(time).hex()}\ndeliver 0 {2 * at} 0\n" for at, time in enumerate(times))
+    out = checks.ran(["replay"], f"{AGENT}\n{calls}state 0\n".encode())[1].decode()
+    packet = out.splitlines()[-1].split(" ")[-1]
+    lines = checks.ran(["decode", packet])[1].decode().splitlines()
+    return [tuple(line.split(" ")[1:]) for line in lines if line.startswith("slot ") and not line.endswith("nil")], lines
+
+
+def slots(count):
+    held, lines = slots_after(5, 6)
+    count.check("a slot's place", held == [("1", "5"), ("2", "6")], lines)
+    count.check("a slot's place: all are sent", sum(line.startswith("slot ") for line in lines) == 4, lines)
+    held, lines = slots_after(5, 16)
+    count.check("a slot behind the window", held == [("0", "16"), ("1", "5")], lines)
+    held, lines = slots_after(5, 17)
+    count.check("a slot behind the window: a later time", held == [("1", "17")], lines)
+
+
+def orders():
+    """The faults of each action, in the order that FORMATS has."""
+    page = checks.text_of("docs", "FORMATS.md").partition("| Action | Its faults")[2].partition("\n\n")[0]
+    for cells in rows_of(page):
+        if cells[0].startswith("`"):
+            for action in re.findall(r"`(\w+)`", cells[0]):
+                yield action, re.findall(r"`(\w+)`", cells[1].partition(";")[0])
+
+
+# What each action is where its agent isn't there.
+NOBODY = {
+    "fire": "fire 9 78 - 0",
+    "query": "query 9 0 1 71 - 0 0",
+    "deliver": "deliver 9 99 0",
+    "merge": "merge 9 99 sync",
+    "state": "state 9",
+    "respond": "respond 9 0 0 -",
+    "save": "save 9",
+    "compact": "compact 9",
+    "close": "close 9 0",
+    "break": "break 9 append 1",
+    "restart": "restart 9 -",
+}
+
+
+def order_of_faults(count):
+    wanted = set(PAIRS) | OUT_OF_REACH
+    for action, faults in orders():
+        out = checks.ran(["replay"], f"{AGENT}\n{NOBODY[action]}\n".encode())[1]
+        count.check(f"{action}: {faults[0]} is first", out == b"1 refused NoAgent\n" and faults[0] == "NoAgent", out)
+        for first, second in zip(faults[1:], faults[2:]):
+            pair = (action, first, second)
+            count.check(f"{pair}: has its case", pair in wanted, "none")
+            wanted.discard(pair)
+    count.check("each case has its pair on the page", not wanted, wanted)
+    for (action, first, _), calls in PAIRS.items():
+        said = answers(calls)[-1]
+        count.check(f"{action}: {first} first", said.startswith(f"refused {first}"), said)
+
+
+if __name__ == "__main__":
+    sys.exit(checks.over_program(on_the_page, cases, slots, order_of_faults))
