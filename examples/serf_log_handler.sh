@@ -3,15 +3,16 @@
 #     serf agent -event-handler user=./serf_log_handler.sh -event-handler query=./serf_log_handler.sh
 # SERF_LOG says to which file. Standard output stays empty, so a query gets no answer from here.
 #
-# Each text is one word: a space is %20, a newline %0A and a percent sign %25. An empty text is -, and the text - is %2D.
+# Each text is one word: a space is %20, a newline %0A, a carriage return %0D and a percent sign %25. An empty text is -, and the text - is %2D.
 # Serf ends a payload by a newline where it has none, so one newline at its end is left out.
 # Serf gives a handler no ID of a query: a checksum of its name and payload stands in its place.
 LC_ALL=C
 export LC_ALL
+return=$(printf '\r')
 
 # The text on standard input, as one word.
 word() {
-	text=$(sed 's/%/%25/g; s/ /%20/g; s/$/%0A/' | tr -d '\n' | sed 's/%0A$//')
+	text=$(sed "s/%/%25/g; s/ /%20/g; s/$return/%0D/g; s/\$/%0A/" | tr -d '\n' | sed 's/%0A$//')
 	case $text in
 	'') text=- ;;
 	-) text=%2D ;;

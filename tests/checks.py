@@ -8,6 +8,7 @@ A script begins with these lines, and ends with `run`, or with `over_program` wh
 """
 
 import os
+import resource
 import subprocess
 import sys
 
@@ -27,7 +28,7 @@ ROWS = os.path.join(TOP, "tests", "rows")
 # The kinds of random schedules.
 KINDS = (
     *("mixed", "tiny", "merges", "restarts", "devices", "injections"),
-    *("queries", "limits", "exhaustion", "per-time", "compactions", "gossip", "spellings"),
+    *("queries", "limits", "exhaustion", "per-time", "compactions", "gossip", "spellings", "rounds"),
 )
 
 # How many bytes a schedule, a packet or a line of a stream may have.
@@ -60,6 +61,12 @@ def ran(words, given=b""):
     """The program on these words and this input: its status, its standard output, and its standard error."""
     done = subprocess.run([PROGRAM, *words], input=given, capture_output=True, timeout=LIMIT)
     return done.returncode, done.stdout, done.stderr
+
+
+def processor_seconds():
+    """What all programs took that this script has run to their end. Unlike a clock's, it doesn't grow with what else the machine does."""
+    used = resource.getrusage(resource.RUSAGE_CHILDREN)
+    return used.ru_utime + used.ru_stime
 
 
 class Checks:

@@ -18,7 +18,7 @@ BLOCK = re.compile(r"(?:^(?: {4}|\t).*\n(?:\n(?= {4}|\t))?)+", re.M)
 
 # How a command begins: with its variables, and then with one of these words.
 COMMAND = re.compile(
-    r"(?:[A-Z_]+=\S* )*(?:\./[\w.-]+|agent/[\w/]+|examples/[\w.]+|serf|serf-replay|kitchenrue-agent|cut|grep|mkfifo|seq|sh|python3?|pip|go|cargo|dpkg"
+    r"(?:[A-Z_]+=\S* )*(?:\./[\w.-]+|agent/[\w/]+|examples/[\w.]+|serf|serf-replay|kitchenrue-agent|cut|grep|mkfifo|seq|for|sh|python3?|pip|go|cargo|dpkg"
     r"|make|cmake|cc|rt|apt-get|tar|sha256sum)(?=[ ;]|$)"
 )
 
@@ -39,7 +39,7 @@ RUN_BY = (
     ("*", "python3 conformance/|seq |sh ", CONFORM),
     ("bindings/*", "", PACKAGES),
     ("examples/capture/README.md", "python3 ", CAPTURE),
-    ("*", "(?:./)?serf-replay |cut |grep ", COMMAND_LINE),
+    ("*", "(?:./)?serf-replay |for |cut |grep ", COMMAND_LINE),
 )
 
 # The pages whose blocks are a script as they stand, with what they print, and who runs it.

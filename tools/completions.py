@@ -17,7 +17,7 @@ FOLDER = os.path.join(TOP, "docs", "completions")
 
 COMMAND = re.compile(r"^  ([a-z-]+) +(\S.*)$", re.M)
 OPTION = re.compile(r"^ +(?:-(\w), |  +)--([a-z-]+)(?: <([^>]+)>)? +(\S.*)$", re.M)
-ARGUMENT = re.compile(r"^  [\[<]([A-Z]+)[\]>] +(\S.*)$", re.M)
+ARGUMENT = re.compile(r"^  [\[<]([A-Z]+)[\]>](\.\.\.)? +\S.*$", re.M)
 
 # What stands for a file in the help.
 FILES = {"FILE", "LOG", "NODE=SNAPSHOT"}
@@ -46,6 +46,7 @@ class Command:
     help: str
     options: tuple
     takes_file: bool
+    takes_files: bool
 
 
 def help_of(words):
@@ -65,7 +66,8 @@ def commands():
     found = []
     for name, what in COMMAND.findall(whole.partition("Options:")[0]):
         text = help_of([name]) if name != "help" else ""
-        found.append(Command(name, what, options_in(text), any(word in FILES for word, _ in ARGUMENT.findall(text))))
+        more = [dots for word, dots in ARGUMENT.findall(text) if word in FILES]
+        found.append(Command(name, what, options_in(text), bool(more), any(more)))
     return found, options_in(whole)
 
 
@@ -120,7 +122,8 @@ def in_zsh(all_commands, outer):
         return f"'{head}:{quoted(option.value, ':')}:{what}'"
 
     def case(command):
-        specs = [spec(option) for option in command.options] + (["':file:_files'"] if command.takes_file else [])
+        file = "'*:file:_files'" if command.takes_files else "':file:_files'"
+        specs = [spec(option) for option in command.options] + ([file] if command.takes_file else [])
         return "        {}) _arguments {} ;;".format(command.name, " \\\n            ".join(specs or ["':'"]))
 
     named = "\n".join(f"        '{one.name}:{quoted(one.help, ':')}'" for one in all_commands)

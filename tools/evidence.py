@@ -19,8 +19,10 @@ from edit_checks import Refusal
 
 FOLDER = os.path.join(edits.TOP, "tests", "refused")
 
-# How many of 100 edits are tried though their lines are believed.
-SHARE = 5
+# Of 100 crates, how many a commit draws, and of 100 edits of such a crate how many are tried though their lines are
+# believed: 5 in 100 of all. A crate's first check reads all that stands below it, so as many edits of a few crates cost
+# half of what they cost where each crate has some.
+CRATES, EDITS = 25, 20
 
 # The scripts that decide how an edit is tried and judged.
 JUDGES = ["edits.py", "edit_checks.py"]
@@ -104,6 +106,12 @@ def commit():
         return None
 
 
-def is_drawn(name, at_commit, share=SHARE):
-    """Whether a commit draws an edit, so that it is tried though its line is believed."""
-    return int(hashlib.sha256(f"{at_commit} {name}".encode()).hexdigest(), 16) % 100 < share
+def drawn_number(*words):
+    """A number below 100 that these words give, and nobody knows before."""
+    return int(hashlib.sha256(" ".join(words).encode()).hexdigest(), 16) % 100
+
+
+def is_drawn(name, at_commit):
+    """Whether a commit draws an edit, CRATE/EDIT, so that it is tried though its line is believed."""
+    crate = name.partition("/")[0]
+    return drawn_number(at_commit, crate) < CRATES and drawn_number(at_commit, name) < EDITS

@@ -6,11 +6,6 @@ _serf_replay() {
     case "$command $before" in
         *' =') files=yes ;;
         'replay --as') words='text csv json' ;;
-        'random --kind') words='mixed tiny merges restarts devices injections queries limits exhaustion per-time compactions gossip spellings' ;;
-        'random --agents') : ;;
-        'random --actions') : ;;
-        'random --rules') words='serf own' ;;
-        'judge --kept') : ;;
         'explain --agent') : ;;
         'explain --from') : ;;
         'explain --to') : ;;
@@ -19,29 +14,38 @@ _serf_replay() {
         'draw --from') : ;;
         'draw --to') : ;;
         'draw --event') : ;;
+        'judge --kept') : ;;
         'conform --agent') : ;;
         'conform --rules') words='serf own' ;;
         'conform --random') : ;;
-        'conform --kind') words='mixed tiny merges restarts devices injections queries limits exhaustion per-time compactions gossip spellings' ;;
+        'conform --kind') words='mixed tiny merges restarts devices injections queries limits exhaustion per-time compactions gossip spellings rounds all' ;;
         'conform --agents') : ;;
         'conform --actions') : ;;
+        'conform --go-on') : ;;
         'conform --save') files=yes ;;
         'conform --report') files=yes ;;
+        'random --kind') words='mixed tiny merges restarts devices injections queries limits exhaustion per-time compactions gossip spellings rounds' ;;
+        'random --agents') : ;;
+        'random --actions') : ;;
+        'random --fanout') : ;;
+        'random --loss') : ;;
+        'random --rounds') : ;;
+        'random --rules') words='serf own' ;;
         *) case "$command" in
             replay) words='--stream --summary --as --help' files=yes ;;
-            decode) words='--help' ;;
-            encode) words='--help' ;;
-            clocks) words='--help' files=yes ;;
-            random) words='--kind --agents --actions --rules --help' ;;
-            judge) words='--missed --kept --help' files=yes ;;
             explain) words='--agent --from --to --help' files=yes ;;
             draw) words='--as --agent --from --to --taken --event --help' files=yes ;;
             write) words='--help' files=yes ;;
-            conform) words='--agent --rules --random --kind --agents --actions --shrink --save --report --help' files=yes ;;
+            judge) words='--missed --kept --help' files=yes ;;
+            conform) words='--agent --rules --random --kind --agents --actions --go-on --shrink --save --report --help' files=yes ;;
+            random) words='--kind --agents --actions --fanout --loss --rounds --rules --help' ;;
+            decode) words='--help' ;;
+            encode) words='--help' ;;
+            clocks) words='--help' files=yes ;;
             help) words='' ;;
         esac
     esac
-    ((COMP_CWORD == 1)) && words='replay decode encode clocks random judge explain draw write conform help --help --version' files=
+    ((COMP_CWORD == 1)) && words='replay explain draw write judge conform random decode encode clocks help --help --version' files=
     COMPREPLY=()
     if [[ -n $words && ($word == -* || -z $files) ]]; then
         mapfile -t COMPREPLY < <(compgen -W "$words" -- "$word")

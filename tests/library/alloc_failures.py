@@ -100,6 +100,7 @@ GROWTHS = {
     "sink_with": 1,
     "step": 165,
     "summarize": 200,
+    "summarize_lines": 200,
     "take_due": 27,
     "take_line": 200,
 }
@@ -128,6 +129,7 @@ CALLS = {
     "serf_replay replay": "replay",
     "serf_replay replay_lines": "replay_lines",
     "serf_replay summarize": "summarize",
+    "serf_replay summarize_lines": "summarize_lines",
     "serf_schedule parse_schedule": "parse_schedule",
     "serf_schedule read_line": "read_schedule_line",
     "serf_schedule read_schedule_line": "read_schedule_line",

@@ -38,9 +38,11 @@ MANUAL_STATUS = re.compile(r"^\.TP\n\.B (\d)\n([^\n]*)$", re.M)
 
 def run(command, folder):
     """Runs a line of a page, with the program in place of its name, by a shell that fails where a part of it fails."""
-    line = re.sub(r"(^|\| )(?:\./)?serf-replay\b", lambda found: found[1] + checks.COMMAND, command)
+    line = re.sub(r"(^|\| |; do )(?:\./)?serf-replay\b", lambda found: found[1] + checks.COMMAND, command)
+    # (a script of examples/ calls the program by its name)
+    env = {**os.environ, "PATH": TOP + os.pathsep + os.environ["PATH"]}
     return subprocess.run(
-        ["bash", "-o", "pipefail", "-c", line], cwd=folder, stdin=subprocess.DEVNULL, capture_output=True, timeout=300
+        ["bash", "-o", "pipefail", "-c", line], cwd=folder, env=env, stdin=subprocess.DEVNULL, capture_output=True, timeout=300
     )
 
 
@@ -121,10 +123,13 @@ def help_and_page(count):
     """What --help names, COMMANDS.md and README name, and nothing else."""
     readme, told = text_of("README.md"), sections()
     commands = [name for name in HELP_COMMAND.findall(help_of(count, [])) if name != "help"]
-    count.check("a section for each command", sorted(told) == sorted(commands), (sorted(told), sorted(commands)))
+    count.check("a section for each command, in one order", list(told) == commands, (list(told), commands))
+    count.check("what is counted from where", "Actions count from 1, agents from 0." in help_of(count, []))
     for name in commands:
         own = help_of(count, [name])
         options = set(HELP_OPTION.findall(own)) - {"help"}
+        values = re.findall(r"--[a-z-]+ <([^>]*)>", own)
+        count.check(f"the words for values of {name} are upper case", all(value == value.upper() for value in values), values)
         wanted = {option for option, _ in OPTION.findall(told.get(name, ""))}
         count.check(f"the options of {name}", options == wanted, (sorted(options), sorted(wanted)))
         count.check(
@@ -149,6 +154,7 @@ def bad_words(count):
     for words, may in (
         (["draw", "--as", "png"], "--as: here may stand svg or mermaid"),
         (["conform", "x", "--save", "y"], "--save: here may stand a file, where --shrink is given too"),
+        (["conform", "x", "--go-on", "2"], "--go-on: here may stand a number, where --random is given and --shrink isn't"),
     ):
         told = (2, b"", f"error: a bad word for {may}\n".encode())
         count.exactly("a bad word: " + " ".join(words), words, *told)
@@ -170,10 +176,22 @@ def full_device(count):
         count.check("a full device: " + " ".join(words), (ran.returncode, ran.stderr) == (3, b"write fault\n"), ran)
 
 
+def reader_that_went(count):
+    """A pipe that nobody reads any more, as behind `head`: the command ends, and says nothing of it."""
+    schedule = checks.read("examples", "deploy_gossiped_twice.schedule")
+    given = {"replay": schedule, "explain": schedule, "draw": schedule, "decode": b"06ff\n", "encode": b"foreign 6\n\n", "clocks": b"clock: 1\n"}
+    for words in (["replay"], ["replay", "--stream"], ["replay", "--summary"], ["explain"], ["draw"], ["random", "1"], ["decode"], ["decode", "06ff"], ["encode"], ["clocks", "-"]):
+        reader, writer = os.pipe()
+        os.close(reader)
+        with os.fdopen(writer, "wb") as gone:
+            ran = subprocess.run([checks.PROGRAM, *words], input=given.get(words[0], b""), stdout=gone, stderr=subprocess.PIPE, timeout=checks.LIMIT)
+        count.check("a reader that went: " + " ".join(words), (ran.returncode, ran.stderr) == (3, b""), ran)
+
+
 def main(words):
     if words == ["read"]:
         return checks.run(manual_and_page)
-    return checks.over_program(manual_and_page, shown_commands, statuses, help_and_page, refused, bad_words, full_device)
+    return checks.over_program(manual_and_page, shown_commands, statuses, help_and_page, refused, bad_words, full_device, reader_that_went)
 
 
 if __name__ == "__main__":

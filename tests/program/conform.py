@@ -9,6 +9,7 @@ docs/CONFORMANCE.md and docs/PIPE.md show of agents is compared with what comes.
 
 import json
 import os
+import re
 import subprocess
 import sys
 import tempfile
@@ -39,9 +40,41 @@ while True:
         reply = given.pop(0)
     sys.stdout.buffer.write(reply)
     sys.stdout.buffer.flush()
-    if not reply.endswith(b"\\n\\n"):
+    if not reply.endswith((b"\\n\\n", b"\\r\\n")):
         # (half a reply: nothing follows it)
         sys.exit(0)
+"""
+
+
+# A subject that has a clock of 2 behind `open`, and ends at the second one.
+ENDS = """import sys
+call = sys.stdin.readline()
+sys.stdout.write("opened 1 1 2\\n\\n")
+sys.stdout.flush()
+sys.stdin.readline()
+"""
+
+# Passes each call on, a little later, or as many as it is told.
+DELAY = """import sys, time
+for number, line in enumerate(sys.stdin.buffer):
+    if [str(number)] == sys.argv[1:]:
+        break
+    time.sleep(0.015)
+    sys.stdout.buffer.write(line)
+    sys.stdout.buffer.flush()
+"""
+
+# Runs the program with a terminal as its standard error, and passes on what this shows.
+ON_A_TERMINAL = """import os, pty, subprocess, sys
+ours, theirs = pty.openpty()
+ran = subprocess.Popen(sys.argv[1:], stderr=theirs)
+os.close(theirs)
+try:
+    while some := os.read(ours, 1000):
+        os.write(2, some)
+except OSError:
+    pass
+sys.exit(ran.wait())
 """
 
 
@@ -162,11 +195,19 @@ class Cases:
         with open(self.subject, "w") as file:
             file.write(SUBJECT)
 
-    def replies(self, name, replies, schedule, status, said, words=()):
+    def replying(self, replies):
+        """The words that start an agent with these replies."""
         path = os.path.join(self.folder, "replies")
         with open(path, "wb") as file:
             file.write(b"\0".join(replies))
-        self.run(name, [sys.executable, self.subject, path], schedule, status, said, words)
+        return [sys.executable, self.subject, path]
+
+    def told(self, replies, schedule, words):
+        """The status and the report of an agent with these replies."""
+        return compare([schedule, *words], self.replying(replies))
+
+    def replies(self, name, replies, schedule, status, said, words=()):
+        self.run(name, self.replying(replies), schedule, status, said, words)
 
     def run(self, name, agent, schedule, status, said, words=()):
         got = compare([schedule, *words], agent)
@@ -222,6 +263,14 @@ def by_meaning(cases):
         cases.replies(
             name, replies, schedule, 1, [f"action {number}, line {number + 7}: deliver ", "  wanted: ", *got], words
         )
+    returns = ["agent 1: open ", "  got: opened 1 1 1?\n", "  a carriage return: lines end by a newline alone\n"]
+    crlf = [reply.replace(b"\n", b"\r\n") for reply in good]
+    cases.replies("carriage returns", crlf, schedule, 1, returns, words)
+    returns[0] = "action 2, line 9: deliver "
+    returns[1] = "event 1 6465706c6f79 7631 0\n       ?\n"
+    lone = [good[0], good[1][:-1] + b"\r\n", good[2]]
+    cases.replies("a carriage return alone", lone, schedule, 1, returns, words)
+    cases.replies("no more than that", [b"\r\n"], schedule, 1, ["  got: ?\n", *returns[2:]], words)
     leading = good[1].replace(b"event 1 ", b"event  0001 ").replace(b"7631 0", b"7631  0")
     cases.replies("zeros and spaces", [good[0], leading, good[2]], schedule, 0, ["agent 1: 3 calls agree"], words)
     cases.replies(
@@ -248,8 +297,9 @@ def by_meaning(cases):
         "a reply without its empty line": good[:2] + [good[2][:-1]],
     }
     for name, replies in ends.items():
-        cases.replies(name, replies, schedule, 3, ["the agent ended"], words)
-    cases.run("an agent that isn't there", ["false"], schedule, 3, [], words)
+        said = "the agent ended before its first reply\n" if name == "no reply" else "the agent ended\n"
+        cases.replies(name, replies, schedule, 3, [said], words)
+    cases.run("an agent that isn't there", ["false"], schedule, 3, ["the agent ended before its first reply\n"], words)
     cases.run("no agent", None, schedule, 3, [], words)
     if programs.IS_UNPROVED:
         print("not run: a reply that is too long, over a program that was compiled with checks")
@@ -268,6 +318,27 @@ def states(cases):
     cases.replies("an empty slot more", replies, path + ".schedule", 0, ["calls agree"])
 
 
+def whole_reports(cases):
+    """Calls and replies are told whole, and of packets that differ the lines of `decode` that do."""
+    path = os.path.join(checks.EXAMPLES, "deploy_gossiped_twice")
+    words, schedule = ["--agent", "1"], path + ".schedule"
+    good = text_of(turns_of(path)[1])
+    sent = good[1].split(b"\n")[1]
+    another = ["wanted userEvent", "wanted LTime 1", "wanted Name 6465706c6f79", "wanted Payload 7631", "wanted CC 0", "got foreign 6"]
+    for name, line, told in (
+        ("another time", sent.replace(b"6d6501", b"6d6502"), ["LTime: wanted 1, got 2"]),
+        ("another message", b"sent 06", another),
+        ("no message", b"sent 03", []),
+        ("no hex", b"sent 0", []),
+    ):
+        replies = [good[0], good[1].replace(sent, line), good[2]]
+        last = "       event 1 6465706c6f79 7631 0\n" + "".join(f"  {one}\n" for one in told)
+        status, report = cases.told(replies, schedule, words)
+        cases.count.check(f"what differs in a packet: {name}", status == 1 and last in report and not report.rpartition(last)[2].startswith("  "), report)
+    long = "x" * 100_000
+    cases.replies("a long line", [good[0], long.encode() + b"\n\n"], schedule, 1, [f"  got: {long}\n"], words)
+
+
 def refused(cases):
     path = os.path.join(cases.folder, "bad.schedule")
     with open(path, "w") as file:
@@ -278,6 +349,9 @@ def refused(cases):
     )
     cases.count.check("nothing is written before that", ran.stdout == b"", ran.stdout)
     cases.run("no file", ["cat"], os.path.join(cases.folder, "none"), 3, ["none: no such file"])
+    with open(path, "w") as file:
+        file.write("# no agents\n")
+    cases.run("no agents", ["cat"], path, 0, ["the schedule has no agents: nothing was compared\n"])
     good = os.path.join(checks.EXAMPLES, "deploy_gossiped_twice.schedule")
     cases.run("a bad agent", ["cat"], good, 2, ["--agent"], ["--agent", "x"])
     cases.run("bad rules", ["cat"], good, 2, ["--rules"], ["--rules", "mine"])
@@ -358,9 +432,10 @@ def seeds(cases):
         ["seed ", " seeds and ", "agent ", "  wanted: ", "  got: "],
         ["1-20"],
     )
-    cases.run("no agent for a seed", ["false"], "--random", 3, ["seed 1: "], ["1-2"])
+    cases.run("no agent for a seed", ["false"], "--random", 3, ["the agent ended before its first reply\n"], ["1-2"])
     for word in ("x", "3-1", "1-", "-1", "1-2-3", "0-18446744073709551615"):
-        cases.run(f"seeds {word}", ["cat"], f"--random={word}", 2, ["--random"])
+        said = ["--random: here may stand seeds as A-B, from the less to the greater\n"]
+        cases.run(f"seeds {word}", ["cat"], f"--random={word}", 2, said)
     cases.run("seeds of no kind", ["cat"], "--random", 2, ["--kind"], ["1-2", "--kind", "mixd"])
     cases.run("one agent of seeds", ["cat"], "--random", 2, ["--agent"], ["1-2", "--agent", "0"])
     cases.run(
@@ -368,11 +443,100 @@ def seeds(cases):
         ["cat"],
         os.path.join(checks.EXAMPLES, "deploy_gossiped_twice.schedule"),
         2,
-        ["--random"],
+        ["error: a schedule and --random: give one of them\n"],
         ["--random", "1"],
     )
     ran = subprocess.run([checks.PROGRAM, "conform"], stdin=subprocess.DEVNULL, capture_output=True, timeout=LIMIT)
-    cases.count.check("neither", (ran.returncode, ran.stdout) == (2, b""), ran)
+    said = b"error: no calls: give a schedule, or seeds as --random A-B\n"
+    cases.count.check("neither", (ran.returncode, ran.stdout, ran.stderr) == (2, b"", said), ran)
+
+
+def found_in(report):
+    """The kind and the seed of each find of a report, and the lines that tell of its agent."""
+    parts = re.split(r"(?m)^(?:kind (\S+): )?seed (\d+): .* agree before\n", report)
+    return [(parts[at], int(parts[at + 1]), parts[at + 2]) for at in range(1, len(parts), 3)]
+
+
+def kinds(cases):
+    """All kinds, one after another: what is told of each, and which kind and seed find a wrong agent."""
+    good, words = [sys.executable, PYTHON_AGENT], ["--random", "3-4", "--kind", "all", "--actions", "30"]
+    status, said = compare(words, good)
+    told = re.findall(r"(?m)^kind (\S+): 2 seeds and (\d+) calls agree$", said)
+    cases.count.check("all kinds", status == 0 and [kind for kind, _ in told] == list(checks.KINDS), (status, said))
+    sums = {"report": "end", "schedules": 2 * len(told), "calls": sum(int(calls) for _, calls in told)}
+    sums |= {"disagreements": 0, "status": 0}
+    machine_told(cases, "all kinds, for machines", good, words, 0, [sums])
+    wrong, path = [*good, "--wrong", "ack_counts_twice"], os.path.join(cases.folder, "kinds.jsonl")
+    status, said = compare(["--random", "1-2", "--kind", "all", "--report", path], wrong)
+    (kind, seed, lines), *more = found_in(said)
+    with open(path) as file:
+        told = [json.loads(line) for line in file]
+    holds = (status, more) == (1, []) and kind in checks.KINDS and told[0]["kind"] == kind and told[0]["seed"] == seed
+    cases.count.check("a wrong agent, by all kinds", holds and list(told[0])[:3] == ["report", "seed", "kind"], (status, said, told))
+    again = compare(["--random", str(seed), "--kind", kind], wrong)
+    cases.count.check("once more, by its kind", again[0] == 1 and again[1].endswith(lines), (said, again))
+    cases.run("a kind that isn't there", ["cat"], "--random", 2, ["--kind: here may stand mixed", " or all\n"], ["1", "--kind", "al"])
+
+
+def goes_on(cases):
+    """More than one disagreement: each is what its seed alone gives, and all are found, up to as many as are asked for."""
+    wrong, path = [sys.executable, PYTHON_AGENT, "--wrong", "never_seen"], os.path.join(cases.folder, "on.jsonl")
+    words = ["--random", "1-12", "--actions", "60"]
+    alone = {seed: compare(["--random", str(seed), *words[2:]], wrong) for seed in range(1, 13)}
+    others = [seed for seed, (status, _) in alone.items() if status == 1]
+    cases.count.check("some seeds differ, and some don't", 3 <= len(others) < 12, alone)
+    for most in (1, 2, len(others), 100):
+        status, said = compare([*words, "--go-on", str(most), "--report", path], wrong)
+        found = found_in(said)
+        wanted = others[:most]
+        end = f"{12 - len(others)} seeds and "
+        if most == 100:
+            tail = f" calls agree, and {len(others)} seeds don't\n"
+            cases.count.check("the last line", said.endswith(tail) and end in said.splitlines()[-1], said)
+            found[-1] = (*found[-1][:2], "".join(found[-1][2].splitlines(keepends=True)[:-1]))
+        lines = [(None, seed, alone[seed][1].partition("\n")[2]) for seed in wanted]
+        cases.count.check(f"it goes on, {most}", (status, found) == (1, lines), (status, said))
+        with open(path) as file:
+            *told, sums = [json.loads(line) for line in file]
+        held = 12 if most == 100 else wanted[-1]
+        holds = [one["seed"] for one in told] == wanted and "kind" not in told[0]
+        holds = holds and (sums["schedules"], sums["disagreements"]) == (held - len(wanted), len(wanted))
+        cases.count.check(f"it goes on, {most}, for machines", holds, (told, sums))
+    status, said = compare(["--random", "1-3", "--kind", "all", "--actions", "60", "--go-on", "4"], wrong)
+    found = [(checks.KINDS.index(kind), seed) for kind, seed, _ in found_in(said)]
+    cases.count.check("over kinds", status == 1 and len(found) == 4 and found == sorted(found), said)
+    status, said = compare(["--random", "1-12", "--go-on", "9"], [sys.executable, "-c", ENDS])
+    cases.count.check("it ends on the way", status == 3 and "\n  got: opened 1 1 2\n" in said and said.endswith("the agent ended\n"), said)
+    example = os.path.join(checks.EXAMPLES, "deploy_gossiped_twice.schedule")
+    for name, more in (("none", ["--random", "1", "--go-on", "0"]), ("a schedule", [example, "--go-on", "2"])):
+        cases.run(f"it goes on: {name}", ["cat"], more[0], 2, ["--go-on"], more[1:])
+    cases.run("it goes on: fewer calls", ["cat"], "--random", 2, ["--go-on"], ["1", "--go-on", "2", "--shrink"])
+
+
+def progress(cases):
+    """How far a hunt is, and trials of fewer calls: on a terminal, once a second, and nowhere else."""
+    delay, program = os.path.join(cases.folder, "delay.py"), os.path.join(cases.folder, "on_a_terminal")
+    with open(delay, "w") as file:
+        file.write(DELAY)
+    with open(program + ".py", "w") as file:
+        file.write(ON_A_TERMINAL)
+    with open(program, "w") as file:
+        file.write(f'#!/bin/sh\nexec "{sys.executable}" "{program}.py" "{checks.PROGRAM}" "$@"\n')
+    os.chmod(program, 0o755)
+    for words, wrong, line in (
+        (["--random", "3-6", "--actions", "60"], "", r"[1-3] of 4 seeds"),
+        (["--random", "3-6", "--actions", "60", "--kind", "all"], "", r"kind mixed: [1-3] of 4 seeds"),
+        (["--random", "2", "--shrink"], " --wrong never_seen", r"\d+ of 18 calls are left out"),
+    ):
+        agent = ["sh", "-c", f'"{sys.executable}" "{delay}" | "{sys.executable}" "{PYTHON_AGENT}"{wrong}']
+        if "all" in words:
+            agent[2] = agent[2].replace(" |", " 200 |", 1)
+        status, said = compare(words, agent, program)
+        shown = re.findall(rf"(?m)^{line}\r?$", said)
+        cases.count.check(f"on a terminal: {' '.join(words)}", shown, (status, said))
+        if "all" not in words:
+            quiet = re.sub(rf"(?m)^{line}\r?\n", "", said).replace("\r\n", "\n")
+            cases.count.check(f"on no terminal: {' '.join(words)}", compare(words, agent) == (status, quiet), (status, said))
 
 
 def shrinks(cases):
@@ -439,7 +603,7 @@ def fails_without_one(cases, agent, path):
     return False
 
 
-def told(cases, name, agent, words, status, wanted):
+def machine_told(cases, name, agent, words, status, wanted):
     """Holds an agent with a report, whose lines have to have just these members, and be printable ASCII."""
     path = os.path.join(cases.folder, "told.jsonl")
     got = compare([*words, "--report", path], agent)
@@ -458,7 +622,7 @@ def machine_reports(cases):
     call = f"deliver {turns[1][1].given.hex()} 0"
     end = {"report": "end", "schedules": 1, "calls": 3, "disagreements": 0, "status": 0}
     good = [sys.executable, PYTHON_AGENT]
-    told(cases, "a report of what agrees", good, [schedule, "--agent", "1"], 0, [end])
+    machine_told(cases, "a report of what agrees", good, [schedule, "--agent", "1"], 0, [end])
     strange = bytes(byte for byte in range(1, 256) if byte != 10)
     replies = os.path.join(cases.folder, "told")
     for name, last, more in (("any bytes", strange + b"\n\n", "differs"), ("no more", b"", "ended")):
@@ -469,10 +633,10 @@ def machine_reports(cases):
         status = 1 if last else 3
         sums = end | {"calls": 1, "disagreements": 1, "status": status}
         words = [schedule, "--agent", "1"]
-        told(cases, f"a report, {name}", [sys.executable, cases.subject, replies], words, status, [found, sums])
+        machine_told(cases, f"a report, {name}", [sys.executable, cases.subject, replies], words, status, [found, sums])
     sums = end | {"schedules": 2, "calls": 0, "status": 0}
     agreed = compare(["--random", "1-2", "--actions", "40"], good)[1].split()
-    told(
+    machine_told(
         cases,
         "a report of seeds",
         good,
@@ -561,7 +725,7 @@ def pipe(cases):
         cases.count.check(f"{page}: {name}", ran.stdout == shown, ran)
 
 
-PARTS = (examples, by_meaning, states, refused, looks, rules, seeds, shrinks, reports, machine_reports, shares, pipe)
+PARTS = (examples, by_meaning, states, whole_reports, refused, looks, rules, seeds, kinds, goes_on, progress, shrinks, reports, machine_reports, shares, pipe)
 
 
 def all_parts(count):

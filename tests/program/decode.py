@@ -251,8 +251,22 @@ def refused(count):
     for packet, words in REFUSED:
         said = b"refused " + words.encode() + b"\n"
         count.exactly(f"decode {packet.hex()}", ["decode", packet.hex()], 1, b"", said)
-    for digits in ("-", "0", "0x00", "0g", "00 00"):
-        count.exactly(f"decode {digits}", ["decode", digits], 1, b"", b"bad hex\n")
+    for digits, why in (
+        ("0", "an odd number of digits, 1"),
+        ("038", "an odd number of digits, 3"),
+        ("0x00", "character 2 is no hex digit"),
+        ("0g", "character 2 is no hex digit"),
+        ("00 00", "character 3 is no hex digit"),
+        ("0\u00e90", "character 2 is no hex digit"),
+        ("--", "character 1 is no hex digit"),
+    ):
+        words = ["decode", *(["--"] if digits == "--" else []), digits]
+        count.exactly(f"decode {digits}", words, 1, b"", f"bad hex: {why}\n".encode())
+    path = os.path.join(FOLDER, "user_event.hex")
+    said = f"bad hex: character 1 is no hex digit\na file? serf-replay decode < {path}\n".encode()
+    count.exactly("a file in place of a packet", ["decode", path], 1, b"", said)
+    lines = checks.read(path)
+    count.check("`-` is standard input", checks.ran(["decode", "-"], lines) == checks.ran(["decode"], lines) and lines)
 
 
 def examples(count):

@@ -268,6 +268,13 @@ def arrows(count):
     ran = drawn(["--agent", "0"], b"")
     told = b"error: --agent 0: the schedule has 0 agents, counted from 0\n"
     count.check("an agent of an empty schedule", (ran.returncode, ran.stdout, ran.stderr) == (2, b"", told), ran)
+    lane = drawn(["--agent", "1"], text).stdout
+    for word in ("b", "62"):
+        ran = drawn(["--agent", word], text)
+        count.check(f"an agent by its name: {word}", (ran.returncode, ran.stdout, ran.stderr) == (0, lane, b""), ran)
+    told = b"error: --agent B: no agent of the schedule has this name, as it is or in hex\n"
+    ran = drawn(["--agent", "a", "--agent", "B"], text)
+    count.check("a name that isn't there", (ran.returncode, ran.stdout, ran.stderr) == (2, b"", told), ran)
     count.check("an SVG where it is asked for", drawn(["--as", "svg"], text).stdout == drawn([], text).stdout)
 
 

@@ -234,13 +234,33 @@ def ranges(count):
     cases += [
         (["--agent", "1"], lambda n: actor[n] == b"1"),
         (["--agent", "1", "--from", "3"], lambda n: actor[n] == b"1" and n >= 3),
-        (["--agent", "9"], lambda n: False),
     ]
+    # (an agent by its name, as it is and in hex of either case)
+    cases += [(["--agent", word], lambda n: actor[n] == b"1") for word in ("b", "62")]
     for words, is_shown in cases:
         wanted = b"".join(line + b"\n" for line in whole.split(b"\n")[:-1] if is_shown(int(line.split()[0])))
         count.check(f"range {words}", ran(["explain", *words], schedule) == (0, wanted, b""))
     said = b"nothing to show: the schedule has %d actions\n" % len(actions)
     count.check("a range behind the end", ran(["explain", "--from", "100"], schedule) == (0, b"", said))
+    for words, said in (
+        (["--to", "0"], b"nothing to show: actions count from 1\n"),
+        (["--from", "3", "--to", "2"], b"nothing to show: action 2 comes before action 3\n"),
+    ):
+        count.exactly(f"a range of nothing: {words}", ["explain", *words], 0, b"", said, schedule)
+    # (of an agent `1`, `beta`, `J` and a name of two bytes that are no text: the number first, then the name as it is)
+    names = b"".join(b"agent %s 4 4 512 2 keep\n" % name for name in (b"31", b"62657461", b"4a", b"fffe"))
+    names += b"".join(b"fire %d 61 - 0\n" % agent for agent in range(4))
+    for word, agent in (("1", 1), ("31", 0), ("0", 0), ("beta", 1), ("62657461", 1), ("J", 2), ("4a", 2), ("4A", 2), ("FFfe", 3)):
+        text = ran(["explain", "--agent", word], names)[1]
+        count.check(f"an agent {word}", text.startswith(b"%d fired 1\n" % (agent + 1)) and text.count(b" fired 1\n") == 1, text)
+    for word, said in (
+        ("9", b"the schedule has 2 agents, counted from 0"),
+        ("gamma", b"no agent of the schedule has this name, as it is or in hex"),
+        ("B", b"no agent of the schedule has this name, as it is or in hex"),
+        ("", b"no agent of the schedule has this name, as it is or in hex"),
+    ):
+        told = b"error: --agent %s: %s\n" % (word.encode(), said)
+        count.exactly(f"no agent {word!r}", ["explain", "--agent", word], 2, b"", told, schedule)
     for words in (["--agent", "x"], ["--from", "-1"], ["--to", "18446744073709551616"]):
         status, text, _ = ran(["explain", *words], schedule)
         count.check(f"bad words {words}", (status, text) == (2, b""))

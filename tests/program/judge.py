@@ -7,7 +7,6 @@ That no worked row and no example repeats anything is in rows.py.
 import os
 import sys
 import tempfile
-import time
 
 sys.dont_write_bytecode = True
 sys.path.insert(0, os.path.dirname(os.path.dirname(os.path.abspath(__file__))))
@@ -46,6 +45,12 @@ def repeats(count):
     tally = b"a was handed a query again on 2 lines: times 7 to 7, lines 3 to 4\n1 other node was handed each query once\n"
     said = read(0, 4, 2) + NO_EVENTS + b"QueryOnce: line 3 repeats line 1: a 7 9\n" + tally + NO_FIRINGS
     count.exactly("a query twice", ["judge"], 1, said, b"", b"query a 7 9\nquery b 7 9\nquery a 7 9\nquery a 7 9\n")
+    # A query without an ID is another than any with one, and than that of another time or node.
+    log = b"query a 7 -\nquery b 7 -\nquery a 7 0\nquery a 8 -\n"
+    count.exactly("queries without an ID", ["judge"], 0, read(0, 4, 2) + NO_EVENTS + QUERY_ONCE + NO_FIRINGS, b"", log)
+    tally = b"a was handed a query again on 1 line: time 8, line 5\n1 other node was handed each query once\n"
+    said = read(0, 5, 2) + NO_EVENTS + b"QueryOnce: line 5 repeats line 4: a 8 -\n" + tally + NO_FIRINGS
+    count.exactly("one of them twice", ["judge"], 1, said, b"", log + b"query a 8 -")
     tally = b"a was handed an event again on 1 line: time 1, line 2\n"
     said = read(2, 0, 1) + b'Once: line 2 repeats line 1: a 1 "\\xff\\x22" "\\x5c"\n' + tally + NO_QUERIES + NO_FIRINGS
     count.exactly("any bytes", ["judge"], 1, said, b"", b'event a 1 \xff" \\\n' * 2)
@@ -120,16 +125,27 @@ def missed(count):
         count.check(f"{nodes - 1} nodes that missed it", got[0] == 0 and said in got[1], got)
 
 
+def leave(count):
+    """A night with a kill and a leave: each node's repeats, and that delta's second life ran each event just once."""
+    log = checks.read("examples", "leave", "handlers.log")
+    got = checks.ran(["judge"], log)
+    count.check("a leave: each repeat", got[0] == 1 and got[1].split(b"\n", 2)[2] == lines_again(log, b"event") + NO_QUERIES + NO_FIRINGS, got)
+    lines = log.splitlines(keepends=True)
+    events = {line.split(b" ", 2)[2] for line in lines}
+    again = b"".join(lines[-len(events) :])
+    count.exactly("a leave: the second life alone", ["judge"], 0, holds(len(events), 1), b"", again)
+
+
 def long_logs(count):
     """20,000 lines, each node's and each event's own, are judged in a time that goes with the lines, not with their pairs."""
     log = b"".join(b"event n%d %d x y\n" % (line, line) for line in range(10000)) * 2
-    started = time.monotonic()
+    before = checks.processor_seconds()
     got = checks.ran(["judge", "--missed"], log)
-    took = time.monotonic() - started
+    took = checks.processor_seconds() - before
     lines = got[1].splitlines()
     last = b"Missed: 10000 of 10000 events were missed by a node"
     count.check("a long log: each repeat and each event missed", got[0] == 1 and len(lines) == 20006 and lines[-1] == last, (got[0], len(lines), lines[-1:]))
-    count.check("a long log: in 60 seconds, on a program compiled without its proofs too", took < 60, took)
+    count.check("a long log: in 60 processor seconds, on a program compiled without its proofs too", took < 60, took)
 
 
 def not_asked(count):
@@ -245,15 +261,114 @@ def firings(count):
 
 def bad_lines(count):
     for name, log, said in (
-        ("a word that is none", b"event a 1 x y\nhanded a\n", b"bad line 2 UnknownWord\n"),
-        ("a word less", b"event a 1 x\n", b"bad line 1 WordCount\n"),
-        ("a word more", b"query a 1 2 3\n", b"bad line 1 WordCount\n"),
-        ("a time that is none", b"fired a x 1 2\n", b"bad line 1 BadWord 3\n"),
-        ("an ID that is none", b"query a 1 -2\n", b"bad line 1 BadWord 4\n"),
-        ("a time of a trace", b"1 event 0 t 61 62 0\n", b"bad line 1 BadWord 4\n"),
-        ("no text", b"\x00\xff\n", b"bad line 1 UnknownWord\n"),
+        ("a word that is none", b"handed a\n", b"UnknownWord"),
+        ("a word less", b"event a 1 x\n", b"WordCount"),
+        ("a word more", b"query a 1 2 3\n", b"WordCount"),
+        ("a time that is none", b"fired a x 1 2\n", b"BadWord 3"),
+        ("an ID that is none", b"query a 1 -2\n", b"BadWord 4"),
+        ("two dashes for an ID", b"query a 1 --\n", b"BadWord 4"),
+        ("a dash for a time", b"query a - 1\n", b"BadWord 3"),
+        ("a time of a trace", b"1 event 0 t 61 62 0\n", b"BadWord 4"),
+        ("no text", b"\x00\xff\n", b"UnknownWord"),
     ):
-        count.exactly(name, ["judge"], 1, b"", said, log)
+        bad = b"bad: line 1 " + said + b"\n"
+        count.exactly(name, ["judge"], 1, read(0, 0, 0) + bad + NO_EVENTS + NO_QUERIES + NO_FIRINGS, b"", log)
+    # The other lines are judged, each by its own number.
+    log = b"event a 1 x y\nevent a 1\nevent a 1 x y\n\nevent"
+    tally = b"a was handed an event again on 1 line: time 1, line 3\n"
+    said = b"bad: line 2 WordCount\nbad: line 5 WordCount\n" + b'Once: line 3 repeats line 1: a 1 "x" "y"\n' + tally
+    count.exactly("a torn line among others", ["judge"], 1, read(2, 0, 1) + said + NO_QUERIES + NO_FIRINGS, b"", log)
+    for lines, more in ((16, b""), (17, b"bad: and 1 more\n"), (40, b"bad: and 24 more\n")):
+        bad = b"".join(b"bad: line %d UnknownWord\n" % (line + 1) for line in range(16)) + more
+        said = read(1, 0, 1) + bad + ONCE + NO_QUERIES + NO_FIRINGS
+        count.exactly(f"{lines} bad lines", ["judge"], 1, said, b"", b"x\n" * lines + b"event a 1 x y\n")
+    log = b"event a 1 x y\nx\n" + b"#" * 16777217 + b"\nevent a 1 x y\n"
+    count.exactly("a line too long", ["judge"], 1, b"", b"bad line 3 TooLong\n", log)
+
+
+def ends_of_lines(count):
+    """A carriage return at a line's end, and a byte order mark at the log's front, are read as if they weren't there."""
+    mark, log = b"\xef\xbb\xbf", b"event a 1 x y\nfired a 2 x y\n\n# a\nevent b 1 x y\nevent a 1 x y"
+    said = checks.ran(["judge"], log)
+    for name, given in (
+        ("carriage returns", log.replace(b"\n", b"\r\n") + b"\r\n"),
+        ("one carriage return", log.replace(b"y\nfired", b"y\r\nfired")),
+        ("a mark", mark + log),
+        ("both", mark + log.replace(b"\n", b"\r\n")),
+    ):
+        got = checks.ran(["judge"], given)
+        count.check(f"a log with {name}", said[0] == 1 and got == said, got)
+    count.exactly("a mark and a comment", ["judge"], 0, holds(1, 1), b"", mark + b"# a\r\nevent a 1 x y\r\n\r\n")
+    # One return alone is passed over, and one mark, at the front of the first line.
+    count.exactly("two carriage returns", ["judge"], 0, holds(2, 1), b"", b"event a 1 x y\r\nevent a 1 x y\r\r\n")
+    for log in (mark + mark + b"event a 1 x y\n", b"\n" + mark + b"event a 1 x y\n", mark[:2] + b"event a 1 x y\n"):
+        got = checks.ran(["judge"], log)
+        count.check(f"no mark: {log}", got[0] == 1 and b"\nbad: line" in got[1], got)
+
+
+def dates(count):
+    """A date and a time of day in front of a line aren't read; what was a line of a trace stays one."""
+    log = b"event a 1 x y\nquery b 2 3\nfired a 2 x y\nrestarted b\n7 event 0 9 61 62 0\n8 handed 0 1 4 5 61 62\n\n"
+    said = checks.ran(["judge"], log)
+    for date in (b"2026-11-26T10:00:00Z", b"2026-11-26 10:00:00,125", b"  2026-11-26  10:00 ", b"0000- 99:"):
+        got = checks.ran(["judge"], b"".join(date + b" " + line + b"\n" for line in log.splitlines()))
+        count.check(f"a log with {date}", got == said and b"read: 2 events, 2 queries, 3 nodes\n" in said[1], (said, got))
+    for line in (b"202-1 event a 1 x y", b"2026 event a 1 x y z", b"x2026-11-26 event a 1 x y", b"10:00:00 event a 1 x y"):
+        got = checks.ran(["judge"], line + b"\n")
+        count.check(f"no date: {line}", got[1].startswith(read(0, 0, 0)) == (b"z" not in line) and (b"bad: line 1" in got[1]) == (b"z" not in line), got)
+    for line, why in ((b"2026-11-26 2026-11-26 event a 1 x y", b"UnknownWord"), (b"2026-11-26 10:0 11:0 event a 1 x y", b"UnknownWord"), (b"2026-11-26 event a t x y", b"BadWord 3")):
+        got = checks.ran(["judge"], line + b"\n")
+        count.check(f"one date: {line}", got[0] == 1 and b"\nbad: line 1 " + why + b"\n" in got[1], got)
+
+
+def several_logs(count):
+    """Several logs are judged as one, and a line is told by its log and its own number."""
+    with tempfile.TemporaryDirectory() as folder:
+
+        def log(name, text):
+            path = os.path.join(folder, name)
+            with open(path, "wb") as file:
+                file.write(text)
+            return path, os.fsencode(path)
+
+        (a, at_a), (b, at_b) = log("a", b"# a\nevent a 1 x y\nquery a 1 1\n"), log("b", b"\xef\xbb\xbfevent a 1 x y\r\nb\nquery a 1 1\nevent a 1 x y")
+        said = (
+            read(3, 2, 1)
+            + b"bad: %s:2 UnknownWord\n" % at_b
+            + b'Once: %s:1 repeats %s:2: a 1 "x" "y"\n' % (at_b, at_a)
+            + b"a was handed an event again on 2 lines: times 1 to 1, %s:1 to %s:4\n" % (at_b, at_b)
+            + b"QueryOnce: %s:3 repeats %s:3: a 1 1\n" % (at_b, at_a)
+            + b"a was handed a query again on 1 line: time 1, %s:3\n" % at_b
+        )
+        count.exactly("two logs", ["judge", a, b], 1, said + NO_FIRINGS, b"")
+        kept, _ = log("kept", b"event-clock: 0\nquery-clock: 1\n")
+        said += NO_FIRINGS + b"a keeps event-clock 0, and %s:2 was handed out at 1: it can be handed out again\n" % at_a
+        said += b"a keeps query-clock 1: nothing was handed out above it\n"
+        count.exactly("a snapshot between two logs", ["judge", a, "--kept", "a=" + kept, b], 1, said, b"")
+        got = checks.ran(["judge", b, "-"], checks.read(a))
+        count.check("standard input behind a log", got[0] == 1 and b'Once: %s:4 repeats %s:1: ' % (at_b, at_b) in got[1] and b"QueryOnce: -:3 repeats %s:3" % at_b in got[1], got)
+        # In the other order the firing stands below.
+        (f, at_f), (e, at_e) = log("f", b"fired a 5 x y\nevent b 7 x y\n"), log("e", b"event b 5 x y\nfired b 6 x y\n")
+        said = read(2, 0, 2) + ONCE + NO_QUERIES
+        fired = b'Fired: %s:2 hands out what no line above it fired: b 7 "x" "y"\n' % at_f
+        later = b'Later: %s:2 fires at 6, and %s:2 was handed out at 7: b 6 "x" "y"\n' % (at_e, at_f)
+        count.exactly("firings in front", ["judge", f, e], 1, said + fired + later, b"")
+        fired = b'Fired: %s:1 hands out what no line above it fired: b 5 "x" "y"\n' % at_e
+        count.exactly("firings behind", ["judge", e, f], 1, said + fired + b"Later: holds\n", b"")
+        long, _ = log("long", b"\n" + b"#" * 16777217)
+        count.exactly("a line too long in the second", ["judge", a, long], 1, b"", os.fsencode(long) + b": bad line 2 TooLong\n")
+        count.exactly("a second that isn't there", ["judge", a, "/nowhere"], 3, b"", b"/nowhere: no such file\n")
+        # However a log is cut between two lines, the verdicts are those on the whole, but for how lines are told.
+        lines = checks.read(LOG).splitlines(keepends=True)
+        whole = checks.ran(["judge", LOG])
+        for cut in range(1, len(lines)):
+            (one, at_one), (two, at_two) = log("one", b"".join(lines[:cut]).removesuffix(b"\n")), log("two", b"".join(lines[cut:]))
+            got = checks.ran(["judge", one, two])
+            told = whole[1]
+            for number in (6, 7):
+                place = b"%s:%d" % ((at_one, number) if number <= cut else (at_two, number - cut))
+                told = told.replace(b"line %d" % number, place)
+            count.check(f"the incident cut behind line {cut}", (got[0], got[1]) == (whole[0], told), got)
 
 
 def traces(count):
@@ -264,4 +379,4 @@ def traces(count):
 
 
 if __name__ == "__main__":
-    sys.exit(checks.over_program(incident, repeats, every_repeat, missed, long_logs, not_asked, kept, firings, bad_lines, traces))
+    sys.exit(checks.over_program(incident, repeats, every_repeat, missed, leave, long_logs, not_asked, kept, firings, bad_lines, ends_of_lines, dates, several_logs, traces))

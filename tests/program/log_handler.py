@@ -30,7 +30,7 @@ TEXTS = (
     (b"lines", b"one\ntwo\n", b"lines one%0Atwo"),
     (b"-n", b"-e\n", b"-n -e"),
     (b"%s", b"%d$HOME`id`*\n", b"%25s %25d$HOME`id`*"),
-    (b"bytes", b"\xff\xc3\x28\t\r\n", b"bytes \xff\xc3\x28\t\r"),
+    (b"bytes", b"\xff\xc3\x28\t\r\n", b"bytes \xff\xc3\x28\t%0D"),
 )
 
 

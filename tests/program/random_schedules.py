@@ -13,10 +13,10 @@ of this project's own, and the median of the actions that are left is printed.
 import hashlib
 import os
 import re
-import resource
 import statistics
 import subprocess
 import sys
+from collections import Counter
 
 sys.dont_write_bytecode = True
 sys.path.insert(0, os.path.dirname(os.path.dirname(os.path.abspath(__file__))))
@@ -43,6 +43,7 @@ DIGESTS = {
     "compactions": "7151e245edda409b",
     "gossip": "b63c231dee895263",
     "spellings": "870176363a7adcd5",
+    "rounds": "d33b2d3f13cf14a5",
 }
 
 # Of each kind the seeds whose schedules keep to Serf's rules here.
@@ -56,6 +57,9 @@ OWN_ANSWER = re.compile(
 )
 TAIL = re.compile(rb"^restart \d+ [^-\n]", re.M)
 
+# A round's length, in nanoseconds.
+ROUND = 200_000_000
+
 # Words that are refused, with their status.
 REFUSED = (
     (["random"], 2),
@@ -65,6 +69,15 @@ REFUSED = (
     (["random", "1", "--actions", "-1"], 2),
     (["random", "1", "2"], 2),
     (["random", "1", "--rules", "mine"], 2),
+    (["random", "1", "--fanout", "3"], 2),
+    (["random", "1", "--kind", "gossip", "--loss", "20"], 2),
+    (["random", "1", "--kind", "gossip", "--rounds", "10"], 2),
+    (["random", "1", "--kind", "gossip", "--agents", "65"], 2),
+    (["random", "1", "--kind", "rounds", "--agents", "10001"], 2),
+    (["random", "1", "--kind", "rounds", "--fanout", "0"], 2),
+    (["random", "1", "--kind", "rounds", "--fanout", "17"], 2),
+    (["random", "1", "--kind", "rounds", "--loss", "100"], 2),
+    (["random", "1", "--kind", "rounds", "--rounds", "0"], 2),
 )
 
 
@@ -74,6 +87,12 @@ def ran(words, given=b""):
 
 def schedule_of(seed, kind, *words):
     return ran(["random", str(seed), "--kind", kind, "--actions", str(ACTIONS), *words])
+
+
+def first_line(seed, kind, rules=""):
+    """What the first line of a schedule says: the words that it was asked for by."""
+    spread = " --fanout 3 --loss 20 --rounds 10" if kind == "rounds" else ""
+    return f"# random {seed} --kind {kind} --agents 0 --actions {ACTIONS}{spread}{rules} version 3".encode()
 
 
 def actions_in(text):
@@ -86,26 +105,24 @@ def wrong_seed(seed, kind, made, again):
         return f"status {made.returncode}: {made.stderr}"
     if made.stdout != again.stdout:
         return "it has other bytes the second time"
-    if made.stdout.split(b"\n")[
-        0
-    ] != f"# random {seed} --kind {kind} --agents 0 --actions {ACTIONS} version 3".encode():
+    if made.stdout.split(b"\n")[0] != first_line(seed, kind):
         return "its first line doesn't say what was asked for"
-    if actions_in(made.stdout) != ACTIONS:
-        return f"it has {actions_in(made.stdout)} actions"
+    # Rounds may end before.
+    many = actions_in(made.stdout)
+    if many > ACTIONS or many < ACTIONS and kind != "rounds":
+        return f"it has {many} actions"
     replayed = ran(["replay"], made.stdout)
     if replayed.returncode or replayed.stderr:
         return f"replay: status {replayed.returncode}: {replayed.stderr}"
     answered = {line.split(b" ")[0] for line in replayed.stdout.splitlines()}
-    return None if len(answered) == ACTIONS else "replay answers fewer actions"
+    return None if len(answered) == many else "replay answers fewer actions"
 
 
 def wrong_common(seed, kind, made):
     """What is wrong with the schedule of a seed that keeps to Serf's rules, or None."""
     if made.returncode or made.stderr:
         return f"status {made.returncode}: {made.stderr}"
-    if made.stdout.split(b"\n")[
-        0
-    ] != f"# random {seed} --kind {kind} --agents 0 --actions {ACTIONS} --rules serf version 3".encode():
+    if made.stdout.split(b"\n")[0] != first_line(seed, kind, " --rules serf"):
         return "its first line doesn't say what was asked for"
     if actions_in(made.stdout) > ACTIONS:
         return f"it has {actions_in(made.stdout)} actions"
@@ -126,16 +143,11 @@ def common_schedules(count):
             count.check(f"{kind} {seed}, Serf's rules", not fault, fault)
 
 
-def processor_seconds():
-    used = resource.getrusage(resource.RUSAGE_CHILDREN)
-    return used.ru_utime + used.ru_stime
-
-
 def largest(kind):
     """What is wrong with the largest schedule of a kind, or None."""
-    began = processor_seconds()
+    began = checks.processor_seconds()
     made = ran(["random", "1", "--kind", kind, "--agents", "4", "--actions", "100000000"])
-    seconds = processor_seconds() - began
+    seconds = checks.processor_seconds() - began
     print(f"{kind}: {len(made.stdout)} bytes and {actions_in(made.stdout)} actions in {seconds:.2f} processor seconds")
     if made.returncode:
         return f"status {made.returncode}: {made.stderr}"
@@ -159,9 +171,36 @@ def first_seeds(count):
 
 
 def largest_schedules(count):
-    for kind in checks.KINDS:
+    """Of rounds four agents' schedule ends with the last round, far from the greatest size."""
+    for kind in checks.KINDS[:-1]:
         fault = largest(kind)
         count.check(f"{kind}, the largest", not fault, fault)
+
+
+def sends_in(text):
+    """Of each round the packets that are delivered in it, with their agents."""
+    sends = {}
+    for line in text.splitlines():
+        words = line.split(b" ")
+        if words[0] == b"deliver":
+            sends.setdefault(int(words[3]) // ROUND, []).append((int(words[2]), int(words[1])))
+    return sends
+
+
+def rounds_spread(count):
+    """Of rounds: nobody sends more often than the options say, and without losses each agent gets each event."""
+    words = ["--kind", "rounds", "--agents", "100", "--actions", "100000", "--rounds", "30"]
+    for fanout, loss in ((1, 0), (3, 0), (3, 50), (16, 99)):
+        made = ran(["random", "5", *words, "--fanout", str(fanout), "--loss", str(loss)])
+        name, sends = f"fanout {fanout} and loss {loss}", sends_in(made.stdout)
+        most = max((many for sent in sends.values() for many in Counter(packet for packet, _ in sent).values()), default=0)
+        count.check(f"{name}: no packet goes to more in a round", made.returncode == 0 and most <= fanout, most)
+        count.check(f"{name}: rounds in order", list(sends) == sorted(sends) and max(sends, default=0) <= 30, list(sends))
+        events = ran(["replay"], made.stdout).stdout.count(b" event ")
+        fired = sum(line.startswith(b"fire ") for line in made.stdout.splitlines())
+        count.check(f"{name}: who got the events", (events == 100 * fired) if (fanout, loss) == (3, 0) else events >= fired, (events, fired))
+    said = ran(["random", "5", *words])
+    count.check("the same words give it again", ran(said.stdout.split(b" version")[0].decode().split(" ")[1:]).stdout == said.stdout)
 
 
 def refused(count):
@@ -171,4 +210,4 @@ def refused(count):
 
 
 if __name__ == "__main__":
-    sys.exit(checks.over_program(first_seeds, largest_schedules, common_schedules, refused))
+    sys.exit(checks.over_program(first_seeds, largest_schedules, common_schedules, rounds_spread, refused))

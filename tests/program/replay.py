@@ -107,12 +107,12 @@ def faults(count):
     count.exactly("a folder", ["replay", checks.TOP], 3, b"", os.fsencode(checks.TOP) + b": read fault\n")
     path = os.path.join(checks.EXAMPLES, "deploy_gossiped_twice.written")
     hint = b"a written schedule? serf-replay write %s | serf-replay replay\n" % os.fsencode(path)
-    for words in (["replay"], ["replay", "--stream"], ["explain"]):
+    for words in (["replay"], ["replay", "--stream"], ["replay", "--summary"], ["explain"], ["explain", "--agent", "alpha"], ["draw"], ["conform"]):
         got = checks.ran([*words, path])
         count.check(f"a written schedule: {words}", got[:2] == (1, b"") and got[2].startswith(b"bad line ") and got[2].endswith(b"\n" + hint), got)
 
 
-def on_a_terminal(words):
+def on_a_terminal(words, given=b""):
     """The status and the output of a run whose standard error is a terminal, and what that shows."""
     ours, theirs = pty.openpty()
     shown = []
@@ -126,11 +126,38 @@ def on_a_terminal(words):
 
     reader = threading.Thread(target=show)
     reader.start()
-    ran = subprocess.run([checks.PROGRAM, *words], stdout=subprocess.PIPE, stderr=theirs, timeout=600)
+    ran = subprocess.run([checks.PROGRAM, *words], input=given, stdout=subprocess.PIPE, stderr=theirs, timeout=600)
     os.close(theirs)
     reader.join(60)
     os.close(ours)
     return ran.returncode, ran.stdout, b"".join(shown)
+
+
+# What a cause of a bad line means, as a terminal shows it.
+UNKNOWN = b"a line begins with agent, fire, deliver, state, merge, query, respond, restart, break, inject, close, save or compact; a text with labels goes through serf-replay write first"
+WORD = b"this word, with the command counted as 1, isn't as its command takes it (docs/FORMATS.md, Schedules); a text with names goes through serf-replay write first"
+COUNT = b"the line has more or fewer words than its command takes; a text with names goes through serf-replay write first"
+BOUNDS = b"a name has 1 to 128 bytes, the limit is at most 9216, and the other numbers of an agent are 1 to 65536"
+MEANINGS = (
+    (["replay"], b"fires 0\n", b"1 UnknownWord", UNKNOWN),
+    (["replay"], b"save 0\nagent 61 4 4 512 2 keep\n", b"2 LateAgent", b"all agents stand before the first action"),
+    (["explain"], b"save\n", b"1 WordCount", COUNT),
+    (["explain", "--agent", "0"], b"save x\n", b"1 BadWord 2", WORD),
+    (["draw"], b"agent 61 0 4 512 2 keep\n", b"1 BadConfig", BOUNDS),
+    (["replay", "--summary"], b"agent 61 4 4 512 2 keep\n" * 2, b"2 NameTwice", b"an agent above has this name"),
+    (["replay", "--stream"], b"\nsave 0 0\n", b"2 WordCount", COUNT),
+    (["decode"], b"0\n", b"1 BadHex", b"a packet stands in hex digits, two for each byte"),
+    (["encode"], b"x" * (checks.LONGEST + 1), b"1 TooLong", b"a line has at most 16777216 bytes"),
+)
+
+
+def sentences_on_a_terminal(count):
+    """Behind the line with the cause a terminal shows what it means; what is no terminal gets the line alone."""
+    for words, given, cause, meaning in MEANINGS:
+        status, out, shown = on_a_terminal(words, given)
+        lines = shown.replace(b"\r\n", b"\n")
+        count.check(f"{words} {cause} on a terminal", (status, out, lines) == (1, b"", b"bad line %s\n%s\n" % (cause, meaning)), shown)
+        count.exactly(f"{words} {cause}", words, 1, b"", b"bad line %s\n" % cause, given)
 
 
 def short_run_on_a_terminal(count):
@@ -191,7 +218,8 @@ def peak_kib(schedule):
 def memory_of_agents(count):
     """Agents of 512 slots that do nothing take at most 1 KiB each, their lines and the program included.
 
-    There are so many that what the system tells is not the peak of this interpreter, as it is of a small run.
+    There are so many that what the system tells is not the peak of this interpreter, as it is of a small run; and this part
+    runs before those that fill it.
     """
     agents = 50_000
     peak = peak_kib(b"".join(b"agent %08x 512 512 512 8 keep\n" % number for number in range(agents)))
@@ -264,7 +292,7 @@ def summaries_for_machines(count):
         count.exactly(" ".join(words), ["replay", *words], 2, b"", said, ROWS_SCHEDULE)
 
 
-PARTS = (examples, bad_lines, faults, short_run_on_a_terminal, summaries, summaries_for_machines)
+PARTS = (examples, bad_lines, faults, sentences_on_a_terminal, short_run_on_a_terminal, summaries, summaries_for_machines)
 
 # What looks at how long a run takes and how much memory it has: a program that is compiled unproved has checks in it.
 PROVED_ALONE = (long_run_on_a_terminal, memory_of_agents, no_memory)
@@ -275,7 +303,8 @@ def main():
         for part in PROVED_ALONE:
             print(f"not run: {part.__name__}, over a program that was compiled with checks")
         return checks.over_program(*PARTS)
-    return checks.over_program(*PARTS, *PROVED_ALONE)
+    # (first, while this interpreter is small: what the system tells of a run's memory is never less than its parent's)
+    return checks.over_program(*PROVED_ALONE, *PARTS)
 
 
 if __name__ == "__main__":

@@ -8,6 +8,7 @@ import glob
 import os
 import re
 import sys
+import tempfile
 
 sys.dont_write_bytecode = True
 sys.path.insert(0, os.path.dirname(os.path.dirname(os.path.abspath(__file__))))
@@ -76,6 +77,7 @@ FIRE, FIRED = "fire 78 - 0", "fired {0}, sent, event 0 {0} 78 - 0"
 BREAK, BROKEN = "break append 1", "broken"
 FAILED, STOPPED = "refused SinkFault", "refused Stopped"
 RESTART = "restart -"
+TAIL_OF_4 = "restart " + b"clock: 4\n".hex()
 
 
 def fired(time):
@@ -148,6 +150,18 @@ CASES = {
         ],
         AGENT + " 2",
     ),
+    "what the agent fired": [
+        (FIRE, fired(1)),
+        (deliver(event(1)), "ignored Seen"),
+        (ASK, asked(1)),
+        (deliver(query(1)), "ignored Seen"),
+    ],
+    "the time of an answer": [
+        (deliver(answer(50, 1, b"b"), 100), "ignored NotOpen"),
+        (deliver(answer(GREATEST, 1, b"b", 1), 100), "ignored NotOpen"),
+        (FIRE, fired(1)),
+        (ASK, asked(1)),
+    ],
     "clocks of a life": [
         ("restart " + b"clock: 3\nevent-clock: 5\nquery-clock: 7\n".hex(), "restarted 4 6 8"),
         (FIRE, fired(6)),
@@ -189,12 +203,18 @@ CASES = {
         ("save", "saved"),
         (RESTART, "restarted 7 1 1"),
     ],
-    "a line that fails": [
-        ("break flush 1", BROKEN),
-        (deliver(event(7)), FAILED),
-        (RESTART, "restarted 1 1 1"),
-        (deliver(event(7)), got(7)),
-    ],
+    "what `compact` writes": None,
+    # (a clock line is taken only where it stands behind a whole line, so each tail shows that nothing of the failed one stands)
+    "a line that fails": (
+        [("break flush 1", BROKEN), (deliver(event(7)), FAILED), (RESTART, "restarted 1 1 1"), (deliver(event(7)), got(7))],
+        AGENT,
+        [(BREAK, BROKEN), (deliver(event(7)), FAILED), (RESTART, "restarted 1 1 1"), (deliver(event(7)), got(7))],
+        AGENT,
+        [(deliver(event(5)), got(5)), ("break flush 1", BROKEN), (deliver(event(7)), FAILED), (TAIL_OF_4, "restarted 5 6 1"), (deliver(event(7)), got(7))],
+        AGENT,
+        [(deliver(event(5)), got(5)), (BREAK, BROKEN), (deliver(event(7)), FAILED), (TAIL_OF_4, "restarted 5 6 1"), (deliver(event(7)), got(7))],
+        AGENT,
+    ),
     "a query whose line fails": [(BREAK, BROKEN), (ASK, FAILED), ("close 1000", "closed 0"), ("respond 0 100 -", "refused NoQuery")],
     "a second plan": [
         (FIRE, fired(1)),
@@ -254,14 +274,20 @@ CASES = {
         [(merge(state(12, 12, 12), "join"), "merged"), (deliver(event(11)), got(11))],
         AGENT,
     ),
-    "the events of a state": [
-        (
-            merge(state(1, 9, 1, [(8, (b"b",)), (6, (b"d", b"c")), (8, (b"b", b"a"))])),
-            "merged, event 0 8 62 - 0, event 0 6 64 - 0, event 0 6 63 - 0, event 0 8 61 - 0",
-        ),
-        (deliver(event(6, b"d", b"", True)), "ignored Seen"),
-        (FIRE, fired(9)),
-    ],
+    "the events of a state": (
+        [
+            (
+                merge(state(1, 9, 1, [(8, (b"b",)), (6, (b"d", b"c")), (8, (b"b", b"a"))])),
+                "merged, event 0 8 62 - 0, event 0 6 64 - 0, event 0 6 63 - 0, event 0 8 61 - 0",
+            ),
+            (deliver(event(6, b"d", b"", True)), "ignored Seen"),
+            (FIRE, fired(9)),
+            (merge(state(1, 20, 1, [(15, (b"a",)), (16, (b"b",))])), "merged, event 0 16 62 - 0"),
+        ],
+        AGENT,
+        [(merge(state(1, 12, 1, [(11, (b"a",)), (12, (b"b",))]), "join"), "merged, event 0 12 62 - 0")],
+        IGNORING,
+    ),
     "an empty slot": [
         (merge(bytes.fromhex("0281a64576656e74739182a54c54696d6532a64576656e747390")), "merged"),
         (FIRE, fired(1)),
@@ -305,6 +331,15 @@ CASES = {
         (deliver(query(5, filters=[b"\x00\x91\xa1b"], flags=1)), "query, sent"),
         (deliver(query(5, filters=[b"\x00\x91\xa1b"], flags=1)), "ignored Seen"),
         (RESTART, "restarted 1 1 6"),
+    ],
+    "why an answer is ignored": [
+        (ASK, asked(1)),
+        (deliver(answer(2, 1, b"b"), 100), "ignored NotOpen"),
+        (deliver(answer(1, 2, b"b", 1), 151), "ignored OtherId"),
+        (deliver(answer(1, 1, b"b", 1), 151), "ignored Closed"),
+        (deliver(answer(1, 1, b"b", 1), 150), "ignored AckNotAsked"),
+        ("close 151", "closed 1"),
+        (deliver(answer(1, 1, b"b"), 151), "ignored NotOpen"),
     ],
     "the ack of one's own query": [
         (ASK_FOR_ACKS, ASKED_FOR_ACKS),
@@ -413,9 +448,11 @@ def cases(count):
                 count.check(f"{rule}: {call}", said == wanted, f"wanted {wanted}, got {said}")
 
 
-def slots_after(*times):
-    """The places and times of the slots that aren't empty, in the state of an agent that fires nothing and gets these."""
-    calls = "".join(f"inject {event(time).hex()}\ndeliver 0 {2 * at} 0\n" for at, time in enumerate(times))
+def slots_after(*times, names=(b"x",)):
+    """The places and times of the slots that aren't empty, in the state of an agent that fires nothing and gets events of
+    these names at each of these times."""
+    packets = [event(time, name) for time in times for name in names]
+    calls = "".join(f"inject {packet.hex()}\ndeliver 0 {2 * at} 0\n" for at, packet in enumerate(packets))
     out = checks.ran(["replay"], f"{AGENT}\n{calls}state 0\n".encode())[1].decode()
     packet = out.splitlines()[-1].split(" ")[-1]
     lines = checks.ran(["decode", packet])[1].decode().splitlines()
@@ -426,10 +463,34 @@ def slots(count):
     held, lines = slots_after(5, 6)
     count.check("a slot's place", held == [("1", "5"), ("2", "6")], lines)
     count.check("a slot's place: all are sent", sum(line.startswith("slot ") for line in lines) == 4, lines)
+    lines = slots_after(5, names=(b"b", b"c", b"a"))[1]
+    count.check("a slot's place: its events", [line for line in lines if line.startswith("event ")] == ["event 62 -", "event 63 -", "event 61 -"], lines)
     held, lines = slots_after(5, 16)
     count.check("a slot behind the window", held == [("0", "16"), ("1", "5")], lines)
     held, lines = slots_after(5, 17)
     count.check("a slot behind the window: a later time", held == [("1", "17")], lines)
+
+
+def kept_behind(*calls):
+    """The text that the disk keeps behind these calls, by the `look` that `conform` wants. Each call has its answer, and is
+    one that has a look behind it."""
+    answered = "".join(f"{answer}\n\nunsupported\n\n" for _, answer in calls)
+    lines = "".join(f"{call}\n" for call, _ in calls)
+    with tempfile.NamedTemporaryFile("w", suffix=".schedule") as schedule:
+        schedule.write(f"{AGENT}\n{lines}")
+        schedule.flush()
+        said = checks.ran(["conform", schedule.name], f"opened 1 1 1\n\nunsupported\n\n{answered}looked\n\n".encode())[2].decode()
+    found = re.search(r"^ +kept (\S+)$", said, re.M)
+    return bytes.fromhex(found[1].replace("-", "")).decode() if found else said
+
+
+def texts(count):
+    some = b"query-clock: 7\nx\nclock: 0\nevent-clock: 2\nevent-clock: 005\n".hex()
+    kept = kept_behind((f"restart 0 {some}", "restarted 1 6 8"), ("compact 0", "compacted"))
+    count.check("what `compact` writes", kept == "event-clock: 5\nquery-clock: 7\n", kept)
+    all_three = b"query-clock: 7\nevent-clock: 5\nclock: 3\n".hex()
+    kept = kept_behind((f"restart 0 {all_three}", "restarted 4 6 8"), ("compact 0", "compacted"))
+    count.check("what `compact` writes: all three", kept == "clock: 3\nevent-clock: 5\nquery-clock: 7\n", kept)
 
 
 def orders():
@@ -473,4 +534,4 @@ def order_of_faults(count):
 
 
 if __name__ == "__main__":
-    sys.exit(checks.over_program(on_the_page, cases, slots, order_of_faults))
+    sys.exit(checks.over_program(on_the_page, cases, slots, texts, order_of_faults))

@@ -1,8 +1,11 @@
-"""`replay --stream`: what it writes beside what `replay` writes, faults after a prefix, long runs, and a pipe."""
+"""`replay --stream`: what it writes beside what `replay` writes, faults after a prefix, long runs, a pipe, a program that drives
+it, and summaries."""
 
+import importlib.util
 import os
 import subprocess
 import sys
+import tempfile
 
 sys.dont_write_bytecode = True
 sys.path.insert(0, os.path.dirname(os.path.dirname(os.path.abspath(__file__))))
@@ -60,6 +63,58 @@ def small(count):
         same(count, name, text)
 
 
+def same_summary(count, name, form, text):
+    words = ["--summary", "--as", form]
+    wanted, got = ran(["replay", *words], text), ran([*STREAM, *words], text)
+    count.check(f"the summary of {name} as {form}", got == wanted, str((wanted, got))[:400])
+
+
+def summed_up(count):
+    """`--stream --summary` has what `--summary` has, and of a bad schedule nothing, with the same fault."""
+    fire = b"fire 0 61 - 0\n"
+    texts = {
+        "nothing": b"",
+        "agents alone": AGENTS,
+        "no agents": fire * 2,
+        "no newline": AGENTS + fire + b"deliver 1 0 0",
+        "a late agent": AGENTS + fire + b"agent 63 4 4 512 8 keep\n" + fire,
+        "a bad first line": b"fires 0\n" + AGENTS,
+        "a bad last line": AGENTS + fire + b"deliver 1 0",
+        "a name twice": AGENTS + AGENTS + fire,
+    }
+    for name in checks.names_in(checks.EXAMPLES):
+        texts[name] = checks.read("examples", name + ".schedule")
+    for name, text in texts.items():
+        for form in ("text", "csv", "json"):
+            same_summary(count, name, form, text)
+    for name in checks.names_in(checks.ROWS):
+        same_summary(count, name, "csv", checks.read(checks.ROWS, name + ".schedule"))
+    for seed in range(1, 7):
+        same_summary(count, f"random {seed}", "json", ran(["random", str(seed)])[1])
+
+
+def long_ones_summed_up(count):
+    """More than 16 MiB have a summary line by line, and it is that of the lines one after another."""
+    fire = b"fire 0 61 - 0\n"
+    lines = AGENTS + fire + b"deliver 1 0 0\n" * 1_300_000
+    said = (
+        b"actions 1300001\n"
+        b"answered fired: 1, last at action 1\n"
+        b"answered new: 1, last at action 2\n"
+        b"answered ignored Seen: 1299999, last at action 1300001\n"
+        b"agent 0 was handed: 1, last at action 1\n"
+        b"agent 1 was handed: 1, last at action 2\n"
+        b"event 1 61 - was handed out: 2, last at action 2\n"
+    )
+    count.exactly("a long summary", [*STREAM, "--summary"], 0, said, b"", lines)
+    count.exactly("too long for one", ["replay", "--summary"], 1, b"", b"too long\n", lines)
+    comment, too_long = b"#" + b" " * (checks.LONGEST - 1), b"bad line 4 TooLong\n"
+    count.exactly("a line that is too long", [*STREAM, "--summary"], 1, b"", too_long, AGENTS + fire + b" " + comment)
+    bad = b"bad line 10004 UnknownWord\n"
+    many = AGENTS + fire + b"deliver 1 0 0\n" * 10_000 + b"fires\n"
+    count.exactly("a bad line behind many", [*STREAM, "--summary"], 1, b"", bad, many)
+
+
 def long_ones(count):
     fire = b"fire 0 61 - 0\n"
     lines = AGENTS + fire + b"deliver 1 0 0\n" * 1_300_000
@@ -95,8 +150,60 @@ def while_it_runs(count):
         )
 
 
+def driven(count):
+    """A program that writes and reads in turns: examples/drive_stream.py."""
+    script = os.path.join(checks.EXAMPLES, "drive_stream.py")
+    done = subprocess.run([sys.executable, script, checks.PROGRAM], capture_output=True, timeout=60)
+    fired = b"0 0384a54c54696d6501a44e616d65a66465706c6f79a75061796c6f6164a27631a24343c2\n"
+    said = b"1 fired 1\n1 sent " + fired + b"1 event 0 1 6465706c6f79 7631 0\n"
+    said += b"3 new\n3 sent 1" + fired[1:] + b"3 event 1 1 6465706c6f79 7631 0\n5 ignored Seen\n"
+    count.check("the example", (done.returncode, done.stdout, done.stderr) == (0, said, b""), str(done)[:400])
+    module = importlib.util.module_from_spec(importlib.util.spec_from_file_location("drive_stream", script))
+    module.__spec__.loader.exec_module(module)
+    stream = module.Stream(checks.PROGRAM, AGENTS)
+    got = [stream.turn(b"state 0"), stream.turn(b"state 7"), stream.turn(b"fire 0 61 - 0")]
+    count.check("an agent that isn't there", got[1] == [b"3 refused NoAgent\n"] and got[2][0] == b"5 fired 1\n", got)
+    long = b"inject " + b"00" * 40_000
+    turns = [stream.turn(long) for _ in range(20)]
+    count.check("turns longer than a pipe", [turn[0] for turn in turns] == [b"%d injected\n" % n for n in range(7, 47, 2)])
+    try:
+        stream.turn(b"fires 0")
+        count.check("a bad line", False)
+    except EOFError:
+        stream.run.stdin.close()
+        count.check("a bad line", stream.run.wait(60) == 1)
+    stream.run.stdout.close()
+
+
+def marks(count):
+    """How far a run has come at each mark, and at each round: examples/coverage.py."""
+    script = os.path.join(checks.EXAMPLES, "coverage.py")
+    head = "mark,actions,handed_out,events,everywhere,Oversize,BelowMinimum,TooOld,Seen,TimeFull,NotOpen,OtherId,Closed,AckNotAsked,AckTwice,ResponseTwice"
+    with tempfile.TemporaryDirectory() as folder:
+        path = os.path.join(folder, "marked.schedule")
+        with open(path, "wb") as file:
+            file.write(b"# mark begin\n" + AGENTS + b"fire 0 61 - 0\n# mark one has it\n\ndeliver 1 0 0\ndeliver 1 0 0\n# mark, both\n# mark both\nfire 1 62 - 0\n")
+        done = subprocess.run([sys.executable, script, path, checks.PROGRAM], capture_output=True, text=True, timeout=60)
+        rows = ["begin,0,0,0,0", "one has it,1,1,1,0", "both,3,2,1,1", "end,4,3,2,1"]
+        wanted = [head, *(f"{row},0,0,0,{int(at > 1)},0,0,0,0,0,0,0" for at, row in enumerate(rows))]
+        count.check("marks", (done.returncode, done.stdout.splitlines()) == (0, wanted), str(done)[:800])
+        with open(path, "wb") as file:
+            file.write(AGENTS + b"# mark here\nfires 0\n")
+        done = subprocess.run([sys.executable, script, path, checks.PROGRAM], capture_output=True, text=True, timeout=60)
+        count.check("marks before a bad line", (done.returncode, done.stdout, done.stderr) == (1, head + "\n", "bad line 4 UnknownWord\n"), str(done)[:800])
+        with open(path, "wb") as file:
+            file.write(checks.ran(["random", "3", "--kind", "rounds", "--agents", "40", "--actions", "5000"])[1])
+        done = subprocess.run([sys.executable, script, "--every", "200000000", path, checks.PROGRAM], capture_output=True, text=True, timeout=60)
+        rows = [[int(word) for word in row.split(",")[1:]] for row in done.stdout.splitlines()[1:]]
+        grows = all(one[0] < more[0] and all(a <= b for a, b in zip(one, more)) for one, more in zip(rows, rows[1:]))
+        summary = [row.split(",") for row in checks.ran(["replay", "--summary", "--as", "csv", path])[1].decode().splitlines()]
+        handed = sum(int(row[6]) for row in summary if row[0] == "agent")
+        count.check("rounds", len(rows) == 10 and grows and rows[-1][1] == handed > 100, str(done)[:800])
+
+
 def devices(count):
-    count.exactly("a file that isn't there", [*STREAM, "/nowhere"], 3, b"", b"/nowhere: no such file\n")
+    for words in (STREAM, [*STREAM, "--summary"]):
+        count.exactly("a file that isn't there", [*words, "/nowhere"], 3, b"", b"/nowhere: no such file\n")
     count.exactly("a folder", [*STREAM, checks.TOP], 3, b"", os.fsencode(checks.TOP) + b": read fault\n")
     with open("/dev/full", "wb") as full:
         done = subprocess.run(
@@ -110,4 +217,4 @@ def devices(count):
 
 
 if __name__ == "__main__":
-    sys.exit(checks.over_program(beside, small, long_ones, while_it_runs, devices))
+    sys.exit(checks.over_program(beside, small, summed_up, long_ones, long_ones_summed_up, while_it_runs, driven, marks, devices))

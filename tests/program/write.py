@@ -107,6 +107,7 @@ TEXTS = [
     (b"agent a events=1 queries=2 limit=3 responders=4 pertime=5 ignore\n", b"agent 61 1 2 3 4 ignore 5\n"),
     (b'agent "a b"\nsave "a b"\n', b"agent 612062 512 512 512 1024 keep 1024\nsave 0\n"),
     (b'agent a\nfire a "v 2\\x22#" "#"\n', DEFAULTS + b"fire 0 7620322223 23 0\n"),
+    (b'agent a\nfire a cafe "cafe"\n', DEFAULTS + b"fire 0 cafe 63616665 0\n"),
     (b"agent a\nfire a 00ff\nfire 7 - - coalesce\n", DEFAULTS + b"fire 0 00ff - 0\nfire 7 - - 1\n"),
     (
         b"agent a\nclose a\nclose a at 7\nclose a at 7ns\nclose a at 7us\nclose a at 7ms\nclose a at 7s\n",

@@ -238,13 +238,13 @@ def believed(count, top):
 
 
 def drawn_share(count):
-    names = [f"serf_any/edit_{number}" for number in range(400)]
-    counts = [sum(evidence.is_drawn(name, f"commit {at}") for name in names) for at in range(200)]
-    count.check("about 5 in 100 are drawn", 0.045 < sum(counts) / 200 / 400 < 0.055, sum(counts))
-    count.check(
-        "each is drawn by some commit",
-        all(any(evidence.is_drawn(name, f"commit {at}") for at in range(400)) for name in names),
-    )
+    names = [f"serf_{crate}/edit_{number}" for crate in range(20) for number in range(20)]
+    drawn = [[name for name in names if evidence.is_drawn(name, f"commit {at}")] for at in range(400)]
+    share = sum(map(len, drawn)) / 400 / len(names)
+    count.check("about 5 in 100 are drawn", 0.045 < share < 0.055, share)
+    crates = sum(len({name.partition("/")[0] for name in own}) for own in drawn) / 400
+    count.check("of a quarter of the crates", 4 < crates < 6, crates)
+    count.check("each is drawn by some commit", set().union(*drawn) == set(names))
 
 
 def kinds(count):

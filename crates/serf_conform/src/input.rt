@@ -28,6 +28,9 @@ pub enum ReadFault {
 
 /// The lines of the next reply, each with its newline. Just they are read, and the empty line behind them.
 ///
+/// A line that is a carriage return alone ends a reply too. The carriage return is then the last byte of the text: such an
+/// agent ends its lines otherwise, and would never write an empty one.
+///
 /// A read of no bytes is the end of the input. After an error some bytes of a reply may have been read.
 pub fn read_reply_text<R: Read>(alloc: Global, reader: &mut R) -> Result<Vec<u8>, ReadFault>
     ensures text { IfOk result (λ text.
@@ -40,6 +43,7 @@ pub fn read_reply_text<R: Read>(alloc: Global, reader: &mut R) -> Result<Vec<u8>
 {
     let mut text = Vec::new(alloc);
     let mut begins = true;
+    let mut is_return = false;
     let mut byte = [0u8; 1];
     for _turn in 0..MAX_REPLY_BYTES + 1 {
         match reader.read(&mut byte) {
@@ -48,12 +52,13 @@ pub fn read_reply_text<R: Read>(alloc: Global, reader: &mut R) -> Result<Vec<u8>
             Ok(_) => {}
         }
         let read = byte[0];
-        if begins && read == b'\n' {
+        if (begins || is_return) && read == b'\n' {
             return Ok(text);
         }
         if text.push(read).is_err() {
             return Err(ReadFault::OutOfMemory);
         }
+        is_return = begins && read == b'\r';
         begins = read == b'\n';
     }
     Err(ReadFault::TooLong)

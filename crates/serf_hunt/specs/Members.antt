@@ -1,5 +1,5 @@
 -- A member of an object, as the code holds it: private to the crate.
-use Rattle.std.specs.Prelude.{ℕ, List}
+use Rattle.std.specs.Prelude.{ℕ, List, []}
 use Rattle.serf_hunt.specs.declared.report.Member.{Member}
 use Rattle.serf_hunt.specs.declared.report.Member.TheVariants as members
 use Rattle.serf_hunt.specs.Report.{null_member, number_member, text_member}
@@ -8,3 +8,4 @@ abbrev pub member_text : Member → List ℕ
 member_text (members.Number name n) = number_member name.now n
 member_text (members.Text name text) = text_member name.now text.now
 member_text (members.Null name) = null_member name.now
+member_text members.Absent = []

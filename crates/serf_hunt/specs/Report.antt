@@ -1,6 +1,7 @@
 -- The report of agents that were held: a JSON object a line (docs/CONFORMANCE.md).
 use Rattle.std.specs.Prelude.{ℕ, ◌==◌, ◌+◌, ◌/◌, ◌%◌, ◌||◌, ◌++◌, nat_lt, Bool, true, false, if◌then◌else◌, List, [], ◌∷◌, codes, decimal, Option, Some, None}
 use Rattle.std.specs.List.{flat_map}
+use Rattle.std.specs.Option.{option_copied}
 use Rattle.serf_hunt.specs.declared.report.Disagreement.{Disagreement}
 use Rattle.serf_hunt.specs.declared.report.Sums.{Sums}
 
@@ -38,6 +39,11 @@ abbrev pub seed_text : Option ℕ → List ℕ
 seed_text (Some seed) = number_member (codes "seed") seed
 seed_text None = null_member (codes "seed")
 
+-- where more kinds than one are held
+abbrev pub kind_member : Option (List ℕ) → List ℕ
+kind_member (Some kind) = text_member (codes "kind") kind
+kind_member None = []
+
 abbrev pub kind_text : Bool → List ℕ
 kind_text true = codes "ended"
 kind_text false = codes "differs"
@@ -49,7 +55,7 @@ joined texts = flat_map (λ text. text) texts
 unfoldable pub disagreement_text : Disagreement → List ℕ
 disagreement_text told =
     object_text (kind_text told.has_ended)
-    (joined (seed_text told.seed ∷ number_member (codes "agent") told.agent ∷ number_member (codes "agreed") told.agreed
+    (joined (seed_text told.seed ∷ kind_member (option_copied told.kind) ∷ number_member (codes "agent") told.agent ∷ number_member (codes "agreed") told.agreed
     ∷ number_member (codes "action") told.action ∷ number_member (codes "line") told.line ∷ text_member (codes "call") told.call.now
     ∷ text_member (codes "wanted") told.wanted.now ∷ text_member (codes "got") told.got.now ∷ []))
 

@@ -59,8 +59,8 @@ pub fn with_verdict(counts: Counts, verdict: &Verdict) -> Counts
     }
 }
 
-/// The sums over both.
-pub(crate) fn sum_of(counts: Counts, more: Counts) -> Counts
+/// The sums over both; each stops at 2^64 - 1. Takes no memory.
+pub fn sum_of(counts: Counts, more: Counts) -> Counts
     ensures { result ≡ sum_of counts more }
 {
     Counts {

@@ -17,7 +17,7 @@ mod trying;
 pub use alone::{alone_schedule, calls_of};
 pub use call::Call;
 pub use case::{Case, case_of};
-pub use counts::{Counts, no_counts, with_verdict};
+pub use counts::{Counts, no_counts, sum_of, with_verdict};
 pub use held::{Held, Other, hold_each};
 pub use maker::{Maker, RandomSchedules};
 pub use report::{Disagreement, Sums, put_disagreement, put_sums};

@@ -2,7 +2,8 @@
 
 ghost use Rattle.std.specs.Prelude.{◌≡◌, ◌++◌, ◌<◌, OnOk};
 ghost use Rattle.std.specs.List.{flat_map};
-ghost use Rattle.serf_hunt.specs.Report.{disagreement_text, hex_digit as hex_digit_of, json_byte, json_text, kind_text, name_text, object_text, seed_text, sums_text};
+ghost use Rattle.std.specs.Option.{option_copied};
+ghost use Rattle.serf_hunt.specs.Report.{disagreement_text, hex_digit as hex_digit_of, json_byte, json_text, kind_member, kind_text, name_text, object_text, seed_text, sums_text};
 ghost use Rattle.serf_hunt.specs.Members.{member_text};
 
 use serf_text::put_number;
@@ -13,6 +14,8 @@ use std::alloc::AllocError;
 pub struct Disagreement<'a> {
     /// The seed of the schedule; `None` where it came from a file.
     pub seed: Option<u64>,
+    /// The name of the schedule's kind, where more than one is held; else `None`.
+    pub kind: Option<&'a [u8]>,
     /// The agent's number.
     pub agent: u64,
     /// How many of its calls agree before.
@@ -50,6 +53,8 @@ pub(crate) enum Member<'a> {
     Number(&'a [u8], u64),
     Text(&'a [u8], &'a [u8]),
     Null(&'a [u8]),
+    /// None.
+    Absent,
 }
 
 /// A digit of hex, in lower case.
@@ -118,6 +123,7 @@ fn put_member(out: &mut Vec<u8>, member: Member) -> Result<(), AllocError>
             put_name(out, name)?;
             out.extend_from_slice(b"null")
         }
+        Member::Absent => Ok(()),
     }
 }
 
@@ -150,6 +156,15 @@ fn seed_in<'a>(seed: Option<u64>) -> Member<'a>
     }
 }
 
+fn kind_in<'a>(kind: Option<&'a [u8]>) -> Member<'a>
+    ensures { member_text result ≡ kind_member (option_copied kind.entry) }
+{
+    match kind {
+        Some(kind) => Member::Text(b"kind", kind),
+        None => Member::Absent,
+    }
+}
+
 /// What an object tells: that an agent ended, or replied otherwise.
 fn kind_of(has_ended: bool) -> &'static [u8]
     ensures { result.now ≡ kind_text has_ended }
@@ -158,7 +173,7 @@ fn kind_of(has_ended: bool) -> &'static [u8]
 }
 
 /// Appends the line that tells of a disagreement: a JSON object with the members `report` (`differs`, or `ended`), `seed`,
-/// `agent`, `agreed`, `action`, `line`, `call`, `wanted` and `got`. After an `AllocError`, which comes where there is no memory for
+/// `kind` where there is one, `agent`, `agreed`, `action`, `line`, `call`, `wanted` and `got`. After an `AllocError`, which comes where there is no memory for
 /// it, `out` may have a front of it.
 #[tactic(auto, unfolding(crate::specs::Report::disagreement_text))]
 pub fn put_disagreement(out: &mut Vec<u8>, told: &Disagreement) -> Result<(), AllocError>
@@ -166,6 +181,7 @@ pub fn put_disagreement(out: &mut Vec<u8>, told: &Disagreement) -> Result<(), Al
 {
     let members = [
         seed_in(told.seed),
+        kind_in(told.kind),
         Member::Number(b"agent", told.agent),
         Member::Number(b"agreed", told.agreed),
         Member::Number(b"action", told.action),

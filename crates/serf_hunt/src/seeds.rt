@@ -10,6 +10,7 @@ use crate::counts::{Counts, sum_of};
 use crate::held::{Held, Other, hold_each};
 use crate::maker::Maker;
 use serf_conform::{ConformFault, Rules};
+use serf_schedule::Watch;
 use std::alloc::Global;
 use std::io::{Read, Write};
 use thiserror::Error;
@@ -66,7 +67,9 @@ fn hold_seed<M: Maker, R: Read, W: Write>(
 ///
 /// Each agent is opened anew, so that one subject serves all seeds. After a fault the subject may have got a part of a
 /// call.
-pub fn hunt<M: Maker, R: Read, W: Write>(
+///
+/// Before each seed `watch` is told how many were held, and of how many: that is tested, and not proved.
+pub fn hunt<M: Maker, R: Read, W: Write, H: Watch>(
     alloc: Global,
     maker: &M,
     reader: &mut R,
@@ -74,6 +77,7 @@ pub fn hunt<M: Maker, R: Read, W: Write>(
     rules: Rules,
     first: u64,
     end: u64,
+    watch: &mut H,
 ) -> Result<Hunted, HuntFault>
     ensures { IfOk result (λ hunted. IfSome (R.remaining reader.old) (λ input. IsHunt
         (λ h. Hunts (M.makes maker.now) (is_serf rules) (end - first) first no_counts [] input h)
@@ -86,6 +90,7 @@ pub fn hunt<M: Maker, R: Read, W: Write>(
         unsupported_looks: 0,
     };
     for seed in first..end {
+        watch.acted(seed.saturating_sub(first), end.saturating_sub(first));
         let held = match hold_seed(alloc, maker, reader, writer, rules, seed) {
             Ok(held) => held,
             Err(fault) => return Err(HuntFault { seed, fault }),

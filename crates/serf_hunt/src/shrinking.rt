@@ -9,6 +9,7 @@ use crate::narrowing::{Narrowed, narrow};
 use crate::trying::{Outcome, try_calls};
 use serf_agent::Config;
 use serf_conform::{ConformFault, Rules};
+use serf_schedule::Watch;
 use std::alloc::Global;
 use std::io::{Read, Write};
 
@@ -22,13 +23,14 @@ pub struct Shrunk {
 
 /// Leaves out calls as long as what is left fails: first half of them, and then half as many each time that nothing
 /// can be left out.
-fn settle<R: Read, W: Write>(
+fn settle<R: Read, W: Write, H: Watch>(
     alloc: Global,
     reader: &mut R,
     writer: &mut W,
     rules: Rules,
     config: &Config,
     calls: Vec<Call>,
+    watch: &mut H,
 ) -> Result<Shrunk, ConformFault>
     ensures { (whole : List Call) (input : List ℕ) (from : Option (List ℕ))
         → IsAlong (is_serf rules) config.now whole calls.items [] input (R.remaining reader.old)
@@ -36,9 +38,11 @@ fn settle<R: Read, W: Write>(
         → IfOk result (λ shrunk.
         IsShrunk (is_serf rules) config.now whole shrunk input from (W.contents writer.new)) }
 {
+    let all = calls.len();
     let mut calls = calls;
     let mut size = calls.len() / 2;
     'steps: loop {
+        watch.acted(all.saturating_sub(calls.len()) as u64, all as u64);
         let singles = size <= 1;
         match narrow(alloc, reader, writer, rules, config, &calls, singles, size)? {
             Narrowed::Shorter(shorter) => calls = shorter,
@@ -65,20 +69,23 @@ fn settle<R: Read, W: Write>(
 /// `None` where the calls themselves don't fail: they are tried first. What is left failed when it was last tried; what
 /// was tried behind that did not. Where the agent ends at a trial, no other is made, and what is left by then is given.
 /// `NoAgent` where the settings are out of bounds; after any fault the agent may have got a part of a call.
-pub fn shrink<R: Read, W: Write>(
+///
+/// `watch` is told now and then how many calls are left out, and of how many: that is tested, and not proved.
+pub fn shrink<R: Read, W: Write, H: Watch>(
     alloc: Global,
     reader: &mut R,
     writer: &mut W,
     rules: Rules,
     config: &Config,
     calls: Vec<Call>,
+    watch: &mut H,
 ) -> Result<Option<Shrunk>, ConformFault>
     ensures { IfOk result (λ shrunk.
         IfSome (R.remaining reader.old) (λ input. ShrinksTo (is_serf rules)
         config.now calls.items shrunk input (W.contents writer.old) (W.contents writer.new))) }
 {
     match try_calls(alloc, reader, writer, rules, config, &calls)? {
-        Outcome::Fails => match settle(alloc, reader, writer, rules, config, calls) {
+        Outcome::Fails => match settle(alloc, reader, writer, rules, config, calls, watch) {
             Ok(shrunk) => Ok(Some(shrunk)),
             Err(fault) => Err(fault),
         },

@@ -1,5 +1,5 @@
 -- What tells an event, or a query, from others.
-use Rattle.std.specs.Prelude.{ℕ, List}
+use Rattle.std.specs.Prelude.{ℕ, List, Option}
 use Rattle.serf_judge.specs.declared.entry.EventEntry.{EventEntry}
 use Rattle.serf_judge.specs.declared.entry.QueryEntry.{QueryEntry}
 use Rattle.serf_judge.specs.declared.key.EventKey.{EventKey}
@@ -15,11 +15,11 @@ pub record EventIdentity : Type 0 where
 abbrev pub event_identity : EventEntry → EventIdentity
 event_identity e = record { node = e.node.items; time = e.time; name = e.name.items; payload = e.payload.items }
 
--- the node that was handed a query, and the query: a time and an ID
+-- the node that was handed a query, and the query: a time and an ID, or no ID
 pub record QueryIdentity : Type 0 where
   pub node : List ℕ
   pub time : ℕ
-  pub id : ℕ
+  pub id : Option ℕ
 
 abbrev pub query_identity : QueryEntry → QueryIdentity
 query_identity q = record { node = q.node.items; time = q.time; id = q.id }

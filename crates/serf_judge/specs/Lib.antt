@@ -1,7 +1,9 @@
 pub mod Again
+pub mod Dated
 pub mod Fired
 pub mod Handed
 pub mod Identity
+pub mod Joined
 pub mod Kept
 pub mod Keyed
 pub mod Later

@@ -1,11 +1,10 @@
 -- What a log says, a line a happening.
-use Rattle.std.specs.Prelude.{◌≡◌, ℕ, ◌+◌, ◌==◌, ◌||◌, ◌++◌, min, Bool, if◌then◌else◌, List, [], ◌∷◌, length, codes, slice_index, map, Option, Some, None, is_some, Result, Ok, Err}
-use Rattle.std.specs.List.{fold}
+use Rattle.std.specs.Prelude.{ℕ, ◌+◌, ◌==◌, if◌then◌else◌, List, length, codes, Option, Some, None, is_some, Result, Ok, Err}
 use Rattle.std.specs.Str.{bytes_eq}
 use Rattle.serf_text.specs.declared.cause.Cause.{Cause}
 use Rattle.serf_text.specs.declared.cause.Cause.TheVariants.{UnknownWord, WordCount}
 use Rattle.serf_text.specs.Gives.{◌>>=◌}
-use Rattle.serf_text.specs.Words.{number_in, number_of, word_at, words_of}
+use Rattle.serf_text.specs.Words.{number_in, number_of, word_at}
 use Rattle.serf_judge.specs.Identity.{EventIdentity, QueryIdentity}
 
 -- what a line says: an event was fired or handed out, a query was handed out, or nothing that is judged
@@ -21,11 +20,17 @@ event_at place words = do
   time ← number_in (place + 1) words
   Ok (record { node = word_at place words; time = time; name = word_at (place + 2) words; payload = word_at (place + 3) words })
 
+-- the ID at a place: a number, or `-` for none
+unfoldable pub id_in : ℕ → List (List ℕ) → Result (Option ℕ) Cause
+id_in place words =
+    if bytes_eq (word_at place words) (codes "-") then Ok None
+    else (number_in place words >>= (λ n. Ok (Some n)))
+
 -- the query of a node's word and two others
 unfoldable pub query_at : ℕ → ℕ → ℕ → List (List ℕ) → Result QueryIdentity Cause
 query_at node time id words = do
   t ← number_in time words
-  i ← number_in id words
+  i ← id_in id words
   Ok (record { node = word_at node words; time = t; id = i })
 
 -- a line of so many words

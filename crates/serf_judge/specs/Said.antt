@@ -1,15 +1,18 @@
 -- What the code holds of a line, and of a log.
-use Rattle.std.specs.Prelude.{◌^◌, ◌-◌, ◌≡◌, ℕ, ◌+◌, ◌++◌, ◌==◌, Bool, length, slice_index, min, if◌then◌else◌, List, [], ◌∷◌, map, Result, Ok, Err}
+use Rattle.std.specs.Prelude.{◌^◌, ◌-◌, ◌≡◌, ℕ, ◌+◌, ◌++◌, ◌==◌, Bool, length, slice_index, min, take, drop, if◌then◌else◌, List, [], ◌∷◌, map, Result, Ok, Err}
 use Rattle.std.specs.List.{fold}
+use Rattle.std.specs.Str.{bytes_eq}
 use Rattle.serf_text.specs.declared.cause.Cause.{Cause}
 use Rattle.serf_text.specs.Words.{words_of}
 use Rattle.serf_text.specs.declared.stream_fault.StreamLineFault.{StreamLineFault as LineFault}
 use Rattle.serf_text.specs.declared.stream_fault.StreamLineFault.TheVariants.{Bad, OutOfMemory}
+use Rattle.serf_judge.specs.declared.entry.BadLine.{BadLine}
 use Rattle.serf_judge.specs.declared.entry.EventEntry.{EventEntry}
 use Rattle.serf_judge.specs.declared.entry.QueryEntry.{QueryEntry}
 use Rattle.serf_judge.specs.declared.happening.Happening.{Happening as Held}
 use Rattle.serf_judge.specs.declared.happening.Happening.TheVariants as held
 use Rattle.serf_judge.specs.declared.log.Log.{Log}
+use Rattle.serf_judge.specs.Dated.{behind_date}
 use Rattle.serf_judge.specs.Identity.{EventIdentity, QueryIdentity, event_identity, query_identity}
 use Rattle.serf_judge.specs.Log.{Happening, nothing, fired, event, query, happening_of}
 
@@ -26,15 +29,30 @@ is_comment line = slice_index line 0 == 35
 abbrev pub words_said : List (List ℕ) → Result Happening Cause
 words_said words = if length words == 0 then Ok nothing else happening_of words
 
--- what a line says; a comment and a line without words say nothing
-abbrev pub line_said : List ℕ → Result Happening Cause
-line_said line = if is_comment line then Ok nothing else words_said (words_of line)
+-- a line without the carriage return at its end, where it has one
+abbrev pub without_return : List ℕ → List ℕ
+without_return line = if bytes_eq (drop (length line - 1) line) (13 ∷ []) then take (length line - 1) line else line
 
--- events and queries, each with the number of its line
+-- a line without the byte order mark of UTF-8 at its front, where it has one
+abbrev pub without_mark : List ℕ → List ℕ
+without_mark line = if bytes_eq (take 3 line) (239 ∷ 187 ∷ 191 ∷ []) then drop 3 line else line
+
+-- a mark is passed over in a log's first line alone
+abbrev pub bare : Bool → List ℕ → List ℕ
+bare is_first line = without_return (if is_first then without_mark line else line)
+
+-- what a line says; a comment and a line without words say nothing, and a date in front isn't read
+abbrev pub line_said : List ℕ → Result Happening Cause
+line_said line = if is_comment line then Ok nothing else words_said (behind_date (words_of line))
+
+-- Events and queries, and what is wrong with bad lines, each with the number of its line; and how many lines there are,
+-- which stops at 2^64 - 1.
 pub record LogView : Type 0 where
   pub fired : List (ℕ × EventIdentity)
   pub events : List (ℕ × EventIdentity)
   pub queries : List (ℕ × QueryIdentity)
+  pub bad : List (ℕ × Cause)
+  pub lines : ℕ
 
 abbrev pub with_happening : LogView → ℕ → Happening → LogView
 with_happening log n nothing = log
@@ -42,29 +60,24 @@ with_happening log n (fired e) = record log { fired = log.fired ++ (n, e) ∷ []
 with_happening log n (event e) = record log { events = log.events ++ (n, e) ∷ [] }
 with_happening log n (query q) = record log { queries = log.queries ++ (n, q) ∷ [] }
 
--- a log so far, and the number of its next line, which stops at 2^64 - 1
-pub record Reading : Type 0 where
-  pub number : ℕ
-  pub log : LogView
+-- a bad line is kept, and says nothing else
+abbrev pub with_said : LogView → ℕ → Result Happening Cause → LogView
+with_said log n (Ok h) = with_happening log n h
+with_said log n (Err cause) = record log { bad = log.bad ++ (n, cause) ∷ [] }
 
-abbrev pub with_said : Reading → Result Happening Cause → Reading
-with_said r (Ok h) = record { number = min (r.number + 1) (2 ^ 64 - 1); log = with_happening r.log r.number h }
-with_said r (Err cause) = r
+abbrev pub next_line : LogView → ℕ
+next_line log = min (log.lines + 1) (2 ^ 64 - 1)
 
-abbrev pub after_line : Reading → List ℕ → Reading
-after_line r line = with_said r (line_said line)
+abbrev pub after_line : LogView → List ℕ → LogView
+after_line log line = with_said (record log { lines = next_line log }) (next_line log) (line_said (bare (log.lines == 0) line))
 
 -- what the lines of a log say, in order
-abbrev pub reading_of : List (List ℕ) → Reading
-reading_of lines = fold after_line (record { number = 1; log = record { fired = []; events = []; queries = [] } }) lines
+abbrev pub log_of : List (List ℕ) → LogView
+log_of lines = fold after_line (record { fired = []; events = []; queries = []; bad = []; lines = 0 }) lines
 
--- a sound line is answered by nothing
-abbrev pub silent : Result Happening Cause → Result (List ℕ) Cause
-silent (Ok h) = Ok []
-silent (Err cause) = Err cause
-
+-- a line is answered by nothing, and none is refused
 abbrev pub log_answer : List (List ℕ) → List ℕ → Result (List ℕ) Cause
-log_answer before line = silent (line_said line)
+log_answer before line = Ok []
 
 abbrev pub event_seen : EventEntry → ℕ × EventIdentity
 event_seen e = (e.line, event_identity e)
@@ -72,8 +85,11 @@ event_seen e = (e.line, event_identity e)
 abbrev pub query_seen : QueryEntry → ℕ × QueryIdentity
 query_seen q = (q.line, query_identity q)
 
+abbrev pub bad_seen : BadLine → ℕ × Cause
+bad_seen b = (b.line, b.cause)
+
 abbrev pub log_view : Log → LogView
-log_view log = record { fired = map event_seen log.fired.items; events = map event_seen log.events.items; queries = map query_seen log.queries.items }
+log_view log = record { fired = map event_seen log.fired.items; events = map event_seen log.events.items; queries = map query_seen log.queries.items; bad = map bad_seen log.bad.items; lines = log.lines }
 
 -- what the code holds of a line
 abbrev pub happening_view : Held → Happening
@@ -88,7 +104,3 @@ IsAt n held.Nothing = Unit {0}
 IsAt n (held.Fired e) = e.line ≡ n
 IsAt n (held.Event e) = e.line ≡ n
 IsAt n (held.Query q) = q.line ≡ n
-
--- what was read so far, as the code holds it
-abbrev pub reading_view : ℕ → Log → Reading
-reading_view number log = record { number = number; log = log_view log }

@@ -1,6 +1,7 @@
 -- What is told of each node that was handed something twice.
 use Rattle.std.specs.Prelude.{ℕ, ◌^◌, ◌-◌, ◌&&◌, nat_eq, min, max, Bool, List, map, filter, length}
 use Rattle.std.specs.List.{fold}
+use Rattle.std.specs.Option.{option_eq}
 use Rattle.std.specs.Str.{bytes_eq}
 use Rattle.serf_judge.specs.declared.entry.EventEntry.{EventEntry}
 use Rattle.serf_judge.specs.declared.entry.QueryEntry.{QueryEntry}
@@ -58,7 +59,7 @@ abbrev pub is_same_event : EventIdentity → EventIdentity → Bool
 is_same_event x y = bytes_eq x.node y.node && (nat_eq x.time y.time && (bytes_eq x.name y.name && bytes_eq x.payload y.payload))
 
 abbrev pub is_same_query : QueryIdentity → QueryIdentity → Bool
-is_same_query x y = bytes_eq x.node y.node && (nat_eq x.time y.time && nat_eq x.id y.id)
+is_same_query x y = bytes_eq x.node y.node && (nat_eq x.time y.time && option_eq nat_eq x.id y.id)
 
 -- the lines that hand a node an event that a line in front of them handed it, and such lines of queries
 abbrev pub event_repeats : List EventEntry → List Handing

@@ -1,5 +1,7 @@
 //! What a line of a log says.
 
+use serf_text::Cause;
+
 /// A user event that was fired by a node, or handed to one. Texts are the words of the line, as they stand there.
 #[derive(Debug, Drop)]
 pub struct EventEntry {
@@ -18,5 +20,15 @@ pub struct QueryEntry {
     pub line: u64,
     pub node: Vec<u8>,
     pub time: u64,
-    pub id: u64,
+    /// `None` where the line has `-` for it.
+    pub id: Option<u64>,
+}
+
+/// A line that is not sound.
+#[derive(Clone, Copy, Debug, PartialEq, Eq)]
+pub struct BadLine {
+    /// The number of the line, counted from 1; it stops at 2^64 - 1.
+    pub line: u64,
+    /// What is wrong with it.
+    pub cause: Cause,
 }

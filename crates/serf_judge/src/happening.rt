@@ -3,7 +3,7 @@
 ghost use Rattle.std.specs.Prelude.{◌≡◌, ◌≤◌, ◌<◌, ◌+◌, ◌==◌, Ok, Err, length, map, IfOk, IfErr};
 ghost use Rattle.serf_text.specs.Words.{number_in, word_at as word_of};
 ghost use Rattle.serf_judge.specs.Identity.{event_identity, query_identity};
-ghost use Rattle.serf_judge.specs.Log.{event, event_at, event_line, fired, happening_of, nothing, of_count, query_at, query_line, trace_line};
+ghost use Rattle.serf_judge.specs.Log.{event, event_at, event_line, fired, happening_of, id_in, nothing, of_count, query_at, query_line, trace_line};
 ghost use Rattle.serf_judge.specs.Said.{IsAt, Says, happening_view};
 
 use crate::entry::{EventEntry, QueryEntry};
@@ -38,6 +38,21 @@ fn copy_of(alloc: Global, word: &[u8]) -> Result<Vec<u8>, StreamLineFault<Cause>
     match Vec::from_slice(alloc, word) {
         Ok(copy) => Ok(copy),
         Err(_) => Err(StreamLineFault::OutOfMemory),
+    }
+}
+
+/// The ID at a place of a line, counting from 1; `None` where `-` stands there.
+#[tactic(auto, unfolding(crate::specs::Log::id_in))]
+fn id_at(words: &[&[u8]], place: usize) -> Result<Option<u64>, StreamLineFault<Cause>>
+    requires { (1 ≤ place) × (place ≤ length words.now) }
+    ensures { Says (λ i. i) result (id_in place (map (λ w. w.now) words.now)) }
+{
+    if word_at(words, place) == b"-".as_slice() {
+        return Ok(None);
+    }
+    match number_at(words, place) {
+        Ok(id) => Ok(Some(id)),
+        Err(fault) => Err(fault),
     }
 }
 
@@ -83,7 +98,7 @@ fn query_from(
     ensures line { IfOk result (λ query. query.line ≡ line) }
 {
     let time = number_at(words, time)?;
-    let id = number_at(words, id)?;
+    let id = id_at(words, id)?;
     let node = copy_of(alloc, words[node - 1])?;
     Ok(QueryEntry {
         line,

@@ -30,7 +30,7 @@ pub(crate) fn key_of(entry: &EventEntry) -> EventKey<'_>
 pub(crate) struct QueryKey<'a> {
     pub(crate) node: &'a [u8],
     pub(crate) time: u64,
-    pub(crate) id: u64,
+    pub(crate) id: Option<u64>,
 }
 
 pub(crate) fn query_key_of(entry: &QueryEntry) -> QueryKey<'_>

@@ -5,9 +5,11 @@
 #![tactic(auto)]
 
 mod again;
+mod dated;
 mod entry;
 mod fired;
 mod happening;
+mod joined;
 mod kept;
 mod key;
 mod later;
@@ -25,8 +27,9 @@ mod repeated;
 mod repeats;
 mod tally;
 
-pub use entry::{EventEntry, QueryEntry};
+pub use entry::{BadLine, EventEntry, QueryEntry};
 pub use fired::first_unfired;
+pub use joined::join_logs;
 pub use kept::{behind_leave, first_above, first_query_above, has_node, is_snapshot};
 pub use later::{LaterFault, first_not_later};
 pub use laws::once_has_no_repeat;

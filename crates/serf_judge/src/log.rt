@@ -1,25 +1,30 @@
 //! A whole log.
 
-ghost use Rattle.std.specs.Prelude.{◌≡◌, ◌++◌, None, Ok, List, ℕ, IfErr, IfOk, OnOk, map};
+ghost use Rattle.std.specs.Prelude.{◌≡◌, ◌++◌, None, Err, Ok, List, ℕ, IfErr, IfOk, OnOk, map};
 ghost use Rattle.std.specs.Io.KnownBytes.{Consumes, IsAtEnd};
 ghost use Rattle.serf_text.specs.Words.{words_of};
 ghost use Rattle.serf_text.specs.Lines.{lines_of};
 ghost use Rattle.serf_text.specs.Streams.{IsStopped};
-ghost use Rattle.serf_judge.specs.Said.{IsAt, Says, happening_view, is_comment, line_said, log_answer, log_view, reading_of, with_happening};
+ghost use Rattle.serf_judge.specs.Said.{IsAt, Says, bare, happening_view, is_comment, line_said, log_answer, log_of, log_view, with_happening, with_said, without_mark, without_return};
 
-use crate::entry::{EventEntry, QueryEntry};
+use crate::dated::cut_date;
+use crate::entry::{BadLine, EventEntry, QueryEntry};
 use crate::happening::{Happening, happening_in};
 use serf_text::{Cause, LineJob, StreamFault, StreamLineFault, answer_lines, cut};
 use std::alloc::{AllocError, Global};
 use std::io;
 use std::io::{Read, Write};
 
-/// What a log says: events that were fired, and events and queries that were handed out, each in the log's order.
+/// What a log says: events that were fired, and events and queries that were handed out; and its lines that are not
+/// sound. Each is in the log's order.
 #[derive(Debug, Drop)]
 pub struct Log {
     pub fired: Vec<EventEntry>,
     pub events: Vec<EventEntry>,
     pub queries: Vec<QueryEntry>,
+    pub bad: Vec<BadLine>,
+    /// How many lines it has, with an empty one behind a last newline; it stops at 2^64 - 1.
+    pub lines: u64,
 }
 
 /// The words of a line.
@@ -50,6 +55,37 @@ fn is_comment_line(line: &[u8]) -> bool
     }
 }
 
+/// A line without the carriage return at its end, where it has one.
+fn cut_return(line: &[u8]) -> &[u8]
+    ensures { result.now ≡ without_return line.entry.now }
+{
+    match line.strip_suffix(&[b'\r']) {
+        Some(front) => front,
+        None => line,
+    }
+}
+
+/// A line without the byte order mark of UTF-8 at its front, where it has one.
+fn cut_mark(line: &[u8]) -> &[u8]
+    ensures { result.now ≡ without_mark line.entry.now }
+{
+    match line.strip_prefix(&[0xef, 0xbb, 0xbf]) {
+        Some(rest) => rest,
+        None => line,
+    }
+}
+
+/// A line without what may stand around its text. A byte order mark is cut off a log's first line alone.
+fn bare_line(line: &[u8], is_first: bool) -> &[u8]
+    ensures { result.now ≡ bare is_first line.entry.now }
+{
+    if is_first {
+        cut_return(cut_mark(line))
+    } else {
+        cut_return(line)
+    }
+}
+
 /// What the line of this number says.
 fn happening_on(
     alloc: Global,
@@ -66,10 +102,11 @@ fn happening_on(
         Ok(words) => words,
         Err(_) => return Err(StreamLineFault::OutOfMemory),
     };
+    let words = cut_date(words.as_slice());
     if words.is_empty() {
         return Ok(Happening::Nothing);
     }
-    happening_in(alloc, number, words.as_slice())
+    happening_in(alloc, number, words)
 }
 
 impl Log {
@@ -92,22 +129,51 @@ impl Log {
             Err(StreamLineFault::OutOfMemory)
         }
     }
+
+    /// Puts the line of this number behind the other bad ones.
+    fn add_bad(&mut self, line: u64, cause: Cause) -> Result<(), StreamLineFault<Cause>>
+        ensures added { OnOk result (log_view self.new
+            ≡ with_said (log_view self.old) line (Err cause)) }
+        ensures memory { IfErr result (λ fault. fault ≡ StreamLineFault.OutOfMemory) }
+    {
+        match self.bad.push(BadLine { line, cause }) {
+            Ok(()) => Ok(()),
+            Err(_) => Err(StreamLineFault::OutOfMemory),
+        }
+    }
+
+    /// Puts what the line of this number says behind the others.
+    fn add_line(
+        &mut self,
+        alloc: Global,
+        number: u64,
+        line: &[u8],
+    ) -> Result<(), StreamLineFault<Cause>>
+        ensures added { OnOk result (log_view self.new
+            ≡ with_said (log_view self.old) number (line_said line.now)) }
+        ensures memory { IfErr result (λ fault. fault ≡ StreamLineFault.OutOfMemory) }
+    {
+        match happening_on(alloc, number, line) {
+            Ok(happening) => self.add(number, happening),
+            Err(StreamLineFault::Bad(cause)) => self.add_bad(number, cause),
+            Err(StreamLineFault::OutOfMemory) => Err(StreamLineFault::OutOfMemory),
+        }
+    }
 }
 
 /// Reads a log, line by line.
 #[derive(Drop)]
 struct LogLines {
-    number: u64,
     log: Log,
 }
 
 impl LineJob for LogLines {
     ghost use Rattle.std.specs.Prelude.{◌≡◌, List, ℕ};
-    ghost use Rattle.serf_judge.specs.Said.{log_answer, reading_of, reading_view};
+    ghost use Rattle.serf_judge.specs.Said.{log_answer, log_of, log_view};
 
     type Fault = Cause;
 
-    ghost follows = { λ job lines. reading_view job.number job.log ≡ reading_of lines };
+    ghost follows = { λ job lines. log_view job.log ≡ log_of lines };
 
     ghost answer = { log_answer };
 
@@ -117,17 +183,11 @@ impl LineJob for LogLines {
         line: &[u8],
         _text: &mut Vec<u8>,
     ) -> Result<(), StreamLineFault<Cause>> {
-        let happening = match happening_on(alloc, self.number, line) {
-            Ok(happening) => happening,
-            Err(fault) => return Err(fault),
-        };
-        match self.log.add(self.number, happening) {
-            Ok(()) => {
-                self.number = self.number.saturating_add(1);
-                Ok(())
-            }
-            Err(fault) => Err(fault),
-        }
+        let before = self.log.lines;
+        let number = before.saturating_add(1);
+        let bare = bare_line(line, before == 0);
+        self.log.lines = number;
+        self.log.add_line(alloc, number, bare)
     }
 }
 
@@ -149,23 +209,28 @@ impl Write for Nowhere {
 ///
 /// A line is `fired NODE TIME NAME PAYLOAD`, `event NODE TIME NAME PAYLOAD`, `query NODE TIME ID` or `restarted NODE`, by
 /// words between spaces, or a line of a trace of `serf-replay`. A comment (`#`) and a line without words say nothing.
-/// A line may have 16,777,216 bytes. A line that is not sound is `BadLine`, with the first such line.
+/// A date and a time of day in front of the other words, a carriage return at a line's end and a byte order mark of UTF-8
+/// at the log's front say nothing. A line may have 16,777,216 bytes. A line that is not sound is kept in `bad`, with its
+/// cause, and says nothing else.
+///
+/// It is `ReadFault` where a read fails, `LineTooLong` with the number of the first longer line, and `OutOfMemory`.
 pub fn read_log<R: Read>(alloc: Global, reader: &mut R) -> Result<Log, StreamFault<Cause>>
     // The log is what all lines say.
     ensures done { IfOk result (λ log. (bytes : List ℕ)
         × Consumes (R.remaining reader.old) (R.remaining reader.new) bytes
-        × IsAtEnd (R.remaining reader.new) × (log_view log ≡ (reading_of (lines_of bytes)).log)) }
-    // The lines before the one that is told were sound.
+        × IsAtEnd (R.remaining reader.new) × (log_view log ≡ log_of (lines_of bytes))) }
+    // The lines before the one that is told were done.
     ensures stopped { IfErr result (λ fault. (bytes : List ℕ)
         × Consumes (R.remaining reader.old) (R.remaining reader.new) bytes
         × IsStopped log_answer fault (lines_of bytes) None None) }
 {
     let mut job = LogLines {
-        number: 1,
         log: Log {
             fired: Vec::new(alloc),
             events: Vec::new(alloc),
             queries: Vec::new(alloc),
+            bad: Vec::new(alloc),
+            lines: 0,
         },
     };
     match answer_lines(alloc, reader, &mut Nowhere, &mut job) {

@@ -50,7 +50,7 @@ fn query_keys_of<'a>(
     Ok(keys)
 }
 
-/// The places of the first two entries that hand one query, that is a time and an ID, to one node; in the order and with
+/// The places of the first two entries that hand one query, that is a time and an ID or none, to one node; in the order and with
 /// the faults of [`first_event_twice`].
 pub fn first_query_twice(
     alloc: Global,

@@ -1,6 +1,6 @@
 -- The text of a random schedule, whose first line is a comment, read back.
-use Rattle.std.proofs.Common.{◌≡◌, ◌≤◌, ℕ, List, [], ◌++◌, length, Ok, refl, arith, length-append}
-use Rattle.std.specs.Prelude.{drop}
+use Rattle.std.proofs.Common.{◌≡◌, ◌+◌, ◌≤◌, ℕ, Bool, true, false, List, [], ◌∷◌, ◌++◌, length, Ok, refl, arith, length-append}
+use Rattle.std.specs.Prelude.{codes, drop}
 use Rattle.std.specs.List.{AllByRecursion}
 use Rattle.std.proofs.lemmas.Fmt.{length-decimal-le}
 use Rattle.serf_schedule.specs.Line.{Parsed}
@@ -9,9 +9,10 @@ use Rattle.serf_schedule.specs.Comments.{CommentsAreSkipped, IsWord, NumbersAreW
 use Rattle.serf_random.specs.declared.ask.Ask.{Ask}
 use Rattle.serf_random.specs.declared.kind.Kind.{Kind}
 use Rattle.serf_random.specs.declared.kind.Kind.TheVariants as kinds
-use Rattle.serf_random.specs.Comment.{comment_text, comment_words}
+use Rattle.serf_schedule.specs.ScheduleText.{line_text, spaced}
+use Rattle.serf_random.specs.Comment.{asked_words, comment_text, comment_words, rounds_words}
 use Rattle.serf_random.specs.Draft.{HasNumbers, IsShort}
-use Rattle.serf_random.specs.Kind.{kind_name}
+use Rattle.serf_random.specs.Kind.{is_rounds, kind_name}
 
 kind-plain : (k : Kind) → IsWord (kind_name k)
 kind-plain kinds.Mixed = record { some = omega arith; plain = refl }
@@ -27,6 +28,7 @@ kind-plain kinds.PerTime = record { some = omega arith; plain = refl }
 kind-plain kinds.Compactions = record { some = omega arith; plain = refl }
 kind-plain kinds.Gossip = record { some = omega arith; plain = refl }
 kind-plain kinds.Spellings = record { some = omega arith; plain = refl }
+kind-plain kinds.Rounds = record { some = omega arith; plain = refl }
 
 kind-short : (k : Kind) → length (kind_name k) ≤ 20
 kind-short kinds.Mixed = omega arith
@@ -42,9 +44,25 @@ kind-short kinds.PerTime = omega arith
 kind-short kinds.Compactions = omega arith
 kind-short kinds.Gossip = omega arith
 kind-short kinds.Spellings = omega arith
+kind-short kinds.Rounds = omega arith
 
-comment-plain : NumbersAreWords → (ask : Ask) → HasNumbers ask → AllByRecursion IsWord (comment_words ask)
-comment-plain number-word ask h = (
+rounds-plain : NumbersAreWords → (is : Bool) (ask : Ask) (behind : List (List ℕ)) → HasNumbers ask → AllByRecursion IsWord behind
+    → AllByRecursion IsWord (rounds_words is ask behind)
+rounds-plain number-word true ask behind h rest = (
+  record { some = omega arith; plain = refl },
+  (
+    number-word ask.fanout h.3,
+    (
+      record { some = omega arith; plain = refl },
+      (number-word ask.loss h.4, (record { some = omega arith; plain = refl }, (number-word ask.rounds h.5, rest))),
+    ),
+  ),
+)
+rounds-plain number-word false ask behind h rest = rest
+
+pub asked-plain : NumbersAreWords → (ask : Ask) (behind : List (List ℕ)) → HasNumbers ask → AllByRecursion IsWord behind
+    → AllByRecursion IsWord (asked_words ask behind)
+asked-plain number-word ask behind h rest = (
   record { some = omega arith; plain = refl },
   (
     record { some = omega arith; plain = refl },
@@ -60,10 +78,7 @@ comment-plain number-word ask h = (
               number-word ask.agents h.1,
               (
                 record { some = omega arith; plain = refl },
-                (
-                  number-word ask.actions h.2,
-                  (record { some = omega arith; plain = refl }, (record { some = omega arith; plain = refl }, tt)),
-                ),
+                (number-word ask.actions h.2, rounds-plain number-word (is_rounds ask.kind) ask behind h rest),
               ),
             ),
           ),
@@ -73,14 +88,33 @@ comment-plain number-word ask h = (
   ),
 )
 
-pub comment-short : (ask : Ask) → HasNumbers ask → IsShort (comment_text ask)
-unfolding comment_text
-comment-short ask h =
+rounds-short : (is : Bool) (ask : Ask) (behind : List (List ℕ)) → HasNumbers ask
+    → length (spaced (rounds_words is ask behind)) ≤ length (spaced behind) + 100
+rounds-short true ask behind h =
+    let fanout = length-decimal-le 20 ask.fanout (omega arith) (omega (arith, h.3)) h.3 in
+    let loss = length-decimal-le 20 ask.loss (omega arith) (omega (arith, h.4)) h.4 in
+    let rounds = length-decimal-le 20 ask.rounds (omega arith) (omega (arith, h.5)) h.5 in
+    simp length-append (omega (arith, fanout, loss, rounds))
+rounds-short false ask behind h = omega arith
+
+-- what was asked for, in front of a few words
+pub asked-short : (ask : Ask) (behind : List (List ℕ)) → HasNumbers ask → length (spaced behind) ≤ 100
+    → IsShort (line_text (asked_words ask behind))
+asked-short ask behind h few =
     let kind = kind-short ask.kind in
     let seed = length-decimal-le 20 ask.seed (omega arith) (omega (arith, h.0)) h.0 in
     let agents = length-decimal-le 20 ask.agents (omega arith) (omega (arith, h.1)) h.1 in
     let actions = length-decimal-le 20 ask.actions (omega arith) (omega (arith, h.2)) h.2 in
-    simp length-append (omega (arith, kind, seed, agents, actions))
+    let rounds = rounds-short (is_rounds ask.kind) ask behind h in
+    simp length-append (omega (arith, kind, seed, agents, actions, rounds, few))
+
+pub comment-short : (ask : Ask) → HasNumbers ask → IsShort (comment_text ask)
+unfolding comment_text
+comment-short ask h = asked-short ask (codes "version" ∷ codes "3" ∷ []) h (omega arith)
+
+comment-plain : NumbersAreWords → (ask : Ask) → HasNumbers ask → AllByRecursion IsWord (comment_words ask)
+comment-plain number-word ask h =
+    asked-plain number-word ask (codes "version" ∷ codes "3" ∷ []) h (record { some = omega arith; plain = refl }, (record { some = omega arith; plain = refl }, tt))
 
 abbrev words_behind : Ask → List (List ℕ)
 words_behind ask = drop 1 (comment_words ask)

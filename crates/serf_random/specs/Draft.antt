@@ -29,4 +29,4 @@ pub record AddsActions (most : ℕ) (old new : List ℕ) (before after : List Ac
 
 -- what is asked for has numbers of 64 bits
 abbrev pub HasNumbers : Ask → Type 0
-HasNumbers ask = (ask.seed < 2 ^ 64) × (ask.agents < 2 ^ 64) × (ask.actions < 2 ^ 64)
+HasNumbers ask = (ask.seed < 2 ^ 64) × (ask.agents < 2 ^ 64) × (ask.actions < 2 ^ 64) × (ask.fanout < 2 ^ 64) × (ask.loss < 2 ^ 64) × (ask.rounds < 2 ^ 64)

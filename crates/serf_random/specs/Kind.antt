@@ -1,5 +1,5 @@
 -- The names of the kinds of random schedules.
-use Rattle.std.specs.Prelude.{ℕ, List, if◌then◌else◌, codes, Option, Some, None}
+use Rattle.std.specs.Prelude.{ℕ, Bool, true, false, List, if◌then◌else◌, codes, Option, Some, None}
 use Rattle.std.specs.Str.{bytes_eq}
 use Rattle.serf_random.specs.declared.kind.Kind.{Kind}
 use Rattle.serf_random.specs.declared.kind.Kind.TheVariants as kinds
@@ -18,6 +18,7 @@ kind_name kinds.PerTime = codes "per-time"
 kind_name kinds.Compactions = codes "compactions"
 kind_name kinds.Gossip = codes "gossip"
 kind_name kinds.Spellings = codes "spellings"
+kind_name kinds.Rounds = codes "rounds"
 
 -- the kind that has a name
 abbrev pub kind_of : List ℕ → Option Kind
@@ -35,4 +36,10 @@ kind_of name =
     else if bytes_eq name (codes "compactions") then Some kinds.Compactions
     else if bytes_eq name (codes "gossip") then Some kinds.Gossip
     else if bytes_eq name (codes "spellings") then Some kinds.Spellings
+    else if bytes_eq name (codes "rounds") then Some kinds.Rounds
     else None
+
+-- its schedules have a fanout, losses and a number of rounds
+abbrev pub is_rounds : Kind → Bool
+is_rounds kinds.Rounds = true
+is_rounds _ = false

@@ -2,7 +2,7 @@
 
 ghost use Rattle.std.specs.Prelude.{◌≡◌};
 ghost use Rattle.std.specs.Str.{bytes_eq};
-ghost use Rattle.serf_random.specs.Kind.{kind_name, kind_of};
+ghost use Rattle.serf_random.specs.Kind.{is_rounds, kind_name, kind_of};
 
 /// What a random schedule is aimed at.
 #[derive(Clone, Copy, Debug, PartialEq, Eq)]
@@ -29,10 +29,12 @@ pub enum Kind {
     PerTime,
     /// Snapshots that are compacted, on disks that may fail.
     Compactions,
-    /// Rounds of gossip: packets go to a few agents each, some are lost, and states are exchanged now and then.
+    /// Packets that go round: each goes to most agents, some are lost, and states are exchanged now and then.
     Gossip,
     /// Strangers' packets in any spelling that the grammar takes, and just beyond it.
     Spellings,
+    /// Rounds of gossip: in each, agents send what is new to them to a few others at random.
+    Rounds,
 }
 
 fn is_name(name: &[u8], text: &[u8]) -> bool
@@ -60,6 +62,7 @@ impl Kind {
             Kind::Compactions => b"compactions",
             Kind::Gossip => b"gossip",
             Kind::Spellings => b"spellings",
+            Kind::Rounds => b"rounds",
         }
     }
 
@@ -93,8 +96,20 @@ impl Kind {
             Some(Kind::Gossip)
         } else if is_name(name, b"spellings") {
             Some(Kind::Spellings)
+        } else if is_name(name, b"rounds") {
+            Some(Kind::Rounds)
         } else {
             None
+        }
+    }
+
+    /// Whether its schedules go by rounds, and so have a fanout, losses and a number of rounds.
+    pub fn is_rounds(self) -> bool
+        ensures { result ≡ is_rounds self }
+    {
+        match self {
+            Kind::Rounds => true,
+            _ => false,
         }
     }
 }

@@ -1,7 +1,10 @@
 //! Schedules from a seed, aimed at the edges of what agents decide: window edges, full times, deadlines, size limits,
 //! greatest times, torn tails and failing disks.
 //!
-//! A seed, a kind, how many agents and how many actions are asked for, and [`VERSION`] fix the bytes of a schedule.
+//! What is asked for ([`Ask`]) and [`VERSION`] fix the bytes of a schedule.
+//!
+//! Of the kind [`Kind::Rounds`] a schedule is gossip in the field's sense: agents send what is new to them to a few
+//! others, round by round.
 //!
 //! A schedule that keeps to Serf's own rules ([`common_schedule`]) comes of such a one: actions are left out whose turns
 //! rest on a rule of this project's own, so that every turn of its run is common.
@@ -18,6 +21,7 @@ mod filters;
 mod forms;
 mod kind;
 mod make;
+mod others;
 mod own;
 mod packets;
 mod pen;
@@ -30,8 +34,10 @@ mod spelled;
 mod strangers;
 mod times;
 mod verb;
+mod walk;
+mod walked;
 
-pub use ask::{Ask, MAX_AGENTS, VERSION};
+pub use ask::{Ask, MAX_AGENTS, MAX_FANOUT, MAX_ROUNDS, MAX_ROUNDS_AGENTS, VERSION};
 pub use common::common_schedule;
 pub use dice::Dice;
 pub use kind::Kind;

@@ -11,6 +11,7 @@ use crate::ask::{Ask, put_comment};
 use crate::draft::add_action;
 use crate::player::Player;
 use crate::settings::add_agents;
+use crate::walked::add_walked;
 use serf_model::Action;
 use serf_schedule::{Schedule, comments_skipped, know_read_back};
 use serf_text::MAX_SCHEDULE_BYTES;
@@ -26,7 +27,7 @@ pub struct Made {
 
 /// Plays in a cluster of these agents, and appends the lines of what was done: so many actions, or fewer where the text
 /// would be too long.
-fn add_actions(
+fn add_played(
     alloc: Global,
     ask: &Ask,
     roster: Roster,
@@ -47,6 +48,23 @@ fn add_actions(
     Ok(actions)
 }
 
+/// Appends the lines of what is done in a cluster of these agents: so many actions, or fewer.
+fn add_actions(
+    alloc: Global,
+    ask: &Ask,
+    roster: Roster,
+    text: &mut Vec<u8>,
+) -> Result<Vec<Action>, AllocError>
+    ensures { IfOk result (λ actions.
+        AddsActions ask.now.actions text.old.items text.new.items [] actions.items) }
+{
+    if ask.kind.is_rounds() {
+        add_walked(alloc, ask, roster, text)
+    } else {
+        add_played(alloc, ask, roster, text)
+    }
+}
+
 /// What is asked for has numbers of 64 bits. Does nothing.
 fn know_numbers(ask: &Ask)
     ensures { HasNumbers ask.now }
@@ -54,13 +72,16 @@ fn know_numbers(ask: &Ask)
     let _seed = ask.seed;
     let _agents = ask.agents;
     let _actions = ask.actions;
+    let _fanout = ask.fanout;
+    let _loss = ask.loss;
+    let _rounds = ask.rounds;
 }
 
 /// A random schedule as it was asked for, and its text.
 ///
 /// The text begins with a comment that says what was asked for. It stands for just the settings and the actions that
 /// were made, so that it is never refused. It has at most so many actions as were asked for, and at most 16,777,216
-/// bytes: where the next action's line has no room, it ends. `AllocError` comes where memory runs out.
+/// bytes: where the next action's line has no room, it ends. A schedule of rounds ends behind its last round too. `AllocError` comes where memory runs out.
 pub fn random_schedule(alloc: Global, ask: &Ask) -> Result<Made, AllocError>
     ensures reads_back { IfOk result (λ made. schedule_of made.text.items
         ≡ Ok (parsed_of made.schedule)) }

@@ -3,11 +3,12 @@
 ghost use Rattle.std.specs.Prelude.{◌≡◌, [], IfOk};
 ghost use Rattle.serf_random.specs.Draft.{AddsAgents};
 
-use crate::ask::{Ask, MAX_AGENTS};
+use crate::ask::{Ask, MAX_AGENTS, MAX_ROUNDS_AGENTS};
 use crate::dice::Dice;
 use crate::draft::add_agent;
 use crate::kind::Kind;
 use serf_agent::Config;
+use serf_text::put_number;
 use serf_wire::Bytes;
 use serf_world::Roster;
 use std::alloc::{AllocError, Global};
@@ -53,7 +54,25 @@ fn node_name(alloc: Global, number: u64) -> Result<Vec<u8>, AllocError> {
     Ok(name)
 }
 
+/// The settings of each agent in rounds: Serf's own, with smaller windows.
+fn rounds_config(alloc: Global, number: u64) -> Result<Config, AllocError> {
+    let mut name = Vec::from_slice(alloc, b"n")?;
+    put_number(&mut name, number)?;
+    Ok(Config {
+        name: Bytes::from_vec(name),
+        event_buffer: 64,
+        query_buffer: 64,
+        event_limit: 512,
+        responders: 1_024,
+        per_time: 1_024,
+        ignore_old: false,
+    })
+}
+
 fn config(alloc: Global, dice: &mut Dice, kind: Kind, number: u64) -> Result<Config, AllocError> {
+    if kind == Kind::Rounds {
+        return rounds_config(alloc, number);
+    }
     Ok(Config {
         name: Bytes::from_vec(node_name(alloc, number)?),
         event_buffer: slots(dice, kind),
@@ -68,8 +87,16 @@ fn config(alloc: Global, dice: &mut Dice, kind: Kind, number: u64) -> Result<Con
 /// How many agents a cluster has, where nobody asks for a number.
 fn count(dice: &mut Dice, kind: Kind) -> u64 {
     match kind {
-        Kind::Gossip => dice.below(5).saturating_add(4),
+        Kind::Gossip | Kind::Rounds => dice.below(5).saturating_add(4),
         _ => dice.below(3).saturating_add(2),
+    }
+}
+
+/// How many agents a cluster has at most.
+fn most_agents(kind: Kind) -> u64 {
+    match kind {
+        Kind::Rounds => MAX_ROUNDS_AGENTS,
+        _ => MAX_AGENTS,
     }
 }
 
@@ -82,7 +109,7 @@ pub(crate) fn add_agents(alloc: Global, ask: &Ask, text: &mut Vec<u8>) -> Result
     let many = if ask.agents == 0 {
         count(&mut dice, ask.kind)
     } else {
-        ask.agents.min(MAX_AGENTS)
+        ask.agents.min(most_agents(ask.kind))
     };
     for number in 0..many {
         let config = config(alloc, &mut dice, ask.kind, number)?;

@@ -272,7 +272,7 @@ const SPELLINGS: [Verb; 20] = [
     Verb::Restart,
 ];
 
-/// What a player of this kind does, each as often as it stands here.
+/// What a player of this kind does, each as often as it stands here. Rounds are walked, and never played.
 pub(crate) fn verbs(kind: Kind) -> &'static [Verb] {
     match kind {
         Kind::Mixed => &MIXED,
@@ -288,5 +288,6 @@ pub(crate) fn verbs(kind: Kind) -> &'static [Verb] {
         Kind::Compactions => &COMPACTIONS,
         Kind::Gossip => &GOSSIP,
         Kind::Spellings => &SPELLINGS,
+        Kind::Rounds => &[],
     }
 }

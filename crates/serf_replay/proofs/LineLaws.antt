@@ -121,3 +121,11 @@ pub fails-line : LateLinesAddSame → (held : Schedule) (acting : Option Acting)
     → Fails fault (turn_answer lines line)
 fails-line late held acting lines line OutOfMemory said reads stage h = tt
 fails-line late held acting lines line (Bad cause) said reads stage h = bad-line late held acting lines line cause said reads stage h
+
+pub fails-memory : (fault : LineFault) (said : Result (List ℕ) Cause) → fault ≡ OutOfMemory → Fails fault said
+fails-memory OutOfMemory said is = tt
+fails-memory (Bad cause) said is = absurd (cc is)
+
+-- lines stand for one schedule
+pub one-schedule : (lines : List (List ℕ)) (p q : Parsed) → schedule_in lines ≡ Ok p → schedule_in lines ≡ Ok q → p ≡ q
+one-schedule lines p q first second = let sure : Ok p ≡ Ok q = sym first ∙ second in cc sure

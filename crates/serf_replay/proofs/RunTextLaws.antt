@@ -20,7 +20,7 @@ use Rattle.serf_schedule.specs.Schedule.{schedule_fault, schedule_in}
 use Rattle.serf_schedule.specs.Show.{action_text, actions_text}
 use Rattle.serf_replay.specs.Replaying.{Follows}
 use Rattle.serf_replay.specs.declared.replaying.Replaying.{Replaying}
-use Rattle.serf_replay.specs.Turns.{Appended, added_text, answer_behind, run_in, run_text, text_behind_turns, turn_answer}
+use Rattle.serf_replay.specs.Turns.{Appended, added_text, answer_behind, lines_in, run_in, run_text, text_behind_turns, turn_answer}
 use Rattle.serf_replay.proofs.LineLaws.{line-bad, line-more}
 use Rattle.serf_replay.proofs.TurnLaws.{run-more, text-of-none, text-of-turn, turn-count}
 
@@ -145,6 +145,13 @@ nothing-told r f =
     let sure : none ≡ Ok f.said = f.reads in
     let same : record { configs = []; actions = [] } ≡ f.said = cc sure in
     ap run_text same
+
+pub no-lines : (r : Replaying) (f : Follows r []) → [] ≡ lines_in f.said
+no-lines r f =
+    let none : Result Parsed BadLine = Ok (record { configs = []; actions = [] }) in
+    let sure : none ≡ Ok f.said = f.reads in
+    let same : record { configs = []; actions = [] } ≡ f.said = cc sure in
+    ap lines_in same
 
 pub told-more : AnswersTellMore → (before after : Replaying) (lines : List (List ℕ)) (line old new : List ℕ) (f : Follows before lines) (n : Follows after (lines ++ line ∷ [])) → old ≡ run_text f.said → Appended lines line old new → new ≡ run_text n.said
 told-more more before after lines line old new f n is d =

@@ -14,7 +14,8 @@ use Rattle.serf_text.specs.declared.stream_fault.StreamFault.{StreamFault}
 use Rattle.serf_text.specs.declared.stream_fault.StreamFault.TheVariants.{ReadFault, BadLine as bad_line_fault, LineTooLong, OutOfMemory, WriteFault}
 use Rattle.serf_text.specs.Lines.{joined, lines_of, text_behind}
 use Rattle.serf_text.specs.Streams.{IsCause, IsStopped, WritesUpTo}
-use Rattle.serf_replay.specs.Stopped.{IsHalted, IsHaltedBy}
+use Rattle.serf_replay.specs.Stopped.{IsHalted, IsHaltedAt, IsHaltedBy}
+use Rattle.serf_replay.specs.Summing.{no_text, quiet_answer}
 
 -- the lines behind these are sound, and their answers are the text of their turns
 pub record Told (before lines : List (List ℕ)) (p : Parsed) (text : List ℕ) : Type 0 where
@@ -86,4 +87,44 @@ halted more refusals fault bytes first now s =
       reads = t.reads;
       written = subst (WritesUpTo fault first now) (sym t.text_is) s.written;
       cause = halted-by refusals fault bytes s.lines s.left t.said s.cut t.reads s.cause;
+    }
+
+-- ---- where nothing is written
+
+loud : (r : Result (List ℕ) Cause) (t : List ℕ) → no_text r ≡ Ok t → (u : List ℕ) × (r ≡ Ok u)
+loud (Ok u) t is = (u, refl)
+loud (Err cause) t is = absurd (cc is)
+
+loud-fault : (r : Result (List ℕ) Cause) (cause : Cause) → no_text r ≡ Err cause → r ≡ Err cause
+loud-fault (Ok u) cause is = absurd (cc is)
+loud-fault (Err e) cause is = is
+
+-- lines that are summed up have answers
+quiet-told : (before lines : List (List ℕ)) (text : List ℕ) → text_behind quiet_answer before lines ≡ Ok text → (told : List ℕ) × (text_behind turn_answer before lines ≡ Ok told)
+quiet-told before [] text is = ([], refl)
+quiet-told before (l ∷ ls) text is =
+    let parts = are-joined (quiet_answer before l) (text_behind quiet_answer (before ++ l ∷ []) ls) text is in
+    let here = loud (turn_answer before l) parts.one parts.first_is in
+    let rest = quiet-told (before ++ l ∷ []) ls parts.two parts.second_is in
+    let first : Result (List ℕ) Cause = Ok here.0 in
+    (here.0 ++ rest.0, ap (λ r. joined r (text_behind turn_answer (before ++ l ∷ []) ls)) here.1 ∙ ap (λ r. joined first r) rest.1)
+
+loud-cause : (fault : StreamFault Cause) (lines left : List (List ℕ)) → IsCause quiet_answer fault lines left → IsCause turn_answer fault lines left
+loud-cause ReadFault lines left h = h
+loud-cause (bad_line_fault number cause) lines left h = (h.0, h.1, h.2, h.3, loud-fault (turn_answer lines h.0) cause h.4)
+loud-cause (LineTooLong number) lines left h = h
+loud-cause OutOfMemory lines left h = tt
+loud-cause WriteFault lines left h = tt
+
+pub halted-at : AnswersTellMore → RefusalsAreFirst → (fault : StreamFault Cause) (bytes : List ℕ) (first now : Option (List ℕ)) → IsStopped quiet_answer fault (lines_of bytes) first now → IsHaltedAt fault bytes
+halted-at more refusals fault bytes first now s =
+    let loudly = quiet-told [] s.lines s.text s.answered in
+    let t = told-all more s.lines loudly.0 loudly.1 in
+    record {
+      lines = s.lines;
+      left = s.left;
+      cut = s.cut;
+      schedule = t.said;
+      reads = t.reads;
+      cause = halted-by refusals fault bytes s.lines s.left t.said s.cut t.reads (loud-cause fault s.lines s.left s.cause);
     }

@@ -13,10 +13,10 @@ use Rattle.serf_model.specs.Trace.{Turn}
 use Rattle.serf_schedule.specs.Grown.{with_turn}
 use Rattle.serf_schedule.specs.Line.{Parsed}
 use Rattle.serf_schedule.specs.Show.{action_text, actions_text}
-use Rattle.serf_replay.specs.Turns.{run_in, text_behind_turns}
+use Rattle.serf_replay.specs.Turns.{lines_in, run_in, text_behind_turns}
 use Rattle.serf_world.specs.View.{WorldState}
 use Rattle.serf_replay.specs.declared.replaying.Acting.{Acting}
-use Rattle.serf_replay.specs.Replaying.{HasActed, Shows, StandsAt}
+use Rattle.serf_replay.specs.Replaying.{Acts, HasActed, StandsAt}
 
 -- a turn for each action
 turns-more : (r : Run) (actions : List Action) → length (fold after r actions).turns ≡ length r.turns + length actions
@@ -68,27 +68,27 @@ one-action (b ∷ []) a at few = let same : b ≡ a = cc at in ap (λ (x : Actio
 one-action (b ∷ d ∷ more) a at few = absurd (omega arith)
 
 -- the turn that came of the first action
-pub begun : (said : Parsed) (configs : List Config) (a : Action) (w : WorldState) (old new : List ℕ) → said.configs ≡ configs → said.actions ≡ a ∷ []
-    → Shows (after (start configs) a) 0 w old new → (acting : Acting) → acting.world ≡ w → acting.turns ≡ 1 → HasActed said acting × (new ≡ old ++ text_behind_turns 0 (run_in said))
-begun said configs a w old new settings acts did acting world turns =
+pub begun : (said : Parsed) (configs : List Config) (a : Action) (w : WorldState) (line : Line) → said.configs ≡ configs → said.actions ≡ a ∷ []
+    → Acts (start configs) a w line → (acting : Acting) → acting.world ≡ w → acting.turns ≡ 1 → acting.agents ≡ length configs → HasActed said acting × (lines_in said ≡ line ∷ [])
+begun said configs a w line settings acts did acting world turns agents =
     let run : run_in said ≡ after (start configs) a = ap (λ (cs : List Config). fold after (start cs) said.actions) settings ∙ ap (fold after (start configs)) acts in
     let one = ap length acts in (
       record {
         some = omega (arith, one);
         counted = turns ∙ sym one;
+        sized = agents ∙ sym (ap length settings);
         stands = subst (λ (r : Run). StandsAt r acting.world) (sym run) (subst (λ (v : WorldState). StandsAt (after (start configs) a) v) (sym world) did.stands);
       },
-      did.text_is ∙ ap (λ (r : Run). old ++ text_behind_turns 0 r) (sym run),
+      ap (λ (r : Run). map (λ t. t.line) r.turns) run ∙ ap (λ (l : Line). l ∷ []) (sym did.line_is),
     )
 
 -- no action came
-pub stayed : (said : Parsed) (first : Action) (turn : Option Action) (actions : List Action) (acting : Acting) (text : List ℕ) → actions ≡ first ∷ option_to_list turn → length actions < 2
-    → HasActed said acting → (length actions ≡ 1) × HasActed (with_turn said turn) acting × (text ≡ text ++ text_behind_turns (length said.actions) (run_in (with_turn said turn)))
-stayed said first (Some a) actions acting text are few h = let two = ap length are in absurd (omega (arith, two))
-stayed said first None actions acting text are few h =
+pub stayed : (said : Parsed) (first : Action) (turn : Option Action) (actions : List Action) (acting : Acting) → actions ≡ first ∷ option_to_list turn → length actions < 2
+    → HasActed said acting → (length actions ≡ 1) × HasActed (with_turn said turn) acting × (lines_in (with_turn said turn) ≡ lines_in said ++ [])
+stayed said first (Some a) actions acting are few h = let two = ap length are in absurd (omega (arith, two))
+stayed said first None actions acting are few h =
     let same : said ≡ with_turn said None = ap (λ (xs : List Action). let q : Parsed = record { configs = said.configs; actions = xs } in q) (sym (append-nil said.actions)) in
-    let none : text_behind_turns (length said.actions) (run_in said) ≡ [] = ap (λ n. text_behind_turns n (run_in said)) (sym (turn-count said)) ∙ text-of-none (run_in said) in
-    (ap length are, subst (λ (p : Parsed). HasActed p acting) same h, sym (append-nil text) ∙ ap (λ t. text ++ t) (sym none ∙ ap (λ (p : Parsed). text_behind_turns (length said.actions) (run_in p)) same))
+    (ap length are, subst (λ (p : Parsed). HasActed p acting) same h, ap lines_in (sym same) ∙ sym (append-nil (lines_in said)))
 
 -- two actions, of which the last is taken
 pair : (rest : List Action) (a first b : Action) → first ∷ b ∷ [] ≡ rest ++ a ∷ [] → (rest ≡ first ∷ []) × (b ≡ a)
@@ -97,30 +97,68 @@ pair (x ∷ []) a first b is = let one : x ≡ first = cc is in let two : b ≡ 
 pair (x ∷ y ∷ more) a first b is = let long = ap length is in let sum = length-append more (a ∷ []) in absurd (omega (arith, long, sum))
 
 -- one more action came
-pub went-on : (said : Parsed) (first : Action) (turn : Option Action) (actions rest : List Action) (a : Action) (n : ℕ) (old acting : Acting) (before text : List ℕ)
-    → actions ≡ first ∷ option_to_list turn → 2 ≤ length actions → actions ≡ rest ++ a ∷ [] → HasActed said old → n ≡ old.turns + 1 → acting.turns ≡ n
-    → ((r : Run) → StandsAt r old.world → n ≡ length r.turns + 1 → Shows (after r a) (length r.turns) acting.world before text)
-    → (length rest ≡ 1) × HasActed (with_turn said turn) acting × (text ≡ before ++ text_behind_turns (length said.actions) (run_in (with_turn said turn)))
-went-on said first None actions rest a n old acting before text are many all h next counts shows = let one = ap length are in absurd (omega (arith, one))
-went-on said first (Some b) actions rest a n old acting before text are many all h next counts shows =
+pub went-on : (said : Parsed) (first : Action) (turn : Option Action) (actions rest : List Action) (a : Action) (n : ℕ) (old acting : Acting) (line : Line)
+    → actions ≡ first ∷ option_to_list turn → 2 ≤ length actions → actions ≡ rest ++ a ∷ [] → HasActed said old → n ≡ old.turns + 1 → acting.turns ≡ n → acting.agents ≡ old.agents
+    → ((r : Run) → StandsAt r old.world → Acts r a acting.world line)
+    → (length rest ≡ 1) × HasActed (with_turn said turn) acting × (lines_in (with_turn said turn) ≡ lines_in said ++ line ∷ [])
+went-on said first None actions rest a n old acting line are many all h next counts agents acts = let one = ap length are in absurd (omega (arith, one))
+went-on said first (Some b) actions rest a n old acting line are many all h next counts agents acts =
     let parts = pair rest a first b (sym are ∙ all) in
     let front : rest ≡ first ∷ [] = parts.0 in
     let action : b ≡ a = parts.1 in
-    let count = turn-count said in
-    let number : n ≡ length (run_in said).turns + 1 = next ∙ ap (λ k. k + 1) (h.counted ∙ sym count) in
-    let did : Shows (after (run_in said) a) (length (run_in said).turns) acting.world before text = shows (run_in said) h.stands number in
+    let did : Acts (run_in said) a acting.world line = acts (run_in said) h.stands in
     let run : run_in (with_turn said (Some b)) ≡ after (run_in said) a = run-more said b ∙ ap (after (run_in said)) action in
     let longer : length (said.actions ++ b ∷ []) ≡ length said.actions + 1 = length-append said.actions (b ∷ []) in (
       ap length front,
       record {
         some = omega (arith, longer);
         counted = counts ∙ next ∙ ap (λ k. k + 1) h.counted ∙ sym longer;
+        sized = agents ∙ h.sized;
         stands = subst (λ (r : Run). StandsAt r acting.world) (sym run) did.stands;
       },
-      did.text_is ∙ ap (λ k. before ++ text_behind_turns k (after (run_in said) a)) count ∙ ap (λ (r : Run). before ++ text_behind_turns (length said.actions) r) (sym run),
+      ap (λ (r : Run). map (λ t. t.line) r.turns) run ∙ map-append (λ (t : Turn). t.line) (run_in said).turns ((step (run_in said).cluster a).turn ∷ [])
+          ∙ ap (λ (l : Line). lines_in said ++ l ∷ []) (sym did.line_is),
     )
 
--- no action came yet
-pub waits : (said : Parsed) (text : List ℕ) → said.actions ≡ [] → text ≡ text ++ text_behind_turns 0 (run_in said)
-waits said text none =
-    sym (append-nil text) ∙ ap (λ t. text ++ t) (sym (ap (λ (actions : List Action). text_behind_turns 0 (fold after (start said.configs) actions)) none))
+-- ---- lines, and the text of a turn
+
+lines-none : (p : Parsed) → p.actions ≡ [] → lines_in p ≡ []
+lines-none p none = ap (λ (actions : List Action). map (λ t. t.line) (fold after (start p.configs) actions).turns) none
+
+line-count : (p : Parsed) → length (lines_in p) ≡ length p.actions
+line-count p = length-map (run_in p).turns (λ (t : Turn). t.line) ∙ turn-count p
+
+-- no action came yet, or the first did
+pub waits : (said now : Parsed) → said.actions ≡ [] → now.actions ≡ [] → lines_in now ≡ lines_in said ++ []
+waits said now before none = lines-none now none ∙ sym (append-nil (lines_in said) ∙ lines-none said before)
+
+pub first-turn : (said now : Parsed) (line : Line) → said.actions ≡ [] → lines_in now ≡ line ∷ [] → lines_in now ≡ lines_in said ++ line ∷ []
+first-turn said now line before is = is ∙ ap (λ (ls : List Line). ls ++ line ∷ []) (sym (lines-none said before))
+
+-- the text of the turns behind those of a schedule
+pub text-of-last : (said now : Parsed) (line : Line) (acting : Acting) → HasActed now acting → lines_in now ≡ lines_in said ++ line ∷ []
+    → action_text acting.world.sent acting.turns line ≡ text_behind_turns (length said.actions) (run_in now)
+text-of-last said now line acting h is =
+    let n : ℕ = length said.actions in
+    let long : length (lines_in said) ≡ n = line-count said in
+    let all : length (lines_in now) ≡ length now.actions = line-count now in
+    let sum : length (lines_in said ++ line ∷ []) ≡ length (lines_in said) + 1 = length-append (lines_in said) (line ∷ []) in
+    let longer = ap length is in
+    let counted = h.counted in
+    let place : acting.turns ≡ n + 1 = omega (arith, long, all, sum, longer, counted) in
+    let last : drop n (lines_in now) ≡ line ∷ [] = ap (λ (ls : List Line). drop n ls) is ∙ ap (λ m. drop m (lines_in said ++ line ∷ [])) (sym long) ∙ last-line (lines_in said) line in
+    ap (λ s. action_text s acting.turns line) (sym h.stands.view.sent) ∙ ap (λ m. action_text (run_in now).cluster.sent m line) place
+    ∙ sym (append-nil (action_text (run_in now).cluster.sent (n + 1) line)) ∙ ap (λ ls. actions_text (run_in now).cluster.sent (n + 1) ls) (sym last)
+
+pub text-of-same : (said now : Parsed) → lines_in now ≡ lines_in said ++ [] → text_behind_turns (length said.actions) (run_in now) ≡ []
+text-of-same said now is =
+    let same : lines_in now ≡ lines_in said = is ∙ append-nil (lines_in said) in
+    ap (λ ls. actions_text (run_in now).cluster.sent (length said.actions + 1) ls) (ap (λ (ls : List Line). drop (length said.actions) ls) same ∙ ap (λ m. drop m (lines_in said)) (sym (line-count said)) ∙ drop-all (lines_in said))
+
+-- a turn is there only where an action is
+pub no-last : (said now : Parsed) (line : Line) → now.actions ≡ [] → lines_in now ≡ lines_in said ++ line ∷ [] → ⊥
+no-last said now line none is =
+    let zero = ap length (lines-none now none) in
+    let sum : length (lines_in said ++ line ∷ []) ≡ length (lines_in said) + 1 = length-append (lines_in said) (line ∷ []) in
+    let longer = ap length is in
+    absurd (omega (arith, zero, sum, longer))

@@ -4,5 +4,7 @@ pub mod Output
 pub mod Replaying
 pub mod Stopped
 pub mod Summaries
+pub mod Summarized
+pub mod Summing
 pub mod Tally
 pub mod Turns

@@ -30,3 +30,12 @@ pub record IsHalted (fault : StreamFault Cause) (bytes : List ℕ) (first now : 
   pub reads : schedule_in lines ≡ Ok schedule
   pub written : WritesUpTo fault first now (run_text schedule)
   pub cause : IsHaltedBy fault bytes lines left
+
+-- Of the lines in these bytes some were done, and they are a schedule; nothing was written.
+pub record IsHaltedAt (fault : StreamFault Cause) (bytes : List ℕ) : Type 0 where
+  pub lines : List (List ℕ)
+  pub left : List (List ℕ)
+  pub cut : lines_of bytes ≡ lines ++ left
+  pub schedule : Parsed
+  pub reads : schedule_in lines ≡ Ok schedule
+  pub cause : IsHaltedBy fault bytes lines left

@@ -1,6 +1,7 @@
 -- What the lines of a schedule are answered, one after another.
 use Rattle.std.specs.Prelude.{◌≡◌, ℕ, ◌++◌, ◌+◌, List, [], length, map, drop, Result, Ok, Err}
 use Rattle.serf_model.specs.Cluster.{Run, run_of, trace_of}
+use Rattle.serf_model.specs.declared.line.Line.{Line}
 use Rattle.serf_text.specs.declared.cause.Cause.{Cause}
 use Rattle.serf_schedule.specs.Line.{Parsed, after_line}
 use Rattle.serf_text.specs.Gives.{BadLine}
@@ -9,6 +10,10 @@ use Rattle.serf_schedule.specs.Show.{actions_text, trace_text}
 
 abbrev pub run_in : Parsed → Run
 run_in s = run_of s.configs s.actions
+
+-- what its actions come to, a line each
+abbrev pub lines_in : Parsed → List Line
+lines_in s = map (λ t. t.line) (run_in s).turns
 
 -- the text of a schedule's trace
 abbrev pub run_text : Parsed → List ℕ

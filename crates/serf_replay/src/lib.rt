@@ -13,6 +13,7 @@ mod replaying;
 mod stream_job;
 mod summarizing;
 mod summary;
+mod summing;
 mod tally;
 
 pub use job::replay;
@@ -32,6 +33,6 @@ pub use serf_text::{
     write_output,
 };
 pub use stream_job::replay_lines;
-pub use summarizing::summarize;
+pub use summarizing::{summarize, summarize_lines};
 pub use summary::Summary;
 pub use tally::Spread;

@@ -1,14 +1,21 @@
 //! The summary of a run.
 
-ghost use Rattle.std.specs.Prelude.{◌≡◌, false, IfOk, OnOk, map};
+ghost use Rattle.std.specs.Prelude.{◌≡◌, false, IfErr, IfOk, List, OnOk, length, map, ℕ};
+ghost use Rattle.std.specs.Io.KnownBytes.{Consumes, IsAtEnd};
 ghost use Rattle.serf_model.specs.Cluster.{Run, after, run_of};
+ghost use Rattle.serf_replay.specs.Stopped.{IsHaltedAt};
 ghost use Rattle.serf_replay.specs.Summaries.{IsSummary, Stands};
+ghost use Rattle.serf_replay.specs.Summarized.{IsSummaryOf};
 
+use crate::laws::answered_lines;
 use crate::summary::Summary;
+use crate::summing::Summing;
 use serf_model::Action;
 use serf_schedule::{Schedule, Watch};
+use serf_text::{Cause, StreamFault, answer_lines};
 use serf_world::{StepFault, World};
 use std::alloc::{AllocError, Global};
+use std::io::{self, Read};
 
 /// Does an action, and takes its line in.
 fn add_action(
@@ -39,10 +46,12 @@ pub fn summarize<T: Watch>(
     watch: &mut T,
 ) -> Result<Summary, AllocError>
     // The summary has just what the lines of the schedule's run show.
-    ensures { IfOk result (λ summary. IsSummary summary
+    ensures run { IfOk result (λ summary. IsSummary summary
         (map (λ t. t.line) (run_of schedule.agents schedule.actions.items).turns)) }
+    ensures size { IfOk result (λ summary. summary.size ≡ length schedule.agents) }
 {
     let Schedule { agents, actions } = schedule;
+    let size = agents.as_slice().len() as u64;
     let mut world = World::new(alloc, agents)?;
     let mut summary = Summary::new(alloc);
     let all = actions.len() as u64;
@@ -52,5 +61,31 @@ pub fn summarize<T: Watch>(
         add_action(alloc, &mut world, &mut summary, &action)?;
         watch.acted(number, all);
     }
-    Ok(summary)
+    Ok(summary.with_size(size))
+}
+
+/// The summary of the run of a schedule that is read line by line: a line is read, done, taken in and let go.
+///
+/// There is no limit on the whole; a line may have 16,777,216 bytes. What is kept is the cluster, with all packets that
+/// were sent, the summary, and the line that is read. A line that is refused is the first that [`crate::replay`]
+/// refuses, for the same cause, and there is no summary of the lines before it then.
+pub fn summarize_lines<R: Read>(
+    alloc: Global,
+    reader: &mut R,
+) -> Result<Summary, StreamFault<Cause>>
+    // The whole is a schedule, and the summary has just what the lines of its run show.
+    ensures done { IfOk result (λ summary. (bytes : List ℕ)
+        × Consumes (R.remaining reader.old) (R.remaining reader.new) bytes
+        × IsAtEnd (R.remaining reader.new) × IsSummaryOf bytes summary) }
+    // Of the lines that were read some were done.
+    ensures stopped { IfErr result (λ fault. (bytes : List ℕ)
+        × Consumes (R.remaining reader.old) (R.remaining reader.new) bytes
+        × IsHaltedAt fault bytes) }
+{
+    answered_lines();
+    let mut job = Summing::new(alloc);
+    match answer_lines(alloc, reader, &mut io::sink(), &mut job) {
+        Ok(()) => Ok(job.into_summary()),
+        Err(fault) => Err(fault),
+    }
 }

@@ -16,6 +16,8 @@ use std::alloc::{AllocError, Global};
 /// What came of a run. What never came is in no table.
 #[derive(Drop)]
 pub struct Summary {
+    /// How many agents the cluster has.
+    pub size: u64,
     /// How many actions were done.
     pub actions: u64,
     /// How often each answer came, in the words of the trace but without its numbers, and at which action at last.
@@ -77,10 +79,32 @@ impl Summary {
         ensures { IsSummary result [] }
     {
         Summary {
+            size: 0,
             actions: 0,
             answers: IndexMap::new(alloc),
             agents: IndexMap::new(alloc),
             events: IndexMap::new(alloc),
+        }
+    }
+
+    /// The same of a cluster that has so many agents. Takes no memory.
+    pub(crate) fn with_size(self, size: u64) -> Summary
+        ensures size { result.size ≡ size }
+        ensures same { (lines : List Shown) → IsSummary self lines → IsSummary result lines }
+    {
+        let Summary {
+            actions,
+            answers,
+            agents,
+            events,
+            ..
+        } = self;
+        Summary {
+            size,
+            actions,
+            answers,
+            agents,
+            events,
         }
     }
 

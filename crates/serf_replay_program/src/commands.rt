@@ -18,11 +18,15 @@ use std::alloc::{AllocError, Global};
 use std::rt::Files;
 use std::time::Clock;
 
+/// What stands behind the commands in the program's help.
+const HELP: &str =
+    "Example: serf-replay replay examples/deploy_gossiped_twice.schedule\nActions count from 1, agents from 0. man serf-replay and docs/COMMANDS.md say more.";
+
 /// The program, without its commands.
 fn bare_program<'a>(alloc: Global) -> Result<Command<'a>, AllocError> {
     Command::new(alloc, "serf-replay")
         .about("Runs schedules of Serf user events and queries, exactly")
-        .after_help(replay::EXAMPLE)
+        .after_help(HELP)
         .version("0.1.0")
         .subcommand_required(true)
         .bin_name("serf-replay")
@@ -39,15 +43,15 @@ fn with_command<'a>(
 /// The whole program; help shows the commands in this order.
 fn program<'a>(alloc: Global) -> Result<Command<'a>, AllocError> {
     let program = with_command(bare_program(alloc), replay::command(alloc));
-    let program = with_command(program, decode::command(alloc));
-    let program = with_command(program, encode::command(alloc));
-    let program = with_command(program, clocks::command(alloc));
-    let program = with_command(program, random::command(alloc));
-    let program = with_command(program, judge::command(alloc));
     let program = with_command(program, explain::command(alloc));
     let program = with_command(program, draw::command(alloc));
     let program = with_command(program, write::command(alloc));
-    with_command(program, conform::command(alloc))
+    let program = with_command(program, judge::command(alloc));
+    let program = with_command(program, conform::command(alloc));
+    let program = with_command(program, random::command(alloc));
+    let program = with_command(program, decode::command(alloc));
+    let program = with_command(program, encode::command(alloc));
+    with_command(program, clocks::command(alloc))
 }
 
 /// What clap finds in the words, of which the first is the program's name.
@@ -80,15 +84,15 @@ fn run_command<F: Files, R: Clock + Input + Print + Eprint + AllocGlobal>(
 ) -> u8 {
     match name {
         "replay" => replay::run(files, rt, is_terminal, matches),
-        "decode" => decode::run(rt, matches),
-        "encode" => encode::run(rt),
+        "decode" => decode::run(files, rt, is_terminal, matches),
+        "encode" => encode::run(rt, is_terminal),
         "clocks" => clocks::run(files, rt, matches),
         "random" => random::run(rt, matches),
         "judge" => judge::run(files, rt, matches),
         "explain" => explain::run(files, rt, is_terminal, matches),
-        "draw" => draw::run(files, rt, matches),
+        "draw" => draw::run(files, rt, is_terminal, matches),
         "write" => write::run(files, rt, matches),
-        "conform" => conform::run(files, rt, matches),
+        "conform" => conform::run(files, rt, is_terminal, matches),
         _ => COMMAND_LINE,
     }
 }

@@ -1,11 +1,13 @@
 //! The program `serf-replay`: runs a written schedule of a whole cluster and prints its trace.
 #![tactic(auto)]
 
+mod agents;
 mod commands;
 mod ending;
 mod input;
 mod options;
 mod progress;
+mod standard_output;
 
 use commands::run;
 use ending::{COMMAND_LINE, DEVICE};

@@ -6,16 +6,25 @@ use std::alloc::{AllocError, Global};
 
 /// The words that name a kind of random schedules.
 pub(crate) const KINDS: &str =
-    "mixed (where left out), tiny, merges, restarts, devices, injections, queries, limits, exhaustion, per-time, compactions, gossip or spellings";
+    "mixed (where left out), tiny, merges, restarts, devices, injections, queries, limits, exhaustion, per-time, compactions, gossip, spellings or rounds";
+
+/// The words that name a kind, or all of them.
+pub(crate) const KINDS_OR_ALL: &str =
+    "mixed (where left out), tiny, merges, restarts, devices, injections, queries, limits, exhaustion, per-time, compactions, gossip, spellings, rounds or all";
 
 /// A word that is given in its place.
 pub(crate) fn place<'a>(alloc: Global, name: &'a str, help: &'a str) -> Arg<'a> {
     Arg::new(alloc, name).help(help).action(ArgAction::Set)
 }
 
+/// Words that are given in their places, any number of them.
+pub(crate) fn places<'a>(alloc: Global, name: &'a str, help: &'a str) -> Arg<'a> {
+    place(alloc, name, help).action(ArgAction::Append)
+}
+
 /// An option that takes one word.
 pub(crate) fn option<'a>(alloc: Global, name: &'a str, help: &'a str) -> Arg<'a> {
-    place(alloc, name, help).long(name)
+    option_of(alloc, name, value_of(name), help)
 }
 
 /// An option that takes one word, which help calls by this name.
@@ -25,7 +34,7 @@ pub(crate) fn option_of<'a>(
     value: &'a str,
     help: &'a str,
 ) -> Arg<'a> {
-    option(alloc, name, help).value_name(value)
+    place(alloc, name, help).long(name).value_name(value)
 }
 
 /// An option that takes a number.
@@ -50,7 +59,21 @@ pub(crate) fn many_of<'a>(alloc: Global, name: &'a str, value: &'a str, help: &'
 
 /// An option that takes no word.
 pub(crate) fn flag<'a>(alloc: Global, name: &'a str, help: &'a str) -> Arg<'a> {
-    option(alloc, name, help).action(ArgAction::SetTrue)
+    Arg::new(alloc, name)
+        .help(help)
+        .long(name)
+        .action(ArgAction::SetTrue)
+}
+
+/// What help calls the word behind an option.
+fn value_of<'a>(option: &str) -> &'a str {
+    match option {
+        "agent" => "AGENT",
+        "kind" => "KIND",
+        "random" => "A-B",
+        "rules" => "RULES",
+        _ => "N",
+    }
 }
 
 /// A command that takes no word yet.
@@ -75,9 +98,14 @@ pub(crate) fn with<'a>(
 fn words_for(option: &str) -> &'static str {
     match option {
         "agent" => "the number of an agent, counted from 0, where a schedule is given",
+        "agents" => "at most 64, or 10,000 where --kind is rounds",
         "as" => "svg or mermaid",
+        "go-on" => "a number, where --random is given and --shrink isn't",
+        "fanout" => "1 to 16, where --kind is rounds",
         "kind" => KINDS,
-        "random" => "seeds as A-B, where no schedule is given, or a schedule without it",
+        "loss" => "0 to 99, where --kind is rounds",
+        "random" => "seeds as A-B, from the less to the greater",
+        "rounds" => "1 to 10000, where --kind is rounds",
         "rules" => "serf or own",
         "save" => "a file, where --shrink is given too",
         _ => "a number",
@@ -87,6 +115,12 @@ fn words_for(option: &str) -> &'static str {
 /// Tells that the word of an option is none of these, which it may have.
 pub(crate) fn bad_word(rt: &impl Eprint, name: &str, words: &str) -> u8 {
     let _ = eprintln!(rt; "error: a bad word for --{name}: here may stand {words}");
+    COMMAND_LINE
+}
+
+/// Tells why words don't stand together.
+pub(crate) fn bad_words(rt: &impl Eprint, why: &str) -> u8 {
+    let _ = eprintln!(rt; "error: {why}");
     COMMAND_LINE
 }
 

@@ -17,17 +17,52 @@ pub struct Progress<'a, R> {
     rt: &'a R,
     /// When a line was shown, or the run began; `None` where nothing is to be shown.
     since: Option<Instant>,
+    /// What is counted, as the line says it.
+    things: &'static str,
+    /// The clock is read once for so many of them.
+    step: u64,
+    /// The kind of the schedules that are made; empty where the line doesn't say it.
+    kind: &'static str,
+    /// How many were done before the run that tells of it.
+    before: u64,
 }
 
 impl<'a, R: Clock + Eprint> Progress<'a, R> {
-    /// The progress of a run that begins now.
+    /// The progress of a run of actions that begins now.
     pub fn new(rt: &'a R, is_terminal: bool) -> Progress<'a, R> {
+        Progress::of(rt, is_terminal, "actions", ACTIONS)
+    }
+
+    /// The progress of a hunt through seeds that begins now, over schedules of this kind where it is to be said.
+    pub fn of_seeds(rt: &'a R, is_terminal: bool, kind: &'static str) -> Progress<'a, R> {
+        let progress = Progress::of(rt, is_terminal, "seeds", 1);
+        Progress { kind, ..progress }
+    }
+
+    /// What is told from here on comes behind so many that were done.
+    pub fn goes_on_behind(&mut self, before: u64) {
+        self.before = before;
+    }
+
+    /// The progress of trials of fewer calls that begin now.
+    pub fn of_calls(rt: &'a R, is_terminal: bool) -> Progress<'a, R> {
+        Progress::of(rt, is_terminal, "calls are left out", 1)
+    }
+
+    fn of(rt: &'a R, is_terminal: bool, things: &'static str, step: u64) -> Progress<'a, R> {
         let since = if is_terminal {
             Instant::now(rt).ok()
         } else {
             None
         };
-        Progress { rt, since }
+        Progress {
+            rt,
+            since,
+            things,
+            step,
+            kind: "",
+            before: 0,
+        }
     }
 
     /// Shows a line where it is time for one, and gives the time since which the next one waits.
@@ -36,7 +71,12 @@ impl<'a, R: Clock + Eprint> Progress<'a, R> {
         if now.duration_since(since) < Duration::from_secs(PERIOD_SECONDS) {
             return Some(since);
         }
-        eprintln!(self.rt; "{done} of {all} actions").ok()?;
+        if !self.kind.is_empty() {
+            let kind = self.kind;
+            eprint!(self.rt; "kind {kind}: ").ok()?;
+        }
+        let things = self.things;
+        eprintln!(self.rt; "{done} of {all} {things}").ok()?;
         Some(now)
     }
 }
@@ -47,9 +87,11 @@ impl<R: Clock + Eprint> Watch for Progress<'_, R> {
     }
 
     fn acted(&mut self, done: u64, all: u64) {
-        if done % ACTIONS == 0
+        if done.is_multiple_of(self.step)
             && let Some(since) = self.since
         {
+            let done = done.saturating_add(self.before);
+            let all = all.saturating_add(self.before);
             self.since = self.show(since, done, all);
         }
     }

@@ -1,21 +1,30 @@
 //! `conform`: any agent, held against the reference. Calls go to standard output, replies come on standard input, and the
 //! report goes to standard error.
 
+mod heard;
 mod holding;
+mod hunting;
 mod report;
 mod reporting;
 mod seeds;
+mod sent;
 mod shrinking;
 
-use super::random::{actions, agents, kind, rules_of};
-use crate::options::{bad_option, bare_command, flag, option, option_of, place, with};
+use super::random::{actions, agents, rules_of};
+use crate::options::{
+    KINDS_OR_ALL, bad_option, bad_word, bad_words, bare_command, flag, number_of, option,
+    option_of, place, with,
+};
+use clap::builder::ValueParser;
 use clap::{ArgMatches, Command};
 use holding::hold_file;
-use seeds::{hold_seeds, seeds_of};
+use hunting::hold_seeds;
+use seeds::seeds_of;
 use serf_conform::Rules;
 use shrinking::Shrinking;
 use std::alloc::{AllocError, Global};
 use std::rt::Files;
+use std::time::Clock;
 
 /// How agents are held, whatever the schedule.
 #[derive(Clone, Copy)]
@@ -26,6 +35,10 @@ struct Asked<'a> {
     shrinking: Shrinking<'a>,
     /// The file of the report for machines; `None` where none is asked for.
     report: Option<&'a str>,
+    /// How many disagreements of seeds are told; `None` where the first one ends it.
+    go_on: Option<u64>,
+    /// Whether it is shown how far a hunt is.
+    is_terminal: bool,
 }
 
 /// What the command takes for schedules of seeds.
@@ -35,9 +48,22 @@ fn with_seeds<'a>(
 ) -> Result<Command<'a>, AllocError> {
     let random = "Seeds as A-B: the random schedules of these are made, and their calls";
     let command = with(command, option(alloc, "random", random));
-    let command = with(command, kind(alloc));
+    let command = with(command, option(alloc, "kind", KINDS_OR_ALL));
     let command = with(command, agents(alloc));
     with(command, actions(alloc))
+}
+
+/// What the command takes for more than one disagreement.
+fn with_going_on<'a>(
+    alloc: Global,
+    command: Result<Command<'a>, AllocError>,
+) -> Result<Command<'a>, AllocError> {
+    let go_on = "With --random: goes on behind a disagreement, until so many were told";
+    let go_on = number_of(alloc, "go-on", "N", go_on);
+    with(
+        command,
+        go_on.value_parser(ValueParser::unsigned(1, u64::MAX)),
+    )
 }
 
 /// What the command takes for fewer calls, and for a report.
@@ -69,7 +95,8 @@ pub(crate) fn command<'a>(alloc: Global) -> Result<Command<'a>, AllocError> {
     let command = with(bare, place(alloc, "FILE", file));
     let command = with(command, option(alloc, "agent", agent));
     let command = with(command, option(alloc, "rules", rules));
-    with_shrinking(alloc, with_seeds(alloc, command))
+    let command = with_going_on(alloc, with_seeds(alloc, command));
+    with_shrinking(alloc, command)
 }
 
 /// The number of the agent that the words name.
@@ -93,21 +120,33 @@ fn shrinking_of<'a>(matches: &ArgMatches<'a>) -> Option<Shrinking<'a>> {
     Some(Shrinking { is_wanted, save })
 }
 
+/// How many disagreements are told; `None` where the option doesn't stand with the others: fewer calls are tried of one.
+fn go_on_of(matches: &ArgMatches) -> Option<Option<u64>> {
+    let go_on = matches.get_one::<u64>("go-on");
+    if go_on.is_some() && (matches.get_flag("shrink") || matches.get_str("random").is_none()) {
+        return None;
+    }
+    Some(go_on)
+}
+
 /// What the words ask for; or the name of the option whose word is bad.
-fn asked_of<'a>(matches: &ArgMatches<'a>) -> Result<Asked<'a>, &'static str> {
+fn asked_of<'a>(matches: &ArgMatches<'a>, is_terminal: bool) -> Result<Asked<'a>, &'static str> {
     let agent = agent_of(matches)?;
     let rules = rules_of(matches).ok_or("rules")?;
     let shrinking = shrinking_of(matches).ok_or("save")?;
+    let go_on = go_on_of(matches).ok_or("go-on")?;
     Ok(Asked {
         agent,
         rules,
         shrinking,
         report: matches.get_str("report"),
+        go_on,
+        is_terminal,
     })
 }
 
 /// Holds agents against a schedule, or an agent against those of seeds.
-fn hold_asked<F: Files, R: Input + Print + Eprint + AllocGlobal>(
+fn hold_asked<F: Files, R: Clock + Input + Print + Eprint + AllocGlobal>(
     files: &F,
     rt: &R,
     matches: &ArgMatches,
@@ -118,19 +157,22 @@ fn hold_asked<F: Files, R: Input + Print + Eprint + AllocGlobal>(
         (None, Some(_)) if asked.agent.is_some() => bad_option(rt, "agent"),
         (None, Some(word)) => match seeds_of(word, matches) {
             Ok(seeds) => hold_seeds(files, rt, &seeds, asked),
+            Err("kind") => bad_word(rt, "kind", KINDS_OR_ALL),
             Err(name) => bad_option(rt, name),
         },
-        _ => bad_option(rt, "random"),
+        (Some(_), Some(_)) => bad_words(rt, "a schedule and --random: give one of them"),
+        (None, None) => bad_words(rt, "no calls: give a schedule, or seeds as --random A-B"),
     }
 }
 
 /// Holds what the words ask for against the reference.
-pub(crate) fn run<F: Files, R: Input + Print + Eprint + AllocGlobal>(
+pub(crate) fn run<F: Files, R: Clock + Input + Print + Eprint + AllocGlobal>(
     files: &F,
     rt: &R,
+    is_terminal: bool,
     matches: &ArgMatches,
 ) -> u8 {
-    match asked_of(matches) {
+    match asked_of(matches, is_terminal) {
         Ok(asked) => hold_asked(files, rt, matches, &asked),
         Err(name) => bad_option(rt, name),
     }

@@ -1,6 +1,7 @@
 //! `draw`: a picture of a schedule's run.
 
-use crate::ending::{COMMAND_LINE, bad_line, finish, no_memory};
+use crate::agents::agents_of;
+use crate::ending::{COMMAND_LINE, bad_schedule_line, finish, no_memory};
 use crate::input::input_of;
 use crate::options::{bad_option, bare_command, flag, many_of, number_of, option_of, place, with};
 use clap::{ArgMatches, Command};
@@ -23,8 +24,8 @@ pub(crate) fn command<'a>(alloc: Global) -> Result<Command<'a>, AllocError> {
     let file = "The schedule; standard input where it is left out or `-`";
     let form = "`svg` (as when left out), a file; or `mermaid`, the text of a sequence diagram";
     let agent =
-        "The number of an agent that is drawn; may be given many times; all of them where it is left out";
-    let from = "The first action that is drawn";
+        "An agent that is drawn, by its number, from 0 on, or its name; may be given many times; all where it is left out";
+    let from = "The first action that is drawn, counted from 1";
     let to = "The last action that is drawn";
     let bare = Ok(bare_command(alloc, "draw", about, example));
     let command = with(bare, place(alloc, "FILE", file));
@@ -56,18 +57,6 @@ fn form_of(matches: &ArgMatches) -> Option<Form> {
     }
 }
 
-/// These words as numbers; `None` where one is no number.
-fn numbers_of(alloc: Global, words: &[&str]) -> Result<Option<Vec<u64>>, AllocError> {
-    let mut numbers = Vec::new(alloc);
-    for word in words {
-        let Ok(number) = word.parse::<u64>() else {
-            return Ok(None);
-        };
-        numbers.push(number)?;
-    }
-    Ok(Some(numbers))
-}
-
 /// The name that the words ask for, if they ask for one.
 fn event_of(alloc: Global, matches: &ArgMatches) -> Result<Option<Bytes>, AllocError> {
     match matches.get_str("event") {
@@ -96,6 +85,19 @@ fn tell_empty(rt: &impl Eprint, picture: &Picture) {
     }
 }
 
+/// The agents that the words name, of the schedule in a text; or the status of a fault, or of a refusal.
+fn lanes_of<R: Eprint + AllocGlobal>(
+    rt: &R,
+    is_terminal: bool,
+    matches: &ArgMatches,
+    text: &[u8],
+) -> Result<Vec<u64>, u8> {
+    match matches.get_strs("agent") {
+        Some(words) => agents_of(rt, is_terminal, matches.get_str("FILE"), text, words),
+        None => Ok(Vec::new(rt.alloc())),
+    }
+}
+
 /// Tells of an agent that the schedule doesn't have.
 fn no_agent(rt: &impl Eprint, agent: u64, count: u64) -> u8 {
     let _ = eprintln!(rt;
@@ -117,52 +119,52 @@ fn write_picture<R: Print + Eprint + AllocGlobal>(rt: &R, picture: &Picture, for
     }
 }
 
-/// Draws the run of a schedule's text.
+/// Draws the run of the schedule in a text, from this file or from standard input.
 fn draw_text<R: Print + Eprint + AllocGlobal>(
     rt: &R,
+    is_terminal: bool,
+    file: Option<&str>,
     text: &[u8],
     asked: &Asked,
     form: Form,
 ) -> u8 {
     match draw_picture(rt.alloc(), text, asked) {
         Ok(picture) => write_picture(rt, &picture, form),
-        Err(DrawFault::BadLine { line, cause }) => bad_line(rt, line, cause),
+        Err(DrawFault::BadLine { line, cause }) => {
+            bad_schedule_line(rt, is_terminal, file, line, cause)
+        }
         Err(DrawFault::NoAgent { agent, count }) => no_agent(rt, agent, count),
         Err(DrawFault::OutOfMemory) => no_memory(rt),
     }
 }
 
-/// Draws the run of the schedule in a file, or on standard input.
+/// Draws the run of the schedule in a file, or on standard input, in this form.
 fn draw_input<F: Files, R: Input + Print + Eprint + AllocGlobal>(
     files: &F,
     rt: &R,
-    file: Option<&str>,
-    asked: &Asked,
+    is_terminal: bool,
+    matches: &ArgMatches,
     form: Form,
-) -> u8 {
-    match input_of(files, rt, file) {
-        Ok(text) => draw_text(rt, &text, asked, form),
-        Err(status) => status,
-    }
+) -> Result<u8, u8> {
+    let file = matches.get_str("FILE");
+    let text = input_of(files, rt, file)?;
+    let agents = lanes_of(rt, is_terminal, matches, &text)?;
+    let event = event_of(rt.alloc(), matches).map_err(|_| no_memory(rt))?;
+    let asked = asked_of(matches, agents, event);
+    Ok(draw_text(rt, is_terminal, file, &text, &asked, form))
 }
 
 /// Draws what the words ask for.
 pub(crate) fn run<F: Files, R: Input + Print + Eprint + AllocGlobal>(
     files: &F,
     rt: &R,
+    is_terminal: bool,
     matches: &ArgMatches,
 ) -> u8 {
-    let agents = match numbers_of(rt.alloc(), matches.get_strs("agent").unwrap_or(&[])) {
-        Ok(Some(agents)) => agents,
-        Ok(None) => return bad_option(rt, "agent"),
-        Err(_) => return no_memory(rt),
-    };
-    let Some(form) = form_of(matches) else {
-        return bad_option(rt, "as");
-    };
-    let Ok(event) = event_of(rt.alloc(), matches) else {
-        return no_memory(rt);
-    };
-    let asked = asked_of(matches, agents, event);
-    draw_input(files, rt, matches.get_str("FILE"), &asked, form)
+    match form_of(matches) {
+        Some(form) => {
+            draw_input(files, rt, is_terminal, matches, form).unwrap_or_else(|status| status)
+        }
+        None => bad_option(rt, "as"),
+    }
 }

@@ -2,11 +2,11 @@
 
 use crate::ending::{DONE, REFUSED, bad_line_for, no_memory, read_failed, write_failed};
 use crate::options::bare_command;
+use crate::standard_output::StandardOutput;
 use clap::Command;
 use serf_packets::{Blocks, NeverBad, encode_blocks};
 use serf_text::StreamFault;
 use std::alloc::{AllocError, Global};
-use std::io;
 
 /// What the command takes: nothing.
 pub(crate) fn command<'a>(alloc: Global) -> Result<Command<'a>, AllocError> {
@@ -16,11 +16,11 @@ pub(crate) fn command<'a>(alloc: Global) -> Result<Command<'a>, AllocError> {
     Ok(bare_command(alloc, "encode", about, example))
 }
 
-fn stopped(rt: &impl Eprint, fault: StreamFault<NeverBad>) -> u8 {
+fn stopped(rt: &impl Eprint, is_terminal: bool, fault: StreamFault<NeverBad>) -> u8 {
     match fault {
         StreamFault::ReadFault => read_failed(rt, None),
-        StreamFault::BadLine { line, .. } => bad_line_for(rt, line, "BadText"),
-        StreamFault::LineTooLong { line } => bad_line_for(rt, line, "TooLong"),
+        StreamFault::BadLine { line, .. } => bad_line_for(rt, is_terminal, line, "BadText"),
+        StreamFault::LineTooLong { line } => bad_line_for(rt, is_terminal, line, "TooLong"),
         StreamFault::OutOfMemory => no_memory(rt),
         StreamFault::WriteFault => write_failed(rt),
     }
@@ -36,9 +36,12 @@ fn answered(rt: &impl Eprint, blocks: Blocks) -> u8 {
 }
 
 /// Writes the answer to each text on standard input, and gives the status: 1 where one was refused.
-pub(crate) fn run<R: Input + Print + Eprint + AllocGlobal>(rt: &R) -> u8 {
-    match encode_blocks(rt.alloc(), &mut rt.reader(), &mut io::writer(rt)) {
+pub(crate) fn run<R: Input + Print + Eprint + AllocGlobal>(rt: &R, is_terminal: bool) -> u8 {
+    let mut writer = StandardOutput::new(rt);
+    match encode_blocks(rt.alloc(), &mut rt.reader(), &mut writer) {
         Ok(blocks) => answered(rt, blocks),
-        Err(fault) => stopped(rt, fault),
+        Err(fault) => writer
+            .closed()
+            .unwrap_or_else(|| stopped(rt, is_terminal, fault)),
     }
 }

@@ -1,14 +1,15 @@
 //! `explain`: a schedule's trace with its reasons.
 
+use crate::agents::agents_of;
 use crate::ending::{DONE, replay_failed};
-use crate::input::opened;
-use crate::options::{bare_command, number_of, place, with};
+use crate::input::{input_of, opened};
+use crate::options::{bare_command, number_of, option_of, place, with};
 use crate::progress::Progress;
+use crate::standard_output::StandardOutput;
 use clap::{ArgMatches, Command};
 use serf_explain::{Range, explain};
-use serf_schedule::ReplayFault;
 use std::alloc::{AllocError, Global};
-use std::io;
+use std::io::Read;
 use std::rt::Files;
 use std::time::Clock;
 
@@ -17,41 +18,73 @@ pub(crate) fn command<'a>(alloc: Global) -> Result<Command<'a>, AllocError> {
     let about = "Writes a schedule's trace, and why each answer came";
     let example = "Example: serf-replay explain examples/deploy_gossiped_twice.schedule";
     let file = "The schedule; standard input where it is left out or `-`";
-    let agent = "The number of the only agent that is explained; all of them where it is left out";
-    let from = "The first action that is explained";
+    let agent =
+        "The only agent that is explained, by its number, from 0 on, or its name; all where it is left out";
+    let from = "The first action that is explained, counted from 1";
     let to = "The last action that is explained";
     let bare = Ok(bare_command(alloc, "explain", about, example));
     let command = with(bare, place(alloc, "FILE", file));
-    let command = with(command, number_of(alloc, "agent", "AGENT", agent));
+    let command = with(command, option_of(alloc, "agent", "AGENT", agent));
     let command = with(command, number_of(alloc, "from", "ACTION", from));
     with(command, number_of(alloc, "to", "ACTION", to))
 }
 
-/// Which actions the words ask for.
-fn range_of(matches: &ArgMatches) -> Range {
+/// Which actions the words ask for, of this agent, or of all of them.
+fn range_of(matches: &ArgMatches, agent: Option<u64>) -> Range {
     Range {
-        agent: matches.get_one::<u64>("agent"),
+        agent,
         from: matches.get_one::<u64>("from").unwrap_or(1),
         to: matches.get_one::<u64>("to").unwrap_or(u64::MAX),
     }
 }
 
-/// The status of an explanation. Where the range begins behind the last action, a line on standard error says so.
-fn explained(
-    rt: &impl Eprint,
+/// Tells of a range that has no action of a schedule with so many.
+fn tell_empty(rt: &impl Eprint, range: &Range, actions: u64) {
+    let Range { from, to, .. } = *range;
+    if from > actions {
+        let _ = eprintln!(rt; "nothing to show: the schedule has {actions} actions");
+    } else if to == 0 {
+        let _ = eprintln!(rt; "nothing to show: actions count from 1");
+    } else if to < from {
+        let _ = eprintln!(rt; "nothing to show: action {to} comes before action {from}");
+    }
+}
+
+/// Writes the trace of the schedule that is read, with its reasons.
+fn explain_from<R: Clock + Print + Eprint + AllocGlobal, I: Read>(
+    rt: &R,
+    is_terminal: bool,
     file: Option<&str>,
     range: &Range,
-    outcome: Result<u64, ReplayFault>,
+    reader: &mut I,
 ) -> u8 {
-    match outcome {
+    let mut writer = StandardOutput::new(rt);
+    let mut progress = Progress::new(rt, is_terminal);
+    match explain(rt.alloc(), reader, &mut writer, range, &mut progress) {
         Ok(actions) => {
-            if range.from > actions {
-                let _ = eprintln!(rt; "nothing to show: the schedule has {actions} actions");
-            }
+            tell_empty(rt, range, actions);
             DONE
         }
-        Err(fault) => replay_failed(rt, file, fault),
+        Err(fault) => writer
+            .closed()
+            .unwrap_or_else(|| replay_failed(rt, is_terminal, file, fault)),
     }
+}
+
+/// Writes what one agent does, which a word names: so the schedule is read whole first.
+fn explain_agent<F: Files, R: Clock + Input + Print + Eprint + AllocGlobal>(
+    files: &F,
+    rt: &R,
+    is_terminal: bool,
+    matches: &ArgMatches,
+    word: &str,
+) -> Result<u8, u8> {
+    let file = matches.get_str("FILE");
+    let text = input_of(files, rt, file)?;
+    let agents = agents_of(rt, is_terminal, file, &text, &[word])?;
+    let range = range_of(matches, agents.first().copied());
+    let mut reader: &[u8] = &text;
+    Ok(explain_from(rt, is_terminal, file, &range, &mut reader))
 }
 
 /// Writes the trace of the schedule in a file, or on standard input, with its reasons.
@@ -61,22 +94,16 @@ pub(crate) fn run<F: Files, R: Clock + Input + Print + Eprint + AllocGlobal>(
     is_terminal: bool,
     matches: &ArgMatches,
 ) -> u8 {
-    let mut writer = io::writer(rt);
-    let mut progress = Progress::new(rt, is_terminal);
-    let range = range_of(matches);
+    if let Some(word) = matches.get_str("agent") {
+        return explain_agent(files, rt, is_terminal, matches, word).unwrap_or_else(|status| status);
+    }
+    let range = range_of(matches, None);
     let file = matches.get_str("FILE");
-    let outcome = match file {
-        None | Some("-") => explain(
-            rt.alloc(),
-            &mut rt.reader(),
-            &mut writer,
-            &range,
-            &mut progress,
-        ),
+    match file {
+        None | Some("-") => explain_from(rt, is_terminal, file, &range, &mut rt.reader()),
         Some(path) => match opened(files, rt, path) {
-            Ok(mut reader) => explain(rt.alloc(), &mut reader, &mut writer, &range, &mut progress),
-            Err(status) => return status,
+            Ok(mut reader) => explain_from(rt, is_terminal, file, &range, &mut reader),
+            Err(status) => status,
         },
-    };
-    explained(rt, file, &range, outcome)
+    }
 }

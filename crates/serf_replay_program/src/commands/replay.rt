@@ -8,40 +8,29 @@ use crate::ending::{DONE, replay_failed};
 use crate::input::opened;
 use crate::options::{bad_word, bare_command, flag, option_of, place, with};
 use crate::progress::Progress;
-use clap::{Arg, ArgMatches, Command};
+use crate::standard_output::StandardOutput;
+use clap::{ArgMatches, Command};
 use forms::Form;
 use serf_replay::replay;
 use std::alloc::{AllocError, Global};
-use std::io;
 use std::rt::Files;
 use std::time::Clock;
 
-pub(crate) const EXAMPLE: &str =
-    "Example: serf-replay replay examples/deploy_gossiped_twice.schedule";
+const EXAMPLE: &str = "Example: serf-replay replay examples/deploy_gossiped_twice.schedule";
 
 /// What may stand behind `--as`.
 const FORMS: &str = "text, csv or json, where --summary is given too";
 
-/// The option for a schedule of any length; it stands without `--summary` alone.
-fn stream_flag<'a>(alloc: Global) -> Result<Arg<'a>, AllocError> {
-    flag(
-        alloc,
-        "stream",
-        "Does and writes line by line: a schedule of any length",
-    )
-    .conflicts_with("summary")
-}
-
 /// What the command takes.
 pub(crate) fn command<'a>(alloc: Global) -> Result<Command<'a>, AllocError> {
-    let stream = stream_flag(alloc)?;
+    let stream = "Does and writes line by line: a schedule of any length";
     let summary =
         "Writes in place of the trace how often each answer came, and who was handed what by when";
     let help = "The schedule; standard input where it is left out or `-`";
     let about = "Runs a schedule and writes its trace";
     let bare = Ok(bare_command(alloc, "replay", about, EXAMPLE));
     let command = with(bare, place(alloc, "FILE", help));
-    let command = with(command, stream);
+    let command = with(command, flag(alloc, "stream", stream));
     let command = with(command, flag(alloc, "summary", summary));
     let form = "Of a summary: `text` (as when left out), `csv` or `json`";
     with(command, option_of(alloc, "as", "FORM", form))
@@ -54,7 +43,7 @@ fn run_whole<F: Files, R: Clock + Input + Print + Eprint + AllocGlobal>(
     is_terminal: bool,
     file: Option<&str>,
 ) -> u8 {
-    let mut writer = io::writer(rt);
+    let mut writer = StandardOutput::new(rt);
     let mut progress = Progress::new(rt, is_terminal);
     let outcome = match file {
         None | Some("-") => replay(rt.alloc(), &mut rt.reader(), &mut writer, &mut progress),
@@ -65,7 +54,9 @@ fn run_whole<F: Files, R: Clock + Input + Print + Eprint + AllocGlobal>(
     };
     match outcome {
         Ok(()) => DONE,
-        Err(fault) => replay_failed(rt, file, fault),
+        Err(fault) => writer
+            .closed()
+            .unwrap_or_else(|| replay_failed(rt, is_terminal, file, fault)),
     }
 }
 
@@ -86,8 +77,12 @@ fn run_summary<F: Files, R: Clock + Input + Print + Eprint + AllocGlobal>(
     is_terminal: bool,
     matches: &ArgMatches,
 ) -> u8 {
+    let file = matches.get_str("FILE");
     match form_of(matches) {
-        Some(form) => summary::run(files, rt, is_terminal, form, matches.get_str("FILE")),
+        Some(form) if matches.get_flag("stream") => {
+            summary::run_lines(files, rt, is_terminal, form, file)
+        }
+        Some(form) => summary::run(files, rt, is_terminal, form, file),
         None => bad_word(rt, "as", FORMS),
     }
 }
@@ -105,7 +100,7 @@ pub(crate) fn run<F: Files, R: Clock + Input + Print + Eprint + AllocGlobal>(
     } else if matches.get_str("as").is_some() {
         bad_word(rt, "as", FORMS)
     } else if matches.get_flag("stream") {
-        streaming::run(files, rt, file)
+        streaming::run(files, rt, is_terminal, file)
     } else {
         run_whole(files, rt, is_terminal, file)
     }

@@ -28,10 +28,13 @@ loop-action-preserved g c =
       c.in_ok-add_action.ensures.unpoisoned,
     )
 
-pub returns : goal.returns
-returns g c =
+pub returns-clause-run : goal.returns-clause-run
+returns-clause-run g c =
     let inv = c.loop-action.invariant in
     let r : Run = inv.0 in
     let none : into_iter_items c.loop-action.action-iterator ≡ [] = grind (arith, common_steps) in
     let whole : r ≡ run_of c.args.schedule.agents c.args.schedule.actions.items = ap (fold after r) (sym none) ∙ inv.3 in
-    subst (λ (r : Run). IsSummary c.loop-action.summary (map (λ t. t.line) r.turns)) whole inv.1.summary_is
+    subst (λ (r : Run). IsSummary c.with_size.result (map (λ t. t.line) r.turns)) whole (c.with_size.ensures.same (map (λ t. t.line) r.turns) inv.1.summary_is)
+
+pub returns-clause-size : goal.returns-clause-size
+returns-clause-size g c = c.with_size.ensures.size ∙ ap length c.as_slice.ensures.agents

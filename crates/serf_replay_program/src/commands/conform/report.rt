@@ -1,6 +1,8 @@
 //! What is told of an agent that was held, on standard error.
 
+use super::heard::SILENT;
 use super::reporting::Reporting;
+use super::sent::say_what_differs;
 use crate::ending::{DEVICE, DONE, REFUSED, no_memory};
 use serf_conform::{
     ConformFault, End, Look, Reply, Verdict, given_packet, look_line, look_reply, opening,
@@ -9,9 +11,6 @@ use serf_conform::{
 use serf_hunt::Case;
 use serf_model::Line;
 use std::alloc::{AllocError, Global};
-
-/// How many bytes of a line are shown.
-const SHOWN: usize = 240;
 
 /// A byte as it is shown: one that is no printable ASCII as `?`.
 fn shown_byte(byte: u8) -> char {
@@ -22,20 +21,19 @@ fn shown_byte(byte: u8) -> char {
     }
 }
 
-/// The first bytes of a line as they are shown.
+/// The bytes of a line as they are shown.
 fn shown_text(alloc: Global, text: &[u8]) -> Result<String, AllocError> {
     let mut shown = String::new(alloc);
-    for byte in text.iter().take(SHOWN) {
+    for byte in text {
         shown.push(shown_byte(*byte))?;
     }
     Ok(shown)
 }
 
-/// Prints a line on standard error; of a long one so many bytes, and `..`.
+/// Prints a whole line on standard error, since a packet in it is there to be decoded.
 fn say<R: Eprint + AllocGlobal>(rt: &R, text: &[u8]) {
     if let Ok(shown) = shown_text(rt.alloc(), text) {
-        let rest = if text.len() > SHOWN { ".." } else { "" };
-        let _ = eprintln!(rt; "{shown}{rest}");
+        let _ = eprintln!(rt; "{shown}");
     }
 }
 
@@ -50,6 +48,25 @@ fn say_lines<R: Eprint + AllocGlobal>(rt: &R, word: &[u8], text: &[u8]) -> Resul
         out.extend_from_slice(line)?;
         say(rt, &out);
         before = b"       ";
+    }
+    Ok(())
+}
+
+/// Whether a line of a reply ends with a carriage return.
+fn has_return(text: &[u8]) -> bool {
+    for line in text.split(|b| *b == b'\n') {
+        if line.last() == Some(&b'\r') {
+            return true;
+        }
+    }
+    false
+}
+
+/// Prints the reply that came. Of a carriage return it is said what it is, since it is shown as another byte.
+fn say_reply<R: Eprint + AllocGlobal>(rt: &R, got: &[u8]) -> Result<(), AllocError> {
+    say_lines(rt, b"  got: ", got)?;
+    if has_return(got) {
+        let _ = eprintln!(rt; "  a carriage return: lines end by a newline alone");
     }
     Ok(())
 }
@@ -187,7 +204,18 @@ fn tell<R: Eprint + AllocGlobal>(
     let words = &call[..call.len().saturating_sub(1)];
     reporting.add(seed, agent, line, words, &wanted, verdict);
     say_lines(rt, b"  wanted: ", &wanted)?;
-    say_lines(rt, b"  got: ", got)
+    say_reply(rt, got)?;
+    say_what_differs(rt, &wanted, got)
+}
+
+/// What is told in the place of a reply, where the agent ended. The sums have its verdict already.
+fn ended_words(reporting: &Reporting, verdict: &Verdict) -> &'static [u8] {
+    let is_first = reporting.counts.agents <= 1 && verdict.calls == 0;
+    if is_first {
+        SILENT.as_bytes()
+    } else {
+        b"the agent ended"
+    }
 }
 
 /// Prints a verdict, adds it to the report where the agent did otherwise, and gives its status.
@@ -231,7 +259,7 @@ pub(super) fn report<R: Eprint + AllocGlobal>(
             }
         }
         End::Ended => {
-            let got = b"the agent ended";
+            let got = ended_words(reporting, verdict);
             match tell(rt, reporting, seed, text, case, agent, verdict, got) {
                 Ok(()) => DEVICE,
                 Err(_) => no_memory(rt),

@@ -13,9 +13,15 @@ pub(super) struct Reporting<'a> {
     /// Its file; `None` where no report is asked for.
     path: Option<&'a str>,
     text: Vec<u8>,
+    /// The name of the kind whose schedules are held, where these are of more than one kind.
+    pub(super) kind: Option<&'static [u8]>,
+    /// How many schedules were held to their end.
+    pub(super) schedules: u64,
     /// The sums over the agents that were held.
     pub(super) counts: Counts,
-    disagreements: u64,
+    pub(super) disagreements: u64,
+    /// Whether a hunt ended at a fault.
+    pub(super) has_fault: bool,
     /// Whether memory ran out for a line.
     is_cut: bool,
 }
@@ -26,8 +32,11 @@ impl<'a> Reporting<'a> {
         Reporting {
             path,
             text: Vec::new(alloc),
+            kind: None,
+            schedules: 0,
             counts: no_counts(),
             disagreements: 0,
+            has_fault: false,
             is_cut: false,
         }
     }
@@ -48,6 +57,7 @@ impl<'a> Reporting<'a> {
         };
         let told = Disagreement {
             seed,
+            kind: self.kind,
             agent,
             agreed: verdict.calls,
             action: verdict.action,
@@ -63,10 +73,10 @@ impl<'a> Reporting<'a> {
         }
     }
 
-    /// The whole text, once it is known how many schedules were held to their end, and how all ends.
-    fn whole(&mut self, schedules: u64, status: u8) -> Result<(), AllocError> {
+    /// The whole text, once it is known how all ends.
+    fn whole(&mut self, status: u8) -> Result<(), AllocError> {
         let sums = Sums {
-            schedules,
+            schedules: self.schedules,
             calls: self.counts.calls,
             disagreements: self.disagreements,
             status: u64::from(status),
@@ -75,19 +85,17 @@ impl<'a> Reporting<'a> {
     }
 
     /// Tells of agents and looks that are unsupported, and writes the report, where one is asked for. Gives the status:
-    /// this one, that of a disagreement where no call but `open` was compared, or that of a device that failed.
-    pub(super) fn finish<F: Files>(
-        &mut self,
-        files: &F,
-        rt: &impl Eprint,
-        schedules: u64,
-        status: u8,
-    ) -> u8 {
+    /// this one, that of a disagreement where no call but `open` was compared, or that of a device that failed. Where a hunt
+    /// ended at a fault before any disagreement, there is nothing to tell.
+    pub(super) fn finish<F: Files>(&mut self, files: &F, rt: &impl Eprint, status: u8) -> u8 {
+        if self.has_fault && self.disagreements == 0 {
+            return status;
+        }
         let status = told_unsupported(rt, self.counts, status);
         let Some(path) = self.path else {
             return status;
         };
-        if self.whole(schedules, status).is_err() || self.is_cut {
+        if self.whole(status).is_err() || self.is_cut {
             let _ = eprintln!(rt; "no memory");
             return DEVICE;
         }

@@ -1,15 +1,18 @@
 //! `conform --shrink`: the calls at which an agent fails, made fewer.
 
+use super::Asked;
 use super::report::status_of;
 use crate::ending::{DEVICE, REFUSED, no_memory, write_failed};
+use crate::progress::Progress;
 use serf_agent::Config;
 use serf_conform::{ConformFault, End, Rules, Verdict};
 use serf_hunt::{Case, Shrunk, alone_schedule, calls_of, shrink};
-use serf_schedule::put_schedule;
+use serf_schedule::{Watch, put_schedule};
 use std::alloc::Global;
 use std::fs;
 use std::io::{Read, Write};
 use std::rt::Files;
+use std::time::Clock;
 
 /// Whether the calls at which an agent fails are made fewer, and where the schedule of what is left goes.
 #[derive(Clone, Copy)]
@@ -31,7 +34,7 @@ fn failing_calls(verdict: &Verdict) -> usize {
 }
 
 /// The calls of an agent up to the one at which it fails, made fewer.
-fn shrunk_calls<R: Read, W: Write>(
+fn shrunk_calls<R: Read, W: Write, H: Watch>(
     alloc: Global,
     reader: &mut R,
     writer: &mut W,
@@ -40,11 +43,12 @@ fn shrunk_calls<R: Read, W: Write>(
     agent: u64,
     config: &Config,
     verdict: &Verdict,
+    watch: &mut H,
 ) -> Result<(usize, Option<Shrunk>), ConformFault> {
     let mut calls = calls_of(alloc, case, agent)?;
     calls.truncate(failing_calls(verdict));
     let count = calls.len();
-    match shrink(alloc, reader, writer, rules, config, calls) {
+    match shrink(alloc, reader, writer, rules, config, calls, watch) {
         Ok(shrunk) => Ok((count, shrunk)),
         Err(fault) => Err(fault),
     }
@@ -96,11 +100,10 @@ fn tell_shrunk<F: Files, R: Eprint + AllocGlobal>(
 
 /// Makes the calls fewer at which an agent of a case fails, and gives the status: as without this, or that of a device
 /// that fails. Where the calls by themselves don't fail, that is told.
-pub(super) fn shrink_found<F: Files, R: Eprint + AllocGlobal, I: Read, O: Write>(
+pub(super) fn shrink_found<F: Files, R: Clock + Eprint + AllocGlobal, I: Read, O: Write>(
     files: &F,
     rt: &R,
-    asked: &Shrinking,
-    rules: Rules,
+    asked: &Asked,
     case: &Case,
     agent: u64,
     verdict: &Verdict,
@@ -110,18 +113,22 @@ pub(super) fn shrink_found<F: Files, R: Eprint + AllocGlobal, I: Read, O: Write>
     let Some(config) = case.configs.get(agent as usize) else {
         return REFUSED;
     };
+    let mut progress = Progress::of_calls(rt, asked.is_terminal);
     let outcome = shrunk_calls(
         rt.alloc(),
         reader,
         writer,
-        rules,
+        asked.rules,
         case,
         agent,
         config,
         verdict,
+        &mut progress,
     );
     match outcome {
-        Ok((count, Some(shrunk))) => tell_shrunk(files, rt, asked, config, count, &shrunk),
+        Ok((count, Some(shrunk))) => {
+            tell_shrunk(files, rt, &asked.shrinking, config, count, &shrunk)
+        }
         Ok((count, None)) => {
             let _ = eprintln!(rt; "the {count} calls don't fail by themselves");
             REFUSED

@@ -1,5 +1,6 @@
 //! The nodes that were handed something again, a line each.
 
+use super::places::Places;
 use super::verdicts::Verdicts;
 use serf_judge::{
     EventEntry, NodeTally, QueryEntry, Tally, event_receivers, query_receivers,
@@ -8,20 +9,19 @@ use serf_judge::{
 use std::alloc::{AllocError, Global};
 
 /// What a tally says of its times and its lines: each as one number, or from the least to the greatest.
-fn span_of(alloc: Global, tally: &Tally) -> Result<String, AllocError> {
+fn span_of(alloc: Global, places: &Places, tally: &Tally) -> Result<String, AllocError> {
     let (least, greatest) = (tally.least_time, tally.greatest_time);
-    let (first, last) = (tally.first_line, tally.last_line);
     if tally.count == 1 {
-        format!(in alloc; "on 1 line: time {least}, line {first}\n")
+        let place = places.line(alloc, tally.first_line)?;
+        format!(in alloc; "on 1 line: time {least}, {place}\n")
     } else {
         let count = tally.count;
-        format!(in alloc;
-            "on {count} lines: times {least} to {greatest}, lines {first} to {last}\n"
-        )
+        let span = places.span(alloc, tally.first_line, tally.last_line)?;
+        format!(in alloc; "on {count} lines: times {least} to {greatest}, {span}\n")
     }
 }
 
-impl Verdicts {
+impl Verdicts<'_> {
     /// Appends how often and when each of these nodes was handed a thing of this name again.
     fn put_tallies(
         &mut self,
@@ -34,7 +34,7 @@ impl Verdicts {
             self.text.extend_from_slice(b" was handed ")?;
             self.text.extend_from_slice(name.as_bytes())?;
             self.text.extend_from_slice(b" again ")?;
-            let span = span_of(alloc, &told.tally)?;
+            let span = span_of(alloc, &self.places, &told.tally)?;
             self.text.extend_from_slice(span.as_bytes())?;
         }
         Ok(())

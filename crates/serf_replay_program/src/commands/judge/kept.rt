@@ -32,7 +32,7 @@ fn open_query(log: &Log, node: &[u8], clock: u64) -> Option<Open> {
     })
 }
 
-impl Verdicts {
+impl Verdicts<'_> {
     /// Appends what a node keeps of a clock, and what that leaves open.
     fn put_kept(
         &mut self,
@@ -51,8 +51,9 @@ impl Verdicts {
                 .extend_from_slice(b": nothing was handed out above it\n");
         };
         self.is_broken = true;
+        let place = self.places.line(alloc, line)?;
         let text = format!(in alloc;
-            ", and line {line} was handed out at {time}: it can be handed out again\n"
+            ", and {place} was handed out at {time}: it can be handed out again\n"
         )?;
         self.text.extend_from_slice(text.as_bytes())
     }

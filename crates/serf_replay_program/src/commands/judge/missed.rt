@@ -20,7 +20,7 @@ fn put_nodes(text: &mut Vec<u8>, nodes: &[&[u8]]) -> Result<(), AllocError> {
     Ok(())
 }
 
-impl Verdicts {
+impl Verdicts<'_> {
     /// Appends which nodes never had an event.
     fn put_missed_event(&mut self, alloc: Global, event: &MissedEvent) -> Result<(), AllocError> {
         let time = event.time;

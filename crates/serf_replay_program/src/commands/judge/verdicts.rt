@@ -1,17 +1,21 @@
 //! The text of the verdicts on a log.
 
 use super::counts::put_counts;
+use super::places::Places;
 use serf_judge::{
     EventEntry, LaterFault, Log, QueryEntry, first_event_twice, first_not_later, first_query_twice,
     first_unfired,
 };
 use std::alloc::{AllocError, Global};
 
-/// The verdicts so far, a line each, and whether a promise is broken.
+/// The verdicts so far, a line each.
 #[derive(Drop)]
-pub struct Verdicts {
+pub(super) struct Verdicts<'a> {
     pub text: Vec<u8>,
+    /// Whether a promise is broken, a snapshot leaves a line open, or a line is bad.
     pub is_broken: bool,
+    /// The logs that are judged.
+    pub(super) places: Places<'a>,
 }
 
 /// Appends bytes between quotes: what is no printable ASCII, a quote and a backslash as `\xNN`.
@@ -30,12 +34,13 @@ pub(super) fn put_quoted(out: &mut Vec<u8>, bytes: &[u8]) -> Result<(), AllocErr
     out.extend_from_slice(b"\"")
 }
 
-impl Verdicts {
-    /// No verdicts. Takes no memory.
-    pub fn new(alloc: Global) -> Verdicts {
+impl<'a> Verdicts<'a> {
+    /// No verdicts on these logs. Takes no memory.
+    pub fn new(alloc: Global, places: Places<'a>) -> Verdicts<'a> {
         Verdicts {
             text: Vec::new(alloc),
             is_broken: false,
+            places,
         }
     }
 
@@ -62,7 +67,9 @@ impl Verdicts {
         node: &[u8],
     ) -> Result<(), AllocError> {
         self.is_broken = true;
-        let text = format!(in alloc; "{promise}: line {later} repeats line {earlier}: ")?;
+        let later = self.places.line(alloc, later)?;
+        let earlier = self.places.line(alloc, earlier)?;
+        let text = format!(in alloc; "{promise}: {later} repeats {earlier}: ")?;
         self.text.extend_from_slice(text.as_bytes())?;
         self.text.extend_from_slice(node)
     }
@@ -96,8 +103,8 @@ impl Verdicts {
     /// Appends which line hands out what nobody fired.
     fn put_unfired(&mut self, alloc: Global, event: &EventEntry) -> Result<(), AllocError> {
         self.is_broken = true;
-        let line = event.line;
-        let text = format!(in alloc; "Fired: line {line} hands out what no line above it fired: ")?;
+        let place = self.places.line(alloc, event.line)?;
+        let text = format!(in alloc; "Fired: {place} hands out what no line above it fired: ")?;
         self.text.extend_from_slice(text.as_bytes())?;
         self.text.extend_from_slice(event.node.as_slice())?;
         self.put_event(alloc, event)
@@ -116,8 +123,11 @@ impl Verdicts {
             earlier.line,
             later.node.as_slice(),
         )?;
-        let (time, id) = (later.time, later.id);
-        let text = format!(in alloc; " {time} {id}\n")?;
+        let time = later.time;
+        let text = match later.id {
+            Some(id) => format!(in alloc; " {time} {id}\n")?,
+            None => format!(in alloc; " {time} -\n")?,
+        };
         self.text.extend_from_slice(text.as_bytes())
     }
 
@@ -180,10 +190,11 @@ impl Verdicts {
         event: &EventEntry,
     ) -> Result<(), AllocError> {
         self.is_broken = true;
-        let (line, time) = (firing.line, firing.time);
-        let (earlier, handed) = (event.line, event.time);
+        let (time, handed) = (firing.time, event.time);
+        let place = self.places.line(alloc, firing.line)?;
+        let earlier = self.places.line(alloc, event.line)?;
         let text = format!(in alloc;
-            "Later: line {line} fires at {time}, and line {earlier} was handed out at {handed}: "
+            "Later: {place} fires at {time}, and {earlier} was handed out at {handed}: "
         )?;
         self.text.extend_from_slice(text.as_bytes())?;
         self.text.extend_from_slice(firing.node.as_slice())?;
@@ -217,7 +228,8 @@ impl Verdicts {
         self.put_holds("Later")
     }
 
-    /// Judges a log, behind a line that says how much was read; and where it is wanted, tells what nodes missed.
+    /// Judges a log, behind lines that say how much was read and what is bad; and where it is wanted, tells what nodes
+    /// missed.
     pub fn judge(
         &mut self,
         alloc: Global,
@@ -225,6 +237,7 @@ impl Verdicts {
         tells_missed: bool,
     ) -> Result<(), AllocError> {
         put_counts(&mut self.text, alloc, log)?;
+        self.put_bad(alloc, log.bad.as_slice())?;
         self.judge_events(alloc, log.events.as_slice())?;
         self.judge_queries(alloc, log.queries.as_slice())?;
         self.judge_fired(alloc, log.fired.as_slice(), log.events.as_slice())?;

@@ -135,13 +135,8 @@ fn put_answers(out: &mut Vec<u8>, is_json: bool, summary: &Summary) -> Result<()
 }
 
 /// Appends a row for each agent of the schedule: one that was handed nothing was handed 0.
-fn put_agents(
-    out: &mut Vec<u8>,
-    is_json: bool,
-    summary: &Summary,
-    agents: u64,
-) -> Result<(), AllocError> {
-    for agent in 0..agents {
+fn put_agents(out: &mut Vec<u8>, is_json: bool, summary: &Summary) -> Result<(), AllocError> {
+    for agent in 0..summary.size {
         let counted = Counted::Agent(agent);
         let row = match summary.agents.get(&agent) {
             Some(spread) => row_of(counted, spread),
@@ -163,12 +158,11 @@ fn put_events(out: &mut Vec<u8>, is_json: bool, summary: &Summary) -> Result<(),
     Ok(())
 }
 
-/// The rows of a summary, of a schedule with so many agents.
+/// The rows of a summary.
 pub(super) fn rows_text(
     alloc: Global,
     is_json: bool,
     summary: &Summary,
-    agents: u64,
 ) -> Result<Vec<u8>, AllocError> {
     let mut out = Vec::new(alloc);
     if !is_json {
@@ -181,7 +175,7 @@ pub(super) fn rows_text(
     };
     put_row(&mut out, is_json, actions)?;
     put_answers(&mut out, is_json, summary)?;
-    put_agents(&mut out, is_json, summary, agents)?;
+    put_agents(&mut out, is_json, summary)?;
     put_events(&mut out, is_json, summary)?;
     Ok(out)
 }

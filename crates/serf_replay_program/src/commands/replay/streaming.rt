@@ -1,9 +1,9 @@
 //! `replay --stream`: a schedule of any length, line by line.
 
-use crate::ending::{DONE, stopped};
+use crate::ending::{DONE, stream_failed};
 use crate::input::opened;
+use crate::standard_output::StandardOutput;
 use serf_replay::replay_lines;
-use std::io;
 use std::rt::Files;
 
 /// Does the lines of a file, or of standard input, and gives the status. A line that is bad ends it, behind the text of
@@ -11,9 +11,10 @@ use std::rt::Files;
 pub(crate) fn run<F: Files, R: Input + Print + Eprint + AllocGlobal>(
     files: &F,
     rt: &R,
+    is_terminal: bool,
     file: Option<&str>,
 ) -> u8 {
-    let mut writer = io::writer(rt);
+    let mut writer = StandardOutput::new(rt);
     let outcome = match file {
         None | Some("-") => replay_lines(rt.alloc(), &mut rt.reader(), &mut writer),
         Some(path) => match opened(files, rt, path) {
@@ -23,6 +24,8 @@ pub(crate) fn run<F: Files, R: Input + Print + Eprint + AllocGlobal>(
     };
     match outcome {
         Ok(()) => DONE,
-        Err(fault) => stopped(rt, file, fault),
+        Err(fault) => writer
+            .closed()
+            .unwrap_or_else(|| stream_failed(rt, is_terminal, file, fault)),
     }
 }

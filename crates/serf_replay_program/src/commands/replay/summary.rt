@@ -1,10 +1,10 @@
 //! `replay --summary`: what came of a schedule's run, in few lines.
 
 use super::forms::{Form, rows_text};
-use crate::ending::{bad_line, finish, no_memory};
-use crate::input::input_of;
+use crate::ending::{bad_schedule_line, finish, no_memory, stream_failed};
+use crate::input::{input_of, opened};
 use crate::progress::Progress;
-use serf_replay::{Spread, Summary, summarize};
+use serf_replay::{Spread, Summary, summarize, summarize_lines};
 use serf_schedule::{Schedule, ScheduleFault, parse_schedule};
 use serf_text::{put_hex, put_with_number};
 use std::alloc::{AllocError, Global};
@@ -60,17 +60,12 @@ fn text_of(alloc: Global, summary: &Summary) -> Result<Vec<u8>, AllocError> {
     Ok(out)
 }
 
-/// Writes a summary of a schedule with so many agents.
-fn print_summary<R: Print + Eprint + AllocGlobal>(
-    rt: &R,
-    form: Form,
-    summary: &Summary,
-    agents: u64,
-) -> u8 {
+/// Writes a summary.
+fn print_summary<R: Print + Eprint + AllocGlobal>(rt: &R, form: Form, summary: &Summary) -> u8 {
     let text = match form {
         Form::Text => text_of(rt.alloc(), summary),
-        Form::Csv => rows_text(rt.alloc(), false, summary, agents),
-        Form::Json => rows_text(rt.alloc(), true, summary, agents),
+        Form::Csv => rows_text(rt.alloc(), false, summary),
+        Form::Json => rows_text(rt.alloc(), true, summary),
     };
     match text {
         Ok(text) => finish(rt, &text),
@@ -85,10 +80,9 @@ fn summarized<R: Clock + Print + Eprint + AllocGlobal>(
     form: Form,
     schedule: Schedule,
 ) -> u8 {
-    let agents = schedule.agents.as_slice().len() as u64;
     let mut progress = Progress::new(rt, is_terminal);
     match summarize(rt.alloc(), schedule, &mut progress) {
-        Ok(summary) => print_summary(rt, form, &summary, agents),
+        Ok(summary) => print_summary(rt, form, &summary),
         Err(_) => no_memory(rt),
     }
 }
@@ -98,11 +92,14 @@ fn run_text<R: Clock + Print + Eprint + AllocGlobal>(
     rt: &R,
     is_terminal: bool,
     form: Form,
+    file: Option<&str>,
     text: &[u8],
 ) -> u8 {
     match parse_schedule(rt.alloc(), text) {
         Ok(schedule) => summarized(rt, is_terminal, form, schedule),
-        Err(ScheduleFault::BadLine { line, cause }) => bad_line(rt, line, cause),
+        Err(ScheduleFault::BadLine { line, cause }) => {
+            bad_schedule_line(rt, is_terminal, file, line, cause)
+        }
         Err(ScheduleFault::OutOfMemory) => no_memory(rt),
     }
 }
@@ -116,7 +113,29 @@ pub(super) fn run<F: Files, R: Clock + Input + Print + Eprint + AllocGlobal>(
     file: Option<&str>,
 ) -> u8 {
     match input_of(files, rt, file) {
-        Ok(text) => run_text(rt, is_terminal, form, &text),
+        Ok(text) => run_text(rt, is_terminal, form, file, &text),
         Err(status) => status,
+    }
+}
+
+/// Runs the schedule of a file, or of standard input, line by line, and writes its summary behind the last line; gives the
+/// status. Of a schedule with a bad line nothing is written.
+pub(super) fn run_lines<F: Files, R: Input + Print + Eprint + AllocGlobal>(
+    files: &F,
+    rt: &R,
+    is_terminal: bool,
+    form: Form,
+    file: Option<&str>,
+) -> u8 {
+    let outcome = match file {
+        None | Some("-") => summarize_lines(rt.alloc(), &mut rt.reader()),
+        Some(path) => match opened(files, rt, path) {
+            Ok(mut reader) => summarize_lines(rt.alloc(), &mut reader),
+            Err(status) => return status,
+        },
+    };
+    match outcome {
+        Ok(summary) => print_summary(rt, form, &summary),
+        Err(fault) => stream_failed(rt, is_terminal, file, fault),
     }
 }

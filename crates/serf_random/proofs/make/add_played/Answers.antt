@@ -1,6 +1,6 @@
 use Rattle.std.proofs.Common.{◌+◌, ◌≤◌, arith}
 use Rattle.serf_random.proofs.DraftLemmas.{more_actions}
-use Rattle.serf_random.proofs.make.add_actions.Goals as goal
+use Rattle.serf_random.proofs.make.add_played.Goals as goal
 
 pub returns-then-not-branch : goal.returns-then-not-branch
 returns-then-not-branch c =

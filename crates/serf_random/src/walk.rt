@@ -1,0 +1,286 @@
+//! A cluster that goes by rounds of gossip, as Serf's memberlist spreads broadcasts.
+
+ghost use Rattle.std.specs.Prelude.{◌≡◌, false};
+
+use crate::ask::{Ask, MAX_FANOUT, MAX_ROUNDS};
+use crate::dice::Dice;
+use crate::others::{other_than, others};
+use serf_model::{Act, Action, Answer, Line};
+use serf_text::put_number;
+use serf_wire::Bytes;
+use serf_world::{Roster, StepFault, World};
+use std::alloc::{AllocError, Global};
+
+/// The seed of a walk's numbers: other ones than those of the settings.
+const SALT: u64 = 0x60551b;
+
+/// How long a round takes, in nanoseconds (memberlist's `GossipInterval` in a local network).
+const ROUND: u64 = 200_000_000;
+
+/// In how many of the first rounds events are fired.
+const FIRING_ROUNDS: u64 = 3;
+
+/// How many events are fired in such a round, at most.
+const MAX_FIRED: u64 = 2;
+
+/// How many rounds there are from one exchange of states to the next.
+const EXCHANGE_ROUNDS: u64 = 4;
+
+/// How often an agent sends a packet, for each digit of the number of agents (memberlist's `RetransmitMult`).
+const SENDS_PER_DIGIT: u64 = 4;
+
+/// A packet that an agent goes on sending.
+#[derive(Clone, Copy, Debug)]
+struct Rumor {
+    agent: u64,
+    packet: u64,
+    /// How often it is sent yet.
+    left: u64,
+}
+
+/// What is done in a round.
+#[derive(Clone, Copy, Debug)]
+enum Step {
+    /// An agent fires an event.
+    Fire { agent: u64 },
+    /// An agent gets a packet.
+    Deliver { agent: u64, packet: u64 },
+    /// An agent sends its state.
+    State { agent: u64 },
+    /// An agent merges the packet that is so many behind the end of those sent.
+    Merge { agent: u64, back: u64 },
+}
+
+/// A cluster that goes by rounds, what its agents still spread, and what is left of the present round.
+#[derive(Drop)]
+pub(crate) struct Walk {
+    dice: Dice,
+    world: World,
+    agents: u64,
+    fanout: u64,
+    /// How many packets in a hundred are lost.
+    loss: u64,
+    /// How often an agent sends a packet.
+    sends: u64,
+    /// The number of the last round.
+    rounds: u64,
+    /// The present round, from 1; 0 in front of the first.
+    round: u64,
+    /// How many events were fired.
+    fired: u64,
+    rumors: Vec<Rumor>,
+    /// What is done in the present round.
+    steps: Vec<Step>,
+    /// How many of these are done.
+    done: usize,
+    // memory hasn't run out
+    ghost unpoisoned: { world.poisoned ≡ false },
+}
+
+/// How often an agent sends a packet in a cluster of so many: four times for each digit of their number.
+fn sends_of(agents: u64) -> u64 {
+    let digits: u64 = match agents {
+        0..=9 => 1,
+        10..=99 => 2,
+        100..=999 => 3,
+        1_000..=9_999 => 4,
+        _ => 5,
+    };
+    digits.saturating_mul(SENDS_PER_DIGIT)
+}
+
+impl Walk {
+    pub(crate) fn new(alloc: Global, ask: &Ask, roster: Roster) -> Result<Walk, AllocError> {
+        let agents = roster.as_slice().len() as u64;
+        Ok(Walk {
+            dice: Dice::new(ask.seed ^ SALT),
+            world: World::new(alloc, roster)?,
+            agents,
+            fanout: ask.fanout.min(MAX_FANOUT),
+            loss: ask.loss,
+            sends: sends_of(agents),
+            rounds: ask.rounds.min(MAX_ROUNDS),
+            round: 0,
+            fired: 0,
+            rumors: Vec::new(alloc),
+            steps: Vec::new(alloc),
+            done: 0,
+        })
+    }
+
+    /// The walk that has done the next action, and that action; `None` behind the last round. Where memory runs out, the
+    /// walk is let go.
+    pub(crate) fn play(self, alloc: Global) -> Result<(Walk, Option<Action>), AllocError> {
+        let mut walk = self;
+        walk.go_on(alloc)?;
+        let Some(step) = walk.next_step() else {
+            return Ok((walk, None));
+        };
+        let action = walk.action_of(alloc, step)?;
+        let line = match walk.world.step(alloc, &action) {
+            Ok(line) => line,
+            Err(StepFault::OutOfMemory) => return Err(AllocError),
+            Err(StepFault::Poisoned) => unreachable!(),
+        };
+        walk.note(&action, &line)?;
+        Ok((walk, Some(action)))
+    }
+
+    /// Plans rounds up to one in which there is something to do.
+    fn go_on(&mut self, alloc: Global) -> Result<(), AllocError> {
+        for _round in self.round..self.rounds {
+            if self.done < self.steps.len() {
+                return Ok(());
+            }
+            self.plan(alloc)?;
+        }
+        Ok(())
+    }
+
+    /// The next step of the present round.
+    fn next_step(&mut self) -> Option<Step> {
+        match self.steps.get(self.done) {
+            Some(step) => {
+                self.done = self.done.saturating_add(1);
+                Some(*step)
+            }
+            None => None,
+        }
+    }
+
+    /// Begins the next round: what is done in it.
+    fn plan(&mut self, alloc: Global) -> Result<(), AllocError> {
+        self.round = self.round.saturating_add(1);
+        self.steps.clear();
+        self.done = 0;
+        if self.agents == 0 {
+            return Ok(());
+        }
+        if self.round <= FIRING_ROUNDS {
+            self.plan_events()?;
+        }
+        if self.agents >= 2 {
+            self.plan_sends(alloc)?;
+            if self.round % EXCHANGE_ROUNDS == 0 {
+                self.plan_exchange()?;
+            }
+        }
+        Ok(())
+    }
+
+    fn plan_events(&mut self) -> Result<(), AllocError> {
+        let fired = self.dice.below(MAX_FIRED).saturating_add(1);
+        for _event in 0..fired {
+            let agent = self.dice.below(self.agents);
+            self.steps.push(Step::Fire { agent })?;
+        }
+        Ok(())
+    }
+
+    /// Each packet that an agent goes on sending goes to some others.
+    fn plan_sends(&mut self, alloc: Global) -> Result<(), AllocError> {
+        let mut kept = Vec::new(alloc);
+        for at in 0..self.rumors.len() {
+            let Some(rumor) = self.rumors.get(at) else {
+                break;
+            };
+            let rumor = *rumor;
+            let sent = self.plan_rumor(alloc, rumor)?;
+            let left = rumor.left.saturating_sub(sent);
+            if left > 0 {
+                kept.push(Rumor { left, ..rumor })?;
+            }
+        }
+        self.rumors = kept;
+        Ok(())
+    }
+
+    /// Sends a packet to some others, of which each gets it unless it is lost; how often it was sent.
+    fn plan_rumor(&mut self, alloc: Global, rumor: Rumor) -> Result<u64, AllocError> {
+        let most = self.fanout.min(rumor.left);
+        let targets = others(alloc, &mut self.dice, self.agents, rumor.agent, most)?;
+        for target in &targets {
+            if self.dice.below(100) >= self.loss {
+                self.steps.push(Step::Deliver {
+                    agent: *target,
+                    packet: rumor.packet,
+                })?;
+            }
+        }
+        Ok(targets.len() as u64)
+    }
+
+    /// Two agents send each other their states.
+    fn plan_exchange(&mut self) -> Result<(), AllocError> {
+        let one = self.dice.below(self.agents);
+        let other = other_than(&mut self.dice, self.agents, one);
+        self.steps.push(Step::State { agent: one })?;
+        self.steps.push(Step::State { agent: other })?;
+        self.steps.push(Step::Merge {
+            agent: other,
+            back: 2,
+        })?;
+        self.steps.push(Step::Merge {
+            agent: one,
+            back: 1,
+        })?;
+        Ok(())
+    }
+
+    fn action_of(&mut self, alloc: Global, step: Step) -> Result<Action, AllocError> {
+        match step {
+            Step::Fire { agent } => self.fire(alloc, agent),
+            Step::Deliver { agent, packet } => Ok(Action::Of {
+                agent,
+                act: Act::Deliver {
+                    packet,
+                    now: self.round.saturating_mul(ROUND),
+                },
+            }),
+            Step::State { agent } => Ok(Action::Of {
+                agent,
+                act: Act::State,
+            }),
+            Step::Merge { agent, back } => Ok(Action::Of {
+                agent,
+                act: Act::Merge {
+                    packet: (self.world.sent().len() as u64).saturating_sub(back),
+                    join: false,
+                },
+            }),
+        }
+    }
+
+    /// The next event: its payload is its number, so that no two are the same.
+    fn fire(&mut self, alloc: Global, agent: u64) -> Result<Action, AllocError> {
+        self.fired = self.fired.saturating_add(1);
+        let mut payload = Vec::new(alloc);
+        put_number(&mut payload, self.fired)?;
+        let act = Act::Fire {
+            name: Bytes::copy_of(alloc, b"deploy")?,
+            payload: Bytes::from_vec(payload),
+            coalesce: false,
+        };
+        Ok(Action::Of { agent, act })
+    }
+
+    /// What an agent fired, or got for the first time, it goes on sending from the next round on.
+    fn note(&mut self, action: &Action, line: &Line) -> Result<(), AllocError> {
+        let Action::Of { agent, .. } = action else {
+            return Ok(());
+        };
+        match line.answer {
+            Answer::Fired(_) | Answer::New => {}
+            _ => return Ok(()),
+        }
+        let Some(packet) = line.sent.as_slice().first() else {
+            return Ok(());
+        };
+        self.rumors.push(Rumor {
+            agent: *agent,
+            packet: *packet,
+            left: self.sends,
+        })?;
+        Ok(())
+    }
+}

@@ -1,0 +1,96 @@
+#!/usr/bin/env python3
+"""coverage.py [--every NANOSECONDS] [SCHEDULE [PROGRAM]]: how far the run of a schedule has come at each mark, as CSV.
+
+The schedule is read from standard input where it is left out, or is `-`. A mark is a comment of it, a line `# mark TEXT`, so `serf-replay` passes over it. With --every there is a mark too
+before the first `deliver` of each span of so many nanoseconds: 200000000 is a round of `serf-replay random --kind rounds`.
+
+A row has what was done before its mark: actions, hand-outs, the events that some agent was handed, how many of these each
+agent was handed, and how many packets were ignored for each reason. The last row, `end`, has the whole run.
+"""
+
+import argparse
+import csv
+import subprocess
+import sys
+import tempfile
+
+REASONS = (
+    *("Oversize", "BelowMinimum", "TooOld", "Seen", "TimeFull"),
+    *("NotOpen", "OtherId", "Closed", "AckNotAsked", "AckTwice", "ResponseTwice"),
+)
+
+
+def marks_of(schedule, every):
+    """How many agents a schedule has, and its marks: before how many actions each stands, and its text."""
+    agents, actions, span, marks = 0, 0, -1, []
+    for line in schedule.decode(errors="replace").split("\n"):
+        words = line.split()
+        if line.startswith("# mark "):
+            marks.append((actions, line.removeprefix("# mark ").strip()))
+        if not words or line.startswith("#"):
+            continue
+        if words[0] == "agent":
+            agents += 1
+            continue
+        if every and words[0] == "deliver" and int(words[3]) // every > span:
+            span = int(words[3]) // every
+            marks.append((actions, str(span * every)))
+        actions += 1
+    return agents, [*marks, (actions, "end")]
+
+
+def read(path):
+    """The bytes of a schedule in a file, or on standard input."""
+    if path == "-":
+        return sys.stdin.buffer.read()
+    with open(path, "rb") as file:
+        return file.read()
+
+
+class Run:
+    """What a trace has shown so far."""
+
+    def __init__(self, agents):
+        self.agents = agents
+        self.handed = {}
+        self.ignored = dict.fromkeys(REASONS, 0)
+
+    def take(self, words):
+        if words[1] == "event":
+            self.handed.setdefault(tuple(words[3:6]), set()).add(words[2])
+        elif words[1] == "ignored":
+            self.ignored[words[2]] += 1
+
+    def row(self, mark, actions):
+        everywhere = sum(len(had) == self.agents for had in self.handed.values())
+        return [mark, actions, sum(map(len, self.handed.values())), len(self.handed), everywhere, *self.ignored.values()]
+
+
+def main():
+    parser = argparse.ArgumentParser(description=__doc__, formatter_class=argparse.RawDescriptionHelpFormatter)
+    parser.add_argument("--every", type=int, metavar="NANOSECONDS")
+    parser.add_argument("schedule", nargs="?", default="-")
+    parser.add_argument("program", nargs="?", default="serf-replay")
+    asked = parser.parse_args()
+    schedule = read(asked.schedule)
+    agents, marks = marks_of(schedule, asked.every)
+    out, run = csv.writer(sys.stdout, lineterminator="\n"), Run(agents)
+    out.writerow(["mark", "actions", "handed_out", "events", "everywhere", *REASONS])
+    with tempfile.TemporaryFile() as given:
+        # (a file, so that nobody waits for somebody else)
+        given.write(schedule)
+        given.seek(0)
+        with subprocess.Popen([asked.program, "replay", "--stream"], stdin=given, stdout=subprocess.PIPE, text=True) as replay:
+            for line in replay.stdout:
+                words = line.split()
+                while marks and marks[0][0] < int(words[0]):
+                    out.writerow(run.row(marks[0][1], marks[0][0]))
+                    del marks[0]
+                run.take(words)
+    if replay.returncode == 0:
+        out.writerows(run.row(text, actions) for actions, text in marks)
+    return replay.returncode
+
+
+if __name__ == "__main__":
+    sys.exit(main())
