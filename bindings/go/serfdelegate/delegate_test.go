@@ -128,6 +128,45 @@ func TestBytesThatWaitAreBounded(t *testing.T) {
 	}
 }
 
+// Behind the end firings are refused, and none of them is kept.
+func TestFiringsBehindTheEndAreNotKept(t *testing.T) {
+	t.Parallel()
+	d := start(t, &fake{}, Handlers{})
+	d.Shutdown()
+	for i := 0; i < 1000; i++ {
+		if _, err := d.Fire("x", nil, false); err != ErrShutdown {
+			t.Fatal(err)
+		}
+	}
+	if count := len(d.firings.waiting); count != 0 {
+		t.Errorf("%d firings wait", count)
+	}
+}
+
+// A leave that lasts longer than its context goes on behind a shutdown, and ends there.
+func TestALeaveBehindAShutdownEnds(t *testing.T) {
+	t.Parallel()
+	d := start(t, &fake{}, Handlers{})
+	d.Shutdown()
+	if err := d.leaveList(); err != ErrShutdown {
+		t.Error(err)
+	}
+}
+
+// The network brings the same fault about again and again, and the handler is stuck: so much of it is told, and no more waits.
+func TestFaultsOfTheNetworkAreBounded(t *testing.T) {
+	t.Parallel()
+	stuck := make(chan struct{})
+	d := start(t, &fake{}, Handlers{Fault: func(error) { <-stuck }})
+	t.Cleanup(func() { close(stuck) })
+	for i := 0; i < 3*Waiting; i++ {
+		d.trouble(serfagent.Exhausted)
+	}
+	if count := d.work.size(); count > Waiting {
+		t.Errorf("%d faults wait", count)
+	}
+}
+
 func TestTheBroadcastQueueIsBounded(t *testing.T) {
 	t.Parallel()
 	told := &heard{}

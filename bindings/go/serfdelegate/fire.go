@@ -40,6 +40,18 @@ func (f *firings) add(one *firing) {
 	f.waiting = append(f.waiting, one)
 }
 
+// remove takes one of them away, where it waits still.
+func (f *firings) remove(one *firing) {
+	f.mu.Lock()
+	defer f.mu.Unlock()
+	for at, other := range f.waiting {
+		if other == one {
+			f.waiting = append(f.waiting[:at], f.waiting[at+1:]...)
+			return
+		}
+	}
+}
+
 // first takes the first of them, so many at most.
 func (f *firings) first(count int) []*firing {
 	f.mu.Lock()
@@ -64,6 +76,7 @@ func (d *Delegate) Fire(name string, payload []byte, coalesce bool) (uint64, err
 	for !one.isDone.Load() {
 		// (another's burst may have it in, and then this is a look)
 		if err := d.takeBurst(one); err != nil && !one.isDone.Load() {
+			d.firings.remove(one)
 			return 0, err
 		}
 	}

@@ -53,18 +53,32 @@ func (d *Delegate) leave(ctx context.Context) error {
 		return err
 	}
 	if isAlone {
-		return d.List().Leave(leaveLimit)
+		return d.leaveList()
 	}
 	if err := waited(ctx, sent); err != nil {
 		return err
 	}
-	if err := d.List().Leave(leaveLimit); err != nil {
+	if err := d.leaveList(); err != nil {
 		return err
 	}
 	spread := make(chan struct{})
 	timer := time.AfterFunc(leaveSpread, func() { close(spread) })
 	defer timer.Stop()
 	return waited(ctx, spread)
+}
+
+// leaveList has memberlist leave. It is ErrShutdown where the delegate was shut down meanwhile: memberlist panics there.
+func (d *Delegate) leaveList() (err error) {
+	defer func() {
+		switch value := recover(); value {
+		case nil:
+		case "leave after shutdown":
+			err = ErrShutdown
+		default:
+			panic(value)
+		}
+	}()
+	return d.List().Leave(leaveLimit)
 }
 
 // waited waits until this is closed.
@@ -133,9 +147,10 @@ func (d *Delegate) keepMembers() {
 	}
 }
 
-// trouble tells of a fault, but of none of an agent that is closed or shut down, which is told elsewhere.
+// trouble tells of a fault that the network may bring about as often as it likes, unless too many handlers wait; but of none of
+// an agent that is closed or shut down, which is told elsewhere.
 func (d *Delegate) trouble(err error) {
-	if err != ErrShutdown && !isClosed(err) {
+	if err != ErrShutdown && !isClosed(err) && !d.work.isFull() {
 		d.fault(err)
 	}
 }
