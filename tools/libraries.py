@@ -66,8 +66,3 @@ def fault_of(crates):
         if not is_of_ci(below):
             return f"the library of {below.name} is not what rt ci made of the sources as they are"
     return None
-
-
-def sum_below(crate):
-    """A sum of the bytes of the libraries below a crate."""
-    return hashlib.sha256("".join(f"{below.name} {bytes_of(below)}\n" for below in crate.below()).encode()).hexdigest()
