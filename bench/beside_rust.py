@@ -3,6 +3,9 @@
 Both run by turns over the same schedule, and have to write the same trace. A line a schedule: the least time of both in
 nanoseconds an action, the start of the process included, and how many times the other the program took. `rustc` is
 wanted.
+
+Then merges of a state whose events were all seen, in microseconds each: by the program, the difference of a schedule with
+them and of one without; and by `same_duties/merge.rs`, on the same state, in its own process.
 """
 
 import os
@@ -23,6 +26,19 @@ SCHEDULES = {
     "firings, each delivered once": ("run", 200_000),
     "events of ever newer times": ("newer_times", 200_000),
 }
+
+
+# How many merges there are, by the events of one time in each of the 512 slots.
+MERGES = {1: 4000, 32: 200}
+
+
+def filling(per_time):
+    """Two agents, of which one has taken in the events of 512 times and tells its state."""
+    yield "".join(f"agent {0x61 + n:02x} 512 512 512 8 keep\n" for n in range(2))
+    for n in range(512 * per_time):
+        packet = schedules.event(1 + n // per_time, b"v%d" % (n % per_time))
+        yield f"inject {packet.hex()}\ndeliver 0 {2 * n} 0\n"
+    yield "state 0\n"
 
 
 def run(words):
@@ -46,19 +62,55 @@ def least(commands):
     return map(min, times)
 
 
+def built(work, name):
+    """A program of `same_duties`, compiled."""
+    path = os.path.join(work, name)
+    source = os.path.join(BENCH, "same_duties", f"{name}.rs")
+    subprocess.run(["rustc", "--edition", "2021", "-O", "-C", "codegen-units=1", "-o", path, source], check=True)
+    return path
+
+
+def write(work, name, lines):
+    path = os.path.join(work, name)
+    with open(path, "w", encoding="utf-8") as file:
+        file.writelines(lines)
+    return path
+
+
+def state_of(program, schedule):
+    """The packet, in hex, that the last line of a run's trace which tells of one says."""
+    trace = subprocess.run([program, "replay", schedule], stdout=subprocess.PIPE, check=True).stdout.decode()
+    return [line.split()[3] for line in trace.splitlines() if " sent " in line][-1]
+
+
+def compare_merges(program, work, per_time, count):
+    """The microseconds of a merge by the program and in plain Rust: the least of each, by turns."""
+    lines = list(filling(per_time))
+    before = write(work, "before", lines)
+    after = write(work, "after", [*lines, f"merge 1 {1024 * per_time} sync\n" * (count + 1)])
+    once = write(work, "once", [*lines, f"merge 1 {1024 * per_time} sync\n"])
+    plain = [built(work, "merge"), str(count), write(work, "packet", [state_of(program, before)])]
+    with_all, with_one, theirs = [], [], []
+    for _ in range(ROUNDS):
+        with_all.append(run([program, "replay", after])[0])
+        with_one.append(run([program, "replay", once])[0])
+        theirs.append(int(run(plain)[1].split()[0]))
+    return (min(with_all) - min(with_one)) / count / 1000, min(theirs) / 1000
+
+
 def main():
     program = os.path.abspath(sys.argv[1])
     with tempfile.TemporaryDirectory() as work:
-        plain = os.path.join(work, "same_duties")
-        subprocess.run(["rustc", "--edition", "2021", "-O", "-C", "codegen-units=1", "-o", plain, os.path.join(BENCH, "same_duties", "main.rs")], check=True)
+        plain = built(work, "main")
         for name, (kind, size) in SCHEDULES.items():
             lines = list(schedules.KINDS[kind](size))
-            schedule = os.path.join(work, "schedule")
-            with open(schedule, "w", encoding="utf-8") as file:
-                file.writelines(lines)
+            schedule = write(work, "schedule", lines)
             actions = sum(not line.startswith("agent") for line in lines)
             ours, theirs = least([[program, "replay", schedule], [plain, schedule]])
             print(f"{name}: {ours / actions:.0f} ns an action, plain Rust {theirs / actions:.0f}: {ours / theirs:.2f} times", flush=True)
+        for per_time, count in MERGES.items():
+            ours, theirs = compare_merges(program, work, per_time, count)
+            print(f"a merge of 512 slots that were seen, {per_time} events of a time: {ours:.1f} microseconds, plain Rust {theirs:.1f}: {ours / theirs:.2f} times", flush=True)
 
 
 main()

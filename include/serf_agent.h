@@ -3,11 +3,11 @@
    The library holds no file and no socket. A call answers a code, and what it gave is then read by the getters:
    bytes for the host's file, events and a query for the host's handlers, and packets to send.
 
-   1. A call that writes (open, fire, query, receive, merge, save_member_clock, compact, burst_receive, burst_fire,
-      burst_query) may leave bytes for the file: serf_agent_unwritten tells them. The host appends them to its file and
-      flushes it (fdatasync); where they replace the file it writes them beside it, flushes, and renames. Then it calls
-      serf_agent_written.
-   2. Until then all other calls but serf_agent_unwritten, gave, close, outcomes and the four serf_agent_burst_.. answer
+   1. A call that writes (open, fire, query, receive, receive_tagged, merge, save_member_clock, compact, burst_receive,
+      burst_receive_tagged, burst_fire, burst_query) may leave bytes for the file: serf_agent_unwritten gives them. The
+      host appends them to its file and flushes it (fdatasync); where they replace the file it writes them beside it,
+      flushes, and renames. Then it calls serf_agent_written.
+   2. Until then all other calls but serf_agent_unwritten, gave, close, outcomes and the five serf_agent_burst_.. answer
       SERF_AGENT_UNWRITTEN, so nothing is handed out whose line isn't durable.
    3. A host whose file failed closes the handle, and opens anew from what the file holds.
 
@@ -18,7 +18,7 @@
    - the text that open is given is what the file holds, and no other agent has the file;
    - moments ("now") are nanoseconds of one clock that doesn't go back.
 
-   Bytes are read by copying: a getter copies as much as fits into the host's memory and tells the whole length, so a call
+   Bytes are read by copying: a getter copies as much as fits into the host's memory and says the whole length, so a call
    with a room of 0 asks for the length. */
 #ifndef SERF_AGENT_H
 #define SERF_AGENT_H
@@ -210,6 +210,12 @@ struct serf_agent_member {
     bool left; /* it is named among those that left; else with its status time */
 };
 
+/* How many filters a query has. */
+struct serf_agent_filters {
+    size_t filters;
+    size_t filters_len; /* how long they are together */
+};
+
 /* A query of this agent's own that close_due closed. */
 struct serf_agent_closed {
     uint64_t time;
@@ -254,8 +260,13 @@ uint32_t serf_agent_written(struct serf_agent *handle);
 /* Fires an event: it is handed out here (serf_agent_event, number 0), and its packet is to be broadcast. */
 uint32_t serf_agent_fire(struct serf_agent *handle, const uint8_t *name, size_t name_len, const uint8_t *payload,
                          size_t payload_len, bool coalesce);
-/* Takes a packet of the network; serf_agent_gave says what came of it. */
+/* Takes a packet of the network; serf_agent_gave says what came of it. A query that has a tag filter is not handed out. */
 uint32_t serf_agent_receive(struct serf_agent *handle, uint64_t now, const uint8_t *packet, size_t packet_len);
+/* The same, where the host says whether its tags pass every tag filter of the packet's query (serf_agent_query_filters): then
+   the query is handed out where its other filters let this node pass. The agent knows no tags. A tag filter is one whose first
+   byte is 1; the host says true only where it could read each of them and each passes. */
+uint32_t serf_agent_receive_tagged(struct serf_agent *handle, uint64_t now, const uint8_t *packet, size_t packet_len,
+                                   bool tags_pass);
 /* Merges another agent's whole state. Where it ends with SERF_AGENT_OUT_OF_MEMORY it gives the events that it took before, if
    it was begun: the host writes their lines and hands them out, as ever. Made again it gives the others alone. */
 uint32_t serf_agent_merge(struct serf_agent *handle, const uint8_t *packet, size_t packet_len, bool is_join);
@@ -277,11 +288,11 @@ uint32_t serf_agent_add_filter(struct serf_agent *handle, const uint8_t *filter,
 uint32_t serf_agent_respond(struct serf_agent *handle, uint64_t now, uint64_t number, const uint8_t *payload,
                             size_t payload_len);
 /* Closes the open queries whose deadline is before a moment, and says how many they were; serf_agent_closed and the getters
-   behind it tell of each until the next call. Want of memory closes none. */
+   after it say what each was until the next call. Want of memory closes none. */
 uint32_t serf_agent_close_due(struct serf_agent *handle, uint64_t now, size_t *closed);
 /* Observes the time of a member's word or status: the member clock is later than it from then on. SERF_AGENT_EXHAUSTED where
-   it is 2^64 - 1, which is none. What the last call gave stays. For a word of its own node a host takes the member clock
-   (clocks), observes it, and saves it; once that is written the time is its word's, and no later life takes it again. */
+   it is 2^64 - 1, which is no time. What the last call gave stays. For a join or a leave intent of its own node a host takes
+   the member clock (clocks), observes it, and saves it. Once that is written, no later life takes this time again. */
 uint32_t serf_agent_observe_member(struct serf_agent *handle, uint64_t time);
 /* Notes the member clock, so that a restart goes on from there. */
 uint32_t serf_agent_save_member_clock(struct serf_agent *handle);
@@ -291,15 +302,17 @@ uint32_t serf_agent_compact(struct serf_agent *handle);
 /* Bursts: many packets, and one flush
 
    The calls of a burst are made one after another, without a flush between them. Each is what the call of its name is alone,
-   and answers the same code; but what it gave waits, behind what the calls before it gave. The host then brings the lines of
+   and answers the same code; but what it gave waits, after what the calls before it gave. The host then brings the lines of
    all of them to its file at once (serf_agent_unwritten, one flush, serf_agent_written), and goes through the outcomes by
    serf_agent_next, in the order of the calls. A call that is refused has an outcome too, unless it ran out of memory: then
    nothing was done, and the outcomes before it wait on.
 
-   A burst is begun by its first call, behind any other call; what that one gave stays until serf_agent_next or another call.
+   A burst is begun by its first call, after any other call; what that one gave stays until serf_agent_next or another call.
    Other calls may be made while outcomes wait, once the host's file has the lines. */
 
 uint32_t serf_agent_burst_receive(struct serf_agent *handle, uint64_t now, const uint8_t *packet, size_t packet_len);
+uint32_t serf_agent_burst_receive_tagged(struct serf_agent *handle, uint64_t now, const uint8_t *packet, size_t packet_len,
+                                         bool tags_pass);
 uint32_t serf_agent_burst_fire(struct serf_agent *handle, const uint8_t *name, size_t name_len, const uint8_t *payload,
                                size_t payload_len, bool coalesce);
 /* Fires a query with the filters that serf_agent_burst_filter or serf_agent_add_filter gave since the last that was tried; it
@@ -343,10 +356,15 @@ uint32_t serf_agent_join_packet(uint64_t time, const uint8_t *node, size_t node_
 uint32_t serf_agent_leave_packet(uint64_t time, const uint8_t *node, size_t node_len, bool prune, size_t *len, uint8_t *to,
                                  size_t room);
 /* What a push/pull's packet says of members: how many it names; as many of them as fit, those with a status time first and
-   then those that left, each in the packet's order; and as much of their names as fits, one behind the other in the same
+   then those that left, each in the packet's order; and as much of their names as fits, one after the other in the same
    order. SERF_AGENT_NOTHING where the packet is no push/pull, and SERF_AGENT_OUT_OF_MEMORY. It needs no handle. */
 uint32_t serf_agent_state_members(const uint8_t *packet, size_t packet_len, struct serf_agent_members *all,
                                   struct serf_agent_member *members, size_t members_room, uint8_t *names, size_t names_room);
+/* The filters that a query's packet has, in its order: how many they are; the length of as many of them as fit; and as much of
+   their bytes, one behind the other, as fits. SERF_AGENT_NOTHING where the packet is no query, and SERF_AGENT_OUT_OF_MEMORY. It
+   needs no handle. */
+uint32_t serf_agent_query_filters(const uint8_t *packet, size_t packet_len, struct serf_agent_filters *all, size_t *lens,
+                                  size_t lens_room, uint8_t *filters, size_t filters_room);
 /* The time of the query that the last call fired (query). */
 uint32_t serf_agent_asked_time(struct serf_agent *handle, uint64_t *time);
 /* The packet that the last call gave to send (fire, query, local_state, respond): its length, and as much of it as fits. */

@@ -154,6 +154,12 @@ def fault_of_host(to, source, library=LIBRARY, more=()):
     return said[-2000:] or f"{cc} failed" if status else None
 
 
+def go_flags(library):
+    """What Go is told of a library's folder, as variables of the environment: nothing of that one which the module finds by
+    itself. A flag for all packages has Go compile its own anew, for each folder."""
+    return {} if os.path.realpath(library) == os.path.realpath(LIBRARY) else {"CGO_LDFLAGS": f"-L{os.path.dirname(library)}"}
+
+
 def fault_of_shared(to, library=LIBRARY):
     """Makes the shared library for other languages, as bindings/c does: a file of the name libserf_agent.so. What went wrong,
     or None."""

@@ -4,10 +4,14 @@ import contextlib
 import os
 import shutil
 import subprocess
+import sys
 import tempfile
 
 TOP = os.path.dirname(os.path.dirname(os.path.abspath(__file__)))
 CRATES = os.path.join(TOP, "crates")
+
+# What compiles a crate without a proof and runs it, as `rt try` does.
+TRY = [sys.executable, os.path.join(TOP, "tools", "toolchain.py"), "try"]
 
 
 def lines_below(uses):
@@ -53,5 +57,5 @@ def write(source, name, text):
 
 def tried(source, *words):
     """Compiles a crate without a proof and runs its tests, each in a process of its own: the status, and what was said."""
-    ran = subprocess.run(["rt", "try", "--test", "--seconds", "600", *words], cwd=os.path.dirname(source), stdin=subprocess.DEVNULL, stdout=subprocess.PIPE, stderr=subprocess.STDOUT, timeout=3600)
+    ran = subprocess.run([*TRY, "--test", "--seconds", "600", *words], cwd=os.path.dirname(source), stdin=subprocess.DEVNULL, stdout=subprocess.PIPE, stderr=subprocess.STDOUT, timeout=3600)
     return ran.returncode, ran.stdout.decode("utf-8", "replace")

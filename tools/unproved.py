@@ -52,7 +52,8 @@ def running_in(room):
 def taken_from(room, ran, to):
     """Takes the program out of a trial run, and gives the words that start it there."""
     while ran.poll() is None:
-        words = running_in(room)
+        # (the processes are looked at once there is a program: that takes longer)
+        words = running_in(room) if glob.glob(os.path.join(room, "*", "*", "program")) else None
         if words:
             try:
                 shutil.copyfile(words[-1], to)
@@ -67,7 +68,8 @@ def compiled(crate, folder):
     """Compiles a crate's program into a folder: the program, and the command that starts it."""
     with tempfile.TemporaryDirectory(prefix="unproved-", ignore_cleanup_errors=True) as room:
         said = open(os.path.join(room, "said"), "w+", encoding="utf-8", errors="replace")
-        words = ["rt", "try", "--", *WORDS.get(crate, [])]
+        # (one step of the interpreter, which can't run a program that reads its words)
+        words = [sys.executable, os.path.join(TOP, "tools", "toolchain.py"), "try", "--steps", "1", "--", *WORDS.get(crate, [])]
         where = {"cwd": os.path.join(TOP, "crates", crate), "env": {**os.environ, "TMPDIR": room}}
         with said, subprocess.Popen(words, stdin=subprocess.DEVNULL, stdout=subprocess.DEVNULL, stderr=said, **where) as ran:
             try:

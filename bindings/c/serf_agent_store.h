@@ -66,11 +66,12 @@ enum serf_agent_store_fault serf_agent_store_append(struct serf_agent_store *sto
 /* Replaces all of the file by these bytes, on the disk. */
 enum serf_agent_store_fault serf_agent_store_replace(struct serf_agent_store *store, const uint8_t *bytes, size_t len);
 
-/* Brings to the file what the agent's last call left for it, or all calls of a burst, and tells the agent so; after each call
- * that writes, or once behind the calls of a burst, before the host acts on anything else of it. After a fault the agent is closed: a host opens the store and the agent again. */
+/* Brings to the file what the agent's last call left for it, or all calls of a burst, and tells the agent so. A host calls it
+ * after each call that writes, or once after the calls of a burst, before it acts on anything that they gave. After a fault the
+ * agent is closed: a host opens the store and the agent again. */
 enum serf_agent_store_fault serf_agent_store_settle(struct serf_agent_store *store, struct serf_agent *agent);
 
-/* Gives the lock free and closes. A store that isn't open stays so. */
+/* Frees the lock and closes. A store that isn't open stays so. */
 void serf_agent_store_close(struct serf_agent_store *store);
 
 /* A fault in words, such as "another agent has the file". */

@@ -67,7 +67,8 @@ def build(folder, library):
     os.makedirs(own)
     os.symlink(os.path.join(TOP, "bindings", "go"), os.path.join(own, "kitchenrue.example"))
     path = os.path.join(folder, "node")
-    env = dict(os.environ, GO111MODULE="off", GOFLAGS="", GOPATH=f"{os.path.dirname(own)}:{kit.GOCODE}", CGO_LDFLAGS=f"-L{library}")
+    flags = c_library.go_flags(os.path.join(library, os.path.basename(c_library.LIBRARY)))
+    env = dict(os.environ, GO111MODULE="off", GOFLAGS="", GOPATH=f"{os.path.dirname(own)}:{kit.GOCODE}", **flags)
     status, said = c_library.ran(["go", "build", "-o", path, "kitchenrue.example/beside_serf/node"], env=env)
     return path, said[-2000:] if status else None
 

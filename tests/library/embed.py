@@ -31,6 +31,7 @@ sys.path[:0] = [os.path.join(TOP, "tests", "library", part) for part in ("embed"
 import bursts
 import declarations
 import host_lines
+import races
 import starved
 import stores
 
@@ -89,9 +90,9 @@ def counted(count, name, words, **more):
         print("".join(line + "\n" for line in said.split("\n") if line.startswith("FAILED")), end="")
 
 
-def counted_tests(count, name, line, words, **more):
+def counted_tests(count, name, line, words, ran=c_library.ran, **more):
     """Runs the tests of a language; `line` finds each test's name and end."""
-    status, said = c_library.ran(words, **more)
+    status, said = ran(words, **more)
     found = list(re.finditer(line, said, re.M))
     for one in found:
         count.check(f"{name}: {one['name']}", one["end"].lower() in ("pass", "ok"), said[-2000:])
@@ -236,21 +237,15 @@ def in_rust(count, places):
 def in_go(count, places):
     if shutil.which("go") is None:
         raise NotRun("go is not on PATH")
-    env = dict(
-        os.environ,
-        CGO_LDFLAGS=f"-L{os.path.dirname(places.library)}",
-        GOFLAGS="-mod=mod",
-        GOPROXY="off",
-        GO111MODULE="on",
-        GOCACHE=places.of("go_cache"),
-    )
+    # (with -trimpath, as agent/test: what one of them has compiled for the race detector, the other takes from Go's cache)
+    env = dict(os.environ, GOFLAGS="-mod=mod -trimpath", GOPROXY="off", GO111MODULE="on", **c_library.go_flags(places.library))
     more = {"env": env, "cwd": os.path.join(BINDINGS, "go")}
     programs_in_go = {"store_driver": places.library, "example": places.library, "burst_driver": places.library}
     programs_in_go |= {"starved_driver": places.starved, "starved_bursts": places.starved}
     for name, library in programs_in_go.items():
-        env["CGO_LDFLAGS"] = f"-L{os.path.dirname(library)}"
+        own = {"env": {**env, **c_library.go_flags(library)}, "cwd": more["cwd"]}
         source = "burst_driver" if name == "starved_bursts" else name
-        status, said = c_library.ran(["go", "build", "-o", places.of(f"go_{name}"), f"./{source}"], **more)
+        status, said = c_library.ran(["go", "build", "-o", places.of(f"go_{name}"), f"./{source}"], **own)
         count.check(f"Go: {name} builds", status == 0, said[-2000:])
         if status:
             return
@@ -259,7 +254,6 @@ def in_go(count, places):
     starved.try_calls(count, "Go", places, [places.of("go_starved_driver")])
     bursts.try_bursts(count, "Go", places, [places.of("go_burst_driver")])
     bursts.try_starved(count, "Go", places, [places.of("go_starved_bursts")])
-    env["CGO_LDFLAGS"] = f"-L{os.path.dirname(places.library)}"
     said = c_library.ran(["gofmt", "-l", "."], cwd=more["cwd"])
     count.check("Go is formatted", said == (0, ""), said)
     more["cwd"] = os.path.join(BINDINGS, "go", "serfagent")
@@ -279,6 +273,7 @@ def tests_in_go(count, name, package, more):
         f"Go's tests of {name}",
         r"^--- (?P<end>PASS|FAIL): (?P<name>\S+)",
         ["go", "test", "-v", "-count=1", *race, package],
+        races.ran,
         **more,
     )
 
@@ -291,7 +286,8 @@ def delegate_in_go(count, places, env):
     own = places.fresh("go")
     os.mkdir(os.path.join(own, "src"))
     os.symlink(os.path.join(BINDINGS, "go"), os.path.join(own, "src", "kitchenrue.example"))
-    env = dict(env, GO111MODULE="off", GOFLAGS="", GOPATH=f"{own}:{GO_CODE}")
+    env = dict(env, GO111MODULE="off", GOFLAGS="-trimpath", GOPATH=f"{own}:{GO_CODE}")
+    races.try_reports(count)
     tests_in_go(count, "serfdelegate", "kitchenrue.example/serfdelegate", {"env": env})
     lines = os.path.join(own, "src", "lines")
     os.mkdir(lines)

@@ -1,11 +1,12 @@
-"""Wrong bodies of the bindings' stores: two at least of each step, each found by the check that is named of it.
+"""Wrong bodies of the five stores: two at least of each step, each found by the check that is named of it.
 
     tests/library/store_faults.py [--only LANGUAGE] [--library FILE] [--over-ci]
 
 They are planted into a copy of each store (store_faults/planted.py), which the drivers of tests/library/embed run. The
 copy passes every check where none is on. Where one is, the check that is named of it fails. Calls of the system that
-fail are injected by strace. --library and --over-ci are those of tests/library/embed.py. A language that isn't there is
-left out, which is printed.
+fail are injected by strace. Of `FileStore` the wrong bodies are of its file of the system, of which no contract speaks, and
+its driver is compiled without a proof. --library and --over-ci are those of tests/library/embed.py. A language that isn't
+there is left out, which is printed.
 """
 
 import argparse
@@ -23,9 +24,11 @@ LIBRARY = os.path.join(checks.TOP, "tests", "library")
 sys.path[:0] = [os.path.join(LIBRARY, name) for name in ("store_faults", "embed", "power_cuts")]
 import failing
 import faults
+import file_store
 import languages
 import planted
 import stores
+import system_file
 
 BINDINGS = os.path.join(checks.TOP, "bindings")
 EMBED = os.path.join(LIBRARY, "embed")
@@ -99,7 +102,6 @@ def in_go(places):
         GOFLAGS="-mod=mod",
         GOPROXY="off",
         GO111MODULE="on",
-        GOCACHE=places.of("go_cache"),
     )
     built(["go", "build", "-o", path, "./store_driver"], cwd=module, env=env)
     return [path]
@@ -113,16 +115,45 @@ def in_rust(places):
     return [os.path.join(target, "debug", "examples", "store_driver")]
 
 
-# How the driver of each language is built, and the command that has to be there for it.
-LANGUAGES = {"C": (in_c, None), "Python": (in_python, None), "Go": (in_go, "go"), "Rust": (in_rust, "cargo")}
+def in_rattle(places):
+    return system_file.driver(places.of("file_store"))
 
 
-def found(language, places, words, name, fault):
+class Language:
+    """A store: how its driver is built, the command that has to be there for that, and what is tried over it."""
+
+    parts, faults, cases = failing.PARTS, planted.FAULTS, stores.Cases
+
+    def __init__(self, build, command):
+        self.build, self.command = build, command
+
+    def words(self, built, fault):
+        """The words of the driver with this fault on: here the environment says which it is."""
+        return built
+
+
+class OfRattle(Language):
+    parts, faults, cases = system_file.PARTS, planted.FILE_FAULTS, system_file.Cases
+
+    def words(self, built, fault):
+        return [*built, fault]
+
+
+LANGUAGES = {
+    "C": Language(in_c, None),
+    "Python": Language(in_python, None),
+    "Go": Language(in_go, "go"),
+    "Rust": Language(in_rust, "cargo"),
+    "FileStore": OfRattle(in_rattle, "rt"),
+}
+
+
+def found(language, places, built, name, fault):
     """The checks that fail in a fault's part where it is on."""
-    failures = Failures()
+    failures, of = Failures(), LANGUAGES[language]
     os.environ[planted.FAULT_NAME] = name
     try:
-        failing.PARTS[fault.part](stores.Cases(failures, language, places, words))
+        of.parts[fault.part](of.cases(failures, language, places, of.words(built, name)))
     except OSError as error:
         # a file that a part reads isn't there
         failures.names.append(str(error))
@@ -132,18 +163,18 @@ def found(language, places, words, name, fault):
 
 
 def try_language(count, language, places):
-    build, command = LANGUAGES[language]
-    if command and shutil.which(command) is None:
-        print(f"not run: {language}, since {command} isn't on PATH")
+    of = LANGUAGES[language]
+    if of.command and shutil.which(of.command) is None:
+        print(f"not run: {language}, since {of.command} isn't on PATH")
         return
     try:
-        words = build(places)
-    except (NotBuilt, faults.NotThere) as fault:
+        words = of.build(places)
+    except (NotBuilt, faults.NotThere, file_store.NotCompiled) as fault:
         count.check(f"{language}'s store, with wrong bodies, is built", False, fault)
         return
-    for part in failing.PARTS.values():
-        part(stores.Cases(count, language, places, words))
-    for name, fault in planted.FAULTS.items():
+    for part in of.parts.values():
+        part(of.cases(count, language, places, of.words(words, "none")))
+    for name, fault in of.faults.items():
         failed = found(language, places, words, name, fault)
         wanted = f"{language}'s store: {fault.check}"
         said = f"{language}, planted: {fault.what}, is found by {fault.part}, {fault.check}"

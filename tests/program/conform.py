@@ -1,4 +1,4 @@
-"""`conform`: agents that reply as they should, or otherwise, and agents that don't reply at all.
+"""`conform` on schedules: agents that reply as they should, or otherwise, and agents that don't reply at all.
 
     tests/program/conform.py [PROGRAM]
 
@@ -7,221 +7,21 @@ case turns one thing of that. Where conformance/python/agent.py is there, it is 
 docs/CONFORMANCE.md and docs/PIPE.md show of agents is compared with what comes.
 """
 
-import json
 import os
-import re
 import subprocess
 import sys
-import tempfile
 
 sys.dont_write_bytecode = True
 sys.path.insert(0, os.path.dirname(os.path.dirname(os.path.abspath(__file__))))
 import checks
 import pages
 import programs
+import traced_agents
 from piped_agents import LIMIT, PYTHON_AGENT, by_shell, compare, folder_of_reader
+from traced_agents import otherwise, respelled, text_of, turns_of, without_nils
 
 sys.path.insert(0, os.path.dirname(PYTHON_AGENT))
 from serf_agent import switches
-
-# A subject: it reads calls and answers each with the next of its replies, and then ends. `look` is unsupported, or where a
-# file is named for it, answered with the next of that file's replies.
-SUBJECT = """import sys
-replies = open(sys.argv[1], "rb").read().split(b"\\0")
-looks = open(sys.argv[2], "rb").read().split(b"\\0") if len(sys.argv) > 2 else None
-while True:
-    call = sys.stdin.buffer.readline()
-    if call == b"look\\n" and looks is None:
-        reply = b"unsupported\\n\\n"
-    else:
-        given = looks if call == b"look\\n" else replies
-        if not call or not given:
-            sys.exit(0)
-        reply = given.pop(0)
-    sys.stdout.buffer.write(reply)
-    sys.stdout.buffer.flush()
-    if not reply.endswith((b"\\n\\n", b"\\r\\n")):
-        # (half a reply: nothing follows it)
-        sys.exit(0)
-"""
-
-
-# A subject that has a clock of 2 behind `open`, and ends at the second one.
-ENDS = """import sys
-call = sys.stdin.readline()
-sys.stdout.write("opened 1 1 2\\n\\n")
-sys.stdout.flush()
-sys.stdin.readline()
-"""
-
-# Passes each call on, a little later, or as many as it is told.
-DELAY = """import sys, time
-for number, line in enumerate(sys.stdin.buffer):
-    if [str(number)] == sys.argv[1:]:
-        break
-    time.sleep(0.015)
-    sys.stdout.buffer.write(line)
-    sys.stdout.buffer.flush()
-"""
-
-# Runs the program with a terminal as its standard error, and passes on what this shows.
-ON_A_TERMINAL = """import os, pty, subprocess, sys
-ours, theirs = pty.openpty()
-ran = subprocess.Popen(sys.argv[1:], stderr=theirs)
-os.close(theirs)
-try:
-    while some := os.read(ours, 1000):
-        os.write(2, some)
-except OSError:
-    pass
-sys.exit(ran.wait())
-"""
-
-
-class Packet:
-    """A reader of a packet's MessagePack value, and a writer that spells it otherwise."""
-
-    def __init__(self, packet):
-        self.bytes, self.at = packet, 1
-
-    def take(self, count):
-        self.at += count
-        return self.bytes[self.at - count:self.at]
-
-    def number(self, count):
-        return int.from_bytes(self.take(count), "big")
-
-    def value(self):
-        head = self.number(1)
-        if head < 0x80:
-            return head
-        if head < 0x90:
-            return {bytes(self.value()): self.value() for _ in range(head & 15)}
-        if head < 0xa0:
-            return [self.value() for _ in range(head & 15)]
-        if head < 0xc0:
-            return self.take(head & 31)
-        if head in (0xc0, 0xc2, 0xc3):
-            return {0xc0: None, 0xc2: False, 0xc3: True}[head]
-        if 0xcc <= head <= 0xcf:
-            return self.number(1 << (head - 0xcc))
-        if head in (0xda, 0xdb):
-            return self.take(self.number(2 << (head - 0xda)))
-        raise ValueError(head)
-
-
-def spell(value):
-    """A value with wide numbers, and a map's fields the other way round."""
-    if value is None:
-        return b"\xc0"
-    if isinstance(value, bool):
-        return b"\xc3" if value else b"\xc2"
-    if isinstance(value, int):
-        return b"\xcf" + value.to_bytes(8, "big")
-    if isinstance(value, bytes):
-        return b"\xc6" + len(value).to_bytes(4, "big") + value
-    if isinstance(value, list):
-        return b"\xdd" + len(value).to_bytes(4, "big") + b"".join(map(spell, value))
-    return b"\xdf" + len(value).to_bytes(4, "big") + b"".join(spell(k) + spell(v) for k, v in reversed(value.items()))
-
-
-def respelled(packet):
-    return packet[:1] + spell(Packet(packet).value())
-
-
-def without_nils(packet):
-    """A state with an empty slot more behind its others."""
-    value = Packet(packet).value()
-    value[b"Events"] = value[b"Events"] + [None]
-    return packet[:1] + spell(value)
-
-
-def hexed(text):
-    return text.hex() or "-"
-
-
-class Turn:
-    """What a call is replied: its lines, and the packet that it gave."""
-
-    def __init__(self, lines, given):
-        self.lines, self.given = lines, given
-
-    def text(self, change=lambda packet, given: packet):
-        out = []
-        for line in self.lines:
-            if line.startswith("sent "):
-                packet = change(bytes.fromhex(line[5:]), self.given)
-                line = "sent " + packet.hex()
-            out.append(line)
-        return ("\n".join(out) + "\n\n").encode()
-
-
-def turns_of(path):
-    """The turns of each agent of a schedule, by its trace."""
-    schedule, trace = checks.text_of(path + ".schedule"), checks.text_of(path + ".trace")
-    actions = [line.split() for line in schedule.split("\n") if line.split() and line[0] != "#"]
-    agents = sum(1 for words in actions if words[0] == "agent")
-    shown = {}
-    for line in trace.split("\n")[:-1]:
-        number, text = line.split(" ", 1)
-        shown.setdefault(int(number), []).append(text)
-    turns, sent = [[Turn(["opened 1 1 1"], None)] for _ in range(agents)], []
-    for number, words in enumerate(actions[agents:], 1):
-        answer, *rest = shown[number]
-        given = None
-        if words[0] in ("deliver", "merge"):
-            given = sent[int(words[2])] if int(words[2]) < len(sent) else None
-        lines = [answer]
-        if answer in ("ack", "response"):
-            value = Packet(given).value()
-            line = f"counted {answer} {value[b'LTime']} {value[b'ID']} {hexed(value[b'From'])}"
-            lines.append(line + (f" {hexed(value[b'Payload'])}" if answer == "response" else ""))
-        for line in rest:
-            kind, *parts = line.split()
-            if kind == "sent":
-                sent.append(bytes.fromhex(parts[1]) if parts[1] != "-" else b"")
-            lines.append(" ".join([kind] + parts[1:]))
-        if words[0] == "inject" or (words[0] in ("deliver", "merge") and given is None):
-            continue
-        if int(words[1]) < agents:
-            turns[int(words[1])].append(Turn(lines, given))
-    return turns
-
-
-class Cases:
-    def __init__(self, folder, count):
-        self.folder, self.count = folder, count
-        self.subject = os.path.join(folder, "subject.py")
-        with open(self.subject, "w") as file:
-            file.write(SUBJECT)
-
-    def replying(self, replies):
-        """The words that start an agent with these replies."""
-        path = os.path.join(self.folder, "replies")
-        with open(path, "wb") as file:
-            file.write(b"\0".join(replies))
-        return [sys.executable, self.subject, path]
-
-    def told(self, replies, schedule, words):
-        """The status and the report of an agent with these replies."""
-        return compare([schedule, *words], self.replying(replies))
-
-    def replies(self, name, replies, schedule, status, said, words=()):
-        self.run(name, self.replying(replies), schedule, status, said, words)
-
-    def run(self, name, agent, schedule, status, said, words=()):
-        got = compare([schedule, *words], agent)
-        missing = [part for part in said if part not in got[1]]
-        self.count.check(name, got[0] == status and not missing, f"wanted {status} and {said}, got {got}")
-
-
-def text_of(turns, change=lambda packet, given: packet):
-    return [turn.text(change) for turn in turns]
-
-
-def otherwise(packet, given):
-    """Each packet that is not sent on, spelled otherwise."""
-    return packet if packet == given else respelled(packet)
 
 
 def examples(cases):
@@ -416,205 +216,6 @@ def rules(cases):
     cases.replies("all rules", replies, path + ".schedule", 0, said, ["--agent", "1", "--rules", "own"])
 
 
-def seeds(cases):
-    """Random schedules: an agent that agrees, one that doesn't, one that ends, and words that are refused."""
-    good = [sys.executable, PYTHON_AGENT]
-    for kind in ("mixed", "merges", "restarts", "queries", "devices", "gossip"):
-        said = ["2 seeds and ", " calls agree"]
-        cases.run(f"seeds, {kind}", good, "--random", 0, said, ["1-2", "--kind", kind, "--actions", "80"])
-    cases.run("one seed", good, "--random", 0, ["1 seeds and "], ["7", "--agents", "2", "--actions", "20"])
-    cases.run("Serf's rules on a seed", good, "--random", 0, ["1 seeds and "], ["9", "--rules", "serf"])
-    cases.run(
-        "a wrong agent",
-        [*good, "--wrong", "never_seen"],
-        "--random",
-        1,
-        ["seed ", " seeds and ", "agent ", "  wanted: ", "  got: "],
-        ["1-20"],
-    )
-    cases.run("no agent for a seed", ["false"], "--random", 3, ["the agent ended before its first reply\n"], ["1-2"])
-    for word in ("x", "3-1", "1-", "-1", "1-2-3", "0-18446744073709551615"):
-        said = ["--random: here may stand seeds as A-B, from the less to the greater\n"]
-        cases.run(f"seeds {word}", ["cat"], f"--random={word}", 2, said)
-    cases.run("seeds of no kind", ["cat"], "--random", 2, ["--kind"], ["1-2", "--kind", "mixd"])
-    cases.run("one agent of seeds", ["cat"], "--random", 2, ["--agent"], ["1-2", "--agent", "0"])
-    cases.run(
-        "seeds and a file",
-        ["cat"],
-        os.path.join(checks.EXAMPLES, "deploy_gossiped_twice.schedule"),
-        2,
-        ["error: a schedule and --random: give one of them\n"],
-        ["--random", "1"],
-    )
-    ran = subprocess.run([checks.PROGRAM, "conform"], stdin=subprocess.DEVNULL, capture_output=True, timeout=LIMIT)
-    said = b"error: no calls: give a schedule, or seeds as --random A-B\n"
-    cases.count.check("neither", (ran.returncode, ran.stdout, ran.stderr) == (2, b"", said), ran)
-
-
-def found_in(report):
-    """The kind and the seed of each find of a report, and the lines that tell of its agent."""
-    parts = re.split(r"(?m)^(?:kind (\S+): )?seed (\d+): .* agree before\n", report)
-    return [(parts[at], int(parts[at + 1]), parts[at + 2]) for at in range(1, len(parts), 3)]
-
-
-def kinds(cases):
-    """All kinds, one after another: what is told of each, and which kind and seed find a wrong agent."""
-    good, words = [sys.executable, PYTHON_AGENT], ["--random", "3-4", "--kind", "all", "--actions", "30"]
-    status, said = compare(words, good)
-    told = re.findall(r"(?m)^kind (\S+): 2 seeds and (\d+) calls agree$", said)
-    cases.count.check("all kinds", status == 0 and [kind for kind, _ in told] == list(checks.KINDS), (status, said))
-    sums = {"report": "end", "schedules": 2 * len(told), "calls": sum(int(calls) for _, calls in told)}
-    sums |= {"disagreements": 0, "status": 0}
-    machine_told(cases, "all kinds, for machines", good, words, 0, [sums])
-    wrong, path = [*good, "--wrong", "ack_counts_twice"], os.path.join(cases.folder, "kinds.jsonl")
-    status, said = compare(["--random", "1-2", "--kind", "all", "--report", path], wrong)
-    (kind, seed, lines), *more = found_in(said)
-    with open(path) as file:
-        told = [json.loads(line) for line in file]
-    holds = (status, more) == (1, []) and kind in checks.KINDS and told[0]["kind"] == kind and told[0]["seed"] == seed
-    cases.count.check("a wrong agent, by all kinds", holds and list(told[0])[:3] == ["report", "seed", "kind"], (status, said, told))
-    again = compare(["--random", str(seed), "--kind", kind], wrong)
-    cases.count.check("once more, by its kind", again[0] == 1 and again[1].endswith(lines), (said, again))
-    cases.run("a kind that isn't there", ["cat"], "--random", 2, ["--kind: here may stand mixed", " or all\n"], ["1", "--kind", "al"])
-
-
-def goes_on(cases):
-    """More than one disagreement: each is what its seed alone gives, and all are found, up to as many as are asked for."""
-    wrong, path = [sys.executable, PYTHON_AGENT, "--wrong", "never_seen"], os.path.join(cases.folder, "on.jsonl")
-    words = ["--random", "1-12", "--actions", "60"]
-    alone = {seed: compare(["--random", str(seed), *words[2:]], wrong) for seed in range(1, 13)}
-    others = [seed for seed, (status, _) in alone.items() if status == 1]
-    cases.count.check("some seeds differ, and some don't", 3 <= len(others) < 12, alone)
-    for most in (1, 2, len(others), 100):
-        status, said = compare([*words, "--go-on", str(most), "--report", path], wrong)
-        found = found_in(said)
-        wanted = others[:most]
-        end = f"{12 - len(others)} seeds and "
-        if most == 100:
-            tail = f" calls agree, and {len(others)} seeds don't\n"
-            cases.count.check("the last line", said.endswith(tail) and end in said.splitlines()[-1], said)
-            found[-1] = (*found[-1][:2], "".join(found[-1][2].splitlines(keepends=True)[:-1]))
-        lines = [(None, seed, alone[seed][1].partition("\n")[2]) for seed in wanted]
-        cases.count.check(f"it goes on, {most}", (status, found) == (1, lines), (status, said))
-        with open(path) as file:
-            *told, sums = [json.loads(line) for line in file]
-        held = 12 if most == 100 else wanted[-1]
-        holds = [one["seed"] for one in told] == wanted and "kind" not in told[0]
-        holds = holds and (sums["schedules"], sums["disagreements"]) == (held - len(wanted), len(wanted))
-        cases.count.check(f"it goes on, {most}, for machines", holds, (told, sums))
-    status, said = compare(["--random", "1-3", "--kind", "all", "--actions", "60", "--go-on", "4"], wrong)
-    found = [(checks.KINDS.index(kind), seed) for kind, seed, _ in found_in(said)]
-    cases.count.check("over kinds", status == 1 and len(found) == 4 and found == sorted(found), said)
-    status, said = compare(["--random", "1-12", "--go-on", "9"], [sys.executable, "-c", ENDS])
-    cases.count.check("it ends on the way", status == 3 and "\n  got: opened 1 1 2\n" in said and said.endswith("the agent ended\n"), said)
-    example = os.path.join(checks.EXAMPLES, "deploy_gossiped_twice.schedule")
-    for name, more in (("none", ["--random", "1", "--go-on", "0"]), ("a schedule", [example, "--go-on", "2"])):
-        cases.run(f"it goes on: {name}", ["cat"], more[0], 2, ["--go-on"], more[1:])
-    cases.run("it goes on: fewer calls", ["cat"], "--random", 2, ["--go-on"], ["1", "--go-on", "2", "--shrink"])
-
-
-def progress(cases):
-    """How far a hunt is, and trials of fewer calls: on a terminal, once a second, and nowhere else."""
-    delay, program = os.path.join(cases.folder, "delay.py"), os.path.join(cases.folder, "on_a_terminal")
-    with open(delay, "w") as file:
-        file.write(DELAY)
-    with open(program + ".py", "w") as file:
-        file.write(ON_A_TERMINAL)
-    with open(program, "w") as file:
-        file.write(f'#!/bin/sh\nexec "{sys.executable}" "{program}.py" "{checks.PROGRAM}" "$@"\n')
-    os.chmod(program, 0o755)
-    for words, wrong, line in (
-        (["--random", "3-6", "--actions", "60"], "", r"[1-3] of 4 seeds"),
-        (["--random", "3-6", "--actions", "60", "--kind", "all"], "", r"kind mixed: [1-3] of 4 seeds"),
-        (["--random", "2", "--shrink"], " --wrong never_seen", r"\d+ of 18 calls are left out"),
-    ):
-        agent = ["sh", "-c", f'"{sys.executable}" "{delay}" | "{sys.executable}" "{PYTHON_AGENT}"{wrong}']
-        if "all" in words:
-            agent[2] = agent[2].replace(" |", " 200 |", 1)
-        status, said = compare(words, agent, program)
-        shown = re.findall(rf"(?m)^{line}\r?$", said)
-        cases.count.check(f"on a terminal: {' '.join(words)}", shown, (status, said))
-        if "all" not in words:
-            quiet = re.sub(rf"(?m)^{line}\r?\n", "", said).replace("\r\n", "\n")
-            cases.count.check(f"on no terminal: {' '.join(words)}", compare(words, agent) == (status, quiet), (status, said))
-
-
-def shrinks(cases):
-    """Fewer calls: where they go, that they fail once more, that no single one can be left out, and agents that end."""
-    saved = os.path.join(cases.folder, "saved.schedule")
-    for name, kind in (
-        ("never_seen", "mixed"), ("merge_takes_first_of_slot", "merges"), ("ack_counts_twice", "queries")
-    ):
-        agent = [sys.executable, PYTHON_AGENT, "--wrong", name]
-        cases.run(
-            f"fewer calls, {name}",
-            agent,
-            "--random",
-            1,
-            ["shrunk to "],
-            ["1-60", "--kind", kind, "--shrink", "--save", saved],
-        )
-        cases.run(f"once more, {name}", agent, saved, 1, ["agent 0: action "])
-        cases.run(f"the right agent, {name}", [sys.executable, PYTHON_AGENT], saved, 0, ["calls agree"])
-        cases.count.check(
-            f"none too many, {name}", not fails_without_one(cases, agent, saved), "a call can be left out"
-        )
-    agent = [sys.executable, PYTHON_AGENT, "--wrong", "never_seen"]
-    cases.run(
-        "to standard error",
-        agent,
-        "--random",
-        1,
-        ["shrunk to ", "\nagent ", "\ninject ", "\ndeliver 0 0 "],
-        ["1-60", "--shrink"],
-    )
-    example = os.path.join(checks.EXAMPLES, "deploy_gossiped_twice.schedule")
-    cases.run("of a schedule", agent, example, 1, ["shrunk to "], ["--shrink"])
-    cases.run("of an agent that agrees", [sys.executable, PYTHON_AGENT], example, 0, ["calls agree"], ["--shrink"])
-    cases.run("a folder", agent, example, 3, ["write fault"], ["--shrink", "--save", cases.folder])
-    cases.run("a file alone", agent, example, 2, ["--save"], ["--save", saved])
-    turns = turns_of(example[: -len(".schedule")])[1]
-    bad = [turns[0].text(), b"seen\n\n"]
-    cases.replies(
-        "ends at the first trial", bad, example, 1, ["don't fail by themselves"], ["--agent", "1", "--shrink"]
-    )
-    cases.replies(
-        "ends behind it",
-        bad * 2,
-        example,
-        1,
-        ["shrunk to 1 of 1 calls; then the agent ended"],
-        ["--agent", "1", "--shrink"],
-    )
-
-
-def fails_without_one(cases, agent, path):
-    """Whether a schedule still shows a wrong agent where some call is left out."""
-    with open(path) as file:
-        lines = file.read().splitlines(keepends=True)
-    less = os.path.join(cases.folder, "less.schedule")
-    for number, line in enumerate(lines):
-        if line.split()[0] in ("agent", "inject"):
-            continue
-        with open(less, "w") as file:
-            file.writelines(lines[:number] + lines[number + 1:])
-        if compare([less], agent)[0] != 0:
-            return True
-    return False
-
-
-def machine_told(cases, name, agent, words, status, wanted):
-    """Holds an agent with a report, whose lines have to have just these members, and be printable ASCII."""
-    path = os.path.join(cases.folder, "told.jsonl")
-    got = compare([*words, "--report", path], agent)
-    with open(path, "rb") as file:
-        text = file.read()
-    os.remove(path)
-    lines = [json.loads(line) for line in text.decode("ascii").splitlines()]
-    plain = all(32 <= byte < 127 or byte == 10 for byte in text)
-    cases.count.check(name, got[0] == status and plain and lines == wanted, (got, text))
-
-
 def machine_reports(cases):
     """A report for machines: where replies differ, where an agent ends, of seeds, and where all agree."""
     path = os.path.join(checks.EXAMPLES, "deploy_gossiped_twice")
@@ -622,7 +223,7 @@ def machine_reports(cases):
     call = f"deliver {turns[1][1].given.hex()} 0"
     end = {"report": "end", "schedules": 1, "calls": 3, "disagreements": 0, "status": 0}
     good = [sys.executable, PYTHON_AGENT]
-    machine_told(cases, "a report of what agrees", good, [schedule, "--agent", "1"], 0, [end])
+    cases.machine_told("a report of what agrees", good, [schedule, "--agent", "1"], 0, [end])
     strange = bytes(byte for byte in range(1, 256) if byte != 10)
     replies = os.path.join(cases.folder, "told")
     for name, last, more in (("any bytes", strange + b"\n\n", "differs"), ("no more", b"", "ended")):
@@ -633,32 +234,17 @@ def machine_reports(cases):
         status = 1 if last else 3
         sums = end | {"calls": 1, "disagreements": 1, "status": status}
         words = [schedule, "--agent", "1"]
-        machine_told(cases, f"a report, {name}", [sys.executable, cases.subject, replies], words, status, [found, sums])
+        cases.machine_told(f"a report, {name}", [sys.executable, cases.subject, replies], words, status, [found, sums])
     sums = end | {"schedules": 2, "calls": 0, "status": 0}
     agreed = compare(["--random", "1-2", "--actions", "40"], good)[1].split()
-    machine_told(
-        cases,
+    cases.machine_told(
         "a report of seeds",
         good,
         ["--random", "1-2", "--actions", "40"],
         0,
         [sums | {"calls": int(agreed[3])}],
     )
-    seed_told(cases)
     cases.run("a report to a folder", good, schedule, 3, ["write fault"], ["--report", cases.folder])
-
-
-def seed_told(cases):
-    """The report of a seed that finds a wrong agent says what standard error does."""
-    path = os.path.join(cases.folder, "told.jsonl")
-    agent = [sys.executable, PYTHON_AGENT, "--wrong", "never_seen"]
-    status, said = compare(["--random", "1-60", "--shrink", "--report", path], agent)
-    with open(path) as file:
-        found, sums = [json.loads(line) for line in file]
-    place = f"agent {found['agent']}: action {found['action']}, line {found['line']}: {found['call'][:60]}"
-    begins = f"seed {found['seed']}: {sums['schedules']} seeds and {sums['calls']} calls agree before"
-    holds = status == 1 == sums["disagreements"] == sums["status"] and begins in said and place in said
-    cases.count.check("a report of a seed's find", holds and found["report"] == "differs", (status, said, found, sums))
 
 
 def listings(page):
@@ -725,22 +311,8 @@ def pipe(cases):
         cases.count.check(f"{page}: {name}", ran.stdout == shown, ran)
 
 
-PARTS = (examples, by_meaning, states, whole_reports, refused, looks, rules, seeds, kinds, goes_on, progress, shrinks, reports, machine_reports, shares, pipe)
-
-
-def all_parts(count):
-    with tempfile.TemporaryDirectory() as folder:
-        cases = Cases(folder, count)
-        for part in PARTS:
-            part(cases)
-
-
-def main(words):
-    if words:
-        checks.PROGRAM = words[0]
-        return checks.run(all_parts)
-    return checks.over_program(all_parts)
+PARTS = (examples, by_meaning, states, whole_reports, refused, looks, rules, machine_reports, reports, shares, pipe)
 
 
 if __name__ == "__main__":
-    sys.exit(main(sys.argv[1:]))
+    sys.exit(traced_agents.run(PARTS, sys.argv[1:]))

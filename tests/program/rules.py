@@ -1,7 +1,6 @@
-"""docs/RULES.md, and the order of faults in docs/FORMATS.md, asked of the program: a schedule for each row.
+"""docs/RULES.md, asked of the program: a schedule for each row. And the definitions that it names are there.
 
-A case is what agent 0 is told to do, a call a line, and what it has to answer to each. A call has no agent's number. A packet
-that it names is injected before all others. Of an answer all lines are compared, in place of a packet's bytes `sent`.
+A case is what agent 0 is told to do, a call a line, and what it has to answer to each, as tests/one_agent.py has it.
 """
 
 import glob
@@ -13,39 +12,9 @@ import tempfile
 sys.dont_write_bytecode = True
 sys.path.insert(0, os.path.dirname(os.path.dirname(os.path.abspath(__file__))))
 import checks
+from one_agent import AGENT, ASK, BREAK, FIRE, GREATEST, answer, answers, deliver, event, merge, query, rows_of, state
 
-sys.path.insert(0, os.path.join(checks.TOP, "conformance", "python"))
-from serf_agent import messages
-
-AGENT = "agent 61 4 4 512 8 keep"
 IGNORING = "agent 61 4 4 512 8 ignore"
-GREATEST = (1 << 64) - 1
-
-
-def event(time, name=b"x", payload=b"", coalesce=False):
-    return messages.encode_event(messages.UserEvent(time, name, payload, coalesce))
-
-
-def query(time, id=1, name=b"q", filters=(), flags=0, timeout=1000):
-    return messages.encode_query(messages.Query(time, id, b"", 0, b"b", list(filters), flags, 0, timeout, name, b""))
-
-
-def answer(time, id, source, flags=0, payload=b""):
-    return messages.encode_response(messages.Response(time, id, source, flags, payload))
-
-
-def state(member=0, events=0, queries=0, slots=()):
-    """A push/pull. A slot is its time and its events' names."""
-    held = [messages.Slot(time, [messages.Texts(name, b"") for name in names]) for time, names in slots]
-    return messages.encode_state(messages.PushPull(member, [], [], events, held, queries))
-
-
-def deliver(packet, now=0):
-    return ("deliver", packet, now)
-
-
-def merge(packet, mode="sync"):
-    return ("merge", packet, mode)
 
 
 def got(time, name="78"):
@@ -53,28 +22,7 @@ def got(time, name="78"):
     return f"new, sent, event 0 {time} {name} - 0"
 
 
-def answers(calls, agent=AGENT):
-    """What agent 0 answers to each call, its lines joined by commas."""
-    packets = [call[1] for call in calls if isinstance(call, tuple)]
-    lines = [agent, *(f"inject {packet.hex() or '-'}" for packet in packets)]
-    taken = 0
-    for call in calls:
-        if isinstance(call, tuple):
-            lines.append(f"{call[0]} 0 {taken} {call[2]}")
-            taken += 1
-        else:
-            word, _, rest = call.partition(" ")
-            lines.append(f"{word} 0 {rest}".strip())
-    status, out, said = checks.ran(["replay"], "\n".join(lines).encode())
-    found = {}
-    for line in out.decode().splitlines():
-        number, shown = line.split(" ", 1)
-        found.setdefault(int(number), []).append("sent" if shown.startswith("sent ") else shown)
-    return [", ".join(found.get(len(packets) + at + 1, [said.decode()])) for at in range(len(calls))]
-
-
-FIRE, FIRED = "fire 78 - 0", "fired {0}, sent, event 0 {0} 78 - 0"
-BREAK, BROKEN = "break append 1", "broken"
+FIRED, BROKEN = "fired {0}, sent, event 0 {0} 78 - 0", "broken"
 FAILED, STOPPED = "refused SinkFault", "refused Stopped"
 RESTART = "restart -"
 TAIL_OF_4 = "restart " + b"clock: 4\n".hex()
@@ -89,12 +37,8 @@ def asked(time, id=1):
     return f"queried {time}, sent, handed 0 0 {time} {id} 71 -"
 
 
-ASK = "query 100 1 71 - 50 0"
 ASK_FOR_ACKS = "query 100 1 71 - 50 1"
 ASKED_FOR_ACKS = "queried 1, sent, sent, handed 0 0 1 1 71 -"
-EXHAUSTED = (deliver(event(GREATEST - 1)), got(GREATEST - 1))
-EXHAUSTED_QUERIES = (deliver(query(GREATEST - 1)), f"query, sent, handed 0 0 {GREATEST - 1} 1 71 -")
-LARGE = "fire 78 " + "00" * 600 + " 0"
 OVERSIZE = event(50, b"x", bytes(9216))
 BIN_EVENT = b"\x03\x82\xc4\x05LTime\x05\xc4\x04Name\xc4\x01x"
 DEEP = b"\x03\x81\xa1u" + b"\x91" * 7
@@ -386,37 +330,6 @@ CASES = {
     "behind a foreign type": [(deliver(bytes([kind]) + b"\xc1\xff"), f"foreign {kind}") for kind in (0, 1, 6, 7, 8, 9)],
 }
 
-# Of each pair of faults that one action can have at once, the calls, the last of which has both.
-STOP = [BREAK, FIRE]
-PAIRS = {
-    ("fire", "Stopped", "TooLarge"): [*STOP, LARGE],
-    ("fire", "TooLarge", "Exhausted"): [EXHAUSTED[0], LARGE],
-    ("fire", "Exhausted", "SinkFault"): [EXHAUSTED[0], BREAK, FIRE],
-    ("query", "Stopped", "TooLarge"): [*STOP, "query 0 1 71 " + "00" * 1024 + " 50 0"],
-    ("query", "TooLarge", "ZeroTimeout"): ["query 0 1 71 " + "00" * 1024 + " 0 0"],
-    ("query", "ZeroTimeout", "Exhausted"): [EXHAUSTED_QUERIES[0], "query 0 1 71 - 0 0"],
-    ("query", "Exhausted", "SinkFault"): [EXHAUSTED_QUERIES[0], BREAK, ASK],
-    ("deliver", "Stopped", "Wire"): [*STOP, deliver(b"")],
-    ("deliver", "NoMessage", "Stopped"): [*STOP, "deliver 99 0"],
-    ("merge", "Stopped", "Wire"): [*STOP, merge(b"")],
-    ("merge", "NoMessage", "Stopped"): [*STOP, "merge 99 sync"],
-    ("respond", "NoQuery", "PastDeadline"): [ASK, "respond 0 100 -", "respond 0 151 -"],
-    ("respond", "PastDeadline", "TooLarge"): [ASK, "respond 0 151 " + "00" * 1024],
-    ("save", "Stopped", "SinkFault"): [merge(state(member=7)), *STOP, BREAK, "save"],
-    ("compact", "Stopped", "SinkFault"): [*STOP, "break replace-old 1", "compact"],
-}
-
-# No schedule has a list or a text of 2^32 items or bytes.
-OUT_OF_REACH = {("state", "Stopped", "TooLong")}
-
-
-def rows_of(page):
-    """The cells of the rows of a page's tables, their heads aside."""
-    for line in page.splitlines():
-        cells = [cell.strip() for cell in line.strip("|").split("|")]
-        if line.startswith("|") and not set(line) <= set("|-"):
-            yield cells
-
 
 def rules():
     """The rules of the page, by name, and the definitions of each."""
@@ -493,45 +406,5 @@ def texts(count):
     count.check("what `compact` writes: all three", kept == "clock: 3\nevent-clock: 5\nquery-clock: 7\n", kept)
 
 
-def orders():
-    """The faults of each action, in the order that FORMATS has."""
-    page = checks.text_of("docs", "FORMATS.md").partition("| Action | Its faults")[2].partition("\n\n")[0]
-    for cells in rows_of(page):
-        if cells[0].startswith("`"):
-            for action in re.findall(r"`(\w+)`", cells[0]):
-                yield action, re.findall(r"`(\w+)`", cells[1].partition(";")[0])
-
-
-# What each action is where its agent isn't there.
-NOBODY = {
-    "fire": "fire 9 78 - 0",
-    "query": "query 9 0 1 71 - 0 0",
-    "deliver": "deliver 9 99 0",
-    "merge": "merge 9 99 sync",
-    "state": "state 9",
-    "respond": "respond 9 0 0 -",
-    "save": "save 9",
-    "compact": "compact 9",
-    "close": "close 9 0",
-    "break": "break 9 append 1",
-    "restart": "restart 9 -",
-}
-
-
-def order_of_faults(count):
-    wanted = set(PAIRS) | OUT_OF_REACH
-    for action, faults in orders():
-        out = checks.ran(["replay"], f"{AGENT}\n{NOBODY[action]}\n".encode())[1]
-        count.check(f"{action}: {faults[0]} is first", out == b"1 refused NoAgent\n" and faults[0] == "NoAgent", out)
-        for first, second in zip(faults[1:], faults[2:]):
-            pair = (action, first, second)
-            count.check(f"{pair}: has its case", pair in wanted, "none")
-            wanted.discard(pair)
-    count.check("each case has its pair on the page", not wanted, wanted)
-    for (action, first, _), calls in PAIRS.items():
-        said = answers(calls)[-1]
-        count.check(f"{action}: {first} first", said.startswith(f"refused {first}"), said)
-
-
 if __name__ == "__main__":
-    sys.exit(checks.over_program(on_the_page, cases, slots, texts, order_of_faults))
+    sys.exit(checks.over_program(on_the_page, cases, slots, texts))

@@ -191,7 +191,7 @@ def missing_siblings(page):
 
 
 # What the scripts of tests/ share, beside the folders that they stand in.
-SHARED = {"checks.py", "pages.py", "piped_agents.py"}
+SHARED = {"checks.py", "pages.py", "piped_agents.py", "traced_agents.py", "one_agent.py"}
 
 
 def missing_scripts(page):
@@ -202,6 +202,15 @@ def missing_scripts(page):
             yield path, None if f"\n- `{name}`: " in page else "has no line"
         else:
             yield path, None if name in SHARED else "stands in none of the folders, so ./test doesn't run it"
+
+
+def strays():
+    """Each file at the top, and what is wrong with it, or None: a page speaks of it."""
+    pages = {page: text_of(page) for page in documents()}
+    for name in sorted(os.listdir(TOP)):
+        if os.path.isfile(os.path.join(TOP, name)) and not name.startswith("."):
+            spoken = any(re.search(rf"\b{re.escape(name)}\b", text) for page, text in pages.items() if page != name)
+            yield name, None if spoken else "is of no page"
 
 
 def rows_of_gate(crates):
@@ -304,6 +313,8 @@ def named(count):
         count.check(f"{path}: `{what}`", fault is None, fault)
     for what, fault in rows_of_gate(tree.crates):
         count.check(f"docs/GATE.md: `{what}`", fault is None, fault)
+    for what, fault in strays():
+        count.check(f"the top: `{what}`", fault is None, fault)
     for what, fault, path in pages.faults():
         count.check(f"{path}: `{what}`", fault is None, fault)
     for what, fault, path in other_versions():

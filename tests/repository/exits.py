@@ -2,8 +2,8 @@
 
 docs/WRONG_BODIES.md has a table of each. A row names edits of crates/CRATE/mutants, and of a store's step also faults
 that tests/library/power_cuts plants. Each edit has to stand, and to turn the function of its row or one that this calls,
-in turn. Where tests/refused has a line of it as it stands, that isn't `open`. The rows of the bindings' stores are what
-tests/library/store_faults plants, each with the check that finds it. Those of `SystemFile` name tests that stand.
+in turn. Where tests/refused has a line of it as it stands, that isn't `open`. The rows of the bindings' stores, and those of
+the file beneath `FileStore`, are what tests/library/store_faults plants, each with the check that finds it.
 """
 
 import os
@@ -29,8 +29,7 @@ EXPORT = re.compile(r'^pub extern "C" fn (\w+)', re.M)
 CALLED = re.compile(r"\b(\w+)\(")
 PLANTED = "planted: "
 OF_BINDINGS = "The same steps in the bindings' stores"
-OF_SYSTEM_FILE = "| Wrong body | Seen by |"
-TEST = re.compile(r"#\[test\]\s+fn (\w+)")
+OF_SYSTEM_FILE = "The same steps in the file beneath `FileStore`"
 
 LEAST = 2
 
@@ -103,39 +102,29 @@ def rows(count, crate, title):
     return found
 
 
-def row_of_bindings(step, own):
-    """The row of a step of the bindings' stores: what is planted, and the check that finds it."""
+def row_of(step, own, is_cut):
+    """The row of a step: what is planted, and the check that finds it; and what a power cut finds, where it is cut too."""
     bodies = [f"{fault.what} (`{fault.part}`, \"{fault.check}\")" for fault in own]
-    if step in planted.OF_POWER_CUTS:
+    if is_cut and step in planted.OF_POWER_CUTS:
         bodies.append(f"{faults.FAULTS[planted.OF_POWER_CUTS[step]]} (a power cut)")
     return f"| {step} | {'; '.join(bodies)} |", len(bodies)
 
 
-def bindings(count):
-    """The rows of the bindings' stores are those of what is planted in them, no more and no less."""
-    stands = [line for line in part_of(OF_BINDINGS).splitlines() if line.startswith("| ")][1:]
-    wanted = dict(row_of_bindings(step, own) for step, own in planted.steps().items())
+def planted_rows(count, title, of_faults, is_cut):
+    """The rows below a title are of what is planted, no more and no less."""
+    stands = [line for line in part_of(title).splitlines() if line.startswith("| ")][1:]
+    wanted = dict(row_of(step, own, is_cut) for step, own in planted.steps(of_faults).items())
     for row, bodies in wanted.items():
-        count.check(f"a row of the bindings' stores, with at least {LEAST}", row in stands and bodies >= LEAST, row)
-    count.check("no other row of them", len(stands) == len(wanted), set(stands) - set(wanted))
+        count.check(f"{title}: a row, with at least {LEAST}", row in stands and bodies >= LEAST, row)
+    count.check(f"{title}: no other row", len(stands) == len(wanted), set(stands) - set(wanted))
 
 
-def tests_of_units():
-    """The names of the tests of tests/library/units."""
-    folder = os.path.join(checks.TOP, "tests", "library", "units")
-    return {name for file in os.listdir(folder) for name in TEST.findall(checks.text_of(folder, file))}
+def bindings(count):
+    planted_rows(count, OF_BINDINGS, planted.FAULTS, True)
 
 
 def system_file(count):
-    """The rows of `SystemFile`: two wrong bodies at least in each, and tests that stand."""
-    tests = tests_of_units()
-    rows = PAGE.partition(f"{OF_SYSTEM_FILE}\n")[2].partition("\n\n")[0].splitlines()[1:]
-    for row in rows:
-        bodies, seen_by = row.strip("| ").split(" | ")
-        count.check(f"SystemFile, {bodies}: at least {LEAST}", len(bodies.split("; ")) >= LEAST)
-        named = set(re.findall(r"`(\w+)`", seen_by))
-        count.check(f"SystemFile, {bodies}: its tests stand", named and named <= tests, named - tests)
-    count.check("steps of SystemFile", len(rows) >= 11, len(rows))
+    planted_rows(count, OF_SYSTEM_FILE, planted.FILE_FAULTS, False)
 
 
 def exits(count):

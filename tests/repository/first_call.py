@@ -1,9 +1,10 @@
 """The first calls of a fresh clone: ./serf-replay answers at once, and never runs a program that isn't current.
 
 One call is real, over a copy of what git tracks, and so is README's command over the program that it compiled. All others
-go through a stand-in for the toolchain's command, in tests/repository/first_call, so that a build takes no time: fault lines and statuses of an unproved program, one that
-can't be compiled, a changed source, one that was taken away, one that changes during the build, a build that is broken
-off, a failed proof, no toolchain, and a folder that can't be written.
+go through a stand-in for the toolchain's command, in tests/repository/first_call, so that a build takes no time: fault
+lines and statuses of an unproved program, one that can't be compiled, one that is asked for by SERF_UNPROVED, a changed
+source, one that was taken away, one that changes during the build, a build that is broken off, a failed proof, no
+toolchain, and a folder that can't be written.
 """
 
 import os
@@ -62,14 +63,15 @@ class Clone:
     def order(self, *words):
         self.write(os.path.join(self.bin, "orders"), " ".join(words))
 
-    def environment(self, has_rt=True):
+    def environment(self, has_rt=True, **more):
         path = [self.bin] if has_rt else []
-        return {**os.environ, "PATH": os.pathsep.join([*path, os.path.dirname(sys.executable), "/usr/bin", "/bin"])}
+        path = os.pathsep.join([*path, os.path.dirname(sys.executable), "/usr/bin", "/bin"])
+        return {**os.environ, "PATH": path, **more}
 
-    def run(self, *words, has_rt=True, given=""):
+    def run(self, *words, has_rt=True, given="", **more):
         ran = subprocess.run(
             [os.path.join(self.top, words[0]), *words[1:]],
-            env=self.environment(has_rt),
+            env=self.environment(has_rt, **more),
             input=given,
             capture_output=True,
             text=True,
@@ -125,6 +127,26 @@ def builds(count, clone):
     )
     count.check("the proved program runs", clone.is_proved("one"), clone.run("serf-replay", "x"))
     count.check("nothing to build", clone.run("prove")[0] == 0)
+
+
+def asked_for(count, clone):
+    """SERF_UNPROVED asks for the program without its proofs, though the proved one stands: it is compiled first, as by a
+    call without the variable, and is silent from then on."""
+    shutil.rmtree(os.path.join(clone.top, "crates", "serf_replay_program", "out", "unproved"))
+    call = lambda: clone.run("serf-replay", "x", SERF_UNPROVED="1")
+    status, out, err = call()
+    count.check("it is asked for", (status, out) == (0, "unproved one x\n") and UNPROVED in err, (status, out, err))
+    clone.order("uncompiled")
+    count.check("it is asked for again", call() == (0, "unproved one x\n", ""), call())
+    clone.write(clone.source, "none\n")
+    status, out, err = call()
+    said = (status, out) == (3, "") and "could not be compiled" in err
+    count.check("it is asked for, and can't be compiled", said, (status, out, err))
+    clone.order()
+    status, out, _ = call()
+    count.check("it is asked for, of a changed source", (status, out) == (0, "unproved none x\n"), (status, out))
+    clone.write(clone.source, "one\n")
+    count.check("without the variable the proved program runs", clone.is_proved("one"), clone.run("serf-replay", "x"))
 
 
 def sources(count, clone):
@@ -267,7 +289,7 @@ def one_figure(count):
 def first_calls(count):
     with tempfile.TemporaryDirectory(prefix="first-call-") as root:
         clone = Clone(root)
-        for part in (unproved, builds, sources, changing, broken_off, refused):
+        for part in (unproved, builds, asked_for, sources, changing, broken_off, refused):
             part(count, clone)
         fresh_clone(count, root)
 

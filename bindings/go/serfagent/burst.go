@@ -34,6 +34,7 @@ type burstCall struct {
 	now           uint64
 	id            uint32
 	packet        []byte
+	tagsPass      bool
 	name, payload []byte
 	coalesce      bool
 	params        QueryParams
@@ -50,6 +51,11 @@ const (
 // Receive adds a packet of the network, which comes at a moment.
 func (b *Burst) Receive(now uint64, packet []byte) {
 	b.calls = append(b.calls, burstCall{kind: receives, now: now, packet: packet})
+}
+
+// ReceiveTagged adds a packet of the network, with what the host says of tag filters, as Agent.ReceiveTagged has it.
+func (b *Burst) ReceiveTagged(now uint64, packet []byte, tagsPass bool) {
+	b.calls = append(b.calls, burstCall{kind: receives, now: now, packet: packet, tagsPass: tagsPass})
 }
 
 // Fire adds an event to fire.
@@ -134,7 +140,7 @@ func (a *Agent) makeAll(calls []burstCall) error {
 func (a *Agent) makeOne(call *burstCall) C.uint32_t {
 	switch call.kind {
 	case receives:
-		return C.serf_agent_burst_receive(a.handle, C.uint64_t(call.now), ptr(call.packet), size(call.packet))
+		return C.serf_agent_burst_receive_tagged(a.handle, C.uint64_t(call.now), ptr(call.packet), size(call.packet), C.bool(call.tagsPass))
 	case fires:
 		return C.serf_agent_burst_fire(a.handle, ptr(call.name), size(call.name), ptr(call.payload), size(call.payload), C.bool(call.coalesce))
 	}

@@ -291,7 +291,7 @@ func (s *slow) Query(now uint64, id uint32, name, payload []byte, params serfage
 	return asked, err
 }
 
-func (s *slow) TakeAll(now uint64, packets [][]byte, firings []*firing) ([]serfagent.Outcome, error) {
+func (s *slow) TakeAll(now uint64, packets []tagged, firings []*firing) ([]serfagent.Outcome, error) {
 	s.mu.Lock()
 	outcomes, err := s.all.TakeAll(now, packets, firings)
 	for _, outcome := range outcomes {

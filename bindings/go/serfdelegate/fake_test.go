@@ -46,14 +46,15 @@ func (f *fake) isBusy() bool {
 	return true
 }
 
-func (f *fake) TakeAll(_ uint64, packets [][]byte, firings []*firing) (outcomes []serfagent.Outcome, err error) {
+func (f *fake) TakeAll(_ uint64, packets []tagged, firings []*firing) (outcomes []serfagent.Outcome, err error) {
 	f.mu.Lock()
 	defer f.mu.Unlock()
 	if f.flush != nil {
 		<-f.flush
 	}
 	f.bursts, f.fired = append(f.bursts, len(packets)), append(f.fired, len(firings))
-	for _, packet := range packets {
+	for _, one := range packets {
+		packet := one.packet
 		if string(packet) == "no message" {
 			outcomes = append(outcomes, serfagent.Outcome{Err: serfagent.NoMessage})
 			continue

@@ -134,8 +134,7 @@ func appendLength(to []byte, short byte, most int, wide byte, count int) []byte 
 	return binary.BigEndian.AppendUint16(append(to, wide), uint16(count))
 }
 
-func appendPairs(to []byte, count int) []byte  { return appendLength(to, 0x80, 16, 0xde, count) }
-func appendValues(to []byte, count int) []byte { return appendLength(to, 0x90, 16, 0xdc, count) }
+func appendPairs(to []byte, count int) []byte { return appendLength(to, 0x80, 16, 0xde, count) }
 
 func appendRaw(to []byte, text string) []byte {
 	return append(appendLength(to, 0xa0, 32, 0xda, len(text)), text...)

@@ -87,67 +87,36 @@ func (d *Delegate) NodeMeta(int) []byte {
 	return d.meta
 }
 
-// Types of packets, and of filters.
+// Types of packets.
 const (
 	leaveType = 0
 	joinType  = 1
 	queryType = 4
-	tagFilter = 1
 )
 
-// given is the packet as the agent gets it. The agent knows no tags, and a query that asks for some excludes every node; so where
-// this node has what they ask for it gets the query without these filters. What is sent on is the packet as it came.
-func (d *Delegate) given(packet []byte) []byte {
-	if packet[0] != queryType {
-		return packet
-	}
-	if _, isFaulty := serfagent.PacketFaultOf(packet); isFaulty {
-		return packet
-	}
-	filters, from, to := filtersOf(packet)
-	kept, asked := withoutTags(filters)
-	if len(asked) == 0 || !passes(asked, d.Tags()) {
-		return packet
-	}
-	without := append([]byte(nil), packet[:from]...)
-	without = appendValues(without, len(kept))
-	for _, filter := range kept {
-		without = appendRaw(without, string(filter))
-	}
-	return append(without, packet[to:]...)
+// tagged is a packet as the agent gets it, which knows no tags: with whether this node's pass each tag filter of its query.
+type tagged struct {
+	packet   []byte
+	tagsPass bool
 }
 
-// filtersOf are the filters of a query that the library takes for a message, and where they stand in its packet.
-func filtersOf(packet []byte) (filters [][]byte, from, to int) {
-	r := reader{rest: packet[1:]}
-	at := func() int { return len(packet) - len(r.rest) }
-	r.fields(func(key string) bool {
-		if key != "Filters" {
-			return false
-		}
-		from = at()
-		for count := r.values(); count > 0 && r.err == nil; count-- {
-			filters = append(filters, r.raw())
-		}
-		to = at()
-		return true
-	})
-	if r.end() != nil {
-		return nil, 0, 0
-	}
-	return filters, from, to
+func (d *Delegate) tagged(packet []byte) tagged {
+	return tagged{packet, packet[0] == queryType && d.passes(packet)}
 }
 
-// withoutTags parts the filters of tags from the others.
-func withoutTags(filters [][]byte) (others, tags [][]byte) {
+// passes says whether this node's tags have what each tag filter of a query asks for, of which there is one at least.
+func (d *Delegate) passes(packet []byte) bool {
+	filters, err := serfagent.FiltersOf(packet)
+	if err != nil {
+		return false
+	}
+	var asked [][]byte
 	for _, filter := range filters {
-		if len(filter) > 0 && filter[0] == tagFilter {
-			tags = append(tags, filter)
-		} else {
-			others = append(others, filter)
+		if len(filter) > 0 && filter[0] == serfagent.TagFilter {
+			asked = append(asked, filter)
 		}
 	}
-	return others, tags
+	return len(asked) > 0 && passes(asked, d.Tags())
 }
 
 // passes says whether tags have what each of these filters asks for: somewhere in the tag's value its expression is found, and

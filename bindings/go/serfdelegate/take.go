@@ -21,7 +21,7 @@ const unreadWait = 10 * time.Millisecond
 type agent interface {
 	// TakeAll takes packets, and then fires events, behind one flush: an outcome for each, in order. Where memory is wanting,
 	// those beside OutOfMemory are of the calls before, and the others were not made.
-	TakeAll(now uint64, packets [][]byte, firings []*firing) ([]serfagent.Outcome, error)
+	TakeAll(now uint64, packets []tagged, firings []*firing) ([]serfagent.Outcome, error)
 	Merge(packet []byte, isJoin bool) ([]*serfagent.Event, error)
 	LocalState(statuses []serfagent.Status, left []string) ([]byte, error)
 	Query(now uint64, id uint32, name, payload []byte, params serfagent.QueryParams) (*serfagent.Asked, error)
@@ -40,10 +40,10 @@ type proved struct {
 
 // TakeAll makes one burst of the calls. What was taken is read, however long memory for it is wanting: its lines are on the
 // disk, so no later life hands it out.
-func (p *proved) TakeAll(now uint64, packets [][]byte, firings []*firing) ([]serfagent.Outcome, error) {
+func (p *proved) TakeAll(now uint64, packets []tagged, firings []*firing) ([]serfagent.Outcome, error) {
 	p.burst.Reset()
-	for _, packet := range packets {
-		p.burst.Receive(now, packet)
+	for _, one := range packets {
+		p.burst.ReceiveTagged(now, one.packet, one.tagsPass)
 	}
 	for _, one := range firings {
 		p.burst.Fire(one.name, one.payload, one.coalesce)
@@ -102,11 +102,11 @@ func (d *Delegate) take() {
 	}
 }
 
-// taken is what is taken behind one flush: packets, and then firings. given are the packets as the agent gets them.
+// taken is what is taken behind one flush: packets, and then firings.
 type taken struct {
-	packets, given [][]byte
-	firings        []*firing
-	outcomes       []serfagent.Outcome
+	packets  [][]byte
+	firings  []*firing
+	outcomes []serfagent.Outcome
 }
 
 // takeBurst takes what waits, up to a burst, behind one flush: for a firing the firings before the packets, and nothing where it
@@ -152,10 +152,11 @@ func (d *Delegate) makeBurst(all *taken, isForFiring bool) error {
 	if len(all.packets)+len(all.firings) == 0 {
 		return nil
 	}
+	given := make([]tagged, 0, len(all.packets))
 	for _, packet := range all.packets {
-		all.given = append(all.given, d.given(packet))
+		given = append(given, d.tagged(packet))
 	}
-	outcomes, err := d.agent.TakeAll(d.now(), all.given, all.firings)
+	outcomes, err := d.agent.TakeAll(d.now(), given, all.firings)
 	all.outcomes = outcomes
 	d.bursts.Add(1)
 	d.taken.Add(uint64(len(outcomes)))

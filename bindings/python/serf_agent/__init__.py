@@ -3,6 +3,7 @@
 from .agent import Agent, Answer, Asked, Clocks, Closed, Event, Fired, Forked, Handed, Received, Settings
 from .burst import Burst
 from .fault import PacketFault, packet_fault
+from .filters import query_filters, TAG_FILTER
 from .intents import intent, intent_fault, Join, Leave
 from .library import AgentError, Code, DEFAULT_SNAPSHOT_LIMIT, Fault, Kind, Library, NotLoaded, Reason
 from .members import Members, state_members
@@ -43,8 +44,10 @@ __all__ = [
     "Settings",
     "Store",
     "StoreError",
+    "TAG_FILTER",
     "intent",
     "intent_fault",
     "packet_fault",
+    "query_filters",
     "state_members",
 ]

@@ -331,10 +331,15 @@ class Agent:
 
     # Calls.
 
-    def receive(self, now: int, packet: Buffer) -> Received:
-        """Takes a packet of the network: ``Received``."""
+    def receive(self, now: int, packet: Buffer, tags_pass: bool = False) -> Received:
+        """Takes a packet of the network: ``Received``.
+
+        A query that has tag filters (``query_filters``) is handed out only where the host says that its tags pass each of
+        them, and its other filters let this node pass. Say True only where each could be read and passes.
+        """
         with self._alone():
-            self._do("receive", self._moment(now), *texts(packet))
+            passing = flag("tags_pass", tags_pass)
+            self._do("receive_tagged", self._moment(now), *texts(packet), passing)
             return self._received(packet)
 
     def fire(self, name: Buffer, payload: Buffer = b"", coalesce: bool = False) -> Fired:

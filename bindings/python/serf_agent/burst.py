@@ -61,10 +61,11 @@ class Burst:
         """How many calls wait for the block's end."""
         return len(self._calls)
 
-    def receive(self, now: int, packet: Buffer) -> None:
-        """Takes a packet of the network."""
+    def receive(self, now: int, packet: Buffer, tags_pass: bool = False) -> None:
+        """Takes a packet of the network, as ``Agent.receive`` does."""
+        passing = flag("tags_pass", tags_pass)
         moment, (own, length) = self._agent._moment(now), texts(packet)
-        self._calls.append(Call("burst_receive", (moment, own, length), lambda agent: agent._received(own)))
+        self._calls.append(Call("burst_receive_tagged", (moment, own, length, passing), lambda agent: agent._received(own)))
 
     def fire(self, name: Buffer, payload: Buffer = b"", coalesce: bool = False) -> None:
         """Fires an event."""

@@ -161,6 +161,10 @@ class CMember(Structure):
     _fields_ = [("status_time", c_uint64), ("name_len", c_size_t), ("left", c_bool)]
 
 
+class CFilters(Structure):
+    _fields_ = [("filters", c_size_t), ("filters_len", c_size_t)]
+
+
 class CClosed(Structure):
     _fields_ = [("time", c_uint64), ("deadline", c_uint64), ("acks", c_size_t), ("responses", c_size_t), ("id", c_uint32)]
 
@@ -187,6 +191,7 @@ STRUCTS = {
     "serf_agent_intent": CIntent,
     "serf_agent_members": CMembers,
     "serf_agent_member": CMember,
+    "serf_agent_filters": CFilters,
     "serf_agent_closed": CClosed,
     "serf_agent_response": CResponse,
     "serf_agent_clocks": CClocks,
@@ -205,6 +210,7 @@ FUNCTIONS = {
     "written": [HANDLE],
     "fire": [HANDLE, *TEXT, *TEXT, c_bool],
     "receive": [HANDLE, c_uint64, *TEXT],
+    "receive_tagged": [HANDLE, c_uint64, *TEXT, c_bool],
     "merge": [HANDLE, *TEXT, c_bool],
     "local_state": [HANDLE],
     "add_status": [HANDLE, *TEXT, c_uint64],
@@ -217,6 +223,7 @@ FUNCTIONS = {
     "save_member_clock": [HANDLE],
     "compact": [HANDLE],
     "burst_receive": [HANDLE, c_uint64, *TEXT],
+    "burst_receive_tagged": [HANDLE, c_uint64, *TEXT, c_bool],
     "burst_fire": [HANDLE, *TEXT, *TEXT, c_bool],
     "burst_query": [HANDLE, c_uint64, c_uint32, *TEXT, *TEXT, *TEXT, POINTER(CParams)],
     "burst_filter": [HANDLE, *TEXT],
@@ -231,6 +238,7 @@ FUNCTIONS = {
     "join_packet": [c_uint64, *TEXT, POINTER(c_size_t), *TEXT],
     "leave_packet": [c_uint64, *TEXT, c_bool, POINTER(c_size_t), *TEXT],
     "state_members": [*TEXT, POINTER(CMembers), POINTER(CMember), c_size_t, *TEXT],
+    "query_filters": [*TEXT, POINTER(CFilters), POINTER(c_size_t), c_size_t, *TEXT],
     "asked_time": [HANDLE, POINTER(c_uint64)],
     "packet": [HANDLE, POINTER(c_size_t), *TEXT],
     "ack": [HANDLE, POINTER(c_size_t), *TEXT],

@@ -119,6 +119,13 @@ pub struct Member {
 
 #[repr(C)]
 #[derive(Default)]
+pub struct Filters {
+    pub filters: usize,
+    pub filters_len: usize,
+}
+
+#[repr(C)]
+#[derive(Default)]
 pub struct Closed {
     pub time: u64,
     pub deadline: u64,
@@ -165,6 +172,7 @@ extern "C" {
         coalesce: bool,
     ) -> u32;
     pub fn serf_agent_receive(handle: *mut Handle, now: u64, packet: *const u8, packet_len: usize) -> u32;
+    pub fn serf_agent_receive_tagged(handle: *mut Handle, now: u64, packet: *const u8, packet_len: usize, tags_pass: bool) -> u32;
     pub fn serf_agent_merge(handle: *mut Handle, packet: *const u8, packet_len: usize, is_join: bool) -> u32;
     pub fn serf_agent_local_state(handle: *mut Handle) -> u32;
     pub fn serf_agent_add_status(handle: *mut Handle, name: *const u8, name_len: usize, status_time: u64) -> u32;
@@ -188,6 +196,13 @@ extern "C" {
     pub fn serf_agent_save_member_clock(handle: *mut Handle) -> u32;
     pub fn serf_agent_compact(handle: *mut Handle) -> u32;
     pub fn serf_agent_burst_receive(handle: *mut Handle, now: u64, packet: *const u8, packet_len: usize) -> u32;
+    pub fn serf_agent_burst_receive_tagged(
+        handle: *mut Handle,
+        now: u64,
+        packet: *const u8,
+        packet_len: usize,
+        tags_pass: bool,
+    ) -> u32;
     pub fn serf_agent_burst_fire(
         handle: *mut Handle,
         name: *const u8,
@@ -258,6 +273,15 @@ extern "C" {
         members_room: usize,
         names: *mut u8,
         names_room: usize,
+    ) -> u32;
+    pub fn serf_agent_query_filters(
+        packet: *const u8,
+        packet_len: usize,
+        all: *mut Filters,
+        lens: *mut usize,
+        lens_room: usize,
+        filters: *mut u8,
+        filters_room: usize,
     ) -> u32;
     pub fn serf_agent_asked_time(handle: *mut Handle, time: *mut u64) -> u32;
     pub fn serf_agent_packet(handle: *mut Handle, len: *mut usize, to: *mut u8, room: usize) -> u32;

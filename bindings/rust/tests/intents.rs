@@ -1,6 +1,7 @@
-//! Intents, the members that a state names, and the time of a query.
+//! Intents, the members that a state names, the time of a query, and its filters with what the host says of its tags.
 
-use serf_agent::{intent_fault, Agent, Code, Error, Intent, Members, PacketFault, QueryParams, Settings};
+use serf_agent::{intent_fault, query_filters, Agent, Call, CallOutcome, Code, Error, Intent, Members};
+use serf_agent::{Outcome, PacketFault, QueryParams, Received, Settings, TAG_FILTER};
 
 /// A fresh folder's file, and the folder, which goes with it.
 struct File(std::path::PathBuf);
@@ -101,5 +102,54 @@ fn member_times() {
         agent.observe_member(first + 6).unwrap();
         assert_eq!(agent.next_member_time().unwrap(), first + 7);
         assert!(matches!(agent.observe_member(u64::MAX), Err(Error::Refused(Code::Exhausted))));
+    }
+}
+
+/// Filters of the node a, of another one, of a tag, and of a type that nobody knows.
+const NODE: &[u8] = b"\x00\x91\xa1a";
+const OTHER: &[u8] = b"\x00\x91\xa1c";
+const TAG: &[u8] = b"\x01\x82\xa4Expr\xa0\xa3Tag\xa1a";
+const UNKNOWN: &[u8] = b"\x02";
+
+fn is_handed(received: &Received) -> bool {
+    match &received.outcome {
+        Outcome::Query { handed, .. } => handed.is_some(),
+        other => panic!("{other:?}"),
+    }
+}
+
+#[test]
+fn what_the_host_says_of_tags() {
+    let (asking, file) = (File::new("tags-of-asks"), File::new("tags"));
+    let (mut asks, mut agent) = (asking.agent(), file.agent());
+    let mut packet_of = |filters: &[&[u8]]| {
+        let filters = filters.iter().map(|filter| filter.to_vec()).collect();
+        let params = QueryParams { timeout: 1000, filters, ..QueryParams::default() };
+        asks.query(1, 7, b"who", b"", &params).unwrap().packet
+    };
+    let all: [(&[&[u8]], bool, bool); 6] = [
+        (&[], true, true),
+        (&[TAG], false, true),
+        (&[NODE, TAG, TAG], false, true),
+        (&[TAG, OTHER], false, false),
+        (&[TAG, UNKNOWN], false, false),
+        (&[NODE], true, true),
+    ];
+    for (filters, without, with) in all {
+        for (tags_pass, wanted) in [(false, without), (true, with)] {
+            let packet = packet_of(filters);
+            let found = query_filters(&packet).unwrap().unwrap();
+            assert_eq!(found, filters);
+            assert!(found.iter().zip(filters).all(|(one, filter)| (one[0] == TAG_FILTER) == (*filter == TAG)));
+            assert_eq!(is_handed(&agent.receive_tagged(1, &packet, tags_pass).unwrap()), wanted, "{filters:?}");
+            let packet = packet_of(filters);
+            let outcomes: Vec<_> = agent.burst([Call::ReceiveTagged { now: 1, packet: &packet, tags_pass }]).unwrap().collect();
+            let [Ok(CallOutcome::Received(received))] = &outcomes[..] else { panic!("{outcomes:?}") };
+            assert_eq!(is_handed(received), wanted, "{filters:?} in a burst");
+        }
+    }
+    assert!(!is_handed(&agent.receive(1, &packet_of(&[TAG])).unwrap()));
+    for packet in [&b""[..], b"\x04", b"\x03\x80"] {
+        assert_eq!(query_filters(packet).unwrap(), None);
     }
 }

@@ -102,17 +102,17 @@ passes-grow : (old : List (Past ℕ)) (p : Past ℕ) (h : Handed) (b : Bool) →
 passes-grow old p h true is fresh = enters p refl (ap (λ (e : TimedEntry ℕ). e ∷ []) is) fresh
 passes-grow old p h false is fresh = hides p refl refl
 
-moves-query_received : SnapshotLaws → (i : IdealAgent) (now : ℕ) (q : Query) (w : Writing) (r : Option Reason) → IsSound i → i.snapshot.stopped ≡ false → q.time < 2 ^ 64 - 1 → query_admission i q.time q.id ≡ r → MayEnd i (query_received_as r i now q) w
-    → Moves i (ended i (query_received_as r i now q) w).agent (map event_entry (handed_by (ended i (query_received_as r i now q) w).answer)) (got_entries (ended i (query_received_as r i now q) w).answer)
-moves-query_received snapshots i now q w (Some reason) s runs small is may = still i (query_observed q.time i) (sound-query_observed q.time i s) refl refl
-moves-query_received snapshots i now q Kept None s runs small is may =
+moves-query_received : SnapshotLaws → (tags : Bool) (i : IdealAgent) (now : ℕ) (q : Query) (w : Writing) (r : Option Reason) → IsSound i → i.snapshot.stopped ≡ false → q.time < 2 ^ 64 - 1 → query_admission i q.time q.id ≡ r → MayEnd i (query_received_as tags r i now q) w
+    → Moves i (ended i (query_received_as tags r i now q) w).agent (map event_entry (handed_by (ended i (query_received_as tags r i now q) w).answer)) (got_entries (ended i (query_received_as tags r i now q) w).answer)
+moves-query_received snapshots tags i now q w (Some reason) s runs small is may = still i (query_observed q.time i) (sound-query_observed q.time i s) refl refl
+moves-query_received snapshots tags i now q Kept None s runs small is may =
     let new = query_admission-new i q.time q.id is in
     record {
       sound = sound-query_entered snapshots q.time q.id i s runs small new;
       events_grow = stays refl refl;
-      queries_grow = passes-grow i.queries.history (record { life = i.life; entry = record { time = q.time; key = q.id } }) (handed_query i.config.name now q) (all_pass q.filters i.config.name) refl new;
+      queries_grow = passes-grow i.queries.history (record { life = i.life; entry = record { time = q.time; key = q.id } }) (handed_query i.config.name now q) (all_pass tags q.filters i.config.name) refl new;
     }
-moves-query_received snapshots i now q (Failed durable) None s runs small is may = still i _ (sound-note_failed snapshots kinds.Query q.time durable i s may) refl refl
+moves-query_received snapshots tags i now q (Failed durable) None s runs small is may = still i _ (sound-note_failed snapshots kinds.Query q.time durable i s may) refl refl
 
 -- an answer that is counted hands nothing out
 ack-no-events : (b : Bool) → map event_entry (handed_by (Ok (cond b outcomes.Ack outcomes.Response))) ≡ []
@@ -138,29 +138,29 @@ moves-response i now r w (Some q) s at = by (answer_ignore_reason now r q) refl
     by (Some reason) is = still i i s refl refl
     by None is = full (is_full i.config.responders r q) is
 
-moves-message : SnapshotLaws → (i : IdealAgent) (now : ℕ) (m : Message) (w : Writing) → IsSound i → i.snapshot.stopped ≡ false → InRange m → MayEnd i (receive_message i now m) w
-    → Moves i (ended i (receive_message i now m) w).agent (map event_entry (handed_by (ended i (receive_message i now m) w).answer)) (got_entries (ended i (receive_message i now m) w).answer)
-moves-message snapshots i now (user_event e) w s runs ranged may =
+moves-message : SnapshotLaws → (tags : Bool) (i : IdealAgent) (now : ℕ) (m : Message) (w : Writing) → IsSound i → i.snapshot.stopped ≡ false → InRange m → MayEnd i (receive_message tags i now m) w
+    → Moves i (ended i (receive_message tags i now m) w).agent (map event_entry (handed_by (ended i (receive_message tags i now m) w).answer)) (got_entries (ended i (receive_message tags i now m) w).answer)
+moves-message snapshots tags i now (user_event e) w s runs ranged may =
     let what = event_of e.name e.payload in
-    subst (λ (l : List (TimedEntry ℕ)). Moves i (ended i (receive_message i now (user_event e)) w).agent (map event_entry (handed_by (ended i (receive_message i now (user_event e)) w).answer)) l) (sym (no-queries i e.time what e.coalesce w (admission i e.time what)))
+    subst (λ (l : List (TimedEntry ℕ)). Moves i (ended i (receive_message tags i now (user_event e)) w).agent (map event_entry (handed_by (ended i (receive_message tags i now (user_event e)) w).answer)) l) (sym (no-queries i e.time what e.coalesce w (admission i e.time what)))
     (moves-received snapshots i e.time what e.coalesce w (admission i e.time what) s runs ranged refl may)
-moves-message snapshots i now (query q) w s runs ranged may = moves-query_received snapshots i now q w (query_admission i q.time q.id) s runs ranged.time refl may
-moves-message snapshots i now (query_response r) w s runs ranged may = moves-response i now r w (asked_at r.time i.asked) s refl
-moves-message snapshots i now (push_pull m) w s runs ranged may = still i i s refl refl
-moves-message snapshots i now (foreign kind) w s runs ranged may = still i i s refl refl
+moves-message snapshots tags i now (query q) w s runs ranged may = moves-query_received snapshots tags i now q w (query_admission i q.time q.id) s runs ranged.time refl may
+moves-message snapshots tags i now (query_response r) w s runs ranged may = moves-response i now r w (asked_at r.time i.asked) s refl
+moves-message snapshots tags i now (push_pull m) w s runs ranged may = still i i s refl refl
+moves-message snapshots tags i now (foreign kind) w s runs ranged may = still i i s refl refl
 
-moves-read : Below → (i : IdealAgent) (now : ℕ) (packet : List ℕ) (r : Result Message WireFault) (w : Writing) → IsSound i → i.snapshot.stopped ≡ false → decoded packet ≡ r → MayEnd i (receive_read i now r) w
-    → Moves i (ended i (receive_read i now r) w).agent (map event_entry (handed_by (ended i (receive_read i now r) w).answer)) (got_entries (ended i (receive_read i now r) w).answer)
-moves-read laws i now packet (Ok m) w s runs is may = moves-message laws.snapshots i now m w s runs (laws.ranged packet m is) may
-moves-read laws i now packet (Err fault) w s runs is may = still i i s refl refl
+moves-read : Below → (tags : Bool) (i : IdealAgent) (now : ℕ) (packet : List ℕ) (r : Result Message WireFault) (w : Writing) → IsSound i → i.snapshot.stopped ≡ false → decoded packet ≡ r → MayEnd i (receive_read tags i now r) w
+    → Moves i (ended i (receive_read tags i now r) w).agent (map event_entry (handed_by (ended i (receive_read tags i now r) w).answer)) (got_entries (ended i (receive_read tags i now r) w).answer)
+moves-read laws tags i now packet (Ok m) w s runs is may = moves-message laws.snapshots tags i now m w s runs (laws.ranged packet m is) may
+moves-read laws tags i now packet (Err fault) w s runs is may = still i i s refl refl
 
-moves-got : Below → (i : IdealAgent) (now : ℕ) (packet : List ℕ) (w : Writing) → IsSound i → MayAct i (Gets now packet w) → Moves i (after i (Gets now packet w)) (events_out i (Gets now packet w)) (queries_out i (Gets now packet w))
-moves-got laws i now packet w s may = by i.snapshot.stopped refl may
+moves-got : Below → (tags : Bool) (i : IdealAgent) (now : ℕ) (packet : List ℕ) (w : Writing) → IsSound i → MayAct i (Gets tags now packet w) → Moves i (after i (Gets tags now packet w)) (events_out i (Gets tags now packet w)) (queries_out i (Gets tags now packet w))
+moves-got laws tags i now packet w s may = by i.snapshot.stopped refl may
   where
-    by : (b : Bool) → i.snapshot.stopped ≡ b → MayEnd i (cond b (answers i (Err receives.Stopped)) (receive_read i now (decoded packet))) w
-        → (let call = cond b (answers i (Err receives.Stopped)) (receive_read i now (decoded packet)) in Moves i (ended i call w).agent (map event_entry (handed_by (ended i call w).answer)) (got_entries (ended i call w).answer))
+    by : (b : Bool) → i.snapshot.stopped ≡ b → MayEnd i (cond b (answers i (Err receives.Stopped)) (receive_read tags i now (decoded packet))) w
+        → (let call = cond b (answers i (Err receives.Stopped)) (receive_read tags i now (decoded packet)) in Moves i (ended i call w).agent (map event_entry (handed_by (ended i call w).answer)) (got_entries (ended i call w).answer))
     by true is m = still i i s refl refl
-    by false is m = moves-read laws i now packet (decoded packet) w s is refl m
+    by false is m = moves-read laws tags i now packet (decoded packet) w s is refl m
 
 -- ---- firing
 
@@ -210,7 +210,7 @@ moves-query_fired snapshots i now id name payload params Kept None s is may =
     record {
       sound = sound-query_asked snapshots now q i s a.0 refl (leb-false (2 ^ 64 - 1) i.queries.clock d.0);
       events_grow = stays refl refl;
-      queries_grow = passes-grow i.queries.history (record { life = i.life; entry = record { time = i.queries.clock; key = id } }) (handed_query i.config.name now q) (all_pass q.filters i.config.name) refl (later-fresh i.queries.history i.queries.clock id s.queries.below_clock);
+      queries_grow = passes-grow i.queries.history (record { life = i.life; entry = record { time = i.queries.clock; key = id } }) (handed_query i.config.name now q) (all_pass false q.filters i.config.name) refl (later-fresh i.queries.history i.queries.clock id s.queries.below_clock);
     }
 moves-query_fired snapshots i now id name payload params (Failed durable) None s is may = still i _ (sound-note_failed snapshots kinds.Query i.queries.clock durable i s may) refl refl
 
@@ -253,7 +253,7 @@ text-of-flushed i text s h = record {
 moves : Below → (i : IdealAgent) (a : Act) → IsSound i → MayAct i a → Moves i (after i a) (events_out i a) (queries_out i a)
 moves laws i (Fires what flag w) s may = moves-fired laws.snapshots i what flag w (fire_fault i what flag) s refl may
 moves laws i (Asks now id name payload params w) s may = moves-query_fired laws.snapshots i now id name payload params w (query_fault i id name payload params) s refl may
-moves laws i (Gets now packet w) s may = moves-got laws i now packet w s may
+moves laws i (Gets tags now packet w) s may = moves-got laws tags i now packet w s may
 moves laws i (Hears m is_join) s may = still i _ (sound-joined m is_join i s may) refl refl
 moves laws i (Takes e w) s may = moves-received laws.snapshots i e.time e.key false w (admission i e.time e.key) s may.0 may.1 refl may.2
 moves laws i (Saves w) s may = moves-saved laws.snapshots i w s may

@@ -20,7 +20,7 @@ use Rattle.serf_agent.specs.Calls.{Ends, Notes, Step, MayNote, answers}
 use Rattle.serf_agent.specs.Devices.{FailsLine, device_noted}
 use Rattle.serf_agent.specs.Events.{admission, event_observed, event_entered, event_out, event_packet, received_as, receive_event, fire_fault, fired_as, fire, texts_len, is_too_large, drawn}
 use Rattle.serf_agent.specs.declared.open_query.OpenQuery.{OpenQuery}
-use Rattle.serf_agent.specs.Receive.{receive, receive_read}
+use Rattle.serf_agent.specs.Receive.{receive_read, receive_tagged}
 use Rattle.serf_agent.specs.Queries.{ack_if_passed, handed_if_passed, has_flag, no_broadcast_flag, query_admission, query_entered, query_observed, query_received_as, receive_query, answer_ignore_reason, asked_at, counted, counted_as, counts, fire_query, fired_query, is_ack, is_full, is_no_timeout, is_too_large_query, query_asked, query_at, query_fault, query_fired_as, receive_response, response_received_as, response_received_at, with_asked_at}
 use Rattle.serf_agent.specs.Ideal.{IdealAgent, with_asked, with_snapshot}
 use Rattle.serf_agent.specs.Sound.{IsSound}
@@ -93,21 +93,21 @@ small-short i t what flag sound small =
 
 -- ---- a query that comes
 
-pub steps-query_ignored : (i : IdealAgent) (now : ℕ) (q : Query) (reason : Reason) (old : Device) (new : AgentState) → IsSound i → query_admission i q.time q.id ≡ Some reason → new.concrete ≡ view_of (query_observed q.time i) → new.device ≡ old → Steps i (receive_query i now q) (Ok (outcomes.Ignored reason)) old new
-steps-query_ignored i now q reason old new sound says state device =
-    subst (λ (r : Option Reason). Steps i (query_received_as r i now q) (Ok (outcomes.Ignored reason)) old new) (sym says) (steps-ends i _ _ old new refl state (sound-query_observed q.time i sound) device)
+pub steps-query_ignored : (tags : Bool) (i : IdealAgent) (now : ℕ) (q : Query) (reason : Reason) (old : Device) (new : AgentState) → IsSound i → query_admission i q.time q.id ≡ Some reason → new.concrete ≡ view_of (query_observed q.time i) → new.device ≡ old → Steps i (receive_query tags i now q) (Ok (outcomes.Ignored reason)) old new
+steps-query_ignored tags i now q reason old new sound says state device =
+    subst (λ (r : Option Reason). Steps i (query_received_as tags r i now q) (Ok (outcomes.Ignored reason)) old new) (sym says) (steps-ends i _ _ old new refl state (sound-query_observed q.time i sound) device)
 
-pub steps-query_entered : SnapshotLaws → (i : IdealAgent) (now : ℕ) (q : Query) (result : Result Outcome ReceiveFault) (old : Device) (new : AgentState) → IsSound i → i.snapshot.stopped ≡ false → q.time < 2 ^ 64 - 1 → query_admission i q.time q.id ≡ None → MayNote kinds.Query q.time i.snapshot Kept
-    → result ≡ Ok (outcomes.Query (handed_if_passed i.config.name now q) (ack_if_passed i.config.name q) (not (has_flag no_broadcast_flag q.flags)))
-    → new.concrete ≡ view_of (with_snapshot (noted kinds.Query q.time i.snapshot Kept) (query_entered q.time q.id i)) → new.device ≡ device_noted kinds.Query q.time i.snapshot old → Steps i (receive_query i now q) result old new
-steps-query_entered snapshots i now q result old new sound runs small says may answers state device =
-    subst (λ (r : Option Reason). Steps i (query_received_as r i now q) result old new) (sym says)
+pub steps-query_entered : SnapshotLaws → (tags : Bool) (i : IdealAgent) (now : ℕ) (q : Query) (result : Result Outcome ReceiveFault) (old : Device) (new : AgentState) → IsSound i → i.snapshot.stopped ≡ false → q.time < 2 ^ 64 - 1 → query_admission i q.time q.id ≡ None → MayNote kinds.Query q.time i.snapshot Kept
+    → result ≡ Ok (outcomes.Query (handed_if_passed tags i.config.name now q) (ack_if_passed tags i.config.name q) (not (has_flag no_broadcast_flag q.flags)))
+    → new.concrete ≡ view_of (with_snapshot (noted kinds.Query q.time i.snapshot Kept) (query_entered q.time q.id i)) → new.device ≡ device_noted kinds.Query q.time i.snapshot old → Steps i (receive_query tags i now q) result old new
+steps-query_entered snapshots tags i now q result old new sound runs small says may answers state device =
+    subst (λ (r : Option Reason). Steps i (query_received_as tags r i now q) result old new) (sym says)
     (steps-kept i kinds.Query q.time _ _ result old new may answers state (sound-query_entered snapshots q.time q.id i sound runs small (query_admission-new i q.time q.id says)) device)
 
-pub steps-query_failed : SnapshotLaws → (i : IdealAgent) (now : ℕ) (q : Query) (durable : Option (List ℕ)) (result : Result Outcome ReceiveFault) (old : Device) (new : AgentState) → IsSound i → query_admission i q.time q.id ≡ None → MayNote kinds.Query q.time i.snapshot (Failed durable) → result ≡ Err SinkFault
-    → new.concrete ≡ view_of (with_snapshot (written kinds.Query q.time i.snapshot (Failed durable)) i) → FailsLine old new.device (clock_line kinds.Query q.time) → Steps i (receive_query i now q) result old new
-steps-query_failed snapshots i now q durable result old new sound says may answers state device =
-    subst (λ (r : Option Reason). Steps i (query_received_as r i now q) result old new) (sym says) (steps-failed snapshots i kinds.Query q.time _ _ result old new durable sound may answers state device)
+pub steps-query_failed : SnapshotLaws → (tags : Bool) (i : IdealAgent) (now : ℕ) (q : Query) (durable : Option (List ℕ)) (result : Result Outcome ReceiveFault) (old : Device) (new : AgentState) → IsSound i → query_admission i q.time q.id ≡ None → MayNote kinds.Query q.time i.snapshot (Failed durable) → result ≡ Err SinkFault
+    → new.concrete ≡ view_of (with_snapshot (written kinds.Query q.time i.snapshot (Failed durable)) i) → FailsLine old new.device (clock_line kinds.Query q.time) → Steps i (receive_query tags i now q) result old new
+steps-query_failed snapshots tags i now q durable result old new sound says may answers state device =
+    subst (λ (r : Option Reason). Steps i (query_received_as tags r i now q) result old new) (sym says) (steps-failed snapshots i kinds.Query q.time _ _ result old new durable sound may answers state device)
 
 -- ---- an answer that comes
 
@@ -120,10 +120,10 @@ steps-counted i now r q result old new sound at none room answers state device =
 
 -- ---- a packet that comes
 
-pub steps-receive : (i : IdealAgent) (now : ℕ) (packet : List ℕ) (read : Result Message WireFault) (result : Result Outcome ReceiveFault) (old : Device) (new : AgentState) → i.snapshot.stopped ≡ false → decoded packet ≡ read → Steps i (receive_read i now read) result old new → Steps i (receive i now packet) result old new
-steps-receive i now packet read result old new runs is steps =
-    let by_decoded : Steps i (receive_read i now (decoded packet)) result old new = subst (λ (m : Result Message WireFault). Steps i (receive_read i now m) result old new) (sym is) steps in
-    subst (λ (b : Bool). Steps i (cond b (answers i (Err Stopped)) (receive_read i now (decoded packet))) result old new) (sym runs) by_decoded
+pub steps-receive : (tags : Bool) (i : IdealAgent) (now : ℕ) (packet : List ℕ) (read : Result Message WireFault) (result : Result Outcome ReceiveFault) (old : Device) (new : AgentState) → i.snapshot.stopped ≡ false → decoded packet ≡ read → Steps i (receive_read tags i now read) result old new → Steps i (receive_tagged tags i now packet) result old new
+steps-receive tags i now packet read result old new runs is steps =
+    let by_decoded : Steps i (receive_read tags i now (decoded packet)) result old new = subst (λ (m : Result Message WireFault). Steps i (receive_read tags i now m) result old new) (sym is) steps in
+    subst (λ (b : Bool). Steps i (cond b (answers i (Err Stopped)) (receive_read tags i now (decoded packet))) result old new) (sym runs) by_decoded
 
 -- an answer that gives this user event is of it
 pub event_decoded : (read : Result Message WireFault) (u : UserEvent) → Some u ≡ event_in read → read ≡ Ok (user_event u)

@@ -1,4 +1,4 @@
--- What a call does to the device that keeps the agent's clock lines, whatever the device tells of its bytes
+-- What a call does to the device that keeps the agent's clock lines, whatever the device shows of its bytes
 -- (`snapshot.go`, `appendLine`; Serf flushes at intervals, here each line is flushed by itself).
 use Rattle.std.specs.Prelude.{◌≡◌, ℕ, nat_le, if◌then◌else◌, List}
 use Rattle.std.specs.Option.{option_map}

@@ -29,7 +29,7 @@ pub record IsBuilt (config : Config) (events : TrackState EventBody) (queries : 
   pub query_per_time : queries.window.per_time ≡ config.per_time
   pub asked_below : All (λ q. q.0 < queries.clock) asked
 
--- what an agent stores that has entered nothing in this life, behind the last lines of a snapshot
+-- what an agent stores that has entered nothing in this life, after the last lines of a snapshot
 abbrev pub first_concrete : Config → SnapshotView → ConcreteState
 first_concrete config s =
     record {

@@ -27,16 +27,17 @@ use Rattle.serf_agent.specs.Events.{fire}
 use Rattle.serf_agent.specs.Handed.{Handed}
 use Rattle.serf_agent.specs.Ideal.{IdealAgent, with_config}
 use Rattle.serf_agent.specs.Queries.{close_due, fire_query}
-use Rattle.serf_agent.specs.Receive.{receive}
+use Rattle.serf_agent.specs.Receive.{receive_tagged}
 use Rattle.serf_agent.specs.Restart.{restarted, unopened}
 use Rattle.serf_agent.specs.States.{compact, handed_by, joined, receive_one, save}
 
 -- What is asked of an agent, and what its sink does with the line or the new text. A push/pull is heard of, and then its
--- events are taken one by one. A life begins with an opening, with settings of its own, on a text that a device keeps.
+-- events are taken one by one. A packet comes with what the host says of tag filters. A life begins with an opening,
+-- with settings of its own, on a text that a device keeps.
 pub data Act : Type 0 where
   Fires : EventBody → Bool → Writing → Act
   Asks : ℕ → ℕ → List ℕ → List ℕ → QueryParams → Writing → Act
-  Gets : ℕ → List ℕ → Writing → Act
+  Gets : Bool → ℕ → List ℕ → Writing → Act
   Hears : PushPull → Bool → Act
   Takes : TimedEntry EventBody → Writing → Act
   Saves : Writing → Act
@@ -48,7 +49,7 @@ pub data Act : Type 0 where
 abbrev pub after : IdealAgent → Act → IdealAgent
 after i (Fires what coalesce w) = (ended i (fire i what coalesce) w).agent
 after i (Asks now id name payload params w) = (ended i (fire_query i now id name payload params) w).agent
-after i (Gets now packet w) = (ended i (receive i now packet) w).agent
+after i (Gets tags now packet w) = (ended i (receive_tagged tags i now packet) w).agent
 after i (Hears m is_join) = joined m is_join i
 after i (Takes e w) = (ended i (receive_one i e) w).agent
 after i (Saves w) = (ended i (save i) w).agent
@@ -57,18 +58,18 @@ after i (Closes now) = (close_due i now).agent
 after i (Opens config text d) = restarted (opened text d) (with_config config i)
 
 -- A text has what was flushed: of events and of queries the last line that is durable, or a later one. Whatever stands
--- behind the flushed lines, a torn one too, changes nothing of that.
+-- after the flushed lines, a torn one too, changes nothing of that.
 pub record HasFlushed (i : IdealAgent) (text : List ℕ) : Type 0 where
   pub events : i.snapshot.event_clock ≤ last_clock kinds.Event text
   pub queries : i.snapshot.query_clock ≤ last_clock kinds.Query text
 
--- What may come to pass: the sink does what a sink may do; a push/pull tells clocks that a packet can spell, and its events
+-- What may come to pass: the sink does what a sink may do; a push/pull brings clocks that a packet can spell, and its events
 -- are taken by an agent that isn't stopped, at times that are times; and a new life opens on a text that has what was
 -- flushed, with settings that an agent can have, whatever they were before.
 abbrev pub MayAct : IdealAgent → Act → Type 0
 MayAct i (Fires what coalesce w) = MayEnd i (fire i what coalesce) w
 MayAct i (Asks now id name payload params w) = MayEnd i (fire_query i now id name payload params) w
-MayAct i (Gets now packet w) = MayEnd i (receive i now packet) w
+MayAct i (Gets tags now packet w) = MayEnd i (receive_tagged tags i now packet) w
 MayAct i (Hears m is_join) = m.member_clock ≤ greatest_clock
 MayAct i (Takes e w) = (i.snapshot.stopped ≡ false) × (e.time < greatest_clock) × MayEnd i (receive_one i e) w
 MayAct i (Saves w) = MayEnd i (save i) w
@@ -100,14 +101,14 @@ got_entries _ = []
 -- the events that are handed out, each by its time, name and payload
 abbrev pub events_out : IdealAgent → Act → List (TimedEntry EventBody)
 events_out i (Fires what coalesce w) = fired_entries (ended i (fire i what coalesce) w).answer
-events_out i (Gets now packet w) = map event_entry (handed_by (ended i (receive i now packet) w).answer)
+events_out i (Gets tags now packet w) = map event_entry (handed_by (ended i (receive_tagged tags i now packet) w).answer)
 events_out i (Takes e w) = map event_entry (handed_by (ended i (receive_one i e) w).answer)
 events_out i _ = []
 
 -- the queries, each by its time and ID
 abbrev pub queries_out : IdealAgent → Act → List (TimedEntry ℕ)
 queries_out i (Asks now id name payload params w) = asked_entries (ended i (fire_query i now id name payload params) w).answer
-queries_out i (Gets now packet w) = got_entries (ended i (receive i now packet) w).answer
+queries_out i (Gets tags now packet w) = got_entries (ended i (receive_tagged tags i now packet) w).answer
 queries_out i _ = []
 
 -- Lives

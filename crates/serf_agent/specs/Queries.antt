@@ -1,6 +1,6 @@
 -- What the ideal agent does with queries, their acks and their responses (`serf.go`, `Query`, `handleQuery` and
 -- `handleQueryResponse`; `query.go`).
-use Rattle.std.specs.Prelude.{ℕ, ℤ, pos, negsuc, ◌+◌, ◌-◌, ◌^◌, ◌==◌, min, nat_lt, nat_le, nat_eq, bit_and, not, Bool, true, if◌then◌else◌, List, [], ◌∷◌, ◌++◌, length, filter, Option, Some, None, Result, Ok, Err}
+use Rattle.std.specs.Prelude.{ℕ, ℤ, pos, negsuc, ◌+◌, ◌-◌, ◌^◌, ◌==◌, min, nat_lt, nat_le, nat_eq, bit_and, not, Bool, true, false, ◌&&◌, if◌then◌else◌, List, [], ◌∷◌, ◌++◌, length, filter, Option, Some, None, Result, Ok, Err}
 use Rattle.std.specs.List.{list_any, list_all}
 use Rattle.std.specs.Map.{lookup, set_value}
 use Rattle.std.specs.Str.{bytes_eq}
@@ -41,9 +41,14 @@ no_broadcast_flag = 2
 abbrev pub has_flag : ℕ → ℕ → Bool
 has_flag flag flags = not (bit_and flags flag == 0)
 
--- whether every filter lets a node pass
-abbrev pub all_pass : List (List ℕ) → List ℕ → Bool
-all_pass filters node = list_all (λ f. passes_of f node) filters
+-- whether a filter asks for a tag (`query.go`, `filterTagType`)
+abbrev pub is_tag_filter : List ℕ → Bool
+is_tag_filter [] = false
+is_tag_filter (kind ∷ bytes) = kind == 1
+
+-- whether every filter lets a node pass, whose host says whether a query's tag filters do
+abbrev pub all_pass : Bool → List (List ℕ) → List ℕ → Bool
+all_pass tags filters node = list_all (λ f. if tags && is_tag_filter f then true else passes_of f node) filters
 
 -- the last moment at which a query of this timeout can be answered: no later than 2^64 - 1, and now where the
 -- timeout is 0 or below
@@ -72,11 +77,11 @@ abbrev pub ack_packet : List ℕ → Query → List ℕ
 ack_packet node q = canonical (response_of q.time q.id node ack_flag [])
 
 -- what is handed out, and the ack that is sent, where the filters let the node pass
-abbrev pub handed_if_passed : List ℕ → ℕ → Query → Option Handed
-handed_if_passed node now q = if all_pass q.filters node then Some (handed_query node now q) else None
+abbrev pub handed_if_passed : Bool → List ℕ → ℕ → Query → Option Handed
+handed_if_passed tags node now q = if all_pass tags q.filters node then Some (handed_query node now q) else None
 
-abbrev pub ack_if_passed : List ℕ → Query → Option (List ℕ)
-ack_if_passed node q = if all_pass q.filters node then (if has_flag ack_flag q.flags then Some (ack_packet node q) else None) else None
+abbrev pub ack_if_passed : Bool → List ℕ → Query → Option (List ℕ)
+ack_if_passed tags node q = if all_pass tags q.filters node then (if has_flag ack_flag q.flags then Some (ack_packet node q) else None) else None
 
 -- Answering a query that was handed out
 
@@ -107,16 +112,16 @@ abbrev pub query_entered : ℕ → ℕ → IdealAgent → IdealAgent
 query_entered t id i = with_queries (track_entered i.life t id i.queries) i
 
 -- where it is new its line is written, though the filters exclude this node, and then it enters
-abbrev pub query_received_as : Option Reason → IdealAgent → ℕ → Query → Call (Result Outcome ReceiveFault)
-query_received_as (Some reason) i now q = Ends record { agent = query_observed q.time i; answer = Ok (outcomes.Ignored reason) }
-query_received_as None i now q =
+abbrev pub query_received_as : Bool → Option Reason → IdealAgent → ℕ → Query → Call (Result Outcome ReceiveFault)
+query_received_as tags (Some reason) i now q = Ends record { agent = query_observed q.time i; answer = Ok (outcomes.Ignored reason) }
+query_received_as tags None i now q =
     Notes kinds.Query q.time (record {
       agent = query_entered q.time q.id i;
-      answer = Ok (outcomes.Query (handed_if_passed i.config.name now q) (ack_if_passed i.config.name q) (not (has_flag no_broadcast_flag q.flags)));
+      answer = Ok (outcomes.Query (handed_if_passed tags i.config.name now q) (ack_if_passed tags i.config.name q) (not (has_flag no_broadcast_flag q.flags)));
     }) (Err SinkFault)
 
-abbrev pub receive_query : IdealAgent → ℕ → Query → Call (Result Outcome ReceiveFault)
-receive_query i now q = query_received_as (query_admission i q.time q.id) i now q
+abbrev pub receive_query : Bool → IdealAgent → ℕ → Query → Call (Result Outcome ReceiveFault)
+receive_query tags i now q = query_received_as tags (query_admission i q.time q.id) i now q
 
 -- A query that is fired
 
@@ -170,9 +175,9 @@ opened_query now q = record { id = q.id; deadline = deadline_of now q.timeout; w
 abbrev pub query_asked : ℕ → Query → IdealAgent → IdealAgent
 query_asked now q i = with_asked (i.asked ++ (q.time, opened_query now q) ∷ []) (query_entered q.time q.id i)
 
--- what a node answers that fires a query
+-- what a node answers that fires a query: of a query of its own its host says nothing
 abbrev pub fired_query : List ℕ → ℕ → Query → FiredQuery
-fired_query node now q = record { time = q.time; packet = canonical (query q); handed = handed_if_passed node now q; ack = ack_if_passed node q }
+fired_query node now q = record { time = q.time; packet = canonical (query q); handed = handed_if_passed false node now q; ack = ack_if_passed false node q }
 
 abbrev pub asks : IdealAgent → ℕ → Query → Call (Result FiredQuery QueryFault)
 asks i now q =

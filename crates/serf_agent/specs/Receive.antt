@@ -1,5 +1,5 @@
 -- What the ideal agent does with a packet of any kind.
-use Rattle.std.specs.Prelude.{◌≡◌, ◌⊎◌, ℕ, List, if◌then◌else◌, Result, Ok, Err}
+use Rattle.std.specs.Prelude.{◌≡◌, ◌⊎◌, ℕ, Bool, false, List, if◌then◌else◌, Result, Ok, Err}
 use Rattle.serf_wire.specs.declared.fault.WireFault.{WireFault}
 use Rattle.serf_wire.specs.Decoded.{decoded}
 use Rattle.serf_wire.specs.Message.{Message, user_event, query, query_response, push_pull, foreign}
@@ -13,21 +13,25 @@ use Rattle.serf_agent.specs.Calls.{Call, Ends, Notes, Replaces, answers}
 use Rattle.serf_agent.specs.Events.{receive_event}
 use Rattle.serf_agent.specs.Queries.{receive_query, receive_response}
 
--- a message that comes at a moment
-abbrev pub receive_message : IdealAgent → ℕ → Message → Call (Result Outcome ReceiveFault)
-receive_message i now (user_event e) = receive_event i e.time (event_of e.name e.payload) e.coalesce
-receive_message i now (query q) = receive_query i now q
-receive_message i now (query_response r) = receive_response i now r
-receive_message i now (push_pull m) = answers i (Ok outcomes.PushPull)
-receive_message i now (foreign kind) = answers i (Ok (outcomes.Foreign kind))
+-- a message that comes at a moment; of a query the host says whether its tag filters let the node pass
+abbrev pub receive_message : Bool → IdealAgent → ℕ → Message → Call (Result Outcome ReceiveFault)
+receive_message tags i now (user_event e) = receive_event i e.time (event_of e.name e.payload) e.coalesce
+receive_message tags i now (query q) = receive_query tags i now q
+receive_message tags i now (query_response r) = receive_response i now r
+receive_message tags i now (push_pull m) = answers i (Ok outcomes.PushPull)
+receive_message tags i now (foreign kind) = answers i (Ok (outcomes.Foreign kind))
 
-abbrev pub receive_read : IdealAgent → ℕ → Result Message WireFault → Call (Result Outcome ReceiveFault)
-receive_read i now (Ok m) = receive_message i now m
-receive_read i now (Err fault) = answers i (Err (Wire fault))
+abbrev pub receive_read : Bool → IdealAgent → ℕ → Result Message WireFault → Call (Result Outcome ReceiveFault)
+receive_read tags i now (Ok m) = receive_message tags i now m
+receive_read tags i now (Err fault) = answers i (Err (Wire fault))
 
--- a packet that comes at a moment
+-- a packet that comes at a moment, with what the host says of tag filters
+abbrev pub receive_tagged : Bool → IdealAgent → ℕ → List ℕ → Call (Result Outcome ReceiveFault)
+receive_tagged tags i now packet = if i.snapshot.stopped then answers i (Err Stopped) else receive_read tags i now (decoded packet)
+
+-- where the host says nothing, a tag filter excludes every node
 abbrev pub receive : IdealAgent → ℕ → List ℕ → Call (Result Outcome ReceiveFault)
-receive i now packet = if i.snapshot.stopped then answers i (Err Stopped) else receive_read i now (decoded packet)
+receive i now packet = receive_tagged false i now packet
 
 -- memory is wanted only where an event or a query is new, or an answer is counted
 abbrev pub TakesMemory : Call (Result Outcome ReceiveFault) → Type 0

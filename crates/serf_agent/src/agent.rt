@@ -143,7 +143,7 @@ impl<S: Sink> Agent<S> {
         }
     }
 
-    /// The agent that has entered nothing in this life, behind the last lines of a snapshot.
+    /// The agent that has entered nothing in this life, after the last lines of a snapshot.
     fn behind(
         alloc: Global,
         config: Config,

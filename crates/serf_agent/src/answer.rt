@@ -11,7 +11,7 @@ use serf_wire::{Message, QueryResponse, decode};
 
 /// The ack or the response that a packet is; `None` where the packet is another message, or none. Takes no memory.
 ///
-/// Where [`Agent::receive`](crate::Agent::receive) answers `Ack` or `Response`, this tells of its packet which query was
+/// Where [`Agent::receive`](crate::Agent::receive) answers `Ack` or `Response`, this says of its packet which query was
 /// answered, by whom, and with what payload: it is just what was counted (`ack`, `response`). Of an ack no payload is kept.
 pub fn answer_in(packet: &[u8]) -> Option<QueryResponse<'_>>
     ensures { option_map response_said result ≡ answer_in packet.now }

@@ -20,7 +20,7 @@ pub const DEFAULT_RESPONDERS: u64 = 1024;
 /// How many events, or queries, of one time are taken. This project's own.
 pub const DEFAULT_PER_TIME: u64 = 1024;
 
-/// How many bytes a snapshot may have before a compaction is worth its while (`serf.go`: `snapshotSizeLimit`), to hand to
+/// How many bytes a snapshot may have before a compaction is worth doing (`serf.go`: `snapshotSizeLimit`), to hand to
 /// [`Agent::should_compact`](crate::Agent::should_compact).
 pub const DEFAULT_SNAPSHOT_LIMIT: u64 = 128 * 1024;
 

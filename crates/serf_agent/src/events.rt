@@ -106,7 +106,7 @@ impl<S: Sink> Agent<S> {
             → Steps i (fire i (event_of name.now payload.now) coalesce)
             result self.old.device self.new }
 
-        // What becomes of the sink, whatever it tells of its bytes.
+        // What becomes of the sink, whatever it shows of its bytes.
         ensures ok_device { IfOk result (λ f. self.new.device
             ≡ device_noted kinds.Event f.handed.time self.old.concrete.snapshot self.old.device) }
         ensures fault_device { IsErrOf result FireFault.SinkFault

@@ -15,7 +15,7 @@ use std::marker::Model;
 /// The greatest length of a packet that answers a query.
 const LONGEST_RESPONSE: u128 = 1024;
 
-/// A query that was handed out, which can be answered once: a response spends it. It has no clone.
+/// A query that was handed out, which can be answered once: a response uses it up. It has no clone.
 ///
 /// What it says has a place of its own, so that an answer that may have a query stays small.
 #[derive(Debug, Drop)]

@@ -1,4 +1,4 @@
-//! What an agent would make of what comes, told before it is acted on. Nothing changes, and no memory is taken.
+//! What an agent would make of what comes, said before it is acted on. Nothing changes, and no memory is taken.
 
 ghost use Rattle.std.specs.Prelude.{◌≡◌};
 ghost use Rattle.serf_wire.specs.Message.{response_said};

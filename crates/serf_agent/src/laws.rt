@@ -17,7 +17,7 @@ pub(crate) fn sound_snapshots()
 
 /// What is promised of one agent over its own disk, over all its lives: every call that it can be asked for, in any order,
 /// whatever its sink does with each line, and restarts between them, each on a text that has what was flushed, with any
-/// bytes behind it.
+/// bytes after it.
 ///
 /// No event is handed out twice, nor a query; and what the agent fires is later than all of its kind that was handed out
 /// before. It is said of the ideal agent, whose history goes on through its restarts. [`Agent::open`](crate::Agent::open)

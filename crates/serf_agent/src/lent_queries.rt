@@ -1,4 +1,4 @@
-//! The open queries of an agent, lent, and the moment behind which the first of them closes.
+//! The open queries of an agent, lent, and the moment after which the first of them closes.
 
 ghost use Rattle.std.specs.Prelude.{◌≡◌, ◌<◌, ◌↔◌, ℕ, Some, IsSomeAnd, filter, length, map};
 ghost use Rattle.serf_agent.specs.LentQueries.{least, lesser, queries_left};

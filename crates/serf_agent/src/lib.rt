@@ -1,10 +1,10 @@
 //! One agent of a Serf cluster, whose every call is a step of an agent that forgets nothing.
 //!
 //! [`Agent`] has three Lamport clocks, two windows of what came last (user events and queries), the queries of its own
-//! that still take answers, and a snapshot of clock lines on a sink. Its contracts set it beside an ideal agent: one that
+//! that still take answers, and a snapshot of clock lines on a sink. Its contracts compare it with an ideal agent: one that
 //! keeps every event and query of all its lives and decides by that history alone. Each public call answers what the
-//! ideal agent answers, with the writing that the sink chose, and the agent afterwards is what can be seen of the next
-//! ideal agent.
+//! ideal agent answers when its sink does the same. What the agent then stores is the view of what the ideal agent has
+//! become.
 //!
 //! Serf hands an event out before its clock line is written, and goes on after a failed line (`serf.go`, `delegate.go`,
 //! `snapshot.go`, `query.go`). Here:
@@ -59,3 +59,4 @@ pub use outcome::{
     EventOut, FireFault, Fired, FiredQuery, MergeFault, NotOpened, OpenFault, Outcome,
     PushPullFault, QueryFault, QueryParams, Reason, ReceiveFault, Reply, RespondFault,
 };
+pub use queries::is_tag_filter;

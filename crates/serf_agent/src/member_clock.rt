@@ -1,4 +1,4 @@
-//! The member clock, for hosts that tell of members.
+//! The member clock, for hosts that keep members.
 
 ghost use Rattle.std.specs.Prelude.{◌≡◌, ◌+◌, false};
 ghost use Rattle.serf_agent.specs.Ideal.{IdealAgent};

@@ -1,9 +1,10 @@
 //! Queries: taking those that come, and counting what is answered.
 
-ghost use Rattle.std.specs.Prelude.{◌≡◌, ◌≢◌, ◌<◌, ◌≤◌, false, true, if◌then◌else◌, None, Some, [], filter, length, not, Ok, Err, OnOk, OnErr, IfOk, IsOk, IsErrOf};
+ghost use Rattle.std.specs.Prelude.{◌≡◌, ◌≢◌, ◌<◌, ◌≤◌, false, true, if◌then◌else◌, ◌&&◌, None, Some, [], filter, length, not, Ok, Err, OnOk, OnErr, IfOk, IsOk, IsErrOf};
 ghost use Rattle.serf_lamport.specs.Clock.{greatest_clock};
 ghost use Rattle.serf_wire.specs.Lists.{texts_left};
 ghost use Rattle.serf_wire.specs.Message.{query_said, query_with, response_said};
+ghost use Rattle.serf_wire.specs.Passes.{passes_of};
 ghost use Rattle.serf_window.specs.Window.{count_in, time_in};
 ghost use Rattle.serf_snap.specs.declared.kind.ClockKind.TheVariants as kinds;
 ghost use Rattle.serf_snap.specs.Device.{HasFailed};
@@ -14,7 +15,7 @@ ghost use Rattle.serf_agent.specs.Calls.{AsksSink, MayNote};
 ghost use Rattle.serf_agent.specs.Config.{longest_name};
 ghost use Rattle.serf_agent.specs.Devices.{FailsLine, device_noted};
 ghost use Rattle.serf_agent.specs.Ideal.{IdealAgent, with_snapshot};
-ghost use Rattle.serf_agent.specs.Queries.{ack_packet, all_pass, close_due, counted_as, handed_query, has_flag, is_ack, is_due, query_admission, query_entered, receive_query, receive_response};
+ghost use Rattle.serf_agent.specs.Queries.{ack_packet, all_pass, close_due, counted_as, handed_query, has_flag, is_ack, is_due, is_tag_filter, query_admission, query_entered, receive_query, receive_response};
 ghost use Rattle.serf_agent.specs.Receive.{TakesMemory};
 ghost use Rattle.serf_agent.specs.Sound.{IsSound};
 ghost use Rattle.serf_agent.specs.Steps.{NotesLine, Steps};
@@ -32,12 +33,37 @@ use serf_snap::{ClockKind, NoteFault, Sink};
 use serf_wire::{Bytes, Query, QueryResponse, Texts, passes};
 use std::alloc::{AllocError, Global};
 
-/// Whether every filter of a packet lets a node pass.
-fn lent_filters_pass(filters: Texts, node: &[u8]) -> bool
-    ensures { result ≡ all_pass (texts_left filters.entry) node.now }
+/// The type byte of a tag filter (Serf's `query.go`: `filterTagType`).
+const TAG_FILTER: u8 = 1;
+
+/// Whether a filter asks for a tag. Takes no memory.
+pub fn is_tag_filter(filter: &[u8]) -> bool
+    ensures { result ≡ is_tag_filter filter.now }
+{
+    match filter {
+        [kind, ..] => *kind == TAG_FILTER,
+        [] => false,
+    }
+}
+
+/// Whether a filter lets a node pass, whose host says whether tag filters do.
+fn filter_passes(filter: &[u8], node: &[u8], tags_pass: bool) -> bool
+    ensures { result ≡ (if tags_pass && is_tag_filter filter.now then true
+        else passes_of filter.now node.now) }
+{
+    if tags_pass && is_tag_filter(filter) {
+        true
+    } else {
+        passes(filter, node)
+    }
+}
+
+/// Whether every filter of a packet lets a node pass, whose host says whether tag filters do.
+fn lent_filters_pass(filters: Texts, node: &[u8], tags_pass: bool) -> bool
+    ensures { result ≡ all_pass tags_pass (texts_left filters.entry) node.now }
 {
     for filter in filters {
-        if !passes(filter, node) {
+        if !filter_passes(filter, node, tags_pass) {
             return false;
         }
     }
@@ -97,21 +123,22 @@ fn outcome_of(answer: &QueryResponse) -> Outcome
 }
 
 impl<S: Sink> Agent<S> {
-    /// Takes a query that comes.
+    /// Takes a query that comes, with what the host says of its tag filters.
     pub(crate) fn receive_query(
         &mut self,
         alloc: Global,
         now: u64,
         query: &Query,
+        tags_pass: bool,
     ) -> Result<Outcome, ReceiveFault>
         requires { self.old.concrete.snapshot.stopped ≡ false }
         ensures step { (i : IdealAgent) → IsSound i → self.old.concrete ≡ view_of i
             → result ≢ Err ReceiveFault.OutOfMemory
-            → Steps i (receive_query i now (query_said query.now))
+            → Steps i (receive_query tags_pass i now (query_said query.now))
             result self.old.device self.new }
         ensures only_new { (i : IdealAgent) → IsSound i → self.old.concrete ≡ view_of i
             → IsErrOf result ReceiveFault.OutOfMemory
-            → AsksSink (receive_query i now (query_said query.now)) }
+            → AsksSink (receive_query tags_pass i now (query_said query.now)) }
         ensures memory { IsErrOf result ReceiveFault.OutOfMemory → self.new ≡ self.old }
         ensures refused { OnErr result (result ≢ Err ReceiveFault.SinkFault → self.new ≡ self.old) }
         ensures cause { IsErrOf result ReceiveFault.SinkFault
@@ -125,7 +152,11 @@ impl<S: Sink> Agent<S> {
                 Ok(Outcome::Ignored(reason))
             }
             None => {
-                let passed = lent_filters_pass(query.filters, self.config.name.as_slice());
+                let passed = lent_filters_pass(
+                    query.filters,
+                    self.config.name.as_slice(),
+                    tags_pass,
+                );
                 let Passed { handed, ack } = self.take_in_query(alloc, now, query, passed)?;
                 Ok(Outcome::Query {
                     handed,

@@ -34,9 +34,9 @@ use std::alloc::{AllocError, Global};
 /// The greatest length of a query's packet.
 const LONGEST_QUERY: u128 = 1024;
 
-/// Whether every filter of a query that is fired lets a node pass.
+/// Whether every filter of a query that is fired lets a node pass; a tag filter lets none.
 fn filters_pass(filters: &[Bytes], node: &[u8]) -> bool
-    ensures { result ≡ all_pass filters.now node.now }
+    ensures { result ≡ all_pass false filters.now node.now }
 {
     filters.iter().all(|f| passes(f.as_slice(), node))
 }
@@ -201,7 +201,7 @@ impl<S: Sink> Agent<S> {
             → Steps i (fire_query i now id name.now payload.now params.now)
             result self.old.device self.new }
 
-        // What becomes of the sink, whatever it tells of its bytes.
+        // What becomes of the sink, whatever it shows of its bytes.
         ensures ok_device { IfOk result (λ f. self.new.device
             ≡ device_noted kinds.Query f.time self.old.concrete.snapshot self.old.device) }
         ensures fault_device { IsErrOf result QueryFault.SinkFault

@@ -1,4 +1,4 @@
-//! What an agent tells of itself. None of these calls takes memory.
+//! What an agent says of itself. None of these calls takes memory.
 
 ghost use Rattle.std.specs.Prelude.{◌≡◌, ◌<◌, ◌-◌, ◌^◌, false, true, map, option_copied, IfSome};
 ghost use Rattle.serf_wire.specs.Buffers.{slots_lent};

@@ -5,7 +5,7 @@ ghost use Rattle.serf_wire.specs.Message.{message_of};
 ghost use Rattle.serf_snap.specs.Device.{HasFailed};
 ghost use Rattle.serf_agent.specs.Answers.{CountsAnswer, answer_in, answer_of};
 ghost use Rattle.serf_agent.specs.Ideal.{IdealAgent};
-ghost use Rattle.serf_agent.specs.Receive.{TakesMemory, receive, receive_message};
+ghost use Rattle.serf_agent.specs.Receive.{TakesMemory, receive, receive_message, receive_tagged};
 ghost use Rattle.serf_agent.specs.Sound.{IsSound};
 ghost use Rattle.serf_agent.specs.Steps.{Steps};
 ghost use Rattle.serf_agent.specs.View.{view_of};
@@ -25,6 +25,8 @@ impl<S: Sink> Agent<S> {
     /// Of the refusals the first that holds is answered. All of them leave the agent and its sink as they were, but
     /// `SinkFault`, which stops the agent: then the sink failed at this line's append or flush, and may keep a part of it.
     /// Takes no memory where the packet is faulty, foreign or ignored, and where it is a push/pull.
+    ///
+    /// A query that has a tag filter is handed out at no node: see [`receive_tagged`](Agent::receive_tagged).
     pub fn receive(
         &mut self,
         alloc: Global,
@@ -51,6 +53,44 @@ impl<S: Sink> Agent<S> {
             → CountsAnswer false (answer_in packet.now)
             self.old.concrete.asked self.new.concrete.asked }
     {
+        self.receive_tagged(alloc, now, packet, false)
+    }
+
+    /// Takes a packet with what the host says of tag filters: whether this node's tags pass all of them.
+    ///
+    /// The agent knows no tags: of a filter it knows that it asks for one ([`is_tag_filter`](crate::is_tag_filter)). The host
+    /// says true only where it could read each tag filter of the packet's query and each passes; of a packet that has none it
+    /// doesn't matter. A query is handed out where each of its filters is a node filter that names this node, or is a tag
+    /// filter while the host says true; a filter that is neither excludes every node. All else is as in
+    /// [`receive`](Agent::receive): the query's line is written and it enters, whether it is handed out or not.
+    pub fn receive_tagged(
+        &mut self,
+        alloc: Global,
+        now: u64,
+        packet: &[u8],
+        tags_pass: bool,
+    ) -> Result<Outcome, ReceiveFault>
+        ensures step { (i : IdealAgent) → IsSound i → self.old.concrete ≡ view_of i
+            → result ≢ Err ReceiveFault.OutOfMemory
+            → Steps i (receive_tagged tags_pass i now packet.now) result self.old.device self.new }
+
+        // Memory is wanted only where an event or a query is new, or an answer is counted; its want changes nothing.
+        ensures only_new { (i : IdealAgent) → IsSound i → self.old.concrete ≡ view_of i
+            → IsErrOf result ReceiveFault.OutOfMemory
+            → TakesMemory (receive_tagged tags_pass i now packet.now) }
+        ensures memory { IsErrOf result ReceiveFault.OutOfMemory → self.new ≡ self.old }
+        ensures refused { OnErr result (result ≢ Err ReceiveFault.SinkFault → self.new ≡ self.old) }
+        ensures cause { IsErrOf result ReceiveFault.SinkFault
+            → HasFailed self.old.device.failures self.new.device.failures }
+
+        // What was counted is just the answer that the packet is, which [`answer_in`](crate::answer_in) lends.
+        ensures ack { result ≡ Ok Outcome.Ack
+            → CountsAnswer true (answer_in packet.now)
+            self.old.concrete.asked self.new.concrete.asked }
+        ensures response { result ≡ Ok Outcome.Response
+            → CountsAnswer false (answer_in packet.now)
+            self.old.concrete.asked self.new.concrete.asked }
+    {
         if self.snapshot.is_stopped() {
             return Err(ReceiveFault::Stopped);
         }
@@ -59,7 +99,7 @@ impl<S: Sink> Agent<S> {
             Some(event) => {
                 self.receive_event(alloc, event.time, event.name, event.payload, event.coalesce)
             }
-            None => self.receive_packet(alloc, now, packet),
+            None => self.receive_packet(alloc, now, packet, tags_pass),
         }
     }
 
@@ -70,13 +110,15 @@ impl<S: Sink> Agent<S> {
         alloc: Global,
         now: u64,
         packet: &[u8],
+        tags_pass: bool,
     ) -> Result<Outcome, ReceiveFault>
         requires { self.old.concrete.snapshot.stopped ≡ false }
         ensures step { (i : IdealAgent) → IsSound i → self.old.concrete ≡ view_of i
             → result ≢ Err ReceiveFault.OutOfMemory
-            → Steps i (receive i now packet.now) result self.old.device self.new }
+            → Steps i (receive_tagged tags_pass i now packet.now) result self.old.device self.new }
         ensures only_new { (i : IdealAgent) → IsSound i → self.old.concrete ≡ view_of i
-            → IsErrOf result ReceiveFault.OutOfMemory → TakesMemory (receive i now packet.now) }
+            → IsErrOf result ReceiveFault.OutOfMemory
+            → TakesMemory (receive_tagged tags_pass i now packet.now) }
         ensures memory { IsErrOf result ReceiveFault.OutOfMemory → self.new ≡ self.old }
         ensures refused { OnErr result (result ≢ Err ReceiveFault.SinkFault → self.new ≡ self.old) }
         ensures cause { IsErrOf result ReceiveFault.SinkFault
@@ -89,7 +131,7 @@ impl<S: Sink> Agent<S> {
             self.old.concrete.asked self.new.concrete.asked }
     {
         match &decode(packet) {
-            Ok(message) => self.receive_message(alloc, now, message),
+            Ok(message) => self.receive_message(alloc, now, message, tags_pass),
             Err(fault) => Err(ReceiveFault::Wire(*fault)),
         }
     }
@@ -101,15 +143,16 @@ impl<S: Sink> Agent<S> {
         alloc: Global,
         now: u64,
         message: &Message,
+        tags_pass: bool,
     ) -> Result<Outcome, ReceiveFault>
         requires { self.old.concrete.snapshot.stopped ≡ false }
         ensures step { (i : IdealAgent) → IsSound i → self.old.concrete ≡ view_of i
             → result ≢ Err ReceiveFault.OutOfMemory
-            → Steps i (receive_message i now (message_of message.now))
+            → Steps i (receive_message tags_pass i now (message_of message.now))
             result self.old.device self.new }
         ensures only_new { (i : IdealAgent) → IsSound i → self.old.concrete ≡ view_of i
             → IsErrOf result ReceiveFault.OutOfMemory
-            → TakesMemory (receive_message i now (message_of message.now)) }
+            → TakesMemory (receive_message tags_pass i now (message_of message.now)) }
         ensures memory { IsErrOf result ReceiveFault.OutOfMemory → self.new ≡ self.old }
         ensures refused { OnErr result (result ≢ Err ReceiveFault.SinkFault → self.new ≡ self.old) }
         ensures cause { IsErrOf result ReceiveFault.SinkFault
@@ -125,7 +168,7 @@ impl<S: Sink> Agent<S> {
             Message::UserEvent(event) => {
                 self.receive_event(alloc, event.time, event.name, event.payload, event.coalesce)
             }
-            Message::Query(query) => self.receive_query(alloc, now, query),
+            Message::Query(query) => self.receive_query(alloc, now, query, tags_pass),
             Message::QueryResponse(answer) => self.receive_response(alloc, now, answer),
             Message::PushPull(_) => Ok(Outcome::PushPull),
             Message::Foreign(kind) => Ok(Outcome::Foreign(*kind)),

@@ -24,7 +24,7 @@ use Rattle.serf_agent.specs.Devices.{LeavesDevice, device_after}
 use Rattle.serf_agent.specs.Events.{admission, fire, fire_fault, fired_as, received_as}
 use Rattle.serf_agent.specs.Ideal.{IdealAgent}
 use Rattle.serf_agent.specs.Queries.{answer_ignore_reason, asked_at, counts_where, fire_query, is_ack, is_full, query_admission, query_at, query_fault, query_fired_as, query_received_as, response_received_as, response_received_at}
-use Rattle.serf_agent.specs.Receive.{receive, receive_message, receive_read}
+use Rattle.serf_agent.specs.Receive.{receive_message, receive_read, receive_tagged}
 use Rattle.serf_agent.specs.Sound.{IsSound}
 use Rattle.serf_agent.specs.Steps.{Steps}
 use Rattle.serf_agent.specs.View.{AgentState, view_of}
@@ -64,9 +64,9 @@ event-plain : (reason : Option Reason) (i : IdealAgent) (t : ℕ) (what : EventB
 event-plain (Some reason) i t what coalesce = refl
 event-plain None i t what coalesce = tt
 
-query-plain : (reason : Option Reason) (i : IdealAgent) (now : ℕ) (q : Query) → IsPlain i (query_received_as reason i now q)
-query-plain (Some reason) i now q = refl
-query-plain None i now q = tt
+query-plain : (tags : Bool) (reason : Option Reason) (i : IdealAgent) (now : ℕ) (q : Query) → IsPlain i (query_received_as tags reason i now q)
+query-plain tags (Some reason) i now q = refl
+query-plain tags None i now q = tt
 
 counts-plain : (full ack : Bool) (i : IdealAgent) (r : QueryResponse) (q : OpenQuery) → IsPlain i (counts_where full ack i r q)
 counts-plain true ack i r q = refl
@@ -80,19 +80,19 @@ response-plain : (found : Option OpenQuery) (i : IdealAgent) (now : ℕ) (r : Qu
 response-plain None i now r = refl
 response-plain (Some q) i now r = counted-plain (answer_ignore_reason now r q) i r q
 
-message-plain : (i : IdealAgent) (now : ℕ) (m : Message) → IsPlain i (receive_message i now m)
-message-plain i now (user_event e) = event-plain (admission i e.time (event_of e.name e.payload)) i e.time (event_of e.name e.payload) e.coalesce
-message-plain i now (query q) = query-plain (query_admission i q.time q.id) i now q
-message-plain i now (query_response r) = response-plain (asked_at r.time i.asked) i now r
-message-plain i now (push_pull m) = refl
-message-plain i now (foreign kind) = refl
+message-plain : (tags : Bool) (i : IdealAgent) (now : ℕ) (m : Message) → IsPlain i (receive_message tags i now m)
+message-plain tags i now (user_event e) = event-plain (admission i e.time (event_of e.name e.payload)) i e.time (event_of e.name e.payload) e.coalesce
+message-plain tags i now (query q) = query-plain tags (query_admission i q.time q.id) i now q
+message-plain tags i now (query_response r) = response-plain (asked_at r.time i.asked) i now r
+message-plain tags i now (push_pull m) = refl
+message-plain tags i now (foreign kind) = refl
 
-read-plain : (i : IdealAgent) (now : ℕ) (m : Result Message WireFault) → IsPlain i (receive_read i now m)
-read-plain i now (Ok m) = message-plain i now m
-read-plain i now (Err fault) = refl
+read-plain : (tags : Bool) (i : IdealAgent) (now : ℕ) (m : Result Message WireFault) → IsPlain i (receive_read tags i now m)
+read-plain tags i now (Ok m) = message-plain tags i now m
+read-plain tags i now (Err fault) = refl
 
-pub receive-plain : (now : ℕ) (packet : List ℕ) (i : IdealAgent) → IsPlain i (receive i now packet)
-receive-plain now packet i = plain-if i i.snapshot.stopped _ (receive_read i now (decoded packet)) refl (read-plain i now (decoded packet))
+pub receive-plain : (tags : Bool) (now : ℕ) (packet : List ℕ) (i : IdealAgent) → IsPlain i (receive_tagged tags i now packet)
+receive-plain tags now packet i = plain-if i i.snapshot.stopped _ (receive_read tags i now (decoded packet)) refl (read-plain tags i now (decoded packet))
 
 fired-plain : (fault : Option FireFault) (i : IdealAgent) (what : EventBody) (coalesce : Bool) → IsPlain i (fired_as fault i what coalesce)
 fired-plain (Some fault) i what coalesce = refl

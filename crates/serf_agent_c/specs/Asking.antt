@@ -44,7 +44,7 @@ abbrev pub left_of : Handed → Result Reply RespondFault → Option Handed
 left_of q (Ok reply) = None
 left_of q (Err fault) = Some q
 
--- A filter is added behind the others where there is memory for it, and nothing else changes.
+-- A filter is added after the others where there is memory for it, and nothing else changes.
 abbrev pub AddsFilter : List ℕ → Session → Session → Code → Type 0
 AddsFilter filter s t code =
     (code ≡ Done → t.filters ≡ s.filters ++ filter ∷ [])

@@ -10,7 +10,7 @@ use Rattle.serf_agent.specs.Calls.{Call, Ends, Notes, Replaces, ended}
 use Rattle.serf_agent.specs.Events.{fire}
 use Rattle.serf_agent.specs.Ideal.{IdealAgent}
 use Rattle.serf_agent.specs.Queries.{fire_query}
-use Rattle.serf_agent.specs.Receive.{receive}
+use Rattle.serf_agent.specs.Receive.{receive_tagged}
 use Rattle.serf_agent.specs.Sound.{IsSound}
 use Rattle.serf_agent.specs.View.{view_of}
 use Rattle.serf_agent_c.specs.declared.answered.Answered.{Answered}
@@ -41,10 +41,10 @@ gave_of (Asked answer) = gaves.Asked answer
 
 -- The calls of a burst
 
--- a packet that comes at a moment; an event, with its name, its payload and whether it coalesces; and a query, with the
+-- a packet that comes at a moment, with what the host says of tag filters; an event, with its name, its payload and whether it coalesces; and a query, with the
 -- moment, its ID, its name, its payload and how it is fired
 pub data BurstCall : Type 0 where
-  Receives : ℕ → List ℕ → BurstCall
+  Receives : Bool → ℕ → List ℕ → BurstCall
   Fires : List ℕ → List ℕ → Bool → BurstCall
   Asks : ℕ → ℕ → List ℕ → List ℕ → QueryParams → BurstCall
 
@@ -64,7 +64,7 @@ abbrev pub outcome : {R : Type 0} → (R → Answered) → IdealAgent → Call R
 outcome answered i call = record { agent = (ended i call Kept).agent; answer = answered (ended i call Kept).answer; line = line_of i call }
 
 abbrev pub outcome_of : IdealAgent → BurstCall → Outcome
-outcome_of i (Receives now packet) = outcome (λ r. Received r) i (receive i now packet)
+outcome_of i (Receives tags now packet) = outcome (λ r. Received r) i (receive_tagged tags i now packet)
 outcome_of i (Fires name payload coalesce) = outcome (λ r. Fired r) i (fire i (event_of name payload) coalesce)
 outcome_of i (Asks now id name payload params) = outcome (λ r. Asked r) i (fire_query i now id name payload params)
 
@@ -85,12 +85,12 @@ lines_of i (call ∷ calls) = (outcome_of i call).line ++ lines_of (outcome_of i
 abbrev pub no_failure : FailurePlan
 no_failure = record { appends = 0; flushes = 0; replaces = 0; keeps_new = false }
 
--- the sink tells its bytes, of which none is only buffered
+-- the sink shows its bytes, of which none is only buffered
 abbrev pub IsFlushed : Device → Type 0
 IsFlushed d = IsSomeAnd d.observed_bytes (λ (bytes : Observable). bytes.buffered ≡ [])
 
 -- A burst of these calls brought one session to another, of a sound agent that is stored there: the outcomes of the calls, in
--- order, wait behind those that waited before; and behind the bytes that the host's file lacked it lacks the lines of the
+-- order, wait after those that waited before; and after the bytes that the host's file lacked it lacks the lines of the
 -- calls, in order.
 pub record Bursts (i : IdealAgent) (calls : List BurstCall) (s t : Session) : Type 0 where
   pub state : t.agent.concrete ≡ view_of (after i calls)
@@ -113,7 +113,7 @@ Stands s t =
 abbrev pub Leaves : Session → Session → Code → Type 0
 Leaves s t code = code ≡ OutOfMemory → (t.agent ≡ s.agent) × KeepsBurst s t × KeepsFilters s t
 
--- Else its outcome, which is of its kind, waits behind the others, and has its code;
+-- Else its outcome, which is of its kind, waits after the others, and has its code;
 abbrev pub Queues : {R : Type 0} → (R → Answered) → Session → Session → Code → Type 0
 Queues {R} answered s t code = code ≢ OutOfMemory → (r : R) × (t.burst.items ≡ s.burst.items ++ answered r ∷ []) × (code ≡ code_of (answered r))
 

@@ -18,3 +18,4 @@ pub mod AskedTime
 pub mod Observing
 pub mod Told
 pub mod Intents
+pub mod Filters

@@ -10,7 +10,7 @@ use Rattle.serf_agent_c.specs.Sessions.{KeepsBurst, is_ready}
 abbrev pub named : Member → List ℕ × ℕ
 named m = (m.name, m.time)
 
--- A member's status time is added behind the others where there is memory for it, and nothing else changes.
+-- A member's status time is added after the others where there is memory for it, and nothing else changes.
 abbrev pub AddsStatus : List ℕ → ℕ → Session → Session → Code → Type 0
 AddsStatus name time s t code =
     (code ≡ Done → t.status.items ≡ s.status.items ++ record { name = name; time = time } ∷ [])

@@ -1,4 +1,4 @@
--- What a session does with a time of the member clock that its host tells.
+-- What a session does with a time of the member clock that its host gives.
 use Rattle.std.specs.Prelude.{◌≡◌, ◌+◌, ◌<◌, ℕ, true, false}
 use Rattle.serf_lamport.specs.Clock.{greatest_clock}
 use Rattle.serf_agent.specs.Ideal.{IdealAgent}

@@ -33,7 +33,7 @@ IsFirst name settings text s =
     (s.agent.concrete ≡ view_of (restarted (opened text (fresh_device text)) (unopened (config_of name settings) (opened text (fresh_device text)))))
     × IsSound (restarted (opened text (fresh_device text)) (unopened (config_of name settings) (opened text (fresh_device text))))
 
--- It gave nothing yet; its text is the file's, behind which stands the end of a torn last line, which the file lacks.
+-- It gave nothing yet; its text is the file's, after which stands the end of a torn last line, which the file lacks.
 abbrev pub IsFresh : List ℕ → Session → Type 0
 IsFresh text s = (s.agent.device ≡ opened_device text (fresh_device text)) × (s.written ≡ length text) × (s.replaces ≡ false) × (s.gave ≡ Nothing) × (s.waiting.items ≡ []) × (s.filters ≡ []) × (s.status.items ≡ []) × (s.left ≡ []) × (s.burst.items ≡ [])
 

@@ -29,7 +29,7 @@ ReadsQuery false found P code = code ≡ Unwritten
 ReadsQuery true None P code = code ≡ NotHanded
 ReadsQuery true (Some q) P code = (code ≡ Done) × P q
 
--- The deadline is that behind which the first of the open queries is due: there is none where no moment makes one due.
+-- The deadline is that after which the first of the open queries is due: there is none where no moment makes one due.
 abbrev pub TellsDeadline : ConcreteState → ℕ → Code → Type 0
 TellsDeadline a deadline code =
     (code ≢ Done → code ≡ Nothing)

@@ -15,7 +15,7 @@ is_ready s = not s.replaces && is_written s.agent.device s.written
 abbrev pub settled : Session → List (Option Handed)
 settled s = s.waiting.items ++ map (λ (q : Handed). Some q) (option_to_list (unsettled_in s.gave))
 
--- A session after a call, once what the call before gave was settled. Its file lacks the bytes behind the text that was there;
+-- A session after a call, once what the call before gave was settled. Its file lacks the bytes after the text that was there;
 abbrev pub Appends : Session → Session → Type 0
 Appends s t = (t.written ≡ length (text_of s.agent.device)) × (t.replaces ≡ false)
 

@@ -2,7 +2,7 @@
 use Rattle.std.specs.Prelude.{ℕ, Bool, ◌==◌, List, [], ◌++◌, take, drop, length, Option, Some, None}
 use Rattle.serf_snap.specs.Device.{Device, durable_of}
 
--- memory of the host's after a copy: as many of the bytes, or of other items, as fit, and what stood behind them
+-- memory of the host's after a copy: as many of the bytes, or of other items, as fit, and what stood after them
 abbrev pub copied : {A : Type 0} → List A → List A → List A
 copied items old = take (length old) items ++ drop (length items) old
 

@@ -36,11 +36,11 @@ status_head p = record { status_time = p.1; name_len = length p.0; left = false 
 abbrev pub left_head : List ℕ → MemberHead
 left_head name = record { status_time = 0; name_len = length name; left = true }
 
--- the members: those with status times, in order, and behind them those that left
+-- the members: those with status times, in order, and after them those that left
 abbrev pub member_heads : Members → List MemberHead
 member_heads m = map status_head m.status ++ map left_head m.left
 
--- their names, one behind the other
+-- their names, one after the other
 abbrev pub member_names : Members → List ℕ
 member_names m = flat_map (λ p. p.0) m.status ++ flat_map (λ name. name) m.left
 

@@ -27,13 +27,13 @@ pub extern "C" fn serf_agent_burst_receive(
     ensures memory { Answers (λ s t code. Leaves s t code) handle.old handle.new result }
     ensures queues { Answers (λ s t code. Queues (λ r. Answered.Received r) s t code)
         handle.old handle.new result }
-    ensures extends { Answers (λ s t code. Extends (Receives now packet.now) s t code)
+    ensures extends { Answers (λ s t code. Extends (Receives false now packet.now) s t code)
         handle.old handle.new result }
 {
     let Some(mut session) = handle.take(alloc) else {
         return Code::Empty.number();
     };
-    let code = session.burst_receive(alloc, now, packet);
+    let code = session.burst_receive(alloc, now, packet, false);
     *handle = Handle::of(session);
     code.number()
 }

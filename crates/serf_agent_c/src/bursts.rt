@@ -32,7 +32,7 @@ impl Session {
         self.burst.reserve(1)
     }
 
-    /// Puts the outcome of a call behind those that wait, unless there was no memory for the call.
+    /// Puts the outcome of a call after those that wait, unless there was no memory for the call.
     fn wait(&mut self, answered: Answered, code: Code)
         requires { deque_len self.old.burst < deque_capacity self.old.burst }
         ensures waits { code ≢ Code.OutOfMemory
@@ -49,18 +49,24 @@ impl Session {
         }
     }
 
-    /// Takes a packet that comes, within a burst.
-    pub(crate) fn burst_receive(&mut self, alloc: Global, now: u64, packet: &[u8]) -> Code
+    /// Takes a packet that comes, within a burst, with what the host says of tag filters.
+    pub(crate) fn burst_receive(
+        &mut self,
+        alloc: Global,
+        now: u64,
+        packet: &[u8],
+        tags_pass: bool,
+    ) -> Code
         ensures stands { Stands self.old self.new }
         ensures filters { KeepsFilters self.old self.new }
         ensures memory { Leaves self.old self.new result }
         ensures queues { Queues (λ r. Answered.Received r) self.old self.new result }
-        ensures extends { Extends (Receives now packet.now) self.old self.new result }
+        ensures extends { Extends (Receives tags_pass now packet.now) self.old self.new result }
     {
         if self.prepare().is_err() {
             return Code::OutOfMemory;
         }
-        let answer = self.agent.receive(alloc, now, packet);
+        let answer = self.agent.receive_tagged(alloc, now, packet, tags_pass);
         let code = received_code(&answer);
         self.wait(Answered::Received(answer), code);
         code

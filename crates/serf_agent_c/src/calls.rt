@@ -3,7 +3,7 @@
 ghost use Rattle.std.specs.Prelude.{◌≡◌, Err};
 ghost use Rattle.serf_window.specs.Texts.{event_of};
 ghost use Rattle.serf_agent.specs.Events.{fire};
-ghost use Rattle.serf_agent.specs.Receive.{receive};
+ghost use Rattle.serf_agent.specs.Receive.{receive_tagged};
 ghost use Rattle.serf_agent_c.specs.Calls.{Forgoes, Gives, Takes, Tells, Waits, answer_code};
 ghost use Rattle.serf_agent_c.specs.Codes.{fire_code, receive_code};
 ghost use Rattle.serf_agent_c.specs.Sessions.{KeepsBurst, KeepsFilters, KeepsMembers};
@@ -74,20 +74,26 @@ impl Session {
         code
     }
 
-    /// Takes a packet that comes.
-    pub(crate) fn receive(&mut self, alloc: Global, now: u64, packet: &[u8]) -> Code
+    /// Takes a packet that comes, with what the host says of tag filters.
+    pub(crate) fn receive(
+        &mut self,
+        alloc: Global,
+        now: u64,
+        packet: &[u8],
+        tags_pass: bool,
+    ) -> Code
         ensures waits { Waits self.old self.new result }
         ensures tells { Tells self.old self.new }
         ensures memory { Forgoes self.old self.new result }
         ensures gives { Gives (λ r. Gave.Received r) receive_code self.old self.new result }
-        ensures takes { Takes (λ r. Gave.Received r) (λ i. receive i now packet.now)
-            self.old self.new result }
+        ensures takes { Takes (λ r. Gave.Received r)
+            (λ i. receive_tagged tags_pass i now packet.now) self.old self.new result }
     {
         match self.begin() {
             Ok(()) => {}
             Err(code) => return code,
         }
-        let answer = self.agent.receive(alloc, now, packet);
+        let answer = self.agent.receive_tagged(alloc, now, packet, tags_pass);
         let code = received_code(&answer);
         self.give(Gave::Received(answer));
         code

@@ -2,7 +2,7 @@
 //!
 //! A [`Handle`] lies in the host's memory and has a session: an agent, what its last call gave, and which bytes the host's
 //! file lacks. The library holds no file: the agent's sink is in memory, and the host appends to its file what
-//! [`serf_agent_unwritten`] tells, flushes it, and says so by [`serf_agent_written`]. Until then no call is made and nothing
+//! [`serf_agent_unwritten`] gives, flushes it, and says so by [`serf_agent_written`]. Until then no call is made and nothing
 //! that was handed out is read, so an event is handed out only once its line is durable.
 //!
 //! Each export that calls the agent says that the agent takes the step that the ideal agent takes (see `serf_agent`), and
@@ -50,6 +50,7 @@ mod observing;
 mod opening;
 mod reading;
 mod session;
+mod tagged;
 mod told;
 
 pub use asked::serf_agent_asked_time;
@@ -77,6 +78,10 @@ pub use intents::{
 pub use observing::serf_agent_observe_member;
 use session::Session;
 use std::alloc::Global;
+pub use tagged::{
+    FiltersHead, serf_agent_burst_receive_tagged, serf_agent_query_filters,
+    serf_agent_receive_tagged,
+};
 pub use told::{MemberHead, MembersHead, serf_agent_state_members};
 
 /// Opens an agent over the text of the host's file, into an empty handle.
@@ -195,7 +200,7 @@ pub extern "C" fn serf_agent_fire(
     code.number()
 }
 
-/// Takes a packet that comes at a moment, in nanoseconds.
+/// Takes a packet that comes at a moment, in nanoseconds. A query that has a tag filter is not handed out.
 #[unsafe(no_mangle)]
 pub extern "C" fn serf_agent_receive(
     alloc: Global,
@@ -215,7 +220,7 @@ pub extern "C" fn serf_agent_receive(
     let Some(mut session) = handle.take(alloc) else {
         return Code::Empty.number();
     };
-    let code = session.receive(alloc, now, packet);
+    let code = session.receive(alloc, now, packet, false);
     *handle = Handle::of(session);
     code.number()
 }

@@ -1,4 +1,4 @@
-//! Times of the member clock, which a host tells that knows members.
+//! Times of the member clock, which a host gives that keeps members.
 
 ghost use Rattle.serf_agent_c.specs.Calls.{Waits};
 ghost use Rattle.serf_agent_c.specs.Exports.{Answers};

@@ -115,12 +115,13 @@ fn put_status_names(out: &mut Vec<u8>, status: StatusTimes) -> Result<(), AllocE
     Ok(())
 }
 
-fn put_left_names(out: &mut Vec<u8>, left: Texts) -> Result<(), AllocError>
+/// Appends texts, one after the other.
+pub(crate) fn put_texts(out: &mut Vec<u8>, texts: Texts) -> Result<(), AllocError>
     ensures { OnOk result (out.new.items ≡ out.old.items
-        ++ flat_map (λ name. name) (texts_left left.entry)) }
+        ++ flat_map (λ text. text) (texts_left texts.entry)) }
 {
-    for name in left {
-        out.extend_from_slice(name)?;
+    for text in texts {
+        out.extend_from_slice(text)?;
     }
     Ok(())
 }
@@ -135,13 +136,13 @@ fn heads_of(alloc: Global, lent: &LentMembers) -> Result<Vec<MemberHead>, AllocE
     Ok(heads)
 }
 
-/// Their names, one behind the other.
+/// Their names, one after the other.
 fn names_of(alloc: Global, lent: &LentMembers) -> Result<Vec<u8>, AllocError>
     ensures { IfOk result (λ names. names.items ≡ member_names (members_lent lent.now)) }
 {
     let mut names = Vec::new(alloc);
     put_status_names(&mut names, lent.status)?;
-    put_left_names(&mut names, lent.left)?;
+    put_texts(&mut names, lent.left)?;
     Ok(names)
 }
 
@@ -179,7 +180,7 @@ fn read_members(
 }
 
 /// What a push/pull's packet says of members: its sender's member clock, and how many members it names; as many of them
-/// as fit, and as much of their names, one behind the other, as fits. First come those with a status time, in the packet's
+/// as fit, and as much of their names, one after the other, as fits. First come those with a status time, in the packet's
 /// order, and then those that left. Of another packet it says `NOTHING`.
 #[unsafe(no_mangle)]
 pub extern "C" fn serf_agent_state_members(

@@ -21,7 +21,7 @@ fn settings(alloc: Global) -> Result<Config, AllocError> {
     })
 }
 
-/// An agent that was told nothing.
+/// An agent that was given nothing.
 fn open_agent(alloc: Global) -> Result<Agent<MemSink>, AllocError> {
     let config = settings(alloc)?;
     match Agent::open(alloc, config, b"", MemSink::new(alloc)) {
@@ -90,7 +90,7 @@ enum Call {
     MergeNew,
 }
 
-/// An agent, and what it is told.
+/// An agent, and what it is given.
 #[derive(Drop)]
 struct Subject {
     alloc: Global,

@@ -5,7 +5,7 @@ use Rattle.std.specs.Prelude.{◌≡◌, ℕ, ◌==◌, ◌&&◌, ◌||◌, ◌+
 abbrev pub longest_reply : ℕ
 longest_reply = 67108864
 
--- the bytes of a reply's lines, and what follows the empty line behind them
+-- the bytes of a reply's lines, and what follows the empty line after them
 pub record Cut : Type 0 where
   pub text : List ℕ
   pub rest : List ℕ
@@ -34,7 +34,7 @@ Hears cut None new = cut ≡ None
 Hears cut (Some text) None = ⊥
 Hears cut (Some text) (Some rest) = cut ≡ Some (record { text = text; rest = rest })
 
--- What is left of the known bytes, behind this text of a reply, is cut where the whole is.
+-- What is left of the known bytes, after this text of a reply, is cut where the whole is.
 abbrev pub IsCutAlike : Option (List ℕ) → Option (List ℕ) → Bool → Bool → List ℕ → Type 0
 IsCutAlike None now begins is_return text = Unit {0}
 IsCutAlike (Some input) None begins is_return text = ⊥

@@ -49,7 +49,7 @@ look_answer look = codes "looked" ++ number_word look.member_clock ++ number_wor
 abbrev pub look_said : Look → Said
 look_said look = record { answer = look_answer look; lines = lines.Kept look.kept ∷ [] }
 
--- When it is asked: behind an opening, behind each of these answers, and behind the last call.
+-- When it is asked: after an opening, after each of these answers, and after the last call.
 
 abbrev pub is_looked_behind : Answer → Bool
 is_looked_behind (answers.Refused refusal) = true

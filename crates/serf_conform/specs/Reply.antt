@@ -97,7 +97,7 @@ abbrev pub counted_words : Option LineKind → List (List ℕ) → Result ReplyL
 counted_words None words = Err UnknownWord
 counted_words (Some kind) words = if not (length words == count_of kind) then Err WordCount else of_kind kind words
 
--- what a line behind the answer says; no line has more than eight words
+-- what a line after the answer says; no line has more than eight words
 unfoldable pub line_of : List (List ℕ) → Result ReplyLine Cause
 line_of words = if nat_lt 8 (length words) then Err WordCount else counted_words (kind_of (word_at 1 words) (word_at 2 words)) words
 
@@ -109,7 +109,7 @@ abbrev pub after_lines : ℕ → List ReplyLine → List (List ℕ) → Result (
 after_lines number before [] = Ok before
 after_lines number before (line ∷ lines) = at_line number (after_line before line) (λ after. after_lines (number + 1) after lines)
 
--- what a reply says: its answer, as it stands, and the lines behind it
+-- what a reply says: its answer, as it stands, and the lines after it
 pub record Said : Type 0 where
   pub answer : List ℕ
   pub lines : List ReplyLine

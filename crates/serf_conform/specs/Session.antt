@@ -26,7 +26,7 @@ use Rattle.serf_conform.specs.Wanted.{judged, opening, wanted_of}
 
 -- One call
 
--- what came of a call, and what the agent writes behind its reply
+-- what came of a call, and what the agent writes after its reply
 pub record AskedOf : Type 0 where
   pub asked : Asked
   pub rest : List ℕ
@@ -85,7 +85,7 @@ given_for a t = if is_agent a (actor_of t.action) then given_of t.action t.given
 abbrev pub turn_at : ℕ → List (List ℕ) → Action → Line → Turn
 turn_at n sent action line = record { action = action; line = line; given = packet_given (take n sent) action; packets = take (length line.sent) (drop n sent) }
 
--- what came of a turn, what was written for it, and what the agent writes behind its reply
+-- what came of a turn, what was written for it, and what the agent writes after its reply
 pub record Taken : Type 0 where
   pub asked : Asked
   pub written : List ℕ
@@ -94,7 +94,7 @@ pub record Taken : Type 0 where
 abbrev pub with_line : List ℕ → AskedOf → Taken
 with_line line s = record { asked = s.asked; written = line; rest = s.rest }
 
--- a call that agrees, with what came of the look behind it
+-- a call that agrees, with what came of the look after it
 abbrev pub with_looked : Look → Asked → Asked
 with_looked look asks.Agrees = asks.Looked
 with_looked look asks.Unsupported = asks.Unlooked
@@ -113,7 +113,7 @@ look_if true serf look s =
     let l = looked_of serf look s.rest in
     record { asked = with_looked look l.asked; written = s.written ++ look_line; rest = l.rest }
 
--- a call, and the look behind it where one is due and the call agrees
+-- a call, and the look after it where one is due and the call agrees
 abbrev pub then_looked : Bool → Option Look → Taken → Taken
 then_looked serf None s = s
 then_looked serf (Some look) s = look_if (agrees s.asked) serf look s
@@ -127,7 +127,7 @@ taken_by serf due (Some given) t input =
 abbrev pub taken_of : Bool → ℕ → Option Look → Turn → List ℕ → Taken
 taken_of serf a due t input = taken_by serf due (given_for a t) t input
 
--- the opening, and the look behind it
+-- the opening, and the look after it
 abbrev pub opened_of : Bool → Config → List ℕ → Taken
 opened_of serf config input = then_looked serf (Some (look_after config [])) (with_line (open_line config []) (asked_of [] opening input))
 
@@ -139,7 +139,7 @@ made_with (Some given) t made = made ++ call_by t.action (Some given)
 abbrev pub made_after : ℕ → Turn → List AgentCall → List AgentCall
 made_after a t made = made_with (given_for a t) t made
 
--- the look that is due behind a turn
+-- the look that is due after a turn
 abbrev pub due_if : Bool → Look → Option Look
 due_if due look = if due then Some look else None
 
@@ -163,11 +163,11 @@ pub record Session : Type 0 where
   pub written : List ℕ
   pub rest : List ℕ
 
--- the counts behind a call, where it agrees
+-- the counts after a call, where it agrees
 abbrev pub one_more : Tally → Tally
 one_more n = record { calls = n.calls + 1; looks = n.looks; unsupported = n.unsupported }
 
--- and behind a look
+-- and after a look
 abbrev pub look_agrees : Tally → Tally
 look_agrees n = record { calls = n.calls; looks = n.looks + 1; unsupported = n.unsupported }
 
@@ -221,7 +221,7 @@ after_asked asks.Unlooked action n written rest next = next (counted asks.Unlook
 after_asked (asks.LookDiffers look text) action n written rest next = ends_at action (one_more n) (Some look) (ends.Differs text) written rest
 after_asked (asks.LookEnded look) action n written rest next = ends_at action (one_more n) (Some look) ends.Ended written rest
 
--- the look behind the last call
+-- the look after the last call
 abbrev pub last_of : Asked → ℕ → Tally → Look → Verdict
 last_of asks.Agrees action n look = verdict_at action (look_agrees n) None ends.AllAgree
 last_of asks.Unsupported action n look = verdict_at action (look_unsupported n) None ends.AllAgree

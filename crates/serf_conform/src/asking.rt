@@ -37,17 +37,17 @@ pub(crate) enum Asked {
     Unsupported,
     Differs(Bytes),
     Ended,
-    /// It agrees, and so does the look behind it.
+    /// It agrees, and so does the look after it.
     Looked,
-    /// It agrees, and the look behind it is unsupported.
+    /// It agrees, and the look after it is unsupported.
     Unlooked,
-    /// It agrees, and the look behind it, of which this is wanted, does not.
+    /// It agrees, and the look after it, of which this is wanted, does not.
     LookDiffers(Look, Bytes),
-    /// It agrees, and the agent ended at the look behind it, of which this is wanted.
+    /// It agrees, and the agent ended at the look after it, of which this is wanted.
     LookEnded(Look),
 }
 
-/// The counts behind a call that agrees.
+/// The counts after a call that agrees.
 fn one_more(tally: Tally) -> Tally
     requires { tally.calls < 2 ^ 64 - 1 }
     ensures { result ≡ one_more tally }
@@ -59,7 +59,7 @@ fn one_more(tally: Tally) -> Tally
     }
 }
 
-/// The counts behind a look that agrees.
+/// The counts after a look that agrees.
 pub(crate) fn look_agrees(tally: Tally) -> Tally
     requires { tally.looks < 2 ^ 64 - 1 }
     ensures { result ≡ look_agrees tally }
@@ -71,7 +71,7 @@ pub(crate) fn look_agrees(tally: Tally) -> Tally
     }
 }
 
-/// The counts behind a look that is unsupported.
+/// The counts after a look that is unsupported.
 pub(crate) fn look_unsupported(tally: Tally) -> Tally
     requires { tally.unsupported < 2 ^ 64 - 1 }
     ensures { result ≡ look_unsupported tally }
@@ -94,7 +94,7 @@ impl Asked {
         matches!(self, Asked::Agrees)
     }
 
-    /// The counts behind it.
+    /// The counts after it.
     pub(crate) fn counted(&self, tally: Tally) -> Tally
         requires { HasRoom tally }
         ensures { result ≡ counted self.now tally }
@@ -187,7 +187,7 @@ pub(crate) fn ask_look<R: Read, W: Write>(
     }
 }
 
-/// A call that agrees, with what came of the look behind it.
+/// A call that agrees, with what came of the look after it.
 fn with_looked(look: Look, looked: Asked) -> Asked
     ensures { result ≡ with_looked look looked }
 {
@@ -200,7 +200,7 @@ fn with_looked(look: Look, looked: Asked) -> Asked
     }
 }
 
-/// Looks behind a call, where that is due and the call agrees.
+/// Looks at the agent after a call, where that is due and the call agrees.
 pub(crate) fn then_look<R: Read, W: Write>(
     alloc: Global,
     reader: &mut R,
@@ -234,8 +234,8 @@ pub fn is_of(action: &Action, agent: u64) -> bool
     }
 }
 
-/// The packet that a call gives, where these were sent, or none in a call that needs none; `None` where it names no
-/// packet. Takes no memory.
+/// The packet that an action gives to its agent, of those that were sent. It has no bytes where the action is no
+/// delivery and no merge. `None` where the action names a packet that wasn't sent. Takes no memory.
 pub fn given_packet<'a>(action: &Action, sent: &'a [Bytes]) -> Option<&'a [u8]>
     ensures { option_copied result ≡ given_of action.now (packet_given sent.now action.now) }
 {
@@ -281,7 +281,7 @@ fn make_call<R: Read, W: Write>(
     ask(alloc, reader, writer, &text, given, &reply)
 }
 
-/// Makes a call of an agent, which is given this packet, judges its reply, and looks behind it where that is due.
+/// Makes a call of an agent, which is given this packet, judges its reply, and then looks at the agent where that is due.
 fn call_and_look<R: Read, W: Write>(
     alloc: Global,
     reader: &mut R,
@@ -302,8 +302,8 @@ fn call_and_look<R: Read, W: Write>(
     then_look(alloc, reader, writer, rules, due, asked)
 }
 
-/// Makes the call of a turn, where it is one of this agent that rests on these rules, judges its reply, and looks behind
-/// it where that is due. Before the turn these packets were sent, and by it those.
+/// Makes the call of a turn, where it is one of this agent that rests on these rules, judges its reply, and then looks at
+/// the agent where that is due. Before the turn these packets were sent, and by it those.
 pub(crate) fn take_turn<R: Read, W: Write>(
     alloc: Global,
     reader: &mut R,

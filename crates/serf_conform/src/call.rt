@@ -10,7 +10,7 @@ use std::alloc::AllocError;
 
 /// Appends the line of the call that makes an agent of these settings on a snapshot of this text.
 ///
-/// After an `AllocError`, which comes only where there is no memory for the line, `out` may have a front of it.
+/// After an `AllocError`, which comes only where there is no memory for the line, `out` may have a prefix of it.
 #[tactic(auto, unfolding(crate::specs::CallText::open_line))]
 pub fn put_open(out: &mut Vec<u8>, config: &Config, text: &[u8]) -> Result<(), AllocError>
     ensures { OnOk result (out.new.items ≡ out.old.items ++ open_line config.now text.now) }
@@ -21,11 +21,11 @@ pub fn put_open(out: &mut Vec<u8>, config: &Config, text: &[u8]) -> Result<(), A
     out.extend_from_slice(b"\n")
 }
 
-/// Appends the line of the call that an action is of its agent, which is given this packet where it is a delivery or a
-/// merge: without the agent's number, and with the packet's bytes in place of its number. An injection is no agent's
-/// call, and adds nothing.
+/// Appends an action as the line of a call: without the agent's number, and with the packet's bytes in place of its
+/// number. The packet `given` counts where the action is a delivery or a merge. An injection is no agent's call, and
+/// adds nothing.
 ///
-/// After an `AllocError`, which comes only where there is no memory for the line, `out` may have a front of it.
+/// After an `AllocError`, which comes only where there is no memory for the line, `out` may have a prefix of it.
 pub fn put_call(out: &mut Vec<u8>, action: &Action, given: &[u8]) -> Result<(), AllocError>
     ensures { OnOk result (out.new.items ≡ out.old.items ++ call_line action.now given.now) }
 {

@@ -26,7 +26,7 @@ pub enum ReadFault {
     OutOfMemory,
 }
 
-/// The lines of the next reply, each with its newline. Just they are read, and the empty line behind them.
+/// The lines of the next reply, each with its newline. Just they are read, and the empty line after them.
 ///
 /// A line that is a carriage return alone ends a reply too. The carriage return is then the last byte of the text: such an
 /// agent ends its lines otherwise, and would never write an empty one.

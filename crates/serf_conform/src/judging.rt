@@ -26,7 +26,7 @@ pub(crate) fn is_refused(reply: &Reply) -> bool
     reply.answer.as_slice() == b"unsupported".as_slice() && reply.lines.is_empty()
 }
 
-/// What the text of a reply is against the reply that is wanted of a call, which was given this packet.
+/// Compares the text of a reply with the reply that is wanted. The call was given this packet.
 ///
 /// A reply that can't be read differs. An `AllocError` comes only where there is no memory to read or compare it.
 pub fn judge(

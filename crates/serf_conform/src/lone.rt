@@ -120,7 +120,7 @@ pub(crate) fn look_at(alloc: Global, world: &World) -> Result<Look, ConformFault
     })
 }
 
-/// The look that is due behind a call of this answer.
+/// The look that is due after a call of this answer.
 fn due_look(alloc: Global, world: &World, answer: Answer) -> Result<Option<Look>, ConformFault>
     ensures { (config : Config) (made : List AgentCall) → IsLone config made world.now
         → IfOk result (λ due. due ≡ due_if (looked_behind answer) (look_after config made)) }
@@ -134,7 +134,7 @@ fn due_look(alloc: Global, world: &World, answer: Answer) -> Result<Option<Look>
 }
 
 /// The agent makes the call of a turn, where it is one of the agent of this number, and the look is given that is due
-/// behind it. So many packets were sent before; `OtherTrace` where there are fewer.
+/// after it. So many packets were sent before; `OtherTrace` where there are fewer.
 pub(crate) fn follow_turn(
     alloc: Global,
     world: &mut World,

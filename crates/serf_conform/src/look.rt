@@ -31,7 +31,7 @@ pub struct Look {
     pub kept: Bytes,
 }
 
-/// The line of the call that asks for it.
+/// The line of the call `look`.
 #[tactic(auto, unfolding(crate::specs::Look::look_line))]
 pub fn look_line() -> &'static [u8]
     ensures { result.now ≡ line_of_look }
@@ -39,7 +39,7 @@ pub fn look_line() -> &'static [u8]
     b"look\n"
 }
 
-/// Whether it is asked for behind a call of this answer: behind a refusal, a restart and a compaction.
+/// Whether `look` is asked after a call of this answer: it is after a refusal, a restart and a compaction.
 pub fn is_looked_behind(answer: Answer) -> bool
     ensures { result ≡ looked_behind answer }
 {

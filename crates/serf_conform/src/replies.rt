@@ -158,10 +158,10 @@ fn answer_words(alloc: Global, answer: Answer) -> Result<Bytes, AllocError>
     Ok(Bytes::from_vec(out))
 }
 
-/// What the reference replies to a call: the action's line, of which the packets are these, and which was given this
+/// What the reference replies to a call, by the action's line and the packets that it sent. The call was given this
 /// packet where it is a delivery or a merge.
 ///
-/// Behind an ack or a response that was counted stands what was counted, which the packet says. An `AllocError` comes
+/// After an ack or a response that was counted stands what was counted, which the packet says. An `AllocError` comes
 /// only where there is no memory for the reply.
 pub fn wanted(
     alloc: Global,

@@ -16,7 +16,7 @@ use thiserror::Error;
 pub struct Reply {
     /// The first line, as it stands.
     pub answer: Bytes,
-    /// What the lines behind it say, in order.
+    /// What the lines after it say, in order.
     pub lines: Vec<ReplyLine>,
 }
 
@@ -86,7 +86,7 @@ fn reply_with(alloc: Global, answer: &[u8], lines: Vec<ReplyLine>) -> Result<Rep
 
 /// The reply that these lines say, or its first line that can't be read.
 ///
-/// The text is cut at newlines. The first line is the answer, of any bytes but none. Empty lines behind it say nothing;
+/// The text is cut at newlines. The first line is the answer, of any bytes but none. Empty lines after it say nothing;
 /// [`crate::read_reply_text`] gives none but the one at the end. `OutOfMemory` may come before a bad line that stands
 /// further on.
 pub fn read_reply(alloc: Global, text: &[u8]) -> Result<Reply, ReplyFault>

@@ -1,4 +1,4 @@
-//! A line of a reply behind its answer.
+//! A line of a reply after its answer.
 
 ghost use Rattle.std.specs.Prelude.{◌≡◌, ◌==◌, ◌≤◌, length, map};
 ghost use Rattle.serf_text.specs.Gives.{Gives};
@@ -220,7 +220,7 @@ fn line_in(alloc: Global, words: &[&[u8]]) -> Result<ReplyLine, LineFault>
     line_of_kind(alloc, kind, words)
 }
 
-/// What a line behind a reply's answer says: `sent`, `event`, `handed`, `counted ack`, `counted response` or `kept`.
+/// What a line after a reply's answer says: `sent`, `event`, `handed`, `counted ack`, `counted response` or `kept`.
 ///
 /// Words stand between spaces. A line of more than eight words has too many, whatever it is. A line that can't be read
 /// is `Bad` with its first cause: `WordCount`, `UnknownWord` or `BadWord`.

@@ -1,28 +1,45 @@
 //! The text of a reply's lines.
-ghost use Rattle.std.specs.Prelude.{◌≡◌, ◌++◌, OnOk};
+ghost use Rattle.std.specs.Prelude.{◌≡◌, ◌++◌, OnOk, codes};
+ghost use Rattle.serf_conform.specs.CallText.{moment_words, number_word};
 ghost use Rattle.serf_conform.specs.ReplyText.{counted_ack_name, counted_response_name, line_text};
 
 use crate::put::{put_flag_word, put_hex_word, put_moment_words, put_number_word, put_texts_words};
 use crate::reply_line::ReplyLine;
 use std::alloc::AllocError;
 
+/// The kind, the time and the ID of an ack that was counted.
 #[tactic(auto, unfolding(crate::specs::ReplyText::counted_ack_name))]
-fn put_counted_ack(out: &mut Vec<u8>) -> Result<(), AllocError>
-    ensures { OnOk result (out.new.items ≡ out.old.items ++ counted_ack_name) }
+fn put_counted_ack(out: &mut Vec<u8>, time: u64, id: u64) -> Result<(), AllocError>
+    ensures { OnOk result (out.new.items ≡ out.old.items ++ counted_ack_name
+        ++ moment_words time id) }
 {
-    out.extend_from_slice(b"counted ack")
+    out.extend_from_slice(b"counted ack")?;
+    put_moment_words(out, time, id)
 }
 
+/// The kind, the time and the ID of a response that was counted.
 #[tactic(auto, unfolding(crate::specs::ReplyText::counted_response_name))]
-fn put_counted_response(out: &mut Vec<u8>) -> Result<(), AllocError>
-    ensures { OnOk result (out.new.items ≡ out.old.items ++ counted_response_name) }
+fn put_counted_response(out: &mut Vec<u8>, time: u64, id: u64) -> Result<(), AllocError>
+    ensures { OnOk result (out.new.items ≡ out.old.items ++ counted_response_name
+        ++ moment_words time id) }
 {
-    out.extend_from_slice(b"counted response")
+    out.extend_from_slice(b"counted response")?;
+    put_moment_words(out, time, id)
+}
+
+/// The kind, the index, the time and the ID of a query that was handed out.
+fn put_handed(out: &mut Vec<u8>, index: u64, time: u64, id: u64) -> Result<(), AllocError>
+    ensures { OnOk result (out.new.items ≡ out.old.items ++ codes "handed" ++ number_word index
+        ++ moment_words time id) }
+{
+    out.extend_from_slice(b"handed")?;
+    put_number_word(out, index)?;
+    put_moment_words(out, time, id)
 }
 
 /// Appends the words of a line of a reply, without a newline.
 ///
-/// After an `AllocError`, which comes only where there is no memory for them, `out` may have a front of them.
+/// After an `AllocError`, which comes only where there is no memory for them, `out` may have a prefix of them.
 pub fn put_reply_line(out: &mut Vec<u8>, line: &ReplyLine) -> Result<(), AllocError>
     ensures { OnOk result (out.new.items ≡ out.old.items ++ line_text line.now) }
 {
@@ -49,14 +66,11 @@ pub fn put_reply_line(out: &mut Vec<u8>, line: &ReplyLine) -> Result<(), AllocEr
             name,
             payload,
         } => {
-            out.extend_from_slice(b"handed")?;
-            put_number_word(out, *index)?;
-            put_moment_words(out, *time, *id)?;
+            put_handed(out, *index, *time, *id)?;
             put_texts_words(out, name.as_slice(), payload.as_slice())
         }
         ReplyLine::CountedAck { time, id, from } => {
-            put_counted_ack(out)?;
-            put_moment_words(out, *time, *id)?;
+            put_counted_ack(out, *time, *id)?;
             put_hex_word(out, from.as_slice())
         }
         ReplyLine::CountedResponse {
@@ -65,8 +79,7 @@ pub fn put_reply_line(out: &mut Vec<u8>, line: &ReplyLine) -> Result<(), AllocEr
             from,
             payload,
         } => {
-            put_counted_response(out)?;
-            put_moment_words(out, *time, *id)?;
+            put_counted_response(out, *time, *id)?;
             put_texts_words(out, from.as_slice(), payload.as_slice())
         }
         ReplyLine::Kept(text) => {

@@ -87,7 +87,7 @@ fn verdict_at(action: u64, tally: Tally, look: Option<Look>, end: End) -> Verdic
     }
 }
 
-/// The verdict where this came of the call of an action, behind so many that agree; `None` where it goes on.
+/// The verdict where this came of the call of an action, after so many that agree; `None` where it goes on.
 fn ending(asked: Asked, action: u64, tally: Tally) -> Option<Verdict>
     requires { HasRoom tally }
     ensures { result ≡ ending_of asked action tally }
@@ -105,7 +105,7 @@ fn ending(asked: Asked, action: u64, tally: Tally) -> Option<Verdict>
     Some(verdict_at(action, more, look, end))
 }
 
-/// The verdict where this came of the look behind the last call.
+/// The verdict where this came of the look after the last call.
 fn last_ending(looked: Asked, action: u64, tally: Tally, look: Look) -> Verdict
     requires { HasRoom tally }
     ensures { result ≡ last_of looked action tally look }
@@ -119,7 +119,7 @@ fn last_ending(looked: Asked, action: u64, tally: Tally, look: Look) -> Verdict
     }
 }
 
-/// Looks behind the last call.
+/// Looks at the agent after the last call.
 fn look_last<R: Read, W: Write>(
     alloc: Global,
     reader: &mut R,
@@ -195,8 +195,8 @@ fn hold_on<R: Read, W: Write>(
 /// Holds an agent against the reference: opens it on an empty snapshot, makes the calls that agent number `agent` got in
 /// the trace of these actions, and compares each reply by its meaning ([`crate::line_means`]).
 ///
-/// It looks at the agent behind the opening, behind each call that is refused, restarts it or compacts its snapshot, and
-/// behind the last call: what it has is to be what the model's agent has behind the same calls ([`judge_look`]). A look
+/// It looks at the agent after the opening, after each call that is refused, restarts it or compacts its snapshot, and
+/// after the last call: what it has is to be what the model's agent has after the same calls ([`judge_look`]). A look
 /// that is unsupported is counted, and changes nothing else.
 ///
 /// A call is written only once the reply to the one before is read and agrees. A delivery or a merge that names no

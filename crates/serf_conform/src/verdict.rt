@@ -43,7 +43,7 @@ pub enum End {
     Ended,
 }
 
-/// What an agent is thought of.
+/// What came of holding an agent against the reference.
 #[derive(Debug, Drop)]
 pub struct Verdict {
     /// How many calls agree. That the agent was opened is one.
@@ -52,9 +52,9 @@ pub struct Verdict {
     pub looks: u64,
     /// How many looks are unsupported.
     pub unsupported_looks: u64,
-    /// The action at which it ended, counted from 1; 0 is the opening, and one more than there are is behind the last.
+    /// The action at which it ended, counted from 1; 0 is the opening, and one more than there are is after the last.
     pub action: u64,
-    /// The look that was wanted behind that action, where it ended at one: the action itself agrees.
+    /// The look that was wanted after that action, where it ended at one: the action itself agrees.
     pub look: Option<Look>,
     pub end: End,
 }

@@ -104,7 +104,7 @@ row_with name n above action words arrow clock line = record {
 }
 
 -- The row of an action of this number, which has so many rows above it, and before which these packets were sent: what came
--- of it is this line, and the agent's event clock is another one afterwards, or none is told.
+-- of it is this line, and the agent's event clock is another one afterwards, or none is shown.
 abbrev pub row_of : Option (List ℕ) → ℕ → ℕ → List Packet → Action → Option (List ℕ) → Option ℕ → Line → Row
 row_of name n above packets action given clock line = row_with name n above action (action_words action given) (arrow_of packets action) clock line
 

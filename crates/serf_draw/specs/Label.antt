@@ -15,7 +15,7 @@ use Rattle.serf_schedule.specs.Show.{answer_text}
 unfoldable pub short : List ℕ → List ℕ
 short text = if nat_lt 12 (length text) then take 8 text ++ codes "..(" ++ decimal (length text) ++ codes ")" else text
 
--- a name and a payload, with a space behind each
+-- a name and a payload, with a space after each
 unfoldable pub texts : List ℕ → List ℕ → List ℕ
 texts name payload = short name ++ codes " " ++ short payload ++ codes " "
 
@@ -58,12 +58,12 @@ action_words (actions.Of agent act) given = act_words act given
 unfoldable pub event_words : EventLine → List ℕ
 event_words e = texts e.name e.payload ++ codes "@" ++ decimal e.time
 
--- the same behind these bytes, where there is one
+-- the same after these bytes, where there is one
 abbrev pub event_behind : List ℕ → Option EventLine → List ℕ
 event_behind sign None = []
 event_behind sign (Some e) = sign ++ event_words e
 
--- the first two, behind a colon and a comma
+-- the first two, after a colon and a comma
 abbrev pub first_two : List EventLine → List ℕ
 first_two events = event_behind (codes ": ") (slice_get events 0) ++ event_behind (codes ", ") (slice_get events 1)
 
@@ -78,11 +78,11 @@ abbrev pub clock_words : Option ℕ → List ℕ
 clock_words None = []
 clock_words (Some clock) = codes ", clock " ++ decimal clock
 
--- a text of at most so many bytes; of a longer one its front, with two full stops at the end
+-- a text of at most so many bytes; of a longer one its beginning, with two full stops at the end
 unfoldable pub cut_to : ℕ → List ℕ → List ℕ
 cut_to n text = if nat_lt n (length text) then take (n - 2) text ++ codes ".." else text
 
--- these words at the front, as far as 72 bytes have room, and those whole at the end
+-- these words at the start, as far as 72 bytes have room, and those whole at the end
 unfoldable pub joined : List ℕ → List ℕ → List ℕ
 joined front end = cut_to (72 - length end) front ++ end
 

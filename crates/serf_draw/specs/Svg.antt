@@ -1,5 +1,5 @@
 -- The text of an SVG file. A lane is 1,000 units wide and a line 100 units high, so that each place is a number with two or
--- three digits behind it.
+-- three digits after it.
 use Rattle.std.specs.Prelude.{ℕ, ◌==◌, ◌+◌, ◌-◌, ◌*◌, ◌/◌, ◌++◌, ◌^◌, min, Bool, if◌then◌else◌, List, [], ◌∷◌, length, map, codes, decimal, position, Option, Some, None}
 use Rattle.std.specs.List.{flat_map, range_with_len}
 use Rattle.serf_draw.specs.declared.picture.Arrow.{Arrow}
@@ -83,7 +83,7 @@ abbrev pub names_text : ℕ → ℕ → List Lane → List ℕ
 names_text line i [] = []
 names_text line i (lane ∷ lanes) = name_text line i lane ++ names_text line (i + 1) lanes
 
--- the lines that have the names, of so many rows: the first, and one behind each 40 of them
+-- the lines that have the names, of so many rows: the first, and one after each 40 of them
 abbrev pub head_lines : ℕ → List ℕ
 head_lines rows = map (λ k. line_above (40 * k)) (range_with_len 0 ((rows - 1) / 40 + 1))
 
@@ -133,7 +133,7 @@ unfoldable pub dot_text : List Lane → Row → List ℕ
 dot_text lanes row =
     class_text (codes "<g class='") row.tone (codes "'") ++ placed_text (codes " transform='translate(") lanes row.agent row.above (codes ")'>")
 
--- a dot, and behind it the lane's break where the agent was opened again
+-- a dot, and after it the lane's break where the agent was opened again
 abbrev pub mark_text : Bool → List ℕ
 mark_text restarts = if restarts then codes "<path class='g' d='M0-45V45'/><path class='b' d='M-50-45H50M-50 45H50'/><circle r='14'/></g>\n" else codes "<circle r='14'/></g>\n"
 

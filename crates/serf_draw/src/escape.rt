@@ -30,7 +30,7 @@ fn put_escaped_byte(out: &mut Vec<u8>, byte: u8) -> Result<(), AllocError>
 }
 
 /// Appends bytes of any kind as text that stays in its place: one character of the picture a byte. After an
-/// `AllocError`, which comes where there is no memory for it, `out` may have a front of the text.
+/// `AllocError`, which comes where there is no memory for it, `out` may have a prefix of the text.
 pub fn put_escaped(out: &mut Vec<u8>, text: &[u8]) -> Result<(), AllocError>
     ensures { OnOk result (out.new.items ≡ out.old.items ++ escape text.now) }
 {

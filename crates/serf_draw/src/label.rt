@@ -20,7 +20,7 @@ const WHOLE_BYTES: usize = 12;
 /// How many bytes of a longer text are written.
 const FRONT_BYTES: usize = 8;
 
-/// Appends a text, or the front of a long one and its length.
+/// Appends a text, or the beginning of a long one and its length.
 #[tactic(auto, unfolding(crate::specs::Label::short))]
 pub(crate) fn put_short(out: &mut Vec<u8>, text: &[u8]) -> Result<(), AllocError>
     ensures { OnOk result (out.new.items ≡ out.old.items ++ short text.now) }
@@ -163,7 +163,7 @@ fn put_event(out: &mut Vec<u8>, event: &EventLine) -> Result<(), AllocError>
     put_number(out, event.time.get())
 }
 
-/// Appends an event behind these bytes, where there is one.
+/// Appends an event after these bytes, where there is one.
 fn put_event_behind(
     out: &mut Vec<u8>,
     sign: &[u8],
@@ -181,7 +181,7 @@ fn put_event_behind(
     }
 }
 
-/// Appends the first two of these events, behind a colon and a comma.
+/// Appends the first two of these events, after a colon and a comma.
 fn put_first_two(out: &mut Vec<u8>, events: &[EventLine]) -> Result<(), AllocError>
     ensures { OnOk result (out.new.items ≡ out.old.items ++ first_two events.now) }
 {
@@ -225,7 +225,7 @@ fn cut(text: &mut Vec<u8>, limit: usize) -> Result<(), AllocError>
     Ok(())
 }
 
-/// A label of words at its front, as far as there is room, and words at its end.
+/// A label of words at its start, as far as there is room, and words at its end.
 #[tactic(auto, unfolding(crate::specs::Label::joined))]
 fn joined(front: Vec<u8>, end: &[u8]) -> Result<Bytes, AllocError>
     ensures { IfOk result (λ label. label ≡ joined_words front.items end.now) }

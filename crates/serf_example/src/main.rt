@@ -56,7 +56,7 @@ fn handle<R: Print>(rt: &R, agent: &str, event: &EventOut) -> Result<()> {
     Ok(())
 }
 
-/// Tells of an ack or a response that an agent counted.
+/// Reports an ack or a response that an agent counted.
 fn tell_answer<R: Print>(rt: &R, agent: &str, packet: &Bytes) -> Result<()> {
     if let Some(answer) = answer_in(packet.as_slice()) {
         let kind = if is_ack(&answer) {
@@ -72,7 +72,7 @@ fn tell_answer<R: Print>(rt: &R, agent: &str, packet: &Bytes) -> Result<()> {
     Ok(())
 }
 
-/// Tells what an agent made of a packet, and runs its handler for an event.
+/// Prints what an agent made of a packet, and runs its handler for an event.
 fn tell<R: Print>(rt: &R, name: &str, packet: &Bytes, outcome: &Outcome) -> Result<()> {
     match outcome {
         Outcome::Event(event) => handle(rt, name, event),
@@ -110,7 +110,7 @@ fn deliver_twice<R: Files<File = File> + Print + AllocGlobal>(
     deliver(rt, agent, name, packet)
 }
 
-/// The agent `beta` takes a packet twice, and stops as it would in a crash: with no call behind it.
+/// The agent `beta` takes a packet twice, and stops as it would in a crash: with no call after it.
 fn first_life<R: Files<File = File> + Print + AllocGlobal>(rt: &R, packet: &Bytes) -> Result<()> {
     let mut beta = open(rt, "beta", "beta.snapshot")?;
     deliver_twice(rt, &mut beta, "beta", packet)
@@ -150,7 +150,7 @@ fn answer<R: Files<File = File> + AllocGlobal>(
     }
 }
 
-/// Tells of a query whose time is over, and how many answers it had.
+/// Reports a query whose time is over, and how many answers it had.
 fn tell_closed<R: Print>(rt: &R, time: u64, query: &OpenQuery) -> Result<()> {
     println!(rt;
         "alpha closes its query of time {time}: {} acks, {} responses",
@@ -201,7 +201,7 @@ fn talk<R: Files<File = File> + Print + AllocGlobal>(
     hear(rt, alpha, &ack, &response)
 }
 
-/// Replaces an agent's snapshot by its last lines, where that is worth its while.
+/// Replaces an agent's snapshot by its last lines, where that is worth doing.
 fn tidy<R: Files<File = File> + AllocGlobal>(rt: &R, agent: &mut OnFile<'_, R>) -> Result<()> {
     if agent.should_compact(DEFAULT_SNAPSHOT_LIMIT) {
         agent.compact(rt.alloc())?;

@@ -7,7 +7,7 @@ use Rattle.serf_text.specs.TextParts.{hex_text}
 abbrev pub is_printable : ℕ → Bool
 is_printable byte = nat_le 32 byte && nat_le byte 126
 
--- a byte of a reason: itself where it is printable, else its two hex digits behind `\x`
+-- a byte of a reason: itself where it is printable, else its two hex digits after `\x`
 unfoldable pub byte_text : ℕ → List ℕ
 byte_text byte = if is_printable byte then byte ∷ [] else codes "\\x" ++ hex_text (byte ∷ [])
 

@@ -1,4 +1,4 @@
--- What is told of the events that a merged state carries.
+-- What is said of the events that a merged state carries.
 use Rattle.std.specs.Prelude.{◌≡◌, ℕ, ◌++◌, List, [], ◌∷◌, Option, Some, None, Ok, codes, decimal, slice_get}
 use Rattle.serf_wire.specs.declared.texts.EventBody.{EventBody}
 use Rattle.serf_window.specs.Window.{TimedEntry}
@@ -53,11 +53,11 @@ abbrev pub AreMerged : List (TimedEntry EventBody) → IdealAgent → List (List
 AreMerged [] i reasons = reasons ≡ codes "the state carries no event" ∷ []
 AreMerged (e ∷ es) i reasons = AreCarried (e ∷ es) i reasons
 
--- what is told of events once they were merged
+-- what is said of events once they were merged
 abbrev pub TellsMerged : List (List ℕ) → List (List ℕ) → Type 0
 TellsMerged carried reasons = (es : List (TimedEntry EventBody)) (i : IdealAgent) → AreCarried es i carried → AreMerged es i reasons
 
--- the reasons are those of the state that an action merges in a cluster, if it merges one, told so
+-- the reasons are those of the state that an action merges in a cluster, if it merges one, said so
 abbrev pub OfMerge : (List (TimedEntry EventBody) → IdealAgent → List (List ℕ) → Type 0) → Cluster → Action → List (List ℕ) → Type 0
 OfMerge Told c (actions.Of agent (acts.Merge packet join)) reasons =
     (m : IdealNode) (bytes : List ℕ) (p : PushPull) → slice_get c.nodes agent ≡ Some m → slice_get c.sent packet ≡ Some bytes → decoded bytes ≡ Ok (push_pull p)

@@ -22,7 +22,7 @@ use Rattle.serf_explain.specs.HandOuts.{Note, OfNoted, notes_from}
 use Rattle.serf_explain.specs.Range.{is_shown}
 use Rattle.serf_explain.specs.Seen.{OfSeen}
 
--- a turn of a run, the cluster before it, and the reasons that are told of it
+-- a turn of a run, the cluster before it, and the reasons that are given for it
 pub record Explained : Type 0 where
   pub before : Cluster
   pub turn : Turn
@@ -34,7 +34,7 @@ pub record IsReasoned (before : Cluster) (action : Action) (line : Line) (reason
   pub some : 0 < length reasons
   pub merged : line.answer ≡ answers.Merged → OfMerge AreMerged before action reasons
 
--- an action's lines just as its trace has them, and a line for each of its reasons behind them
+-- an action's lines just as its trace has them, and a line for each of its reasons after them
 abbrev pub lines_text : List (List ℕ) → ℕ → Line → List (List ℕ) → List ℕ
 lines_text sent n line reasons = action_text sent n line ++ flat_map (because_line n) reasons
 
@@ -55,7 +55,7 @@ clusters_from c (action ∷ rest) = c ∷ clusters_from (step c action).cluster 
 abbrev pub clusters_before : List Config → List Action → List Cluster
 clusters_before configs actions = clusters_from (start configs).cluster actions
 
--- the cluster behind a turn
+-- the cluster after a turn
 abbrev pub cluster_behind : Explained → Cluster
 cluster_behind e = (step e.before e.turn.action).cluster
 
@@ -84,7 +84,7 @@ pub record TellsRun (range : Range) (configs : List Config) (actions : List Acti
   pub whole : IsExplained range (run_of configs actions).turns (clusters_before configs actions) explained
   pub text_is : text ≡ turns_text range (run_of configs actions).cluster.sent 1 explained
 
--- The input is a schedule of so many actions, and the text tells its run; and what `replay` writes of it is the run's
+-- The input is a schedule of so many actions, and the text shows its run; and what `replay` writes of it is the run's
 -- trace.
 pub record Explains (range : Range) (input text : List ℕ) (count : ℕ) : Type 0 where
   pub schedule : Parsed
@@ -103,13 +103,13 @@ pub record IsTold (range : Range) (r : Run) (clusters : List Cluster) (w : World
   pub whole : IsExplained range r.turns clusters explained
   pub told : (more : List (List ℕ)) → turns_text range (r.cluster.sent ++ more) 1 explained ≡ text
 
--- The world did these actions in a cluster of agents of these settings and isn't poisoned, and the text tells them.
+-- The world did these actions in a cluster of agents of these settings and isn't poisoned, and the text shows them.
 pub record HasTold (range : Range) (configs : List Config) (done : List Action) (w : WorldState) (notes : List Note) (text : List ℕ) : Type 0 where
   pub settings : AreConfigs configs
   pub unpoisoned : w.poisoned ≡ false
   pub told : IsTold range (run_of configs done) (clusters_before configs done) w notes text
 
--- What is told of an action: of a merge what was told of its events; of an event that was seen which action handed it out.
+-- What is said of an action: of a merge what was said of its events; of an event that was seen which action handed it out.
 pub record TellsAll (shown : Bool) (carried : List (List ℕ)) (notes : List Note) (w : WorldState) (action : Action) (line : Line) (reasons : List (List ℕ)) : Type 0 where
   pub merged : line.answer ≡ answers.Merged → TellsMerged carried reasons
   pub seen : shown ≡ true → line.answer ≡ answers.Ignored Seen → OfNoted notes w action reasons

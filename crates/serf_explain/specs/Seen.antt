@@ -1,4 +1,4 @@
--- What is told of an event that was delivered, and ignored as seen.
+-- What is said of an event that was delivered, and ignored as seen.
 use Rattle.std.specs.Prelude.{◌≡◌, ℕ, ◌+◌, ◌==◌, ◌++◌, ◌&&◌, Bool, true, List, [], ◌∷◌, Option, Some, None, Result, Ok, codes, decimal, slice_get}
 use Rattle.std.specs.List.{list_any}
 use Rattle.std.specs.Option.{option_map}

@@ -19,7 +19,7 @@ whole_quoted text = codes "\"" ++ flat_map quoted_byte text ++ codes "\""
 unfoldable pub front_quoted : List ℕ → List ℕ
 front_quoted text = codes "\"" ++ flat_map quoted_byte (take 32 text) ++ codes "..\" (" ++ decimal (length text) ++ codes " bytes)"
 
--- a text between quotes; of one that is longer than 64 bytes its front, and how many bytes it has
+-- a text between quotes; of one that is longer than 64 bytes its beginning, and how many bytes it has
 abbrev pub quoted : List ℕ → List ℕ
 quoted text = if nat_le (length text) 64 then whole_quoted text else front_quoted text
 

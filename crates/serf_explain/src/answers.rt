@@ -1,54 +1,48 @@
 //! Why an action was answered as it was.
 
-use crate::ignored::put_ignored;
-use crate::quoted::{put_event, put_query, put_quoted, put_since, say};
+use crate::hand_outs::Event;
+use crate::ignored::{put_ignored, put_subject};
+use crate::quoted::{Part, put_parts};
 use crate::refusals::put_refusal;
-use crate::told::{Actor, Told, actor_at, message_of, put_name};
+use crate::told::{Actor, Told, actor_at, message_of, named};
 use serf_model::{Act, Action, Answer, SinkCall};
-use serf_wire::{Message, Texts, passes};
+use serf_wire::{Message, Query, QueryResponse, Texts, passes};
 use std::alloc::AllocError;
 
 /// Appends at which clock an event or a query was fired.
-fn put_fired(
+fn put_fired<'a>(
     out: &mut Vec<u8>,
-    actor: &Actor,
-    what: &[u8],
+    actor: &Actor<'a>,
+    clock: &'a [u8],
     time: u64,
     since: u64,
 ) -> Result<(), AllocError> {
-    put_name(out, actor.agent)?;
-    out.extend_from_slice(b" fired it at its ")?;
-    out.extend_from_slice(what)?;
-    say(out, b" clock ", time)?;
-    put_since(out, since)
-}
-
-/// Appends the event that a message is.
-fn put_event_of(out: &mut Vec<u8>, message: &Message) -> Result<(), AllocError> {
-    match message {
-        Message::UserEvent(event) => {
-            put_event(out, event.time.get(), event.name, event.payload)?;
-            out.extend_from_slice(b": ")
-        }
-        _ => Ok(()),
-    }
+    put_parts(
+        out,
+        &[
+            named(actor.agent),
+            Part::Text(b" fired it at its "),
+            Part::Text(clock),
+            Part::Text(b" clock "),
+            Part::Number(time),
+            Part::Since(since),
+        ],
+    )
 }
 
 /// Appends why an event that was delivered is new.
-fn put_new(out: &mut Vec<u8>, actor: &Actor, message: &Message) -> Result<(), AllocError> {
-    put_event_of(out, message)?;
-    put_name(out, actor.agent)?;
-    say(
+fn put_new(out: &mut Vec<u8>, actor: &Actor) -> Result<(), AllocError> {
+    put_parts(
         out,
-        b" takes events from time ",
-        actor.agent.event_minimum(),
-    )?;
-    say(
-        out,
-        b" on, its event clock was ",
-        actor.before.event_clock.value,
-    )?;
-    out.extend_from_slice(b", and it had not been handed this one")
+        &[
+            named(actor.agent),
+            Part::Text(b" takes events from time "),
+            Part::Number(actor.agent.event_minimum()),
+            Part::Text(b" on, its event clock was "),
+            Part::Number(actor.before.event_clock.value),
+            Part::Text(b", and it had not been handed this one"),
+        ],
+    )
 }
 
 /// The number of the first filter that excludes a node, counted from 0, and the filter.
@@ -67,40 +61,38 @@ fn excluding<'a>(filters: Texts<'a>, node: &[u8]) -> Option<(u64, &'a [u8])> {
 fn put_filtered(out: &mut Vec<u8>, actor: &Actor, filters: Texts) -> Result<(), AllocError> {
     match excluding(filters, actor.agent.config().name.as_slice()) {
         None => out.extend_from_slice(b", and each of its filters lets this node pass"),
-        Some((number, filter)) => {
-            say(out, b", and is not handed out: filter ", number)?;
-            out.extend_from_slice(b" ")?;
-            put_quoted(out, filter)?;
-            out.extend_from_slice(b" excludes this node")
-        }
+        Some((number, filter)) => put_parts(
+            out,
+            &[
+                Part::Text(b", and is not handed out: filter "),
+                Part::Number(number),
+                Part::Text(b" "),
+                Part::Quoted(filter),
+                Part::Text(b" excludes this node"),
+            ],
+        ),
     }
 }
 
-/// Appends the name and the payload of a query, and to whom it is new.
-fn put_new_texts(
-    out: &mut Vec<u8>,
-    actor: &Actor,
-    name: &[u8],
-    payload: &[u8],
-) -> Result<(), AllocError> {
-    out.extend_from_slice(b" ")?;
-    put_quoted(out, name)?;
-    out.extend_from_slice(b" ")?;
-    put_quoted(out, payload)?;
-    out.extend_from_slice(b" is new to ")?;
-    put_name(out, actor.agent)
+/// Appends a query with its name and its payload.
+fn put_query(out: &mut Vec<u8>, query: &Query) -> Result<(), AllocError> {
+    put_parts(
+        out,
+        &[
+            Part::Query(query.time.get(), query.id),
+            Part::Text(b" "),
+            Part::Quoted(query.name),
+            Part::Text(b" "),
+            Part::Quoted(query.payload),
+        ],
+    )
 }
 
 /// Appends why a query that was delivered is new, and why it is handed out or isn't.
-fn put_new_query(out: &mut Vec<u8>, actor: &Actor, message: &Message) -> Result<(), AllocError> {
-    match message {
-        Message::Query(query) => {
-            put_query(out, query.time.get(), query.id)?;
-            put_new_texts(out, actor, query.name, query.payload)?;
-            put_filtered(out, actor, query.filters)
-        }
-        _ => Ok(()),
-    }
+fn put_new_query(out: &mut Vec<u8>, actor: &Actor, query: &Query) -> Result<(), AllocError> {
+    put_query(out, query)?;
+    put_parts(out, &[Part::Text(b" is new to "), named(actor.agent)])?;
+    put_filtered(out, actor, query.filters)
 }
 
 /// Appends which query an answer was counted at.
@@ -108,50 +100,70 @@ fn put_counted(
     out: &mut Vec<u8>,
     told: &Told,
     actor: &Actor,
-    message: &Message,
-    what: &[u8],
+    answer: &QueryResponse,
 ) -> Result<(), AllocError> {
-    match message {
-        Message::QueryResponse(answer) => {
-            out.extend_from_slice(b"the first ")?;
-            out.extend_from_slice(what)?;
-            out.extend_from_slice(b" of ")?;
-            put_quoted(out, answer.from)?;
-            out.extend_from_slice(b" to ")?;
-            put_query(out, answer.time, answer.id)?;
-            put_asked(out, told, actor, answer.time)
-        }
-        _ => Ok(()),
-    }
+    let what: &[u8] = match told.line.answer {
+        Answer::Ack => b"the first ack of ",
+        _ => b"the first response of ",
+    };
+    put_parts(
+        out,
+        &[
+            Part::Text(what),
+            Part::Quoted(answer.from),
+            Part::Text(b" to "),
+            Part::Query(answer.time, answer.id),
+        ],
+    )?;
+    put_asked(out, told, actor, answer.time)
 }
 
 /// Appends which action fired the query of a time.
 fn put_asked(out: &mut Vec<u8>, told: &Told, actor: &Actor, time: u64) -> Result<(), AllocError> {
     match told.memory.asked_at(actor.number, time) {
-        Some(asked) => {
-            out.extend_from_slice(b", which ")?;
-            put_name(out, actor.agent)?;
-            say(out, b" asked at action ", asked.action)
-        }
+        Some(asked) => put_parts(
+            out,
+            &[
+                Part::Text(b", which "),
+                named(actor.agent),
+                Part::Text(b" asked at action "),
+                Part::Number(asked.action),
+            ],
+        ),
         None => Ok(()),
     }
 }
 
 /// Appends what a restart found.
 fn put_restarted(out: &mut Vec<u8>, actor: &Actor) -> Result<(), AllocError> {
-    let agent = actor.agent;
-    let events = agent.event_minimum();
-    let queries = agent.query_minimum();
-    say(
+    let events = actor.agent.event_minimum();
+    let queries = actor.agent.query_minimum();
+    put_parts(
         out,
-        b"its snapshot keeps clock ",
-        agent.member_time().saturating_sub(1),
-    )?;
-    say(out, b", event-clock ", events.saturating_sub(1))?;
-    say(out, b", query-clock ", queries.saturating_sub(1))?;
-    say(out, b": it takes events from ", events)?;
-    say(out, b" and queries from ", queries)?;
-    out.extend_from_slice(b" on")
+        &[
+            Part::Text(b"its snapshot keeps clock "),
+            Part::Number(actor.agent.member_time().saturating_sub(1)),
+            Part::Text(b", event-clock "),
+            Part::Number(events.saturating_sub(1)),
+            Part::Text(b", query-clock "),
+            Part::Number(queries.saturating_sub(1)),
+            Part::Text(b": it takes events from "),
+            Part::Number(events),
+            Part::Text(b" and queries from "),
+            Part::Number(queries),
+            Part::Text(b" on"),
+        ],
+    )
+}
+
+/// A call of a disk, in words.
+fn call_words(call: SinkCall) -> &'static [u8] {
+    match call {
+        SinkCall::Append => b"append",
+        SinkCall::Flush => b"flush",
+        SinkCall::ReplaceOld => b"replace, which keeps the old text,",
+        SinkCall::ReplaceNew => b"replace, which keeps the new text,",
+    }
 }
 
 /// Appends which call is to fail.
@@ -159,28 +171,35 @@ fn put_broken(out: &mut Vec<u8>, actor: &Actor) -> Result<(), AllocError> {
     let Act::Break { call, count } = actor.act else {
         return Ok(());
     };
-    let name: &[u8] = match call {
-        SinkCall::Append => b"append",
-        SinkCall::Flush => b"flush",
-        SinkCall::ReplaceOld => b"replace, which keeps the old text,",
-        SinkCall::ReplaceNew => b"replace, which keeps the new text,",
-    };
-    out.extend_from_slice(b"of the calls from now on, ")?;
-    out.extend_from_slice(name)?;
-    say(out, b" number ", *count)?;
-    out.extend_from_slice(b" of the disk of ")?;
-    put_name(out, actor.agent)?;
-    out.extend_from_slice(b" fails")
+    put_parts(
+        out,
+        &[
+            Part::Text(b"of the calls from now on, "),
+            Part::Text(call_words(*call)),
+            Part::Text(b" number "),
+            Part::Number(*count),
+            Part::Text(b" of the disk of "),
+            named(actor.agent),
+            Part::Text(b" fails"),
+        ],
+    )
 }
 
 /// Appends what a state that was sent has.
 fn put_state(out: &mut Vec<u8>, actor: &Actor) -> Result<(), AllocError> {
-    let agent = actor.agent;
-    put_name(out, agent)?;
-    say(out, b" sends its clock ", agent.member_time())?;
-    say(out, b", its event clock ", agent.event_time())?;
-    say(out, b", its query clock ", agent.query_time())?;
-    out.extend_from_slice(b" and the events that its buffer has")
+    put_parts(
+        out,
+        &[
+            named(actor.agent),
+            Part::Text(b" sends its clock "),
+            Part::Number(actor.agent.member_time()),
+            Part::Text(b", its event clock "),
+            Part::Number(actor.agent.event_time()),
+            Part::Text(b", its query clock "),
+            Part::Number(actor.agent.query_time()),
+            Part::Text(b" and the events that its buffer has"),
+        ],
+    )
 }
 
 /// Appends which query was answered.
@@ -189,9 +208,15 @@ fn put_replied(out: &mut Vec<u8>, actor: &Actor) -> Result<(), AllocError> {
         Act::Respond { handed, .. } => *handed,
         _ => 0,
     };
-    put_name(out, actor.agent)?;
-    say(out, b" had query number ", number)?;
-    out.extend_from_slice(b" of this life open, and its deadline is not past")
+    put_parts(
+        out,
+        &[
+            named(actor.agent),
+            Part::Text(b" had query number "),
+            Part::Number(number),
+            Part::Text(b" of this life open, and its deadline is not past"),
+        ],
+    )
 }
 
 /// Appends how many queries were closed.
@@ -200,39 +225,37 @@ fn put_closed(out: &mut Vec<u8>, actor: &Actor, count: u64) -> Result<(), AllocE
         Act::Close { now } => *now,
         _ => 0,
     };
-    say(out, b"", count)?;
-    out.extend_from_slice(b" of the open queries of ")?;
-    put_name(out, actor.agent)?;
-    say(out, b" had a deadline before ", now)
+    put_parts(
+        out,
+        &[
+            Part::Number(count),
+            Part::Text(b" of the open queries of "),
+            named(actor.agent),
+            Part::Text(b" had a deadline before "),
+            Part::Number(now),
+        ],
+    )
 }
 
 /// Appends why what an agent did by itself was answered so.
 fn put_own(out: &mut Vec<u8>, told: &Told, actor: &Actor) -> Result<(), AllocError> {
+    let before = actor.before;
     match told.line.answer {
         Answer::Fired(time) => {
-            put_fired(
-                out,
-                actor,
-                b"event",
-                time.get(),
-                actor.before.event_clock.since,
-            )
+            put_fired(out, actor, b"event", time.get(), before.event_clock.since)
         }
         Answer::Queried(time) => {
-            put_fired(
-                out,
-                actor,
-                b"query",
-                time.get(),
-                actor.before.query_clock.since,
-            )
+            put_fired(out, actor, b"query", time.get(), before.query_clock.since)
         }
         Answer::State => put_state(out, actor),
         Answer::Replied => put_replied(out, actor),
         Answer::Broken => put_broken(out, actor),
         Answer::Saved => {
             let kept = actor.agent.member_time().saturating_sub(1);
-            say(out, b"its snapshot has clock ", kept)
+            put_parts(
+                out,
+                &[Part::Text(b"its snapshot has clock "), Part::Number(kept)],
+            )
         }
         Answer::Compacted => {
             out.extend_from_slice(b"its snapshot has the last line of each kind alone")
@@ -244,6 +267,29 @@ fn put_own(out: &mut Vec<u8>, told: &Told, actor: &Actor) -> Result<(), AllocErr
     }
 }
 
+/// Appends why a message was taken; nothing where its answer is that of another kind.
+fn put_taken(
+    out: &mut Vec<u8>,
+    told: &Told,
+    actor: &Actor,
+    message: &Message,
+) -> Result<(), AllocError> {
+    match message {
+        Message::UserEvent(event) => {
+            let event = Event {
+                time: event.time.get(),
+                name: event.name,
+                payload: event.payload,
+            };
+            put_subject(out, &event)?;
+            put_new(out, actor)
+        }
+        Message::Query(query) => put_new_query(out, actor, query),
+        Message::QueryResponse(answer) => put_counted(out, told, actor, answer),
+        _ => Ok(()),
+    }
+}
+
 /// Appends why a message that was delivered was answered so.
 fn put_given(
     out: &mut Vec<u8>,
@@ -251,20 +297,19 @@ fn put_given(
     actor: &Actor,
     message: &Message,
 ) -> Result<(), AllocError> {
-    let now = match actor.act {
-        Act::Deliver { now, .. } => *now,
-        _ => 0,
-    };
     match told.line.answer {
-        Answer::New => put_new(out, actor, message),
-        Answer::Query => put_new_query(out, actor, message),
-        Answer::Ack => put_counted(out, told, actor, message, b"ack"),
-        Answer::Response => put_counted(out, told, actor, message, b"response"),
-        Answer::Ignored(reason) => put_ignored(out, told, actor, message, now, reason),
-        Answer::Foreign(kind) => {
-            say(out, b"a message of type ", u64::from(kind))?;
-            out.extend_from_slice(b" is another part's of Serf, and is not read here")
+        Answer::New | Answer::Query | Answer::Ack | Answer::Response => {
+            put_taken(out, told, actor, message)
         }
+        Answer::Ignored(reason) => put_ignored(out, told, actor, message, reason),
+        Answer::Foreign(kind) => put_parts(
+            out,
+            &[
+                Part::Text(b"a message of type "),
+                Part::Number(u64::from(kind)),
+                Part::Text(b" is another part's of Serf, and is not read here"),
+            ],
+        ),
         Answer::PushPull => {
             out.extend_from_slice(b"a whole state that comes as a packet is left: a merge takes it")
         }
@@ -283,19 +328,23 @@ fn put_actor_reason(out: &mut Vec<u8>, told: &Told, actor: &Actor) -> Result<(),
 /// Appends why an action was answered so.
 pub(crate) fn put_reason(out: &mut Vec<u8>, told: &Told) -> Result<(), AllocError> {
     match told.action {
-        Action::Inject { bytes } => put_injected(out, bytes.as_slice().len() as u64),
+        Action::Inject { bytes } => put_parts(
+            out,
+            &[
+                Part::Number(bytes.as_slice().len() as u64),
+                Part::Text(b" bytes were sent as a stranger could send them: no agent made them"),
+            ],
+        ),
         Action::Of { agent, act } => match actor_at(told, *agent, act) {
             Some(actor) => put_actor_reason(out, told, &actor),
-            None => {
-                say(out, b"no agent has the number ", *agent)?;
-                out.extend_from_slice(b": agents count from 0")
-            }
+            None => put_parts(
+                out,
+                &[
+                    Part::Text(b"no agent has the number "),
+                    Part::Number(*agent),
+                    Part::Text(b": agents count from 0"),
+                ],
+            ),
         },
     }
-}
-
-/// Appends how many bytes were injected.
-fn put_injected(out: &mut Vec<u8>, bytes: u64) -> Result<(), AllocError> {
-    say(out, b"", bytes)?;
-    out.extend_from_slice(b" bytes were sent as a stranger could send them: no agent made them")
 }

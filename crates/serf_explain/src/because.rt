@@ -14,7 +14,7 @@ pub(crate) fn is_printable(byte: u8) -> bool
     32 <= byte && byte <= 126
 }
 
-/// Appends a byte where it is printable, else its hex digits behind `\x`.
+/// Appends a byte where it is printable, else its hex digits after `\x`.
 #[tactic(auto, unfolding(crate::specs::Because::byte_text))]
 pub(crate) fn put_byte(out: &mut Vec<u8>, byte: u8) -> Result<(), AllocError>
     ensures { OnOk result (out.new.items ≡ out.old.items ++ byte_text byte) }

@@ -32,7 +32,7 @@ pub(crate) struct HandOut {
     pub(crate) action: u64,
     pub(crate) agent: u64,
     pub(crate) time: u64,
-    /// The event's name, and its payload behind that.
+    /// The event's name, and its payload after that.
     pub(crate) texts: Vec<u8>,
     /// How many bytes the name has.
     pub(crate) name: usize,

@@ -1,26 +1,33 @@
 //! Why a packet that was delivered is ignored.
 
 use crate::hand_outs::Event;
-use crate::memory::Ended;
-use crate::quoted::{put_event, put_query, put_quoted, put_since, say};
-use crate::told::{Actor, Told, put_name};
+use crate::memory::{Asked, Ended};
+use crate::quoted::{Part, put_parts};
+use crate::told::{Actor, Told, named};
 use serf_agent::{Agent, Reason};
 use serf_lamport::Time;
+use serf_model::Act;
 use serf_snap::MemSink;
-use serf_wire::Message;
+use serf_wire::{Message, Query, QueryResponse};
 use std::alloc::AllocError;
 
 /// Appends which action handed an event to an agent, this one or one before.
-pub(crate) fn put_seen_at(
+pub(crate) fn put_seen_at<'a>(
     out: &mut Vec<u8>,
-    agent: &Agent<MemSink>,
-    event: &Event,
+    agent: &'a Agent<MemSink>,
+    event: &Event<'a>,
     action: u64,
 ) -> Result<(), AllocError> {
-    put_name(out, agent)?;
-    out.extend_from_slice(b" was handed ")?;
-    put_event(out, event.time, event.name, event.payload)?;
-    say(out, b" at action ", action)
+    put_parts(
+        out,
+        &[
+            named(agent),
+            Part::Text(b" was handed "),
+            Part::Event(*event),
+            Part::Text(b" at action "),
+            Part::Number(action),
+        ],
+    )
 }
 
 /// Appends why a time is below the window.
@@ -31,21 +38,61 @@ pub(crate) fn put_too_old(
     clock: &[u8],
     stands: u64,
 ) -> Result<(), AllocError> {
-    say(out, b"time ", time)?;
-    say(out, b" is more than ", slots)?;
-    out.extend_from_slice(b" times below the ")?;
-    out.extend_from_slice(clock)?;
-    say(out, b" clock ", stands)
+    put_parts(
+        out,
+        &[
+            Part::Text(b"time "),
+            Part::Number(time),
+            Part::Text(b" is more than "),
+            Part::Number(slots),
+            Part::Text(b" times below the "),
+            Part::Text(clock),
+            Part::Text(b" clock "),
+            Part::Number(stands),
+        ],
+    )
 }
 
 /// Appends that a time has as many as are taken.
 pub(crate) fn put_full(out: &mut Vec<u8>, per_time: u64, time: u64) -> Result<(), AllocError> {
-    say(out, b"", per_time)?;
-    say(
+    put_parts(
         out,
-        b", as many as are taken of one time, were taken of time ",
-        time,
+        &[
+            Part::Number(per_time),
+            Part::Text(b", as many as are taken of one time, were taken of time "),
+            Part::Number(time),
+        ],
     )
+}
+
+/// Appends that the texts of an event are too long.
+pub(crate) fn put_oversize(out: &mut Vec<u8>, event: &Event) -> Result<(), AllocError> {
+    let bytes = (event.name.len() as u64).saturating_add(event.payload.len() as u64);
+    put_parts(
+        out,
+        &[
+            Part::Text(b"its name and payload have "),
+            Part::Number(bytes),
+            Part::Text(b" bytes together, more than 9216"),
+        ],
+    )
+}
+
+/// Appends that a time is below the least one, which stands since an action.
+fn put_below(out: &mut Vec<u8>, minimum: u64, since: u64) -> Result<(), AllocError> {
+    put_parts(
+        out,
+        &[
+            Part::Text(b"below the least time "),
+            Part::Number(minimum),
+            Part::Since(since),
+        ],
+    )
+}
+
+/// Appends the event of which something is said.
+pub(crate) fn put_subject(out: &mut Vec<u8>, event: &Event) -> Result<(), AllocError> {
+    put_parts(out, &[Part::Event(*event), Part::Text(b": ")])
 }
 
 /// Appends why an event that was delivered is ignored, and its agent was not handed it before.
@@ -55,37 +102,41 @@ fn put_event_ignored(
     event: &Event,
     reason: Reason,
 ) -> Result<(), AllocError> {
-    put_event(out, event.time, event.name, event.payload)?;
-    out.extend_from_slice(b": ")?;
-    put_event_reason(out, actor, event, reason)
+    let agent = actor.agent;
+    put_subject(out, event)?;
+    match reason {
+        Reason::Oversize => put_oversize(out, event),
+        Reason::BelowMinimum => {
+            put_below(out, agent.event_minimum(), actor.before.event_minimum.since)
+        }
+        Reason::TooOld => {
+            let slots = agent.config().event_buffer;
+            put_too_old(out, event.time, slots, b"event", agent.event_time())
+        }
+        _ => put_full(out, agent.config().per_time, event.time),
+    }
 }
 
-/// Appends what it is that keeps an event out.
-fn put_event_reason(
+/// Appends at which action a query entered an agent before.
+fn put_query_seen(
     out: &mut Vec<u8>,
+    told: &Told,
     actor: &Actor,
-    event: &Event,
-    reason: Reason,
+    query: &Query,
 ) -> Result<(), AllocError> {
-    let config = actor.agent.config();
-    match reason {
-        Reason::Oversize => {
-            let bytes = (event.name.len() as u64).saturating_add(event.payload.len() as u64);
-            say(out, b"its name and payload have ", bytes)?;
-            out.extend_from_slice(b" bytes together, more than 9216")
-        }
-        Reason::BelowMinimum => {
-            say(out, b"below the least time ", actor.agent.event_minimum())?;
-            put_since(out, actor.before.event_minimum.since)
-        }
-        Reason::TooOld => put_too_old(
+    match told
+        .memory
+        .entered_at(actor.number, query.time.get(), query.id)
+    {
+        Some(action) => put_parts(
             out,
-            event.time,
-            config.event_buffer,
-            b"event",
-            actor.agent.event_time(),
+            &[
+                named(actor.agent),
+                Part::Text(b" took it at action "),
+                Part::Number(action),
+            ],
         ),
-        _ => put_full(out, config.per_time, event.time),
+        None => put_parts(out, &[named(actor.agent), Part::Text(b" took it before")]),
     }
 }
 
@@ -94,43 +145,53 @@ fn put_query_ignored(
     out: &mut Vec<u8>,
     told: &Told,
     actor: &Actor,
-    time: u64,
-    id: u32,
+    query: &Query,
     reason: Reason,
 ) -> Result<(), AllocError> {
-    let config = actor.agent.config();
-    put_query(out, time, id)?;
-    out.extend_from_slice(b": ")?;
+    let agent = actor.agent;
+    let time = query.time.get();
+    put_parts(out, &[Part::Query(time, query.id), Part::Text(b": ")])?;
     match reason {
         Reason::BelowMinimum => {
-            say(out, b"below the least time ", actor.agent.query_minimum())?;
-            put_since(out, actor.before.query_minimum.since)
+            put_below(out, agent.query_minimum(), actor.before.query_minimum.since)
         }
-        Reason::TooOld => put_too_old(
-            out,
-            time,
-            config.query_buffer,
-            b"query",
-            actor.agent.query_time(),
-        ),
-        Reason::Seen => {
-            put_name(out, actor.agent)?;
-            match told.memory.entered_at(actor.number, time, id) {
-                Some(action) => say(out, b" took it at action ", action),
-                None => out.extend_from_slice(b" took it before"),
-            }
+        Reason::TooOld => {
+            let slots = agent.config().query_buffer;
+            put_too_old(out, time, slots, b"query", agent.query_time())
         }
-        _ => put_full(out, config.per_time, time),
+        Reason::Seen => put_query_seen(out, told, actor, query),
+        _ => put_full(out, agent.config().per_time, time),
     }
 }
 
-/// An answer to a query, as it lies in its packet.
-#[derive(Clone, Copy)]
-struct Answering<'a> {
-    now: u64,
-    time: u64,
-    id: u32,
-    from: &'a [u8],
+/// Appends which query an agent asked at a time, and how that ended.
+fn put_ended(out: &mut Vec<u8>, asked: &Asked, time: u64) -> Result<(), AllocError> {
+    put_parts(
+        out,
+        &[
+            Part::Text(b" asked query "),
+            Part::Number(time),
+            Part::Text(b" at action "),
+            Part::Number(asked.action),
+        ],
+    )?;
+    match asked.ended {
+        Ended::Closed(action) => put_parts(
+            out,
+            &[
+                Part::Text(b" and closed it at action "),
+                Part::Number(action),
+            ],
+        ),
+        Ended::Lost(action) => put_parts(
+            out,
+            &[
+                Part::Text(b" and lost it by the restart at action "),
+                Part::Number(action),
+            ],
+        ),
+        Ended::Not => Ok(()),
+    }
 }
 
 /// Appends why no query of an agent's own takes answers at a time.
@@ -140,18 +201,24 @@ fn put_not_open(
     actor: &Actor,
     time: u64,
 ) -> Result<(), AllocError> {
-    put_name(out, actor.agent)?;
+    put_parts(out, &[named(actor.agent)])?;
     match told.memory.asked_at(actor.number, time) {
-        None => say(out, b" never asked a query of time ", time),
-        Some(asked) => {
-            say(out, b" asked query ", time)?;
-            say(out, b" at action ", asked.action)?;
-            match asked.ended {
-                Ended::Closed(action) => say(out, b" and closed it at action ", action),
-                Ended::Lost(action) => say(out, b" and lost it by the restart at action ", action),
-                Ended::Not => Ok(()),
-            }
-        }
+        None => put_parts(
+            out,
+            &[
+                Part::Text(b" never asked a query of time "),
+                Part::Number(time),
+            ],
+        ),
+        Some(asked) => put_ended(out, &asked, time),
+    }
+}
+
+/// The moment at which a packet is delivered.
+fn moment_of(actor: &Actor) -> u64 {
+    match actor.act {
+        Act::Deliver { now, .. } => *now,
+        _ => 0,
     }
 }
 
@@ -159,7 +226,7 @@ fn put_not_open(
 fn put_answer_reason(
     out: &mut Vec<u8>,
     actor: &Actor,
-    answer: &Answering,
+    answer: &QueryResponse,
     reason: Reason,
 ) -> Result<(), AllocError> {
     let open = match Time::new(answer.time) {
@@ -169,25 +236,38 @@ fn put_answer_reason(
     let Some(open) = open else {
         return out.extend_from_slice(b"no query of its time is open");
     };
-    say(out, b"query ", answer.time)?;
+    put_parts(out, &[Part::Text(b"query "), Part::Number(answer.time)])?;
     match reason {
-        Reason::OtherId => {
-            say(out, b" has ID ", u64::from(open.id))?;
-            say(out, b", and the answer names ID ", u64::from(answer.id))
-        }
-        Reason::Closed => {
-            say(out, b" took answers until ", open.deadline)?;
-            say(out, b", and it is ", answer.now)
-        }
+        Reason::OtherId => put_parts(
+            out,
+            &[
+                Part::Text(b" has ID "),
+                Part::Number(u64::from(open.id)),
+                Part::Text(b", and the answer names ID "),
+                Part::Number(u64::from(answer.id)),
+            ],
+        ),
+        Reason::Closed => put_parts(
+            out,
+            &[
+                Part::Text(b" took answers until "),
+                Part::Number(open.deadline),
+                Part::Text(b", and it is "),
+                Part::Number(moment_of(actor)),
+            ],
+        ),
         Reason::AckNotAsked => out.extend_from_slice(b" asked for no acks"),
-        Reason::AckTwice => {
-            out.extend_from_slice(b" has an ack of ")?;
-            put_quoted(out, answer.from)
-        }
-        _ => {
-            out.extend_from_slice(b" has a response of ")?;
-            put_quoted(out, answer.from)
-        }
+        Reason::AckTwice => put_parts(
+            out,
+            &[Part::Text(b" has an ack of "), Part::Quoted(answer.from)],
+        ),
+        _ => put_parts(
+            out,
+            &[
+                Part::Text(b" has a response of "),
+                Part::Quoted(answer.from),
+            ],
+        ),
     }
 }
 
@@ -197,7 +277,6 @@ pub(crate) fn put_ignored(
     told: &Told,
     actor: &Actor,
     message: &Message,
-    now: u64,
     reason: Reason,
 ) -> Result<(), AllocError> {
     match message {
@@ -209,21 +288,11 @@ pub(crate) fn put_ignored(
             };
             put_event_ignored(out, actor, &event, reason)
         }
-        Message::Query(query) => {
-            put_query_ignored(out, told, actor, query.time.get(), query.id, reason)
-        }
-        Message::QueryResponse(response) => {
-            if reason == Reason::NotOpen {
-                return put_not_open(out, told, actor, response.time);
-            }
-            let answer = Answering {
-                now,
-                time: response.time,
-                id: response.id,
-                from: response.from,
-            };
-            put_answer_reason(out, actor, &answer, reason)
-        }
+        Message::Query(query) => put_query_ignored(out, told, actor, query, reason),
+        Message::QueryResponse(response) => match reason {
+            Reason::NotOpen => put_not_open(out, told, actor, response.time),
+            _ => put_answer_reason(out, actor, response, reason),
+        },
         Message::PushPull(_) | Message::Foreign(_) => Ok(()),
     }
 }

@@ -102,7 +102,7 @@ fn add_turn(
     history.note(alloc, world, number, action, &line)
 }
 
-/// Does an action, adds what is shown of it, and lets it go.
+/// Does an action, adds what is shown of it, and drops it.
 fn take_turn(
     alloc: Global,
     world: &mut World,
@@ -179,7 +179,7 @@ fn output_text<T: Watch>(
 }
 
 /// Reads a schedule to its end, and writes the trace of its cluster with its reasons: of each action in the range the
-/// lines that [`serf_replay::replay`] writes, and behind them a line `N because ..` for each reason, one at least. The
+/// lines that [`serf_replay::replay`] writes, and after them a line `N because ..` for each reason, one at least. The
 /// answer is how many actions the schedule has.
 ///
 /// At most 16,777,217 bytes are read, and nothing is written before all is read, parsed and run. The reasons of a merge
@@ -202,7 +202,7 @@ pub fn explain<R: Read, W: Write, T: Watch>(
     ensures bad_line { (line : ℕ) (cause : Cause) → IsErrOf result (ReplayFault.BadLine line cause)
         → IfSome (R.remaining reader.old) (λ input. (length input ≤ MAX_SCHEDULE_BYTES)
         × (output_of input ≡ Err (record { line = line; cause = cause }))) }
-    // A write that failed leaves a front of that text, and every other fault nothing.
+    // A write that failed leaves a prefix of that text, and every other fault nothing.
     ensures front { IsErrOf result ReplayFault.WriteFault
         → IfSome (R.remaining reader.old) (λ input. (text : List ℕ) × (count : ℕ)
         × Explains range.now input text count × (length input ≤ MAX_SCHEDULE_BYTES)

@@ -50,7 +50,8 @@ fn count_of(slots: LentEventSlots, time: u64) -> usize
     }
 }
 
-/// The verdict from that before the merge, that on what entered in it, and whether both together are too many.
+/// The verdict on an event of a merge, made of three: that by what entered before the merge, that by what entered in it,
+/// and whether both together are as many of its time as are taken.
 fn both(before: Option<Reason>, entered: Verdict, full: bool) -> Option<Reason>
     ensures { result ≡ both_verdicts before entered full }
 {

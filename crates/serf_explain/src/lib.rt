@@ -1,4 +1,4 @@
-//! The trace of a schedule with its reasons: behind each action's lines, lines that say in plain words why it was answered
+//! The trace of a schedule with its reasons: after each action's lines, lines that say in plain words why it was answered
 //! so.
 #![tactic(auto)]
 

@@ -4,7 +4,7 @@ use serf_agent::Agent;
 use serf_model::{Act, SinkCall};
 use serf_snap::MemSink;
 
-/// A number that stands since an action; the 0th is the start.
+/// A number, and the action since which it has this value; action 0 is the start.
 #[derive(Clone, Copy, Debug)]
 pub(crate) struct Mark {
     pub(crate) value: u64,
@@ -69,7 +69,7 @@ impl Marks {
         }
     }
 
-    /// Looks at the agent again, behind an action.
+    /// Looks at the agent again, after an action.
     pub(crate) fn look(&mut self, agent: &Agent<MemSink>, action: u64) {
         self.event_clock.set(agent.event_time(), action);
         self.query_clock.set(agent.query_time(), action);

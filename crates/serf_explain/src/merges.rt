@@ -1,4 +1,4 @@
-//! What becomes of each event that a state carries, told before the state is merged.
+//! What becomes of each event that a state carries, said before the state is merged.
 
 ghost use Rattle.std.specs.Prelude.{◌≡◌, ◌++◌, ◌∷◌, [], OnOk, IfOk};
 ghost use Rattle.serf_wire.specs.Lists.{event_of_view, events_left, slot_of_view, slots_left};
@@ -13,10 +13,10 @@ ghost use Rattle.serf_explain.specs.Judging.{AddsLines, HasJudged, IsJudging, re
 
 use crate::hand_outs::Event;
 use crate::history::History;
-use crate::ignored::{put_full, put_seen_at, put_too_old};
+use crate::ignored::{put_full, put_oversize, put_seen_at, put_too_old};
 use crate::judge::Judge;
 use crate::marks::Marks;
-use crate::quoted::{put_event, put_since, say};
+use crate::quoted::{Part, put_event, put_parts};
 use serf_agent::{Agent, Reason};
 use serf_lamport::Time;
 use serf_snap::MemSink;
@@ -34,7 +34,7 @@ pub(crate) struct Merging<'a> {
     pub(crate) history: &'a History,
 }
 
-/// What is told of an event, and whether it is new.
+/// What is said of an event, and whether it is new.
 #[derive(Drop)]
 pub(crate) struct Carried {
     pub(crate) reason: Vec<u8>,
@@ -86,12 +86,11 @@ fn put_carried(
 
 /// Appends the least time, and since when that stands.
 fn put_least(out: &mut Vec<u8>, merging: &Merging, minimum: u64) -> Result<(), AllocError> {
-    say(out, b"", minimum)?;
     let since = match merging.before {
         Some(before) if before.event_minimum.value == minimum => before.event_minimum.since,
         _ => merging.number,
     };
-    put_since(out, since)
+    put_parts(out, &[Part::Number(minimum), Part::Since(since)])
 }
 
 /// The last action that handed an event to the agent: one before, or else this one.
@@ -103,7 +102,7 @@ fn handed_at(merging: &Merging, event: &Event) -> u64 {
     }
 }
 
-/// Appends what is told of a verdict on an event beside its first words.
+/// Appends what is said of a verdict on an event beside its first words.
 fn put_detail(
     out: &mut Vec<u8>,
     merging: &Merging,
@@ -113,11 +112,7 @@ fn put_detail(
 ) -> Result<(), AllocError> {
     let config = merging.agent.config();
     match verdict {
-        Some(Reason::Oversize) => {
-            let texts = (event.name.len() as u64).saturating_add(event.payload.len() as u64);
-            say(out, b"its name and payload have ", texts)?;
-            out.extend_from_slice(b" bytes together, more than 9216")
-        }
+        Some(Reason::Oversize) => put_oversize(out, event),
         Some(Reason::BelowMinimum) => put_least(out, merging, judge.minimum),
         Some(Reason::TooOld) => {
             put_too_old(out, event.time, config.event_buffer, b"event", judge.clock)
@@ -128,7 +123,7 @@ fn put_detail(
     }
 }
 
-/// What is told of a verdict beside its first words.
+/// What is said of a verdict beside its first words.
 fn detail_of(
     alloc: Global,
     merging: &Merging,
@@ -141,7 +136,7 @@ fn detail_of(
     Ok(out)
 }
 
-/// Adds what is told of an event.
+/// Adds what is said of an event.
 fn add_carried(
     alloc: Global,
     lines: &mut Vec<Carried>,
@@ -164,7 +159,7 @@ fn add_carried(
     Ok(())
 }
 
-/// Adds what is told of the next event.
+/// Adds what is said of the next event.
 fn add_event(
     alloc: Global,
     merging: &Merging,
@@ -193,7 +188,7 @@ fn add_event(
     add_carried(alloc, lines, slot, time.get(), event, verdict, &detail)
 }
 
-/// Adds what is told of each event of a slot.
+/// Adds what is said of each event of a slot.
 fn add_events(
     alloc: Global,
     merging: &Merging,
@@ -214,7 +209,7 @@ fn add_events(
     Ok(())
 }
 
-/// Adds what is told of each event of a slot, if it has any.
+/// Adds what is said of each event of a slot, if it has any.
 fn add_slot(
     alloc: Global,
     merging: &Merging,
@@ -236,7 +231,7 @@ fn add_slot(
     }
 }
 
-/// Adds what is told of each event of these slots.
+/// Adds what is said of each event of these slots.
 fn add_slots(
     alloc: Global,
     merging: &Merging,
@@ -257,7 +252,7 @@ fn add_slots(
     Ok(())
 }
 
-/// What is told of each event that a state carries, in its order, where it is merged on a disk that works.
+/// What is said of each event that a state carries, in its order, where it is merged on a disk that works.
 pub(crate) fn carried_lines(
     alloc: Global,
     merging: &Merging,

@@ -6,6 +6,7 @@ ghost use Rattle.serf_window.specs.Texts.{event_of};
 ghost use Rattle.serf_explain.specs.Words.{event_words, front_quoted, is_plain, quoted, quoted_byte, whole_quoted};
 
 use crate::because::{is_printable, put_byte};
+use crate::hand_outs::Event;
 use serf_text::{put_hex, put_number};
 use std::alloc::AllocError;
 
@@ -83,7 +84,7 @@ fn put_front(out: &mut Vec<u8>, text: &[u8]) -> Result<(), AllocError>
     out.extend_from_slice(b" bytes)")
 }
 
-/// Appends a text between quotes; of a long one its front, and how many bytes it has.
+/// Appends a text between quotes; of a long one its beginning, and how many bytes it has.
 pub(crate) fn put_quoted(out: &mut Vec<u8>, text: &[u8]) -> Result<(), AllocError>
     ensures { OnOk result (out.new.items ≡ out.old.items ++ quoted text.now) }
 {
@@ -92,12 +93,6 @@ pub(crate) fn put_quoted(out: &mut Vec<u8>, text: &[u8]) -> Result<(), AllocErro
     } else {
         put_front(out, text)
     }
-}
-
-/// Appends a text and a number.
-pub(crate) fn say(out: &mut Vec<u8>, text: &[u8], number: u64) -> Result<(), AllocError> {
-    out.extend_from_slice(text)?;
-    put_number(out, number)
 }
 
 /// Appends `event 3 "deploy" "v2"`.
@@ -119,16 +114,47 @@ pub(crate) fn put_event(
     put_quoted(out, payload)
 }
 
-/// Appends `query 3 with ID 7`.
-pub(crate) fn put_query(out: &mut Vec<u8>, time: u64, id: u32) -> Result<(), AllocError> {
+/// A part of what is said.
+#[derive(Clone, Copy)]
+pub(crate) enum Part<'a> {
+    Text(&'a [u8]),
+    Number(u64),
+    Quoted(&'a [u8]),
+    /// `event 3 "deploy" "v2"`.
+    Event(Event<'a>),
+    /// `query 3 with ID 7`: its time and its ID.
+    Query(u64, u32),
+    /// Since which action something stands; the 0th is the start.
+    Since(u64),
+}
+
+/// Appends a text and a number.
+fn say(out: &mut Vec<u8>, text: &[u8], number: u64) -> Result<(), AllocError> {
+    out.extend_from_slice(text)?;
+    put_number(out, number)
+}
+
+fn put_query(out: &mut Vec<u8>, time: u64, id: u32) -> Result<(), AllocError> {
     say(out, b"query ", time)?;
     say(out, b" with ID ", u64::from(id))
 }
 
-/// Appends since which action something stands: the 0th is the start.
-pub(crate) fn put_since(out: &mut Vec<u8>, action: u64) -> Result<(), AllocError> {
-    if action == 0 {
-        return out.extend_from_slice(b", which stands since the start");
+fn put_part(out: &mut Vec<u8>, part: &Part) -> Result<(), AllocError> {
+    match *part {
+        Part::Text(text) => out.extend_from_slice(text),
+        Part::Number(number) => put_number(out, number),
+        Part::Quoted(text) => put_quoted(out, text),
+        Part::Event(event) => put_event(out, event.time, event.name, event.payload),
+        Part::Query(time, id) => put_query(out, time, id),
+        Part::Since(0) => out.extend_from_slice(b", which stands since the start"),
+        Part::Since(action) => say(out, b", which stands since action ", action),
     }
-    say(out, b", which stands since action ", action)
+}
+
+/// Appends parts, one after another.
+pub(crate) fn put_parts(out: &mut Vec<u8>, parts: &[Part]) -> Result<(), AllocError> {
+    for part in parts {
+        put_part(out, part)?;
+    }
+    Ok(())
 }

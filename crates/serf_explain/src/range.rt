@@ -9,7 +9,7 @@ pub struct Range {
     pub agent: Option<u64>,
     /// The first action that is explained.
     pub from: u64,
-    /// The last one.
+    /// The last action that is explained.
     pub to: u64,
 }
 

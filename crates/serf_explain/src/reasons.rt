@@ -34,10 +34,10 @@ use std::alloc::{AllocError, Global};
 /// How many bytes most reasons have, at most.
 pub(crate) const USUAL_BYTES: usize = 160;
 
-/// How many bytes the words have that tell of a new event: `new, and handed out`.
+/// How many bytes the words for a new event have: `new, and handed out`.
 const NEW_WORDS: usize = 19;
 
-/// What is told of the events of a message that is to be merged.
+/// What is said of the events of a message that is to be merged.
 fn message_lines(
     alloc: Global,
     merging: &Merging,
@@ -59,7 +59,7 @@ fn message_lines(
     }
 }
 
-/// What is told of the events of a packet that is to be merged.
+/// What is said of the events of a packet that is to be merged.
 fn packet_lines(
     alloc: Global,
     merging: &Merging,
@@ -97,7 +97,7 @@ fn merging_at<'a>(
     }
 }
 
-/// What is told of each event of the state in a packet that an agent is to merge.
+/// What is said of each event of the state in a packet that an agent is to merge.
 fn merge_lines(
     alloc: Global,
     world: &World,
@@ -120,7 +120,7 @@ fn merge_lines(
     }
 }
 
-/// What is told of each event of a state that is to be merged; nothing of any other action.
+/// What is said of each event of a state that is to be merged; nothing of any other action.
 pub(crate) fn lines_before(
     alloc: Global,
     world: &World,
@@ -149,7 +149,7 @@ pub(crate) fn put_lone(alloc: Global, out: &mut Vec<u8>, told: &Told) -> Result<
     put_because(out, told.number, reason.as_slice())
 }
 
-/// Appends the lines of what is told of events.
+/// Appends the lines of what is said of events.
 fn put_lines(out: &mut Vec<u8>, number: u64, carried: &[Carried]) -> Result<(), AllocError>
     ensures { OnOk result (out.new.items ≡ out.old.items
         ++ flat_map (because_line number) (reasons_in carried.now)) }
@@ -171,7 +171,7 @@ fn put_merged(out: &mut Vec<u8>, number: u64, carried: &[Carried]) -> Result<(),
     put_lines(out, number, carried)
 }
 
-/// What is told of the event at which the disk failed.
+/// What is said of the event at which the disk failed.
 fn failed_reason(alloc: Global, actor: &Actor, line: &Carried) -> Result<Vec<u8>, AllocError> {
     let mut reason = Vec::new(alloc);
     reason.extend_from_slice(&line.reason)?;

@@ -1,8 +1,8 @@
 //! Why an action is refused.
 
 use crate::marks::Plan;
-use crate::quoted::{put_query, put_quoted, say};
-use crate::told::{Actor, Told, message_of, packet_len, put_name};
+use crate::quoted::{Part, put_parts};
+use crate::told::{Actor, Told, message_of, named, packet_len};
 use serf_lamport::Time;
 use serf_model::{Act, Refusal};
 use serf_wire::{Message, UserEvent, user_event_len};
@@ -17,6 +17,18 @@ fn at_most_64_bits(n: u128) -> u64 {
     }
 }
 
+/// How many bytes the packet would have of an event that an agent fires.
+fn packet_size(actor: &Actor, name: &[u8], payload: &[u8], coalesce: bool) -> Option<u64> {
+    let time = Time::new(actor.agent.event_time().min(u64::MAX - 1))?;
+    let event = UserEvent {
+        time,
+        name,
+        payload,
+        coalesce,
+    };
+    Some(at_most_64_bits(user_event_len(&event)))
+}
+
 /// Appends the sizes of an event that is too large to be fired.
 fn put_event_sizes(
     out: &mut Vec<u8>,
@@ -26,24 +38,27 @@ fn put_event_sizes(
     coalesce: bool,
 ) -> Result<(), AllocError> {
     let texts = (name.len() as u64).saturating_add(payload.len() as u64);
-    say(out, b"name and payload have ", texts)?;
-    let measured = actor.agent.event_time().min(u64::MAX - 1);
-    match Time::new(measured) {
-        Some(time) => {
-            let event = UserEvent {
-                time,
-                name,
-                payload,
-                coalesce,
-            };
-            let packet = at_most_64_bits(user_event_len(&event));
-            say(out, b" bytes together, and the packet ", packet)?;
-        }
-        None => {}
+    put_parts(
+        out,
+        &[Part::Text(b"name and payload have "), Part::Number(texts)],
+    )?;
+    if let Some(packet) = packet_size(actor, name, payload, coalesce) {
+        put_parts(
+            out,
+            &[
+                Part::Text(b" bytes together, and the packet "),
+                Part::Number(packet),
+            ],
+        )?;
     }
-    let limit = actor.agent.config().event_limit;
-    say(out, b"; at most ", limit)?;
-    out.extend_from_slice(b" may be fired")
+    put_parts(
+        out,
+        &[
+            Part::Text(b"; at most "),
+            Part::Number(actor.agent.config().event_limit),
+            Part::Text(b" may be fired"),
+        ],
+    )
 }
 
 /// Appends which disk call failed, and which action planned that.
@@ -52,38 +67,53 @@ fn put_plan(out: &mut Vec<u8>, call: &[u8], plan: Plan) -> Result<(), AllocError
     if plan.count == 0 {
         return Ok(());
     }
-    say(out, b", as action ", plan.action)?;
-    say(out, b" had planned of number ", plan.count)?;
-    out.extend_from_slice(b" from then on")
+    put_parts(
+        out,
+        &[
+            Part::Text(b", as action "),
+            Part::Number(plan.action),
+            Part::Text(b" had planned of number "),
+            Part::Number(plan.count),
+            Part::Text(b" from then on"),
+        ],
+    )
+}
+
+/// Appends at which call for an append the disk failed.
+fn put_failed_append(out: &mut Vec<u8>, actor: &Actor) -> Result<(), AllocError> {
+    let marks = actor.before;
+    if marks.flush.count == 0 {
+        return put_plan(out, b" failed at an append", marks.append);
+    }
+    if marks.append.count == 0 {
+        return put_plan(out, b" failed at a flush", marks.flush);
+    }
+    put_plan(out, b" failed at an append", marks.append)?;
+    put_plan(out, b" or a flush", marks.flush)
 }
 
 /// Appends at which call the disk failed.
 pub(crate) fn put_sink_fault(out: &mut Vec<u8>, actor: &Actor) -> Result<(), AllocError> {
-    out.extend_from_slice(b"the disk of ")?;
-    put_name(out, actor.agent)?;
-    let marks = actor.before;
+    put_parts(out, &[Part::Text(b"the disk of "), named(actor.agent)])?;
     match actor.act {
-        Act::Compact => put_plan(out, b" failed at a replace", marks.replace)?,
-        _ => {
-            if marks.flush.count == 0 {
-                put_plan(out, b" failed at an append", marks.append)?;
-            } else if marks.append.count == 0 {
-                put_plan(out, b" failed at a flush", marks.flush)?;
-            } else {
-                put_plan(out, b" failed at an append", marks.append)?;
-                put_plan(out, b" or a flush", marks.flush)?;
-            }
-        }
+        Act::Compact => put_plan(out, b" failed at a replace", actor.before.replace)?,
+        _ => put_failed_append(out, actor)?,
     }
     out.extend_from_slice(b"; it is stopped until it is opened again")
 }
 
 /// Appends why an agent that is stopped does nothing.
 fn put_stopped(out: &mut Vec<u8>, actor: &Actor) -> Result<(), AllocError> {
-    out.extend_from_slice(b"the disk of ")?;
-    put_name(out, actor.agent)?;
-    say(out, b" failed at action ", actor.before.stopped)?;
-    out.extend_from_slice(b", and it was not opened again since")
+    put_parts(
+        out,
+        &[
+            Part::Text(b"the disk of "),
+            named(actor.agent),
+            Part::Text(b" failed at action "),
+            Part::Number(actor.before.stopped),
+            Part::Text(b", and it was not opened again since"),
+        ],
+    )
 }
 
 /// Appends what a packet is that was to be merged.
@@ -94,24 +124,57 @@ fn put_not_push_pull(out: &mut Vec<u8>, told: &Told) -> Result<(), AllocError> {
         Some(Message::QueryResponse(_)) => b"an answer to a query",
         _ => b"a message of another part of Serf",
     };
-    out.extend_from_slice(b"the packet is ")?;
-    out.extend_from_slice(kind)?;
-    out.extend_from_slice(b", and only a whole state is merged")
+    put_parts(
+        out,
+        &[
+            Part::Text(b"the packet is "),
+            Part::Text(kind),
+            Part::Text(b", and only a whole state is merged"),
+        ],
+    )
 }
 
 /// Appends how many names are counted.
 fn put_responders(out: &mut Vec<u8>, told: &Told, actor: &Actor) -> Result<(), AllocError> {
     let counted = actor.agent.config().responders;
     match message_of(told) {
-        Some(Message::QueryResponse(answer)) => {
-            put_query(out, answer.time, answer.id)?;
-            say(out, b" has answers of ", counted)?;
-            out.extend_from_slice(b" nodes, as many as are counted; ")?;
-            put_quoted(out, answer.from)?;
-            out.extend_from_slice(b" is one more")
-        }
-        _ => say(out, b"as many are counted as may be: ", counted),
+        Some(Message::QueryResponse(answer)) => put_parts(
+            out,
+            &[
+                Part::Query(answer.time, answer.id),
+                Part::Text(b" has answers of "),
+                Part::Number(counted),
+                Part::Text(b" nodes, as many as are counted; "),
+                Part::Quoted(answer.from),
+                Part::Text(b" is one more"),
+            ],
+        ),
+        _ => put_parts(
+            out,
+            &[
+                Part::Text(b"as many are counted as may be: "),
+                Part::Number(counted),
+            ],
+        ),
     }
+}
+
+/// Appends that a packet would be longer than 1024 bytes: what it is, and how many bytes its texts have.
+fn put_longer<'a>(
+    out: &mut Vec<u8>,
+    what: &'a [u8],
+    bytes: u64,
+    behind: &'a [u8],
+) -> Result<(), AllocError> {
+    put_parts(
+        out,
+        &[
+            Part::Text(what),
+            Part::Number(bytes),
+            Part::Text(behind),
+            Part::Text(b" is longer than 1024 bytes"),
+        ],
+    )
 }
 
 /// Appends why an event or a query isn't fired, or a query isn't answered, for its size.
@@ -126,17 +189,17 @@ fn put_too_large(out: &mut Vec<u8>, actor: &Actor) -> Result<(), AllocError> {
             let query = query.get();
             let name = query.name.as_slice().len() as u64;
             let texts = name.saturating_add(query.payload.as_slice().len() as u64);
-            say(
-                out,
-                b"the query's packet, whose name and payload have ",
-                texts,
-            )?;
-            out.extend_from_slice(b" bytes together, is longer than 1024 bytes")
+            let what = b"the query's packet, whose name and payload have ";
+            put_longer(out, what, texts, b" bytes together,")
         }
         Act::Respond { payload, .. } => {
             let bytes = payload.as_slice().len() as u64;
-            say(out, b"the answer's packet, whose payload has ", bytes)?;
-            out.extend_from_slice(b" bytes, is longer than 1024 bytes")
+            put_longer(
+                out,
+                b"the answer's packet, whose payload has ",
+                bytes,
+                b" bytes,",
+            )
         }
         _ => out.extend_from_slice(b"the packet is too long"),
     }
@@ -148,9 +211,15 @@ fn put_no_message(out: &mut Vec<u8>, told: &Told, actor: &Actor) -> Result<(), A
         Act::Deliver { packet, .. } | Act::Merge { packet, .. } => *packet,
         _ => 0,
     };
-    let sent = told.world.sent().len() as u64;
-    say(out, b"no packet has the number ", number)?;
-    say(out, b": so many were sent, counted from 0: ", sent)
+    put_parts(
+        out,
+        &[
+            Part::Text(b"no packet has the number "),
+            Part::Number(number),
+            Part::Text(b": so many were sent, counted from 0: "),
+            Part::Number(told.world.sent().len() as u64),
+        ],
+    )
 }
 
 /// Appends why a query can't be answered.
@@ -159,10 +228,43 @@ fn put_no_query(out: &mut Vec<u8>, actor: &Actor) -> Result<(), AllocError> {
         Act::Respond { handed, .. } => *handed,
         _ => 0,
     };
-    say(out, b"no query of number ", number)?;
-    out.extend_from_slice(b" was handed to ")?;
-    put_name(out, actor.agent)?;
-    out.extend_from_slice(b" in this life, or it is answered")
+    put_parts(
+        out,
+        &[
+            Part::Text(b"no query of number "),
+            Part::Number(number),
+            Part::Text(b" was handed to "),
+            named(actor.agent),
+            Part::Text(b" in this life, or it is answered"),
+        ],
+    )
+}
+
+/// Appends the moment of an answer that comes too late.
+fn put_past_deadline(out: &mut Vec<u8>, actor: &Actor) -> Result<(), AllocError> {
+    let now = match actor.act {
+        Act::Respond { now, .. } => *now,
+        _ => 0,
+    };
+    put_parts(
+        out,
+        &[
+            Part::Text(b"the query's deadline is before "),
+            Part::Number(now),
+        ],
+    )
+}
+
+/// Appends that a packet spells no message.
+fn put_no_spelling(out: &mut Vec<u8>, told: &Told) -> Result<(), AllocError> {
+    put_parts(
+        out,
+        &[
+            Part::Text(b"its "),
+            Part::Number(packet_len(told)),
+            Part::Text(b" bytes spell no message: the fault and its place stand in the line above"),
+        ],
+    )
 }
 
 /// Appends why an action of an agent is refused.
@@ -189,20 +291,6 @@ pub(crate) fn put_refusal(
         Refusal::NotPushPull => put_not_push_pull(out, told),
         Refusal::RespondersFull => put_responders(out, told, actor),
         Refusal::SinkFault => put_sink_fault(out, actor),
-        Refusal::Wire(_) => {
-            say(out, b"its ", packet_len(told))?;
-            out.extend_from_slice(
-                b" bytes spell no message: the fault and its place stand in the line above",
-            )
-        }
+        Refusal::Wire(_) => put_no_spelling(out, told),
     }
-}
-
-/// Appends the moment of an answer that comes too late.
-fn put_past_deadline(out: &mut Vec<u8>, actor: &Actor) -> Result<(), AllocError> {
-    let now = match actor.act {
-        Act::Respond { now, .. } => *now,
-        _ => 0,
-    };
-    say(out, b"the query's deadline is before ", now)
 }

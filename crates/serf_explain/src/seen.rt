@@ -1,4 +1,4 @@
-//! What is told of an event that was delivered, and ignored as seen.
+//! What is said of an event that was delivered, and ignored as seen.
 
 ghost use Rattle.std.specs.Prelude.{◌≡◌, ◌++◌, ◌∷◌, [], ℕ, List, true, Ok, OnOk, IfOk};
 ghost use Rattle.std.specs.List.{list_any};
@@ -113,7 +113,7 @@ fn seen_reason(alloc: Global, told: &Told, of: &Delivered) -> Result<Vec<u8>, Al
     Ok(reason)
 }
 
-/// Appends the line that says so.
+/// Appends the line that says which action handed the event to its agent before.
 fn put_seen_event(
     alloc: Global,
     out: &mut Vec<u8>,

@@ -4,15 +4,14 @@ use crate::hand_outs::HandOuts;
 use crate::marks::Marks;
 use crate::memory::Memory;
 use crate::merges::Carried;
-use crate::quoted::put_quoted;
+use crate::quoted::Part;
 use serf_agent::Agent;
 use serf_model::{Act, Action, Line};
 use serf_snap::MemSink;
 use serf_wire::{Message, decode};
 use serf_world::World;
-use std::alloc::AllocError;
 
-/// An action and what came of it, the cluster behind it, and what is remembered of the actions before it.
+/// An action and what came of it, the cluster after it, and what is remembered of the actions before it.
 #[derive(Clone, Copy)]
 pub(crate) struct Told<'a> {
     /// The action's number, counted from 1.
@@ -23,13 +22,13 @@ pub(crate) struct Told<'a> {
     pub(crate) past: &'a HandOuts,
     pub(crate) action: &'a Action,
     pub(crate) line: &'a Line,
-    /// What is told of each event, where a state is merged on a disk that works.
+    /// What is said of each event, where a state is merged on a disk that works.
     pub(crate) carried: &'a [Carried],
 }
 
-/// Appends the name of an agent between quotes.
-pub(crate) fn put_name(out: &mut Vec<u8>, agent: &Agent<MemSink>) -> Result<(), AllocError> {
-    put_quoted(out, agent.config().name.as_slice())
+/// The name of an agent between quotes.
+pub(crate) fn named(agent: &Agent<MemSink>) -> Part<'_> {
+    Part::Quoted(agent.config().name.as_slice())
 }
 
 /// The packet that an action gives to its agent.
@@ -53,7 +52,7 @@ pub(crate) fn packet_len(told: &Told) -> u64 {
     }
 }
 
-/// The agent that acts: what it does, what it is behind that, and what it was like before.
+/// The agent that acts: what it does, what it is after that, and what it was like before.
 #[derive(Clone, Copy)]
 pub(crate) struct Actor<'a> {
     pub(crate) number: u64,

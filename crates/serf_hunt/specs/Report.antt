@@ -8,7 +8,7 @@ use Rattle.serf_hunt.specs.declared.report.Sums.{Sums}
 abbrev pub hex_digit : ℕ → ℕ
 hex_digit d = if nat_lt d 10 then 48 + d else 87 + d
 
--- A byte of a JSON text: a quote or a backslash behind a backslash, and one that is no printable ASCII as `\u00` with two hex digits.
+-- A byte of a JSON text: a quote or a backslash after a backslash, and one that is no printable ASCII as `\u00` with two hex digits.
 abbrev pub json_byte : ℕ → List ℕ
 json_byte b =
     if b == 34 || b == 92 then 92 ∷ b ∷ [] else
@@ -48,7 +48,7 @@ abbrev pub kind_text : Bool → List ℕ
 kind_text true = codes "ended"
 kind_text false = codes "differs"
 
--- one behind another
+-- one after another
 abbrev pub joined : List (List ℕ) → List ℕ
 joined texts = flat_map (λ text. text) texts
 

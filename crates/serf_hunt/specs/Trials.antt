@@ -68,7 +68,7 @@ last_tried true kept = deletions kept
 last_tried false kept = []
 
 -- What is left of the calls failed when it was last tried; where it is smallest, each single deletion of it was tried
--- behind that, and none failed.
+-- after that, and none failed.
 abbrev pub IsShrunk : Bool → Config → List Call → Shrunk → List ℕ → Option (List ℕ) → Option (List ℕ) → Type 0
 IsShrunk serf config calls shrunk input from to =
     IsReached serf config calls shrunk.calls.items (last_tried shrunk.is_smallest shrunk.calls.items) input from to

@@ -65,7 +65,7 @@ fn hex_digit(digit: u8) -> u8
     if digit < 10 { 48 + digit } else { 87 + digit }
 }
 
-/// Appends a byte as it stands in a JSON text: a quote or a backslash behind a backslash, and one that is no printable ASCII
+/// Appends a byte as it stands in a JSON text: a quote or a backslash after a backslash, and one that is no printable ASCII
 /// by its number.
 fn put_json_byte(out: &mut Vec<u8>, byte: u8) -> Result<(), AllocError>
     ensures { OnOk result (out.new.items ≡ out.old.items ++ json_byte byte) }
@@ -165,16 +165,16 @@ fn kind_in<'a>(kind: Option<&'a [u8]>) -> Member<'a>
     }
 }
 
-/// What an object tells: that an agent ended, or replied otherwise.
+/// What an object says: that an agent ended, or replied otherwise.
 fn kind_of(has_ended: bool) -> &'static [u8]
     ensures { result.now ≡ kind_text has_ended }
 {
     if has_ended { b"ended" } else { b"differs" }
 }
 
-/// Appends the line that tells of a disagreement: a JSON object with the members `report` (`differs`, or `ended`), `seed`,
+/// Appends the line that reports a disagreement: a JSON object with the members `report` (`differs`, or `ended`), `seed`,
 /// `kind` where there is one, `agent`, `agreed`, `action`, `line`, `call`, `wanted` and `got`. After an `AllocError`, which comes where there is no memory for
-/// it, `out` may have a front of it.
+/// it, `out` may have a prefix of it.
 #[tactic(auto, unfolding(crate::specs::Report::disagreement_text))]
 pub fn put_disagreement(out: &mut Vec<u8>, told: &Disagreement) -> Result<(), AllocError>
     ensures { OnOk result (out.new.items ≡ out.old.items ++ disagreement_text told.now) }
@@ -195,7 +195,7 @@ pub fn put_disagreement(out: &mut Vec<u8>, told: &Disagreement) -> Result<(), Al
 
 /// Appends the line that ends a report: a JSON object with the members `report` (`end`), `schedules`, `calls`,
 /// `disagreements` and `status`. After an `AllocError`, which comes where there is no memory for it, `out` may have a
-/// front of it.
+/// prefix of it.
 #[tactic(auto, unfolding(crate::specs::Report::sums_text))]
 pub fn put_sums(out: &mut Vec<u8>, sums: &Sums) -> Result<(), AllocError>
     ensures { OnOk result (out.new.items ≡ out.old.items ++ sums_text sums.now) }

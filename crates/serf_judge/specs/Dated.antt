@@ -1,4 +1,4 @@
--- A date and a time of day in front of a line's other words.
+-- A date and a time of day before a line's other words.
 use Rattle.std.specs.Prelude.{ℕ, ◌==◌, ◌&&◌, Bool, false, if◌then◌else◌, List, [], ◌∷◌, slice_get}
 use Rattle.std.specs.Char.{is_ascii_digit}
 use Rattle.std.specs.Option.{option_map_or}
@@ -21,7 +21,7 @@ abbrev pub behind_clock : List (List ℕ) → List (List ℕ)
 behind_clock [] = []
 behind_clock (first ∷ rest) = if begins_as_clock first then rest else first ∷ rest
 
--- the words behind a date, and behind a time of day that follows it; all where no date stands first
+-- the words after a date, and after a time of day that follows it; all where no date stands first
 abbrev pub behind_date : List (List ℕ) → List (List ℕ)
 behind_date [] = []
 behind_date (first ∷ rest) = if begins_as_date first then behind_clock rest else first ∷ rest

@@ -1,8 +1,8 @@
--- What two logs say, one behind the other.
+-- What two logs say, one after the other.
 use Rattle.std.specs.Prelude.{ℕ, ◌+◌, ◌-◌, ◌^◌, ◌++◌, min, List, map}
 use Rattle.serf_judge.specs.Said.{LogView}
 
--- the number of a line behind so many others, with what it says; it stops at 2^64 - 1
+-- the number of a line after so many others, with what it says; it stops at 2^64 - 1
 abbrev pub moved : {X : Type 0} → ℕ → ℕ × X → ℕ × X
 moved lines said = (min (said.0 + lines) (2 ^ 64 - 1), said.1)
 

@@ -1,4 +1,4 @@
--- What is told of a snapshot beside a log: whether the log has its node, whether it is a snapshot, and where it begins anew.
+-- What is said of a snapshot beside a log: whether the log has its node, whether it is a snapshot, and where it begins anew.
 use Rattle.std.specs.Prelude.{ℕ, ◌==◌, ◌||◌, ◌&&◌, nat_eq, nat_lt, Bool, if◌then◌else◌, List, [], ◌∷◌, length, codes}
 use Rattle.std.specs.List.{list_any, starts_with}
 use Rattle.std.specs.Str.{bytes_eq}
@@ -39,7 +39,7 @@ is_kept_line line = is_leave line || begins_as_kept line
 abbrev pub is_snapshot_text : List ℕ → Bool
 is_snapshot_text text = (length text == 0) || list_any is_kept_line (lines_of text)
 
--- Of the lines of a snapshot those that count where Serf doesn't rejoin: what stands behind the last line `leave`. Those
+-- Of the lines of a snapshot those that count where Serf doesn't rejoin: what stands after the last line `leave`. Those
 -- from here on are left, and `start` counts so far. What follows the last newline is no line.
 abbrev pub counted_from : List (List ℕ) → List (List ℕ) → List (List ℕ)
 counted_from start [] = start

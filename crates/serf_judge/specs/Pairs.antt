@@ -1,7 +1,7 @@
 -- Two equal keys in a list.
 use Rattle.std.specs.Prelude.{◌≡◌, ℕ, ◌<◌, ◌≤◌, Bool, true, List, Some, slice_get}
 
--- the keys at two places, one behind the other, are equal
+-- the keys at two places, one after the other, are equal
 pub record IsPair {K : Type 0} (eq : K → K → Bool) (keys : List K) (earlier later : ℕ) : Type 0 where
   pub before : earlier < later
   pub first : K

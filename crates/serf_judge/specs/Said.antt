@@ -33,7 +33,7 @@ words_said words = if length words == 0 then Ok nothing else happening_of words
 abbrev pub without_return : List ℕ → List ℕ
 without_return line = if bytes_eq (drop (length line - 1) line) (13 ∷ []) then take (length line - 1) line else line
 
--- a line without the byte order mark of UTF-8 at its front, where it has one
+-- a line without the byte order mark of UTF-8 at its start, where it has one
 abbrev pub without_mark : List ℕ → List ℕ
 without_mark line = if bytes_eq (take 3 line) (239 ∷ 187 ∷ 191 ∷ []) then drop 3 line else line
 
@@ -41,7 +41,7 @@ without_mark line = if bytes_eq (take 3 line) (239 ∷ 187 ∷ 191 ∷ []) then 
 abbrev pub bare : Bool → List ℕ → List ℕ
 bare is_first line = without_return (if is_first then without_mark line else line)
 
--- what a line says; a comment and a line without words say nothing, and a date in front isn't read
+-- what a line says; a comment and a line without words say nothing, and a date before it isn't read
 abbrev pub line_said : List ℕ → Result Happening Cause
 line_said line = if is_comment line then Ok nothing else words_said (behind_date (words_of line))
 

@@ -1,4 +1,4 @@
--- What is told of each node that was handed something twice.
+-- What is said of each node that was handed something twice.
 use Rattle.std.specs.Prelude.{ℕ, ◌^◌, ◌-◌, ◌&&◌, nat_eq, min, max, Bool, List, map, filter, length}
 use Rattle.std.specs.List.{fold}
 use Rattle.std.specs.Option.{option_eq}
@@ -61,7 +61,7 @@ is_same_event x y = bytes_eq x.node y.node && (nat_eq x.time y.time && (bytes_eq
 abbrev pub is_same_query : QueryIdentity → QueryIdentity → Bool
 is_same_query x y = bytes_eq x.node y.node && (nat_eq x.time y.time && option_eq nat_eq x.id y.id)
 
--- the lines that hand a node an event that a line in front of them handed it, and such lines of queries
+-- the lines that hand a node an event that a line before them handed it, and such lines of queries
 abbrev pub event_repeats : List EventEntry → List Handing
 event_repeats events = map event_handing (repeats_of (λ x y. is_same_event (event_identity x) (event_identity y)) events)
 

@@ -1,7 +1,7 @@
 -- An item that stands twice in a list.
 use Rattle.std.specs.Prelude.{◌≡◌, ℕ, ◌<◌, ◌≤◌, List, Some, slice_get}
 
--- one item stands at two places, one behind the other
+-- one item stands at two places, one after the other
 pub record IsTwice {X : Type 0} (items : List X) (earlier later : ℕ) : Type 0 where
   pub before : earlier < later
   pub item : X

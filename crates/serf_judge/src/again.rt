@@ -36,7 +36,7 @@ fn keep_first<K: Eq + Hash + Copy>(
     Ok(())
 }
 
-/// Those of some keys that equal none in front of them, in order.
+/// Those of some keys that equal none before them, in order.
 pub(crate) fn firsts<K: Eq + Hash + Copy>(alloc: Global, keys: &[K]) -> Result<Vec<K>, AllocError>
     ensures { IfOk result (λ found. found.items ≡ firsts_of K.eq keys.now) }
 {
@@ -67,7 +67,7 @@ fn keep_repeat<'a, K: Eq + Hash + Copy>(
     Ok(())
 }
 
-/// The lines whose key equals that of a line in front of them, in order.
+/// The lines whose key equals that of a line before them, in order.
 pub(crate) fn repeats<'a, K: Eq + Hash + Copy>(
     alloc: Global,
     lines: &[Keyed<'a, K>],

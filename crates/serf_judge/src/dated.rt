@@ -1,4 +1,4 @@
-//! A date and a time of day in front of a line.
+//! A date and a time of day before a line.
 
 ghost use Rattle.std.specs.Prelude.{◌≡◌, map};
 ghost use Rattle.serf_judge.specs.Dated.{begins_as_clock, begins_as_date, behind_clock, behind_date, has_byte, has_digit};
@@ -41,7 +41,7 @@ fn is_clock(word: &[u8]) -> bool
     is_digit_at(word, 0) && is_digit_at(word, 1) && is_byte_at(word, 2, b':')
 }
 
-/// The words behind a time of day, where one stands first.
+/// The words after a time of day, where one stands first.
 fn cut_clock<'w, 'a>(words: &'w [&'a [u8]]) -> &'w [&'a [u8]]
     ensures { map (λ w. w.now) result.now ≡ behind_clock (map (λ w. w.now) words.entry.now) }
 {
@@ -54,7 +54,7 @@ fn cut_clock<'w, 'a>(words: &'w [&'a [u8]]) -> &'w [&'a [u8]]
     words
 }
 
-/// The words behind a date and a time of day, where a date stands first.
+/// The words after a date and a time of day, where a date stands first.
 pub(crate) fn cut_date<'w, 'a>(words: &'w [&'a [u8]]) -> &'w [&'a [u8]]
     ensures { map (λ w. w.now) result.now ≡ behind_date (map (λ w. w.now) words.entry.now) }
 {

@@ -105,7 +105,7 @@ pub fn is_snapshot(text: &[u8]) -> bool
     text.is_empty() || has_kept_line(text)
 }
 
-/// What counts of a snapshot where Serf is started without `-rejoin`: what stands behind the last line `leave`, and all
+/// What counts of a snapshot where Serf is started without `-rejoin`: what stands after the last line `leave`, and all
 /// of it where there is none. Takes no memory.
 pub fn behind_leave(text: &[u8]) -> &[u8]
     ensures { lines_of result.now ≡ counted_lines (lines_of text.now) }

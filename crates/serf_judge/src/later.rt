@@ -13,7 +13,7 @@ use thiserror::Error;
 /// Why there is no verdict.
 #[derive(Clone, Copy, Debug, PartialEq, Eq, Error)]
 pub enum LaterFault {
-    /// An entry's line stands before that of an entry in front of it. It never comes of a log's entries.
+    /// The entries are not in the order of their lines. It never comes of a log's entries.
     #[error("the entries are not in the order of their lines")]
     OutOfOrder,
     #[error("out of memory")]

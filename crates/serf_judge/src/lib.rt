@@ -1,6 +1,6 @@
 //! The promises of Serf events and queries, judged on anybody's log: whether an event or a query came to a node twice,
 //! whether each event was fired before it was handed out, and whether each node fired only later than what it was handed
-//! before. Of each node that was handed something again it is told how often and when, and of each event which nodes
+//! before. Of each node that was handed something again it is said how often and when, and of each event which nodes
 //! were never handed it. Of a trace of the model the first repeat is found, which is where the promise Once is broken.
 #![tactic(auto)]
 

@@ -23,7 +23,7 @@ pub struct Log {
     pub events: Vec<EventEntry>,
     pub queries: Vec<QueryEntry>,
     pub bad: Vec<BadLine>,
-    /// How many lines it has, with an empty one behind a last newline; it stops at 2^64 - 1.
+    /// How many lines it has, with an empty one after a last newline; it stops at 2^64 - 1.
     pub lines: u64,
 }
 
@@ -65,7 +65,7 @@ fn cut_return(line: &[u8]) -> &[u8]
     }
 }
 
-/// A line without the byte order mark of UTF-8 at its front, where it has one.
+/// A line without the byte order mark of UTF-8 at its start, where it has one.
 fn cut_mark(line: &[u8]) -> &[u8]
     ensures { result.now ≡ without_mark line.entry.now }
 {
@@ -110,7 +110,7 @@ fn happening_on(
 }
 
 impl Log {
-    /// Puts what a line says behind the others.
+    /// Puts what a line says after the others.
     fn add(&mut self, number: u64, happening: Happening) -> Result<(), StreamLineFault<Cause>>
         requires { IsAt number happening }
         ensures added { OnOk result (log_view self.new
@@ -130,7 +130,7 @@ impl Log {
         }
     }
 
-    /// Puts the line of this number behind the other bad ones.
+    /// Puts the line of this number after the other bad ones.
     fn add_bad(&mut self, line: u64, cause: Cause) -> Result<(), StreamLineFault<Cause>>
         ensures added { OnOk result (log_view self.new
             ≡ with_said (log_view self.old) line (Err cause)) }
@@ -142,7 +142,7 @@ impl Log {
         }
     }
 
-    /// Puts what the line of this number says behind the others.
+    /// Puts what the line of this number says after the others.
     fn add_line(
         &mut self,
         alloc: Global,
@@ -209,8 +209,8 @@ impl Write for Nowhere {
 ///
 /// A line is `fired NODE TIME NAME PAYLOAD`, `event NODE TIME NAME PAYLOAD`, `query NODE TIME ID` or `restarted NODE`, by
 /// words between spaces, or a line of a trace of `serf-replay`. A comment (`#`) and a line without words say nothing.
-/// A date and a time of day in front of the other words, a carriage return at a line's end and a byte order mark of UTF-8
-/// at the log's front say nothing. A line may have 16,777,216 bytes. A line that is not sound is kept in `bad`, with its
+/// A date and a time of day before the other words, a carriage return at a line's end and a byte order mark of UTF-8
+/// at the log's start say nothing. A line may have 16,777,216 bytes. A line that is not sound is kept in `bad`, with its
 /// cause, and says nothing else.
 ///
 /// It is `ReadFault` where a read fails, `LineTooLong` with the number of the first longer line, and `OutOfMemory`.
@@ -219,7 +219,7 @@ pub fn read_log<R: Read>(alloc: Global, reader: &mut R) -> Result<Log, StreamFau
     ensures done { IfOk result (λ log. (bytes : List ℕ)
         × Consumes (R.remaining reader.old) (R.remaining reader.new) bytes
         × IsAtEnd (R.remaining reader.new) × (log_view log ≡ log_of (lines_of bytes))) }
-    // The lines before the one that is told were done.
+    // The lines before the one that is reported were done.
     ensures stopped { IfErr result (λ fault. (bytes : List ℕ)
         × Consumes (R.remaining reader.old) (R.remaining reader.new) bytes
         × IsStopped log_answer fault (lines_of bytes) None None) }

@@ -82,7 +82,7 @@ fn is_missing<'a>(handed: &HashSet<EventKey<'a>>, event: ContentKey<'a>, node: &
     !handed.contains(&key)
 }
 
-/// Puts a node behind the others, where it was never handed an event.
+/// Puts a node after the others, where it was never handed an event.
 fn keep_missing<'a>(
     handed: &HashSet<EventKey<'a>>,
     missing: &mut Vec<&'a [u8]>,
@@ -126,7 +126,7 @@ fn missing_nodes<'a>(
     Ok(missing)
 }
 
-/// Puts an event behind the others, where some node never had it.
+/// Puts an event after the others, where some node never had it.
 fn put_missed<'a>(
     missed: &mut Vec<MissedEvent<'a>>,
     event: ContentKey<'a>,

@@ -38,7 +38,7 @@ fn keyed_events<'a>(
 }
 
 /// Each node that was handed an event again, in the order in which that happened first, with the lines that hand it
-/// again what a line in front of them handed it: how many they are, their least and greatest time, and the first and the
+/// again what a line before them handed it: how many they are, their least and greatest time, and the first and the
 /// last of them. An event is a time, a name and a payload.
 ///
 /// Each entry is looked up once by its hash. It is an `AllocError` only where there is no memory for that.

@@ -16,7 +16,7 @@ use crate::place::{Place, Repeat};
 use serf_model::{EventLine, Line, Trace};
 use std::alloc::{AllocError, Global};
 
-/// Puts the keys and the places of an action's event lines behind the others.
+/// Puts the keys and the places of an action's event lines after the others.
 fn take_events<'a>(
     keys: &mut Vec<LineKey<'a>>,
     places: &mut Vec<Place>,

@@ -137,12 +137,12 @@ representable-fired lower i what coalesce None g is =
 
 -- ---- queries
 
-pub representable-query_received : Below → (i : IdealAgent) (now : ℕ) (q : Query) (r : Option Reason) → IsRepresentable i → i.snapshot.stopped ≡ false → q.time < 2 ^ 64 - 1 → query_admission i q.time q.id ≡ r → IsRepresentable (planned i (query_received_as r i now q)).agent
+pub representable-query_received : Below → (i : IdealAgent) (now : ℕ) (q : Query) (r : Option Reason) → IsRepresentable i → i.snapshot.stopped ≡ false → q.time < 2 ^ 64 - 1 → query_admission i q.time q.id ≡ r → IsRepresentable (planned i (query_received_as false r i now q)).agent
 representable-query_received lower i now q (Some reason) g runs small is =
     record { consistent = record { sound = lower.sound.observes_query q.time i g.consistent.sound; observable = g.consistent.observable }; events = g.events; queries = omega (arith, g.queries) }
 representable-query_received lower i now q None g runs small is =
     representable-notes lower i kinds.Query q.time
-    (record { agent = query_entered q.time q.id i; answer = Ok (outcomes.Query (handed_if_passed i.config.name now q) (ack_if_passed i.config.name q) (not (has_flag no_broadcast_flag q.flags))) }) (Err receives.SinkFault) g
+    (record { agent = query_entered q.time q.id i; answer = Ok (outcomes.Query (handed_if_passed false i.config.name now q) (ack_if_passed false i.config.name q) (not (has_flag no_broadcast_flag q.flags))) }) (Err receives.SinkFault) g
     (λ observable. record {
       consistent = record { sound = lower.sound.enters_query q.time q.id i g.consistent.sound runs small (lower.admits.query_new i q.time q.id is); observable = observable };
       events = g.events;
@@ -165,7 +165,7 @@ pub representable-query_fired : Below → (i : IdealAgent) (now : ℕ) (q : Quer
 representable-query_fired lower i now q (Some fault) g at may = g
 representable-query_fired lower i now q None g at may =
     let m = may refl in
-    representable-notes lower i kinds.Query q.time (record { agent = query_asked now q i; answer = Ok record { time = q.time; packet = canonical (query q); handed = handed_if_passed i.config.name now q; ack = ack_if_passed i.config.name q } }) (Err asks.SinkFault) g
+    representable-notes lower i kinds.Query q.time (record { agent = query_asked now q i; answer = Ok record { time = q.time; packet = canonical (query q); handed = handed_if_passed false i.config.name now q; ack = ack_if_passed false i.config.name q } }) (Err asks.SinkFault) g
     (λ observable. record {
       consistent = record { sound = lower.sound.asks_query now q i g.consistent.sound m.runs at (omega (arith, m.clock)); observable = observable };
       events = g.events;

@@ -67,7 +67,7 @@ pub data Effect (m : IdealNode) : Action → Option (List ℕ) → Applied → T
       → Effect m (Of agent (acts.Query q)) given (called m (ended m.agent (query_fired_as None m.agent q.moment (as_message m q)) Kept) query_gives)
   -- a query is new
   is_asked : (to number : ℕ) (packet : List ℕ) (now : ℕ) (q : Query) → decoded packet ≡ Ok (query q) → query_admission m.agent q.time q.id ≡ None
-      → Effect m (Of to (acts.Deliver number now)) (Some packet) (called m (ended m.agent (query_received_as None m.agent now q) Kept) (receive_gives packet))
+      → Effect m (Of to (acts.Deliver number now)) (Some packet) (called m (ended m.agent (query_received_as false None m.agent now q) Kept) (receive_gives packet))
   -- an answer to an open query is counted
   counts : (to number now : ℕ) (packet : List ℕ) (r : QueryResponse) (q : OpenQuery) (ack : Bool) → decoded packet ≡ Ok (query_response r) → asked_at r.time m.agent.asked ≡ Some q → answer_ignore_reason now r q ≡ None → is_ack r ≡ ack
       → Effect m (Of to (acts.Deliver number now)) (Some packet)
@@ -168,12 +168,12 @@ acts-event lower m to number now packet e r is runs why = record {
 -- ---- queries
 
 acts-query : Below → (m : IdealNode) (to number now : ℕ) (packet : List ℕ) (q : Query) (r : Option Reason) → decoded packet ≡ Ok (query q) → m.agent.snapshot.stopped ≡ false → query_admission m.agent q.time q.id ≡ r
-    → DeliveryActs m to number now packet (planned m.agent (query_received_as r m.agent now q))
+    → DeliveryActs m to number now packet (planned m.agent (query_received_as false r m.agent now q))
 acts-query lower m to number now packet q r is runs why = record { effect = by r why; sound = λ g. representable-query_received lower m.agent now q r g runs (lower.in_range packet (query q) is).time why }
   where
-    by : (r : Option Reason) → query_admission m.agent q.time q.id ≡ r → DeliveryEffect m to number now packet (planned m.agent (query_received_as r m.agent now q))
+    by : (r : Option Reason) → query_admission m.agent q.time q.id ≡ r → DeliveryEffect m to number now packet (planned m.agent (query_received_as false r m.agent now q))
     by (Some reason) why = idles m _ _ _ _ refl refl refl refl refl (ignored m.agent packet (Ok (query q)) reason is tt)
-    by None new = kept-or-failed (DeliveryEffect m to number now packet) m.agent (query_received_as None m.agent now q) (is_asked to number packet now q is new) (λ d. snaps m tt)
+    by None new = kept-or-failed (DeliveryEffect m to number now packet) m.agent (query_received_as false None m.agent now q) (is_asked to number packet now q is new) (λ d. snaps m tt)
 
 acts-response : (m : IdealNode) (to number now : ℕ) (packet : List ℕ) (r : QueryResponse) (o : Option OpenQuery) → decoded packet ≡ Ok (query_response r) → asked_at r.time m.agent.asked ≡ o
     → DeliveryActs m to number now packet (planned m.agent (response_received_at o m.agent now r))
@@ -209,7 +209,7 @@ acts-responds m given agent number now payload (Some (Some h)) at = by (respond_
 
 -- ---- deliveries
 
-acts-read : Below → (m : IdealNode) (to number now : ℕ) (packet : List ℕ) (r : Result Message WireFault) → decoded packet ≡ r → m.agent.snapshot.stopped ≡ false → DeliveryActs m to number now packet (planned m.agent (receive_read m.agent now r))
+acts-read : Below → (m : IdealNode) (to number now : ℕ) (packet : List ℕ) (r : Result Message WireFault) → decoded packet ≡ r → m.agent.snapshot.stopped ≡ false → DeliveryActs m to number now packet (planned m.agent (receive_read false m.agent now r))
 acts-read lower m to number now packet (Ok (user_event e)) is runs = acts-event lower m to number now packet e (admission m.agent e.time (event_of e.name e.payload)) is runs refl
 acts-read lower m to number now packet (Ok (query q)) is runs = acts-query lower m to number now packet q (query_admission m.agent q.time q.id) is runs refl
 acts-read lower m to number now packet (Ok (query_response r)) is runs = acts-response m to number now packet r (asked_at r.time m.agent.asked) is refl
@@ -219,7 +219,7 @@ acts-delivers : Below → (m : IdealNode) (to number now : ℕ) (given : Option 
 acts-delivers lower m to number now None = stays m tt
 acts-delivers lower m to number now (Some packet) = by m.agent.snapshot.stopped refl
   where
-    by : (b : Bool) → m.agent.snapshot.stopped ≡ b → DeliveryActs m to number now packet (planned m.agent (cond b (answers m.agent (Err receives.Stopped)) (receive_read m.agent now (decoded packet))))
+    by : (b : Bool) → m.agent.snapshot.stopped ≡ b → DeliveryActs m to number now packet (planned m.agent (cond b (answers m.agent (Err receives.Stopped)) (receive_read false m.agent now (decoded packet))))
     by true is = stays m tt
     by false runs = acts-read lower m to number now packet (decoded packet) refl runs
 

@@ -125,8 +125,8 @@ settings-start configs = each-start (HasSettings configs) configs (λ a config i
 
 -- ---- which queries
 
-pub passed-on : (node : List ℕ) (now : ℕ) (q : Query) (h : Handed) → handed_if_passed node now q ≡ Some h → handed_query node now q ≡ h
-passed-on node now q h e = by (all_pass q.filters node) e
+pub passed-on : (node : List ℕ) (now : ℕ) (q : Query) (h : Handed) → handed_if_passed false node now q ≡ Some h → handed_query node now q ≡ h
+passed-on node now q h e = by (all_pass false q.filters node) e
   where
     by : (b : Bool) → cond b (Some (handed_query node now q)) None ≡ Some h → handed_query node now q ≡ h
     by true e = cc e

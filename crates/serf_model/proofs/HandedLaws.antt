@@ -20,8 +20,8 @@ only_query t id = record { time = t; key = id } ∷ []
 abbrev pub Hands : Action → Option (List ℕ) → Done → Type 0
 Hands action given done = (q : Handed) → done.handed ≡ Some q → entered_by action given done.answer ≡ only_query q.time q.id
 
-passed : (node : List ℕ) (now : ℕ) (q : Query) (h : Handed) → handed_if_passed node now q ≡ Some h → only_query q.time q.id ≡ only_query h.time h.id
-passed node now q h e = by (all_pass q.filters node) e
+passed : (node : List ℕ) (now : ℕ) (q : Query) (h : Handed) → handed_if_passed false node now q ≡ Some h → only_query q.time q.id ≡ only_query h.time h.id
+passed node now q h e = by (all_pass false q.filters node) e
   where
     by : (b : Bool) → cond b (Some (handed_query node now q)) None ≡ Some h → only_query q.time q.id ≡ only_query h.time h.id
     by true e = let same : handed_query node now q ≡ h = cc e in ap (λ (x : Handed). only_query x.time x.id) same

@@ -215,7 +215,7 @@ pub record IsReplyTo (configs : List Config) (before : List Turn) (turn : Turn) 
   pub query : handed_in line ≡ query_answered r
   pub ack : is_ack r ≡ false
 
--- where an answer comes from that a turn sends
+-- the origin of an answer that a turn sends
 pub data IsMade (configs : List Config) (before : List Turn) (turn : Turn) (r : QueryResponse) : Type 0 where
   injected : IsInjected turn r → IsMade configs before turn r
   acked : IsAckOf configs turn r → IsMade configs before turn r

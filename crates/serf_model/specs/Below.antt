@@ -18,7 +18,7 @@ pub record Below : Type 0 where
   pub canonical : CanonicalSpells
   -- the slots of events
   pub slots : SlotLaws EventBody
-  -- the clocks of a text: no bytes behind it lower them, and they are times
+  -- the clocks of a text: no bytes after it lower them, and they are times
   pub clock_grows : (k : ClockKind) (front tail : List ℕ) → last_clock k front ≤ last_clock k (front ++ tail)
   pub clock_below : (k : ClockKind) (text : List ℕ) → last_clock k text < greatest_clock
   -- an agent's packets, its steps, and what it admits

@@ -66,12 +66,12 @@ pub enum Act {
     Restart {
         tail: Bytes,
     },
-    /// The call of its sink with this number from now, counted from 1, is to fail; 0 lets none fail.
+    /// The call of its sink with this number, counted from 1 from now on, is to fail; with 0 none is.
     Break {
         call: SinkCall,
         count: u64,
     },
-    /// It lets go of its open queries that are past their deadlines.
+    /// It closes its open queries that are past their deadlines.
     Close {
         now: u64,
     },

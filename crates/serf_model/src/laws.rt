@@ -112,7 +112,7 @@ pub fn run_promises()
     slot_laws();
 }
 
-/// The turns of a run are what its actions and its trace show, whatever actions come behind. Does nothing.
+/// The turns of a run are what its actions and its trace show, whatever actions come after. Does nothing.
 pub fn turns_shown()
     ensures { (configs : List Config) (done left : List Action) → AreConfigs configs
         → turns_of (done ++ left) (trace_of (run_of configs done)) ≡ (run_of configs done).turns }
@@ -131,7 +131,7 @@ pub fn agents_alone()
 
 /// The agents of a cluster that has done nothing are representable, and what an agent does leaves it representable. An
 /// agent before its first life is sound. What a representable agent's sink keeps has the times of all that entered,
-/// whatever tail comes behind. Does nothing.
+/// whatever tail comes after. Does nothing.
 pub fn representable_agents()
     ensures start { (configs : List Config) → AreConfigs configs
         → AreRepresentable (start configs).cluster }

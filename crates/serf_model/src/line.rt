@@ -78,7 +78,7 @@ pub enum Answer {
         event_clock: u64,
         query_clock: u64,
     },
-    /// So many open queries were let go.
+    /// So many open queries were closed.
     Closed(u64),
     /// Nothing was done, or not all of it.
     Refused(Refusal),

@@ -23,7 +23,7 @@ OneFault = (bytes : List ℕ) (f g : PackFault) → IsFaulty bytes f → IsFault
 abbrev pub NeverBoth : Type 0
 NeverBoth = (bytes : List ℕ) (v : Tree) (f : PackFault) → Packs v 0 0 bytes → IsFaulty bytes f → ⊥
 
--- the bytes begin with a head, and these are behind it
+-- the bytes begin with a head, and these are after it
 pub record BeginsWith (h : Head) (bytes rest : List ℕ) : Type 0 where
   pub head : List ℕ
   pub bytes_are : bytes ≡ head ++ rest
@@ -45,7 +45,7 @@ pub record CanonicalHeads : Type 0 where
   pub negative : (k : ℕ) → k < 2 ^ 63 → IsHead (negative_bytes k) (heads.Int (negsuc k))
 
 -- what the appenders write spells the value, at every place and inside any number of containers; an array or a map is
--- its header with its parts behind it, and stands inside fewer than eight
+-- its header with its parts after it, and stands inside fewer than eight
 pub record AppendersPack : Type 0 where
   pub nil : (d p : ℕ) → Packs (trees.nil p) d p nil_bytes
   pub flag : (d p : ℕ) (b : Bool) → Packs (trees.flag p b) d p (flag_bytes b)

@@ -10,7 +10,7 @@ use Rattle.serf_pack.specs.declared.head.Row.TheVariants.{Whole, Number, Unsuppo
 use Rattle.serf_pack.specs.Tree.{Tree, nil, flag, int, raw, array, pairs, Items, no_items, item, Pairs, no_pairs, pair}
 use Rattle.serf_pack.specs.Table.{row_of, meaning_of}
 
--- the bytes behind the first one are those that its row of the table asks for
+-- the bytes after the first one are those that its row of the table asks for
 abbrev pub IsField : Row → List ℕ → Head → Type 0
 IsField (Whole g) field h = (field ≡ []) × (h ≡ g)
 IsField (Number f w) field h = (length field ≡ w) × (h ≡ meaning_of f w (big_number w field))

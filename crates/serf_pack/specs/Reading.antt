@@ -22,7 +22,7 @@ abbrev pub ◌>>=◌ : {A B : Type 0} → Result A PackFault → (A → Result B
 (Ok x) >>= f = f x
 (Err e) >>= f = Err e
 
--- a reader gives what stands at the front, and what follows it
+-- a reader gives what stands at the start, and what follows it
 abbrev pub Reader : Type 0 → Type 0
 Reader A = List ℕ → Result (A × List ℕ) PackFault
 
@@ -36,7 +36,7 @@ head_by p (Whole h) b rest = Ok (h, rest)
 head_by p (Number f w) b rest = if nat_lt (length rest) w then Err (faults.Truncated p) else Ok (meaning_of f w (big_number w rest), drop w rest)
 head_by p Unsupported b rest = Err (faults.Unsupported b p)
 
--- the head at the front of the bytes, and what follows it
+-- the head at the start of the bytes, and what follows it
 unfoldable pub head_at : ℕ → List ℕ → Result (Head × List ℕ) PackFault
 head_at total [] = Err (faults.Truncated (place total []))
 head_at total (b ∷ rest) = head_by (place total (b ∷ rest)) (row_of b) b rest
@@ -64,7 +64,7 @@ pairs_at value (suc n) bytes = do
   ps ← pairs_at value n v.1
   Ok (pair k.0 v.0 ps.0, ps.1)
 
--- the parts of a value behind its head, where p is the value's place
+-- the parts of a value after its head, where p is the value's place
 abbrev pub parts_by : (ℕ → Reader Items) → (ℕ → Reader Pairs) → ℕ → Head → Reader Tree
 parts_by items members p Nil rest = Ok (nil p, rest)
 parts_by items members p (Flag b) rest = Ok (flag p b, rest)

@@ -53,7 +53,7 @@ abbrev pub RowHasFormatInt : Row → Type 0
 RowHasFormatInt (Whole head) = HasFormatInt head
 RowHasFormatInt _ = Unit {0}
 
--- what a number of w bytes behind the first byte stands for: "int format family", and the lengths and counts of
+-- what a number of w bytes after the first byte stands for: "int format family", and the lengths and counts of
 -- "str format family", "bin format family", "array format family" and "map format family", all big-endian
 abbrev pub meaning_of : Field → ℕ → ℕ → Head
 meaning_of fields.Unsigned w x = heads.Int (pos x)

@@ -1,4 +1,4 @@
--- What a view shows: the value that stands at the front of its bytes.
+-- What a view shows: the value that stands at the start of its bytes.
 use Rattle.std.specs.Prelude.{◌≡◌, ◌<◌, ◌≤◌, ◌-◌, length, take, is_ok, true, ℕ, ℤ, Bool, List, [], ◌∷◌, Option, Some, None}
 use Rattle.serf_pack.specs.declared.view.View.{View}
 use Rattle.serf_pack.specs.declared.view.Kind.{Kind}

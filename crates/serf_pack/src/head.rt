@@ -1,4 +1,4 @@
-//! What stands before a value's parts: its first byte, and the number behind it. MessagePack
+//! What stands before a value's parts: its first byte, and the number after it. MessagePack
 //! specification, "Formats".
 
 ghost use Rattle.std.specs.Prelude.{◌≡◌, ◌≤◌, ◌+◌, ◌<◌, ◌^◌, length, IfOk};
@@ -26,7 +26,7 @@ pub enum Head {
     Map(u64),
 }
 
-/// What the number behind a first byte stands for.
+/// What the number after a first byte stands for.
 #[derive(Clone, Copy)]
 pub enum Field {
     /// It is the value.
@@ -90,7 +90,7 @@ pub fn row_for(byte: u8) -> Row
     }
 }
 
-/// The number of so many bytes at their front, the highest first.
+/// The number of so many bytes at their start, the highest first.
 #[inline(always)]
 fn number(width: usize, bytes: &[u8]) -> u64
     requires low { 1 ≤ width }
@@ -107,7 +107,7 @@ fn number(width: usize, bytes: &[u8]) -> u64
     }
 }
 
-/// What the number at the front of the bytes says, which has so many of them.
+/// What the number at the start of the bytes says, which has so many of them.
 #[inline(always)]
 fn meaning(field: Field, width: usize, bytes: &[u8]) -> Head
     requires low { 1 ≤ width }
@@ -125,7 +125,7 @@ fn meaning(field: Field, width: usize, bytes: &[u8]) -> Head
     }
 }
 
-/// The head at the front of the bytes, which are the last of `total`, and what follows it. `Truncated`
+/// The head at the start of the bytes, which are the last of `total`, and what follows it. `Truncated`
 /// where the bytes end before the head does, `Unsupported` at a byte of no format, each with the offset
 /// of the first byte. Takes no memory.
 #[tactic(auto, unfolding(crate::specs::Reading::head_at))]

@@ -12,7 +12,7 @@ pub fn one_reading()
 
 /// The reading from left to right, by which contracts above say what a byte list spells, is the relation: it gives the
 /// value just where the bytes spell it, and the first fault just where they have it. What it takes for a head at the
-/// front of bytes is one.
+/// start of bytes is one.
 pub fn exact_reading()
     ensures { ReadsExactly }
 {}

@@ -38,7 +38,7 @@ fn skip_short(bytes: &[u8]) -> Option<&[u8]>
     }
 }
 
-/// What follows the value at the front of the bytes, which are the last of `total`, or the value's
+/// What follows the value at the start of the bytes, which are the last of `total`, or the value's
 /// first fault. Up to `depth_left` arrays and maps may stand inside one another.
 #[cycle(skip)]
 #[inline(always)]

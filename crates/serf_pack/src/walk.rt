@@ -7,7 +7,7 @@ use crate::skip::skip;
 use crate::view::View;
 
 /// The items of an array that are still to come, in order. Made by [`View::items`]. A step goes once
-/// over one item and takes no memory; behind the last item every step answers `None`.
+/// over one item and takes no memory; after the last item every step answers `None`.
 #[derive(Clone, Copy, Debug)]
 pub struct Items<'a> {
     // The input from the next item on.
@@ -24,7 +24,7 @@ pub struct Items<'a> {
 }
 
 /// The pairs of a map that are still to come, in order, each a key and its value. Made by
-/// [`View::pairs`]. A step goes once over one pair and takes no memory; behind the last pair every
+/// [`View::pairs`]. A step goes once over one pair and takes no memory; after the last pair every
 /// step answers `None`.
 #[derive(Clone, Copy, Debug)]
 pub struct Pairs<'a> {
@@ -57,7 +57,7 @@ impl<'a> Items<'a> {
     ghost use Rattle.serf_pack.specs.Walk.{items_bytes, items_left, PacksAlone};
     ghost use Rattle.serf_pack.specs.Reading.{items_or_none};
 
-    /// So many items from the front of the bytes on, which were checked.
+    /// So many items from the start of the bytes on, which were checked.
     #[tactic(auto, unfolding(crate::specs::Walk::items_left))]
     #[inline]
     pub(crate) fn new(rest: &'a [u8], total: usize, depth_left: u8, left: u64) -> Items<'a>
@@ -93,9 +93,9 @@ impl<'a> Items<'a> {
         self.left
     }
 
-    /// The items behind the next one, for whoever knows its bytes, which are the first `len` of [`Items::bytes`]: a
+    /// The items after the next one, for whoever knows its bytes, which are the first `len` of [`Items::bytes`]: a
     /// step that doesn't go over them. Alone they pack a value, wherever in the input it begins. What follows them is
-    /// what its own [`Items::bytes`] gives. `None` behind the last item. Takes no memory.
+    /// what its own [`Items::bytes`] gives. `None` after the last item. Takes no memory.
     #[tactic(auto, unfolding(crate::specs::Walk::items_bytes))]
     #[inline]
     pub fn behind(&self, len: usize) -> Option<Items<'a>>
@@ -125,7 +125,7 @@ impl<'a> Pairs<'a> {
     ghost use Rattle.serf_pack.specs.Walk.{pairs_left};
     ghost use Rattle.serf_pack.specs.Reading.{pairs_or_none};
 
-    /// So many pairs from the front of the bytes on, which were checked.
+    /// So many pairs from the start of the bytes on, which were checked.
     #[tactic(auto, unfolding(crate::specs::Walk::pairs_left))]
     #[inline]
     pub(crate) fn new(rest: &'a [u8], total: usize, depth_left: u8, left: u64) -> Pairs<'a>

@@ -41,7 +41,7 @@ fn read_whole(bytes: &[u8]) -> Result<View<'_>, PackFault>
 /// 4. `TooDeep` where it is an array or a map and stands inside eight others;
 /// 5. the first fault of its items or pairs (a key, then its value), in order.
 ///
-/// `Trailing`, with the offset of the first byte behind the value, where the value is sound and bytes
+/// `Trailing`, with the offset of the first byte after the value, where the value is sound and bytes
 /// follow. The bytes are lent and left as they are. Takes no memory.
 ///
 /// Source: MessagePack specification, "Formats".

@@ -15,7 +15,7 @@ is_fault (Err line) = true
 abbrev pub refuses_block : List ℕ → Bool
 refuses_block block = if length block == 0 then false else is_fault (encoded block)
 
--- the block behind the last empty line, and whether one before it was refused
+-- the block after the last empty line, and whether one before it was refused
 pub record Reading : Type 0 where
   pub block : List ℕ
   pub is_refused : Bool

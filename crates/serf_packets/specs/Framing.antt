@@ -14,7 +14,7 @@ has_text text (first ∷ rest) = starts_with nat_eq (first ∷ rest) text || has
 abbrev pub own_in : Framing → List ℕ → List ℕ → Option Framing
 own_in framing key rest = if has_text key rest then Some framing else None
 
--- behind 8 there stands the type of a message of Serf
+-- after 8 there stands the type of a message of Serf
 abbrev pub user_in : List ℕ → Option Framing
 user_in [] = None
 user_in (kind ∷ rest) = if nat_le kind 9 then Some User else None

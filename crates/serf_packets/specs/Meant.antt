@@ -63,7 +63,7 @@ response_meant rows =
 abbrev pub member_meant : RowText → List ℕ × ℕ
 member_meant row = (bytes_meant row.first, number_up_to greatest_clock row.second)
 
--- an event, behind those of a slot
+-- an event, after those of a slot
 abbrev pub with_event : EventBody → SlotContent → SlotContent
 with_event event empty = empty
 with_event event (held time events) = held time (events ++ event ∷ [])

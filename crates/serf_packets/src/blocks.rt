@@ -1,4 +1,4 @@
-//! Texts in bulk, with an empty line behind each.
+//! Texts in bulk, with an empty line after each.
 
 ghost use Rattle.std.specs.Prelude.{◌≡◌, ◌++◌, ◌<◌, ◌↔◌, [], Ok, List, ℕ, IfErr, IfOk, OnOk, IsTrue, length};
 ghost use Rattle.std.specs.Io.KnownBytes.{Appends, Consumes, IsAtEnd};
@@ -97,7 +97,7 @@ impl LineJob for BlockLines {
     }
 }
 
-/// Reads texts of messages, with an empty line behind each, and writes the answer to each: its canonical packet in hex
+/// Reads texts of messages, with an empty line after each, and writes the answer to each: its canonical packet in hex
 /// as [`encode_text`] has it, or in its place a line `refused BadLine N`, with the number of its bad line within it.
 ///
 /// An empty line that has no line before it says nothing, and the end of the stream is the end of a line. The answers

@@ -7,13 +7,13 @@ ghost use Rattle.serf_packets.specs.Framing.{framing_in, has_text as has_text_in
 /// (memberlist's `net.go`).
 #[derive(Clone, Copy, Debug, PartialEq, Eq)]
 pub enum Framing {
-    /// 0 to 2, with the key `SeqNo` somewhere behind: a ping, an indirect ping or an ack.
+    /// 0 to 2, with the key `SeqNo` somewhere after: a ping, an indirect ping or an ack.
     Probe,
-    /// 3 to 5, with the key `Incarnation` somewhere behind: that a node is suspect, alive or dead.
+    /// 3 to 5, with the key `Incarnation` somewhere after: that a node is suspect, alive or dead.
     Rumour,
     /// 7: several messages in one packet.
     Compound,
-    /// 8: a message of Serf stands behind this byte.
+    /// 8: a message of Serf stands after this byte.
     User,
     /// 9: compressed.
     Compressed,
@@ -49,7 +49,7 @@ fn own_of(framing: Framing, key: &[u8], rest: &[u8]) -> Option<Framing>
 }
 
 /// The framing that a packet begins with, or that it is memberlist's own: first byte 7, 9 or 12, or 8 with the type of a
-/// Serf message (0 to 9) behind it; or 0 to 5 with a key behind it that all messages of memberlist of this type have.
+/// Serf message (0 to 9) after it; or 0 to 5 with a key after it that all messages of memberlist of this type have.
 ///
 /// 0 to 5, 7, 8 and 9 are also types of Serf's own messages, so a packet of Serf may be taken for memberlist's: a key
 /// response, a relay, or one with that key in a name or a payload. Takes no memory.

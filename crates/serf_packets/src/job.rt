@@ -79,7 +79,7 @@ impl<N: FramingNotes> LineJob for PacketLines<'_, N> {
 /// says whether a packet was refused.
 ///
 /// The answers to the lines that are over are written before more is read. A line may have 16,777,216 bytes, and there
-/// may be any number of lines. A line that is not hex ends it, behind the answers to those before.
+/// may be any number of lines. A line that is not hex ends it, after the answers to those before.
 pub fn decode_lines<R: Read, W: Write, N: FramingNotes>(
     alloc: Global,
     reader: &mut R,

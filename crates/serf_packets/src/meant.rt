@@ -84,7 +84,7 @@ pub(crate) fn bytes_field(alloc: Global, rows: &[Row], name: &[u8]) -> Result<By
     bytes_in(alloc, value(rows, name))
 }
 
-/// Puts what a line of this name says behind the others.
+/// Puts what a line of this name says after the others.
 fn take_text(
     alloc: Global,
     texts: &mut Vec<Bytes>,

@@ -17,7 +17,7 @@ pub(crate) struct Row<'a> {
     pub(crate) second: &'a [u8],
 }
 
-/// The next part of a line, and what is left behind its space.
+/// The next part of a line, and what is left after its space.
 fn next_part(line: Option<&[u8]>) -> (&[u8], Option<&[u8]>)
     ensures part { result.0.now ≡ part 0 (parts_left (option_map (λ l. l.now) line.entry)) }
     ensures left { parts_left (option_map (λ l. l.now) result.1)

@@ -24,7 +24,7 @@ pub(crate) struct Member {
     pub(crate) time: u64,
 }
 
-/// Puts the member that a line says behind the others.
+/// Puts the member that a line says after the others.
 fn take_member(alloc: Global, members: &mut Vec<Member>, row: &Row) -> Result<(), AllocError>
     ensures { OnOk result (map member_held members.new.items ≡ map member_held members.old.items
         ++ members_of (row_seen row.now ∷ [])) }

@@ -4,7 +4,7 @@ use Rattle.serf_random.specs.declared.ask.Ask.{Ask}
 use Rattle.serf_random.specs.Kind.{is_rounds, kind_name}
 use Rattle.serf_schedule.specs.ScheduleText.{line_text}
 
--- how packets spread, where the kind goes by rounds, in front of other words
+-- how packets spread, where the kind goes by rounds, before other words
 abbrev pub rounds_words : Bool → Ask → List (List ℕ) → List (List ℕ)
 rounds_words true ask behind =
     codes "--fanout" ∷ decimal ask.fanout ∷ codes "--loss" ∷ decimal ask.loss ∷ codes "--rounds" ∷ decimal ask.rounds ∷ behind

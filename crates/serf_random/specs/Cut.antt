@@ -25,7 +25,7 @@ abbrev pub MayAdd : Bool → Action → List ℕ → List ℕ → List Action �
 MayAdd true action old new before after = AddsLine action old new before after
 MayAdd false action old new before after = AddsNothing old new before after
 
--- each turn of the run of these actions is common, and behind a first text stand their lines, which can say them
+-- each turn of the run of these actions is common, and after a first text stand their lines, which can say them
 pub record AreKept (configs : List Config) (first text : List ℕ) (actions : List Action) : Type 0 where
   pub common : All IsCommon (run_of configs actions).turns
   pub sayable : All IsSayable actions

@@ -1,4 +1,4 @@
-//! The comment in front of a schedule that keeps to Serf's own rules.
+//! The comment before a schedule that keeps to Serf's own rules.
 
 ghost use Rattle.std.specs.Prelude.{◌≡◌, ◌++◌, false, true, OnOk};
 ghost use Rattle.serf_random.specs.Draft.{HasNumbers};

@@ -18,7 +18,7 @@ const FILTERS: [&[u8]; 8] = [
     b"",
 ];
 
-/// Names in other forms, with a byte behind them, cut, too deep, of another type, or not quite the agents' names.
+/// Names in other forms, with a byte after them, cut, too deep, of another type, or not quite the agents' names.
 const SPELLED: [&[u8]; 24] = [
     b"\x00\x91\xa1a\x00",
     b"\x00\x91\xa1b\x90",

@@ -1,4 +1,4 @@
-//! The heads of MessagePack's forms, and what has room behind each.
+//! The heads of MessagePack's forms, and what has room after each.
 
 /// Numbers of 8, 16, 32 and 64 bits, without a sign and with one.
 pub(crate) const NUMBERS: [u8; 8] = [0xcc, 0xcd, 0xce, 0xcf, 0xd0, 0xd1, 0xd2, 0xd3];
@@ -23,7 +23,7 @@ pub(crate) const UNSUPPORTED: [u8; 11] = [
     0xc1, 0xc7, 0xc8, 0xc9, 0xca, 0xcb, 0xd4, 0xd5, 0xd6, 0xd7, 0xd8,
 ];
 
-/// How many bytes stand behind a head.
+/// How many bytes stand after a head.
 pub(crate) fn width_of(head: u8) -> usize {
     match head {
         0xc4 | 0xcc | 0xd0 | 0xd9 => 1,
@@ -33,7 +33,7 @@ pub(crate) fn width_of(head: u8) -> usize {
     }
 }
 
-/// The greatest number that may stand behind a head.
+/// The greatest number that may stand after a head.
 pub(crate) fn most_of(head: u8) -> u64 {
     match head {
         0xd0 => 0x7f,

@@ -81,7 +81,7 @@ fn know_numbers(ask: &Ask)
 ///
 /// The text begins with a comment that says what was asked for. It stands for just the settings and the actions that
 /// were made, so that it is never refused. It has at most so many actions as were asked for, and at most 16,777,216
-/// bytes: where the next action's line has no room, it ends. A schedule of rounds ends behind its last round too. `AllocError` comes where memory runs out.
+/// bytes: where the next action's line has no room, it ends. A schedule of rounds ends after its last round too. `AllocError` comes where memory runs out.
 pub fn random_schedule(alloc: Global, ask: &Ask) -> Result<Made, AllocError>
     ensures reads_back { IfOk result (λ made. schedule_of made.text.items
         ≡ Ok (parsed_of made.schedule)) }

@@ -59,7 +59,7 @@ impl Pen {
         })
     }
 
-    /// The whole packet; now and then with a byte behind it.
+    /// The whole packet; now and then with a byte after it.
     pub(crate) fn finish(self) -> Result<Vec<u8>, AllocError> {
         let mut pen = self;
         match pen.end {
@@ -75,7 +75,7 @@ impl Pen {
         Ok(out)
     }
 
-    /// A head and the last bytes of a number behind it, so many as it has room for.
+    /// A head and the last bytes of a number after it, so many as it has room for.
     fn put_wide(&mut self, head: u8, number: u64) -> Result<(), AllocError> {
         let bytes = number.to_be_bytes();
         self.out.push(head)?;
@@ -110,7 +110,7 @@ impl Pen {
         }
     }
 
-    /// What is wrong in most places: the end, a byte that no message has, a length with too little behind it, what is too
+    /// What is wrong in most places: the end, a byte that no message has, a length with too little after it, what is too
     /// deep, or a value of another kind or out of range.
     fn put_fault(&mut self) -> Result<(), AllocError> {
         match self.dice.below(12) {

@@ -43,7 +43,7 @@ pub(crate) fn long_text(alloc: Global, dice: &mut Dice, limit: u64) -> Result<Ve
 /// The kinds of clock lines, as a snapshot has them.
 const LINES: [&[u8]; 3] = [b"clock: ", b"event-clock: ", b"query-clock: "];
 
-/// What stands behind a snapshot's text after a crash.
+/// What follows a snapshot's text after a crash.
 const TAILS: [&[u8]; 10] = [
     b"event-cl",
     b"\n",

@@ -44,7 +44,7 @@ fn responders(dice: &mut Dice) -> u64 {
     dice.pick(&[1, 2, 3, 8, 8, 8], 8)
 }
 
-/// The name of the agent of a number: a letter, and behind the 26th two.
+/// The name of the agent of a number: a letter, and after the 26th two.
 fn node_name(alloc: Global, number: u64) -> Result<Vec<u8>, AllocError> {
     let letter = b'a'.saturating_add((number % 26) as u8);
     let mut name = Vec::from_slice(alloc, &[letter])?;

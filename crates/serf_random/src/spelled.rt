@@ -174,7 +174,7 @@ pub(crate) fn spelled(alloc: Global, player: &mut Player, verb: Verb) -> Result<
     Ok(Bytes::from_vec(pen.finish()?))
 }
 
-/// A packet of Serf's other messages, of no type that there is, or of a type alone, with some bytes behind it.
+/// A packet of Serf's other messages, of no type that there is, or of a type alone, with some bytes after it.
 pub(crate) fn foreign(alloc: Global, player: &mut Player) -> Result<Bytes, AllocError> {
     let kind = player
         .dice

@@ -47,7 +47,7 @@ enum Step {
     Deliver { agent: u64, packet: u64 },
     /// An agent sends its state.
     State { agent: u64 },
-    /// An agent merges the packet that is so many behind the end of those sent.
+    /// An agent merges the packet at this place, counted from the end of those sent.
     Merge { agent: u64, back: u64 },
 }
 
@@ -64,7 +64,7 @@ pub(crate) struct Walk {
     sends: u64,
     /// The number of the last round.
     rounds: u64,
-    /// The present round, from 1; 0 in front of the first.
+    /// The present round, from 1; 0 before the first.
     round: u64,
     /// How many events were fired.
     fired: u64,
@@ -108,7 +108,7 @@ impl Walk {
         })
     }
 
-    /// The walk that has done the next action, and that action; `None` behind the last round. Where memory runs out, the
+    /// The walk that has done the next action, and that action; `None` after the last round. Where memory runs out, the
     /// walk is let go.
     pub(crate) fn play(self, alloc: Global) -> Result<(Walk, Option<Action>), AllocError> {
         let mut walk = self;

@@ -8,7 +8,7 @@ use Rattle.serf_replay.specs.Turns.{run_text, turn_answer}
 use Rattle.serf_text.specs.declared.cause.Cause.{Cause}
 use Rattle.serf_model.specs.Runs.{AreConfigs}
 
--- a line is sound, and the text of its turn stands behind that of the lines before it
+-- a line is sound, and the text of its turn stands after that of the lines before it
 pub record TellsMore (lines : List (List ℕ)) (line : List ℕ) (said : Parsed) (text : List ℕ) : Type 0 where
   pub after : Parsed
   pub reads : schedule_in (lines ++ line ∷ []) ≡ Ok after

@@ -9,7 +9,7 @@ use Rattle.serf_replay.specs.declared.keys.EventKey.{EventKey}
 abbrev pub is_event : EventKey → EventLine → Bool
 is_event q e = nat_eq e.time q.time && (bytes_eq e.name q.name.items && bytes_eq e.payload q.payload.items)
 
--- the lines of actions, each with its action's number, behind so many
+-- the lines of actions, each with its action's number, after so many
 abbrev pub numbered_from : ℕ → List Line → List (Line × ℕ)
 numbered_from n [] = []
 numbered_from n (line ∷ lines) = (line, n + 1) ∷ numbered_from (n + 1) lines

@@ -32,7 +32,7 @@ pub record HasActed (said : Parsed) (acting : Acting) : Type 0 where
   pub sized : acting.agents ≡ length said.configs
   pub stands : StandsAt (run_in said) acting.world
 
--- Before the first action the schedule has the agents, and behind it an action alone, by which an agent's line is late.
+-- Before the first action the schedule has the agents, and after it an action alone, by which an agent's line is late.
 abbrev pub IsStage : Schedule → Option Acting → Parsed → Type 0
 IsStage held None said = (parsed_of held ≡ said) × (said.actions ≡ [])
 IsStage held (Some acting) said = (length held.actions.items ≡ 1) × HasActed said acting
@@ -55,7 +55,7 @@ pub record Follows (r : Replaying) (lines : List (List ℕ)) : Type 0 where
   pub settings : AreConfigs said.configs
   pub stage : IsStage r.schedule r.acting said
 
--- a line behind others was done, and this came of its action, where it has one
+-- a line after others was done, and this came of its action, where it has one
 pub record Did (lines : List (List ℕ)) (line : List ℕ) (r : Replaying) (shown : Option Line) : Type 0 where
   pub said : Parsed
   pub reads : schedule_in lines ≡ Ok said

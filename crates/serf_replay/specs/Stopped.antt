@@ -21,7 +21,7 @@ IsHaltedBy OutOfMemory bytes lines left = Unit {0}
 IsHaltedBy WriteFault bytes lines left = Unit {0}
 
 -- Of the lines in these bytes some were done. They are a schedule, and what was written is the text of its run's trace:
--- all of it, or a front where a write failed.
+-- all of it, or a prefix where a write failed.
 pub record IsHalted (fault : StreamFault Cause) (bytes : List ℕ) (first now : Option (List ℕ)) : Type 0 where
   pub lines : List (List ℕ)
   pub left : List (List ℕ)

@@ -22,7 +22,7 @@ no_text (Err cause) = Err cause
 abbrev pub quiet_answer : List (List ℕ) → List ℕ → Result (List ℕ) Cause
 quiet_answer lines line = no_text (turn_answer lines line)
 
--- a line behind others is sound, and was summed up with them
+-- a line after others is sound, and was summed up with them
 pub record Sums (lines : List (List ℕ)) (line : List ℕ) (s : Summing) : Type 0 where
   pub sound : quiet_answer lines line ≡ Ok []
   pub sums : SumsUp s (lines ++ line ∷ [])

@@ -19,7 +19,7 @@ lines_in s = map (λ t. t.line) (run_in s).turns
 abbrev pub run_text : Parsed → List ℕ
 run_text s = trace_text (trace_of (run_in s))
 
--- the text of the turns of a run behind the first of them
+-- the text of the turns of a run after the first of them
 abbrev pub text_behind_turns : ℕ → Run → List ℕ
 text_behind_turns n r = actions_text r.cluster.sent (n + 1) (drop n (map (λ t. t.line) r.turns))
 

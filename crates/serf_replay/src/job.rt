@@ -66,7 +66,7 @@ pub fn replay<R: Read, W: Write, T: Watch>(
     ensures bad_line { (line : ℕ) (cause : Cause) → IsErrOf result (ReplayFault.BadLine line cause)
         → IfSome (R.remaining reader.old) (λ input. (length input ≤ longest_schedule)
         × (output_of input ≡ Err (record { line = line; cause = cause }))) }
-    // A write that failed leaves a front of that text, and every other fault nothing.
+    // A write that failed leaves a prefix of that text, and every other fault nothing.
     ensures front { IsErrOf result ReplayFault.WriteFault
         → IfSome (R.remaining reader.old) (λ input. (text : List ℕ) × (output_of input ≡ Ok text)
         × (length input ≤ longest_schedule) × TracesRun input text

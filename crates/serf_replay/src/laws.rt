@@ -5,7 +5,7 @@ ghost use Rattle.serf_replay.specs.Laws.{AnswersTellMore, RefusalsAreFirst, Sche
 use serf_model::{run_promises, turns_shown};
 use serf_schedule::{lines_grow, lines_stay, sized_schedules};
 
-/// The text of a line's turn stands behind that of the lines before it, and a line that is refused is the schedule's
+/// The text of a line's turn stands after that of the lines before it, and a line that is refused is the schedule's
 /// first bad one. What is written of a whole schedule traces a run that keeps all promises. Does nothing.
 pub fn answered_lines()
     ensures more { AnswersTellMore }

@@ -1,8 +1,8 @@
-//! Runs of schedules, over any reader and writer: a schedule in, and out the trace of its cluster, at the end or line by
-//! line; and what came of a run, in few lines: how often each answer came, what each agent was handed, and when the last
-//! agent had each event.
+//! Runs of schedules, over any reader and writer. A schedule goes in, and the trace of its cluster comes out, at the end
+//! or line by line. A summary has what came of a run in few lines: how often each answer came, what each agent was
+//! handed, and when the last agent had each event.
 //!
-//! What a run reads and writes stands in [`serf_schedule`] and [`serf_text`]; their calls are passed on.
+//! [`serf_schedule`] and [`serf_text`] have what a run reads and writes. Their calls are passed on.
 #![tactic(auto)]
 
 mod job;

@@ -176,7 +176,7 @@ impl Replaying {
     /// Does the next line of the schedule, and appends the text of its turn, where it has one.
     ///
     /// `Bad` where the line is not sound, and `OutOfMemory`; after both it stands for no schedule any more, and the text
-    /// may have a front of the turn's.
+    /// may have a prefix of the turn's.
     pub fn take_line(
         &mut self,
         alloc: Global,

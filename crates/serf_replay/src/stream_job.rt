@@ -44,9 +44,9 @@ impl LineJob for ScheduleLines {
     }
 }
 
-/// Reads a schedule line by line, and writes the trace of its cluster: a line is read, done, written and let go.
+/// Reads a schedule line by line, and writes the trace of its cluster. Each line is read, done, written and dropped.
 ///
-/// What is written is just what [`crate::replay`] writes, and a line that is refused there is refused here, behind
+/// What is written is just what [`crate::replay`] writes, and a line that is refused there is refused here, after
 /// the text of the turns before it. There is no limit on the whole; a line may have 16,777,216 bytes. The turns of the
 /// lines that are over are written before more is read. What is kept is the cluster, with all packets that were sent,
 /// and the line that is read.

@@ -36,8 +36,8 @@ fn add_action(
     }
 }
 
-/// The summary of the run of a schedule: its actions are done one after another, and each line is let go. The watch is
-/// told of each action that is done.
+/// The summary of the run of a schedule. Its actions are done one after another, and each line of the trace is dropped
+/// once it was counted. The watch is told of each action that is done.
 ///
 /// An `AllocError` comes only where there is no memory for the cluster or the summary.
 pub fn summarize<T: Watch>(
@@ -64,7 +64,7 @@ pub fn summarize<T: Watch>(
     Ok(summary.with_size(size))
 }
 
-/// The summary of the run of a schedule that is read line by line: a line is read, done, taken in and let go.
+/// The summary of the run of a schedule that is read line by line. Each line is read, done, counted and dropped.
 ///
 /// There is no limit on the whole; a line may have 16,777,216 bytes. What is kept is the cluster, with all packets that
 /// were sent, the summary, and the line that is read. A line that is refused is the first that [`crate::replay`]

@@ -35,7 +35,7 @@ fn number_of_word(
     }
 }
 
-/// Tells of a word that names no agent of a schedule with so many.
+/// Reports a word that names no agent of a schedule with so many.
 fn no_agent(rt: &impl Eprint, word: &str, count: usize) -> u8 {
     if word.parse::<u64>().is_ok() {
         let _ = eprintln!(rt;
@@ -80,7 +80,7 @@ fn schedule_in<R: Eprint + AllocGlobal>(
 }
 
 /// The numbers of the agents that words name, of the schedule in a text; or the status of a fault, or of a refusal, which
-/// standard error tells.
+/// standard error says.
 pub(crate) fn agents_of<R: Eprint + AllocGlobal>(
     rt: &R,
     is_terminal: bool,

@@ -18,7 +18,7 @@ use std::alloc::{AllocError, Global};
 use std::rt::Files;
 use std::time::Clock;
 
-/// What stands behind the commands in the program's help.
+/// What stands after the commands in the program's help.
 const HELP: &str =
     "Example: serf-replay replay examples/deploy_gossiped_twice.schedule\nActions count from 1, agents from 0. man serf-replay and docs/COMMANDS.md say more.";
 

@@ -1,4 +1,4 @@
-//! How a command ends: its status, and the line on standard error that tells of a fault.
+//! How a command ends: its status, and the line on standard error that reports a fault.
 
 use crate::standard_output::StandardOutput;
 use serf_schedule::ReplayFault;

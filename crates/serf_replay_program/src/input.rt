@@ -15,7 +15,7 @@ fn cause_of(error: &io::Error) -> &'static str {
     }
 }
 
-/// A file, opened to be read; or the status of the fault, which standard error tells with the file and the cause.
+/// A file, opened to be read; or the status of the fault, which standard error says with the file and the cause.
 pub(crate) fn opened<F: Files, R: Eprint>(files: &F, rt: &R, path: &str) -> Result<F::File, u8> {
     fs::open(files, path).map_err(|error| {
         let cause = cause_of(&error);
@@ -44,7 +44,7 @@ fn told(
     }
 }
 
-/// The bytes of a file; or the status of the fault, which standard error tells.
+/// The bytes of a file; or the status of the fault, which standard error says.
 pub(crate) fn file_of<F: Files, R: Eprint + AllocGlobal>(
     files: &F,
     rt: &R,
@@ -55,7 +55,7 @@ pub(crate) fn file_of<F: Files, R: Eprint + AllocGlobal>(
 }
 
 /// The bytes of a file, or of standard input where none is named or it is `-`; or the status of the fault, which
-/// standard error tells.
+/// standard error says.
 pub(crate) fn input_of<F: Files, R: Input + Eprint + AllocGlobal>(
     files: &F,
     rt: &R,

@@ -1,4 +1,4 @@
-//! The words of a command line: what each command takes, and what is told where an option has a bad word.
+//! The words of a command line: what each command takes, and what is said where an option has a bad word.
 
 use crate::ending::COMMAND_LINE;
 use clap::{Arg, ArgAction, Command, value_parser};
@@ -65,7 +65,7 @@ pub(crate) fn flag<'a>(alloc: Global, name: &'a str, help: &'a str) -> Arg<'a> {
         .action(ArgAction::SetTrue)
 }
 
-/// What help calls the word behind an option.
+/// What help calls the word after an option.
 fn value_of<'a>(option: &str) -> &'a str {
     match option {
         "agent" => "AGENT",
@@ -94,7 +94,7 @@ pub(crate) fn with<'a>(
     command?.arg(arg)
 }
 
-/// What may stand behind an option.
+/// What may stand after an option.
 fn words_for(option: &str) -> &'static str {
     match option {
         "agent" => "the number of an agent, counted from 0, where a schedule is given",
@@ -112,19 +112,19 @@ fn words_for(option: &str) -> &'static str {
     }
 }
 
-/// Tells that the word of an option is none of these, which it may have.
+/// Says that the word of an option is none of these, which it may have.
 pub(crate) fn bad_word(rt: &impl Eprint, name: &str, words: &str) -> u8 {
     let _ = eprintln!(rt; "error: a bad word for --{name}: here may stand {words}");
     COMMAND_LINE
 }
 
-/// Tells why words don't stand together.
+/// Says why words don't stand together.
 pub(crate) fn bad_words(rt: &impl Eprint, why: &str) -> u8 {
     let _ = eprintln!(rt; "error: {why}");
     COMMAND_LINE
 }
 
-/// Tells that the word of an option is none that it may have, and which it may.
+/// Says that the word of an option is none that it may have, and which it may.
 pub(crate) fn bad_option(rt: &impl Eprint, name: &str) -> u8 {
     bad_word(rt, name, words_for(name))
 }

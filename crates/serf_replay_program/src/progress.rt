@@ -23,7 +23,7 @@ pub struct Progress<'a, R> {
     step: u64,
     /// The kind of the schedules that are made; empty where the line doesn't say it.
     kind: &'static str,
-    /// How many were done before the run that tells of it.
+    /// How many were done before the run that reports it.
     before: u64,
 }
 
@@ -39,7 +39,7 @@ impl<'a, R: Clock + Eprint> Progress<'a, R> {
         Progress { kind, ..progress }
     }
 
-    /// What is told from here on comes behind so many that were done.
+    /// What is reported from here on comes after so many that were done.
     pub fn goes_on_behind(&mut self, before: u64) {
         self.before = before;
     }

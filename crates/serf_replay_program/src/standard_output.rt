@@ -26,7 +26,7 @@ impl<'a, R: Print> StandardOutput<'a, R> {
         }
     }
 
-    /// The status where the reader has gone, as `head` does behind its last line: it has what it wanted, so nothing is said.
+    /// The status where the reader has gone, as `head` does after its last line: it has what it wanted, so nothing is said.
     pub(crate) fn closed(&self) -> Option<u8> {
         if self.is_closed { Some(DEVICE) } else { None }
     }

@@ -18,7 +18,7 @@ pub record IsWord (word : List ℕ) : Type 0 where
 abbrev pub NumbersAreWords : Type 0
 NumbersAreWords = (n : ℕ) → n < 2 ^ 64 → IsWord (decimal n)
 
--- a text behind a line whose first byte is # stands for what it stood for
+-- a text after a line whose first byte is # stands for what it stood for
 abbrev pub CommentsAreSkipped : Type 0
 CommentsAreSkipped = (first : List ℕ) (words : List (List ℕ)) (text : List ℕ) (p : Parsed) → AllByRecursion IsWord ((35 ∷ first) ∷ words)
     → schedule_of text ≡ Ok p → schedule_of (line_text ((35 ∷ first) ∷ words) ++ text) ≡ Ok p

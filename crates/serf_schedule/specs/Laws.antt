@@ -9,7 +9,7 @@ use Rattle.serf_schedule.specs.Line.{Parsed, after_line}
 use Rattle.serf_schedule.specs.Schedule.{schedule_of}
 use Rattle.serf_schedule.specs.Show.{action_text, actions_text}
 
--- a step sends its packets behind those that were sent
+-- a step sends its packets after those that were sent
 abbrev pub SendsBehind : Type 0
 SendsBehind = (c : Cluster) (action : Action) → (step c action).cluster.sent ≡ c.sent ++ (step c action).turn.packets
 
@@ -18,7 +18,7 @@ abbrev pub LinesStay : Type 0
 LinesStay = (c : Cluster) (action : Action) (n : ℕ) (more : List (List ℕ))
     → action_text ((step c action).cluster.sent ++ more) n (step c action).turn.line ≡ action_text (step c action).cluster.sent n (step c action).turn.line
 
--- the lines of the last action stand behind those of the others
+-- the lines of the last action stand after those of the others
 abbrev pub LinesFollow : Type 0
 LinesFollow = (sent : List (List ℕ)) (n : ℕ) (lines : List Line) (line : Line)
     → actions_text sent n (lines ++ line ∷ []) ≡ actions_text sent n lines ++ action_text sent (n + length lines) line
@@ -27,7 +27,7 @@ LinesFollow = (sent : List (List ℕ)) (n : ℕ) (lines : List Line) (line : Lin
 abbrev pub LinesGrow : Type 0
 LinesGrow = (before : Parsed) (line : List ℕ) → IfOk (after_line before line) (Grows before)
 
--- behind an action a line adds the same to each schedule
+-- after an action a line adds the same to each schedule
 abbrev pub LateLinesAddSame : Type 0
 LateLinesAddSame = (p q : Parsed) (line : List ℕ) → 0 < length p.actions → 0 < length q.actions → AddsSame p q (after_line p line) (after_line q line)
 

@@ -144,7 +144,7 @@ abbrev pub filters_from : List (List ℕ) → ℕ → List (List ℕ) → Result
 filters_from before place [] = Ok before
 filters_from before place (word ∷ words) = or_bad place (bytes_of word) >>= (λ filter. filters_from (before ++ filter ∷ []) (place + 1) words)
 
--- How a query is fired, by eight words and the filters behind them. Of the flags 1 asks for acks, and 2 for no
+-- How a query is fired, by eight words and the filters after them. Of the flags 1 asks for acks, and 2 for no
 -- broadcast. A schedule says nothing of where answers go.
 unfoldable pub params_of : List (List ℕ) → List (List ℕ) → Result QueryParams Cause
 params_of words filters = do

@@ -54,7 +54,7 @@ abbrev pub packet_word : Option (List ℕ) → ℕ → List ℕ
 packet_word None packet = decimal packet
 packet_word (Some bytes) packet = hex_text bytes
 
--- what stands behind the verb, and behind the agent's number where that is told
+-- what stands after the verb, and after the agent's number where that is written
 abbrev pub act_words : Option (List ℕ) → Act → List (List ℕ)
 act_words given (acts.Fire name payload coalesce) = hex_text name ∷ hex_text payload ∷ flag_text coalesce ∷ []
 act_words given (acts.Deliver packet now) = packet_word given packet ∷ decimal now ∷ []

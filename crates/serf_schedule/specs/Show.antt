@@ -67,16 +67,16 @@ answer_words (answers.Restarted member_clock event_clock query_clock) = codes "r
 answer_words (answers.Closed count) = codes "closed"
 answer_words (answers.Refused refusal) = codes "refused " ++ refusal_text refusal
 
--- a number behind a space
+-- a number after a space
 unfoldable pub behind_space : ℕ → List ℕ
 behind_space n = codes " " ++ decimal n
 
--- what a refusal says of a packet, behind a space
+-- what a refusal says of a packet, after a space
 abbrev pub fault_details : Refusal → List ℕ
 fault_details (refusals.Wire fault) = codes " " ++ wire_text fault
 fault_details _ = []
 
--- an answer's numbers, or a packet's fault, each behind a space
+-- an answer's numbers, or a packet's fault, each after a space
 abbrev pub answer_details : Answer → List ℕ
 answer_details (answers.Fired time) = behind_space time
 answer_details (answers.Foreign kind) = behind_space kind
@@ -104,7 +104,7 @@ answer_line n answer = numbered n (answer_text answer)
 unfoldable pub sent_line : List (List ℕ) → ℕ → ℕ → List ℕ
 sent_line sent n k = numbered n (codes "sent " ++ decimal k ++ codes " " ++ hex_text (packet_of sent k))
 
--- a number and a space behind it
+-- a number and a space after it
 unfoldable pub spaced : ℕ → List ℕ
 spaced n = decimal n ++ codes " "
 
@@ -119,7 +119,7 @@ event_tail e = texts_text e.name e.payload ++ codes " " ++ flag_text e.coalesce
 unfoldable pub event_line : ℕ → EventLine → List ℕ
 event_line n e = numbered n (codes "event " ++ spaced e.agent ++ spaced e.time ++ event_tail e)
 
--- the agent, the query's number at it, and the query's time and ID, each with a space behind it
+-- the agent, the query's number at it, and the query's time and ID, each with a space after it
 unfoldable pub identity_text : HandedLine → List ℕ
 identity_text q = spaced q.agent ++ spaced q.index ++ spaced q.time ++ spaced q.id
 

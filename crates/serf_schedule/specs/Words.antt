@@ -11,6 +11,6 @@ word_text (words.Signed n) = signed_decimal n
 word_text (words.Hex bytes) = hex_text bytes.now
 word_text (words.Plain word) = word.now
 
--- a word behind a space
+-- a word after a space
 abbrev pub word_behind : Word → List ℕ
 word_behind word = codes " " ++ word_text word

@@ -12,15 +12,15 @@ ghost use Rattle.serf_schedule.specs.ScheduleText.{schedule_text};
 
 use serf_model::sound_settings;
 
-/// A step sends its packets behind those that were sent, and what is sent later changes none of its lines. The lines of
-/// one action more stand behind those of the others. Does nothing.
+/// A step sends its packets after those that were sent, and what is sent later changes none of its lines. The lines of
+/// one action more stand after those of the others. Does nothing.
 pub fn lines_stay()
     ensures sent { SendsBehind }
     ensures lines { LinesStay }
     ensures follow { LinesFollow }
 {}
 
-/// A line adds an action at most to the schedule before it, and an agent only where there is no action yet. Behind an
+/// A line adds an action at most to the schedule before it, and an agent only where there is no action yet. After an
 /// action it adds the same to each schedule, or is refused for the same cause. Does nothing.
 pub fn lines_grow()
     ensures grow { LinesGrow }
@@ -41,7 +41,7 @@ pub fn text_reads_back()
     sound_settings();
 }
 
-/// A comment in front of a schedule's text changes nothing of what it stands for: a line of words, each of some bytes
+/// A comment before a schedule's text changes nothing of what it stands for: a line of words, each of some bytes
 /// above the space, that begins with `#`. A number in decimal is such a word. Does nothing.
 pub fn comments_skipped()
     ensures skipped { CommentsAreSkipped }

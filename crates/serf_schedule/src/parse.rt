@@ -149,7 +149,7 @@ fn is_comment(line: &[u8]) -> bool
     }
 }
 
-/// Reads a line behind those of a schedule, as [`read_schedule_line`] does, with room for its words that the lines before
+/// Reads a line after those of a schedule, as [`read_schedule_line`] does, with room for its words that the lines before
 /// it used too: what stands in `words` is forgotten.
 #[tactic(auto, unfolding(crate::specs::Line::after_line))]
 #[inline(always)]
@@ -172,7 +172,7 @@ pub fn read_line<'a>(
     read_words(alloc, parsed, words, rest)
 }
 
-/// Reads a line behind those of a schedule: its agent or its action is put behind the others.
+/// Reads a line after those of a schedule: its agent or its action is put after the others.
 ///
 /// Words stand between spaces. A line without words, and one whose first byte is `#`, say nothing. What stands in the
 /// schedule after a fault is not said.

@@ -18,7 +18,7 @@ pub enum ReplayFault {
     /// Memory ran out. Nothing was written.
     #[error("out of memory")]
     OutOfMemory,
-    /// A write failed, or took no byte. What was written is a front of the trace's text.
+    /// A write failed, or took no byte. What was written is a prefix of the trace's text.
     #[error("a write failed")]
     WriteFault,
 }

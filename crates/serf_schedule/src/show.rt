@@ -89,7 +89,7 @@ fn put_behind_space(out: &mut Vec<u8>, n: u64) -> Result<(), AllocError>
     put_number(out, n)
 }
 
-/// Appends three clocks, each behind a space.
+/// Appends three clocks, each after a space.
 fn put_clocks(
     out: &mut Vec<u8>,
     member_clock: u64,
@@ -104,7 +104,7 @@ fn put_clocks(
     put_behind_space(out, query_clock)
 }
 
-/// Appends a packet's fault behind a space, where the refusal has one.
+/// Appends a packet's fault after a space, where the refusal has one.
 fn put_fault_details(out: &mut Vec<u8>, refusal: Refusal) -> Result<(), AllocError>
     ensures { OnOk result (out.new.items ≡ out.old.items ++ fault_details refusal) }
 {
@@ -137,7 +137,7 @@ fn put_details(out: &mut Vec<u8>, answer: Answer) -> Result<(), AllocError>
 }
 
 /// Appends an answer: its words, and what it says beside them. After an `AllocError`, which comes where there is no
-/// memory for it, `out` may have a front of it.
+/// memory for it, `out` may have a prefix of it.
 #[inline(always)]
 pub fn put_answer(out: &mut Vec<u8>, answer: Answer) -> Result<(), AllocError>
     ensures { OnOk result (out.new.items ≡ out.old.items ++ answer_text answer) }
@@ -302,7 +302,7 @@ fn put_handed(
 }
 
 /// Appends the lines of an action of this number, where these packets were sent. After an `AllocError`, which comes
-/// where there is no memory for them, `out` may have a front of them.
+/// where there is no memory for them, `out` may have a prefix of them.
 #[tactic(auto, unfolding(crate::specs::Show::action_text))]
 #[inline(always)]
 pub fn put_action(

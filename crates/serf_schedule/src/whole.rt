@@ -53,7 +53,7 @@ pub fn know_read_back(schedule: &Schedule)
 /// Appends the text of a schedule: a line for each agent, and then one for each action.
 ///
 /// Where a line can say each action ([`crate::is_sayable`]), the text stands for just this schedule. `AllocError` where
-/// there is no memory: a front of the text may stand there then.
+/// there is no memory: a prefix of the text may stand there then.
 pub fn put_schedule(out: &mut Vec<u8>, schedule: &Schedule) -> Result<(), AllocError>
     ensures text { OnOk result (out.new.items ≡ out.old.items
         ++ schedule_text (parsed_of schedule.now)) }

@@ -85,7 +85,7 @@ fn put_query_words(out: &mut Vec<u8>, query: &NewQuery) -> Result<(), AllocError
     put_hex_words(out, query.params.filters.as_slice())
 }
 
-/// Appends what stands behind the word of what an agent does, with a space before each word. A packet that it is given
+/// Appends what stands after the word of what an agent does, with a space before each word. A packet that it is given
 /// stands there by these bytes, or by its number where there are none. Where memory runs out, a part of the words may
 /// stand there.
 ///

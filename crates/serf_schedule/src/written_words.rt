@@ -11,7 +11,7 @@ use serf_text::{put_hex, put_number, put_signed};
 use serf_wire::Bytes;
 use std::alloc::AllocError;
 
-/// A word of a line, behind its command.
+/// A word of a line, after its command.
 #[derive(Clone, Copy)]
 pub enum Word<'a> {
     /// A number in decimal.

@@ -26,7 +26,7 @@ once_set Event Event time value = time
 once_set Query Query time value = time
 once_set at kind time value = value
 
--- a byte in front of the first line; bytes with no newline behind them are no line
+-- a byte before the first line; bytes with no newline after them are no line
 abbrev pub onto_line : ℕ → List (List ℕ) → List (List ℕ)
 onto_line b [] = []
 onto_line b (line ∷ lines) = (b ∷ line) ∷ lines

@@ -1,4 +1,4 @@
--- When a compaction is worth its while (`snapshot.go`, `appendLine` and `snapshotMaxSize`).
+-- When a compaction is worth doing (`snapshot.go`, `appendLine` and `snapshotMaxSize`).
 use Rattle.std.specs.Prelude.{◌≡◌, ℕ, ◌-◌, ◌*◌, ◌^◌, min, nat_lt, nat_le, Bool, ◌&&◌, List, length, Option, IfSome}
 use Rattle.serf_snap.specs.Notes.{SnapshotView, compaction_of}
 

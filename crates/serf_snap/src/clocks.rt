@@ -87,7 +87,7 @@ impl Clocks {
 
 /// The greatest value of the clock lines of each kind in a text. Takes no memory.
 ///
-/// Any bytes are a text. A line ends with a newline, so bytes behind the last one are no line. A clock line is
+/// Any bytes are a text. A line ends with a newline, so bytes after the last one are no line. A clock line is
 /// `clock: N`, `event-clock: N` or `query-clock: N`, where N is one or more digits and below 2^64 - 1; each
 /// other line is skipped.
 pub fn read_clocks(text: &[u8]) -> Clocks

@@ -7,7 +7,7 @@ ghost use Rattle.serf_snap.specs.Clocks.{clock_line, compacted_text, is_whole, l
 ghost use Rattle.serf_snap.specs.Device.{Device, FailurePlan};
 ghost use Rattle.serf_snap.specs.Notes.{Failed, IsSnapshotSound, IsObservable, Kept, KeepsEither, KeepsPart, MayReplace, MayWrite, SnapshotView, Writing, compacted, compaction_of, noted, opened, will_replace, will_write, with_sink, written};
 
-/// What becomes of the clocks of a text: no bytes behind it lower them, a line raises its own kind to its time
+/// What becomes of the clocks of a text: no bytes after it lower them, a line raises its own kind to its time
 /// and no other, and neither a seal nor a compaction changes one.
 pub fn text_laws()
     ensures grows { (k : ClockKind) (front tail : List ℕ)

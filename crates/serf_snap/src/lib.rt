@@ -2,11 +2,11 @@
 //!
 //! An agent writes the time of each event and query before it hands it out, so that no later life hands out
 //! or fires at or below a time that was written (Serf's `snapshot.go`). Serf flushes at intervals, lets the
-//! last line of a kind count, appends behind a torn line, and goes on after a failed append. Here:
+//! last line of a kind count, appends after a torn line, and goes on after a failed append. Here:
 //!
 //! - a note is one append and one flush, and its Ok means that the line is durable ([`Snapshot::note`]);
 //! - the greatest line of a kind counts, so no bytes appended can lower a clock ([`read_clocks`]);
-//! - a torn last line is ended by `#` and a newline before anything is written behind it ([`Snapshot::open`]);
+//! - a torn last line is ended by `#` and a newline before anything is written after it ([`Snapshot::open`]);
 //! - a sink that failed stops the snapshot, and a compaction is one replace ([`Snapshot::compact`]).
 //!
 //! What a sink does is said by the clauses of [`Sink`] and [`ReplaceSink`], over what it exposes of its bytes:

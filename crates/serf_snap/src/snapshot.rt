@@ -328,11 +328,11 @@ impl<S: Sink> Snapshot<S> {
         self.stopped
     }
 
-    /// Whether a compaction is worth its while: more than `limit` bytes are kept, and it would take away at least half
+    /// Whether a compaction is worth doing: more than `limit` bytes are kept, and it would take away at least half
     /// of them. Never on a stopped snapshot, which can't be compacted, and never at a limit of 2^64 - 1.
     ///
     /// The bytes are those of the text that it was opened on, of its end where that was torn, and of the lines and the
-    /// compactions since: so also over a sink that tells nothing of its bytes. Takes no memory, and the same time
+    /// compactions since: so also over a sink that shows nothing of its bytes. Takes no memory, and the same time
     /// however long the text is. (`snapshot.go`, `appendLine`, which compacts where the file is longer than 128 KiB and
     /// than twice what its nodes are estimated to need.)
     pub fn should_compact(&self, limit: u64) -> bool

@@ -10,6 +10,6 @@ or_current folder = if length folder == 0 then codes "." else folder
 abbrev pub folder_of : List ℕ → List ℕ
 folder_of path = or_current (unwrap_or (path_parent path) [])
 
--- what stands behind a path, for the text that is to take the file's place
+-- what stands after a path, for the text that is to take the file's place
 abbrev pub beside_of : List ℕ → List ℕ
 beside_of path = path ++ codes ".new"

@@ -6,7 +6,7 @@ ghost use Rattle.serf_store.specs.TextFile.{all_of, brought, made_with, on_devic
 use std::alloc::AllocError;
 use std::marker::Model;
 
-/// The bytes of a file in memory: those that are on the device, and behind them those that aren't.
+/// The bytes of a file in memory: those that are on the device, and after them those that aren't.
 #[derive(Drop)]
 pub struct MemBytes {
     bytes: Vec<u8>,
@@ -51,7 +51,7 @@ impl MemBytes {
         &self.bytes
     }
 
-    /// Writes these bytes behind the others. On want of memory all is as it was.
+    /// Writes these bytes after the others. On want of memory all is as it was.
     pub fn write(&mut self, bytes: &[u8]) -> Result<(), AllocError>
         ensures ok { OnOk result (self.new ≡ with_more bytes.now self.old) }
         ensures fault { OnErr result (self.new ≡ self.old) }

@@ -28,7 +28,7 @@ pub trait TextFile {
         ensures unfailed { OnOk result (failures self.new ≡ failures self.old) }
         ensures failed { OnErr result (HasFailed (failures self.old) (failures self.new)) };
 
-    /// Writes these bytes behind the text. A crash may lose them until they are brought to the device.
+    /// Writes these bytes after the text. A crash may lose them until they are brought to the device.
     fn write(&mut self, bytes: &[u8]) -> io::Result<()>
         requires { IsSettled (kept self.old) }
         ensures ok { OnOk result (kept self.new

@@ -6,7 +6,7 @@ ghost use Rattle.serf_store.specs.Paths.{beside_of, folder_of};
 use std::alloc::{AllocError, Global};
 use std::path::Path;
 
-/// What the path of the text that is to replace the file's has behind the path of the file.
+/// What the path of the text that is to replace the file's has after the path of the file.
 const BESIDE: &str = ".new";
 
 /// The paths of a text's file.
@@ -35,7 +35,7 @@ impl Paths {
     }
 }
 
-/// A text and another behind it.
+/// A text and another after it.
 fn joined(alloc: Global, text: &str, more: &str) -> Result<String, AllocError>
     ensures { IfOk result (λ s. string_bytes s ≡ text.now ++ more.now) }
 {

@@ -12,7 +12,7 @@ longest_line = 16777216
 abbrev pub lines_of : List ℕ → List (List ℕ)
 lines_of text = slice_split (λ b. b == 10) text
 
--- the number of the line behind these, counted from 1; it stops at 2^64 - 1
+-- the number of the line after these, counted from 1; it stops at 2^64 - 1
 abbrev pub number_behind : List (List ℕ) → ℕ
 number_behind lines = min (length lines + 1) (2 ^ 64 - 1)
 
@@ -22,7 +22,7 @@ joined (Err fault) rest = Err fault
 joined (Ok text) (Err fault) = Err fault
 joined (Ok text) (Ok rest) = Ok (text ++ rest)
 
--- the answers to lines that stand behind others, one after another, or the first fault
+-- the answers to lines that stand after others, one after another, or the first fault
 abbrev pub text_behind : {F : Type 0} → (List (List ℕ) → List ℕ → Result (List ℕ) F) → List (List ℕ) → List (List ℕ) → Result (List ℕ) F
 text_behind answer before [] = Ok []
 text_behind answer before (line ∷ lines) = joined (answer before line) (text_behind answer (before ++ line ∷ []) lines)

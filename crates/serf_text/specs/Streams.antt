@@ -17,7 +17,7 @@ IsCause answer (LineTooLong number) lines left =
 IsCause answer OutOfMemory lines left = Unit {0}
 IsCause answer WriteFault lines left = Unit {0}
 
--- a write that failed leaves a front of the text
+-- a write that failed leaves a prefix of the text
 abbrev pub WritesUpTo : {F : Type 0} → StreamFault F → Option (List ℕ) → Option (List ℕ) → List ℕ → Type 0
 WritesUpTo WriteFault first now text = AppendsFront first now text
 WritesUpTo ReadFault first now text = Appends first now text
@@ -52,7 +52,7 @@ pub record Reached {J F : Type 0} (follows : J → List (List ℕ) → Type 0) (
   pub appended : Appends first now text
   pub answered : text_behind answer [] lines ≡ Ok (text ++ waiting)
 
--- what is wrong with a line that is over, behind these
+-- what is wrong with a line that is over, after these
 abbrev pub IsLineFault : {F : Type 0} → (List (List ℕ) → List ℕ → Result (List ℕ) F) → StreamFault F → List (List ℕ) → List ℕ → Type 0
 IsLineFault answer ReadFault lines line = ⊥
 IsLineFault answer (BadLine number fault) lines line = (number ≡ number_behind lines) × (answer lines line ≡ Err fault)
@@ -60,7 +60,7 @@ IsLineFault answer (LineTooLong number) lines line = (number ≡ number_behind l
 IsLineFault answer OutOfMemory lines line = Unit {0}
 IsLineFault answer WriteFault lines line = ⊥
 
--- These bytes were read: the lines in them that are over were done, and what is behind the last of them is held.
+-- These bytes were read: the lines in them that are over were done, and what is after the last of them is held.
 pub record HasRead {J F : Type 0} (follows : J → List (List ℕ) → Type 0) (answer : List (List ℕ) → List ℕ → Result (List ℕ) F) (job : J) (held : List ℕ) (number : ℕ) (waiting bytes : List ℕ) (first now : Option (List ℕ)) : Type 0 where
   pub lines : List (List ℕ)
   pub cut : lines_of bytes ≡ lines ++ held ∷ []

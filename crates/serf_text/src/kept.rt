@@ -14,7 +14,7 @@ pub const MAX_LINE_BYTES: usize = 16_777_216;
 /// What is kept of a stream between two reads.
 #[derive(Drop)]
 pub(crate) struct Kept {
-    /// The front of a line that is not over.
+    /// The beginning of a line that is not over.
     pub(crate) held: Vec<u8>,
     /// That line's number, counted from 1; it stops at 2^64 - 1.
     pub(crate) number: u64,
@@ -24,7 +24,7 @@ pub(crate) struct Kept {
     pub(crate) text: Vec<u8>,
 }
 
-/// Puts the answer to a line behind those that wait.
+/// Puts the answer to a line after those that wait.
 fn read_one<J: LineJob>(
     alloc: Global,
     job: &mut J,
@@ -84,7 +84,7 @@ fn answer_line<J: LineJob>(
     }
 }
 
-/// Puts a piece behind the front of the line that is not over.
+/// Puts a piece after the beginning of the line that is not over.
 pub(crate) fn hold<F>(number: u64, held: &mut Vec<u8>, piece: &[u8]) -> Result<(), StreamFault<F>>
     ensures done { OnOk result (held.new.items ≡ held.old.items ++ piece.now) }
     ensures stopped { (answer : List (List ℕ) → List ℕ → Result (List ℕ) F) (lines : List (List ℕ))

@@ -5,7 +5,7 @@ use std::alloc::Global;
 
 /// Answers lines, one after another.
 ///
-/// `answer` says what a line is answered behind other lines, and `follows` that a job has done just these lines.
+/// `answer` says what a line is answered after other lines, and `follows` that a job has done just these lines.
 pub trait LineJob {
     ghost use Rattle.std.specs.Prelude.{◌≡◌, ◌++◌, ◌∷◌, [], List, ℕ, Result, Ok, Err, OnOk, IfErr};
     ghost use Rattle.serf_text.specs.Lines.{IsSaid};

@@ -125,7 +125,8 @@ fn put_status_lines(out: &mut Vec<u8>, status: StatusTimes) -> Result<(), AllocE
 }
 
 /// Appends the lines of a push/pull from its first to its event clock: the member clock, the members' status times, and
-/// those that left. After an `AllocError`, which comes where there is no memory for them, `out` may have a front of them.
+/// those that left. After an `AllocError`, which comes where there is no memory for them, `out` may have a prefix of
+/// them.
 #[tactic(auto, unfolding(crate::specs::MessageText::member_lines))]
 pub fn put_members(out: &mut Vec<u8>, state: &PushPull) -> Result<(), AllocError>
     ensures { OnOk result (out.new.items ≡ out.old.items ++ member_lines state.now.member_clock
@@ -157,7 +158,7 @@ fn put_event_lines(out: &mut Vec<u8>, events: EventViews) -> Result<(), AllocErr
 }
 
 /// Appends a slot of a push/pull: this number of it, and then `nil`, or its time and, on lines of their own, its events.
-/// After an `AllocError`, which comes where there is no memory for them, `out` may have a front of them.
+/// After an `AllocError`, which comes where there is no memory for them, `out` may have a prefix of them.
 #[tactic(auto, unfolding(crate::specs::MessageText::slot_lines))]
 pub fn put_slot(out: &mut Vec<u8>, number: u64, slot: &SlotView) -> Result<(), AllocError>
     ensures { OnOk result (out.new.items ≡ out.old.items
@@ -265,7 +266,7 @@ fn put_push_pull(out: &mut Vec<u8>, state: &PushPull) -> Result<(), AllocError>
 }
 
 /// Appends the lines of a message. After an `AllocError`, which comes where there is no memory for them, `out` may have
-/// a front of them.
+/// a prefix of them.
 pub fn put_message(out: &mut Vec<u8>, message: &Message) -> Result<(), AllocError>
     ensures { OnOk result (out.new.items ≡ out.old.items ++ message_text (message_of message.now)) }
 {

@@ -12,7 +12,7 @@ use thiserror::Error;
 #[error("a write failed")]
 pub struct WriteFault;
 
-/// Writes the whole text and flushes it. Each write takes a byte or is the last one. After a `WriteFault` a front of
+/// Writes the whole text and flushes it. Each write takes a byte or is the last one. After a `WriteFault` a prefix of
 /// the text was written. Takes no memory.
 pub fn write_output<W: Write>(writer: &mut W, text: &[u8]) -> Result<(), WriteFault>
     ensures done { OnOk result (Appends (W.contents writer.old) (W.contents writer.new) text.now) }

@@ -56,7 +56,7 @@ pub fn flag(flag: bool) -> &'static [u8]
 }
 
 /// Appends a text, a space and a number in decimal. After an `AllocError`, which comes where there is no memory for
-/// them, `out` may have a front of them.
+/// them, `out` may have a prefix of them.
 #[tactic(auto, unfolding(crate::specs::TextParts::with_number))]
 pub fn put_with_number(out: &mut Vec<u8>, text: &[u8], n: u64) -> Result<(), AllocError>
     ensures { OnOk result (out.new.items ≡ out.old.items ++ with_number text.now n) }
@@ -83,7 +83,7 @@ pub(crate) fn put_with_numbers(
 }
 
 /// Appends a text, a space and bytes in hex. After an `AllocError`, which comes where there is no memory for them,
-/// `out` may have a front of them.
+/// `out` may have a prefix of them.
 #[tactic(auto, unfolding(crate::specs::TextParts::with_hex))]
 pub fn put_with_hex(out: &mut Vec<u8>, text: &[u8], bytes: &[u8]) -> Result<(), AllocError>
     ensures { OnOk result (out.new.items ≡ out.old.items ++ with_hex text.now bytes.now) }
@@ -94,7 +94,7 @@ pub fn put_with_hex(out: &mut Vec<u8>, text: &[u8], bytes: &[u8]) -> Result<(), 
 }
 
 /// Appends a line of a name and a number. After an `AllocError`, which comes where there is no memory for it, `out` may
-/// have a front of it.
+/// have a prefix of it.
 #[tactic(auto, unfolding(crate::specs::TextParts::number_line))]
 pub fn put_number_line(out: &mut Vec<u8>, name: &[u8], n: u64) -> Result<(), AllocError>
     ensures { OnOk result (out.new.items ≡ out.old.items ++ number_line name.now n) }

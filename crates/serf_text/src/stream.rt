@@ -17,7 +17,7 @@ use std::io::{Read, Write};
 /// How many bytes are asked of the reader at once.
 const CHUNK: usize = 8192;
 
-/// Answers the lines that end within these bytes, and holds what is behind the last of them.
+/// Answers the lines that end within these bytes, and holds what is after the last of them.
 fn take_bytes<J: LineJob>(
     alloc: Global,
     job: &mut J,
@@ -117,7 +117,7 @@ fn finish<W: Write, J: LineJob>(
 
 /// Answers the lines of a reader, one after another, until its end.
 ///
-/// The lines are what stands between newlines; the last one has none, and may be empty. A line is let go as soon as it
+/// The lines are what stands between newlines; the last one has none, and may be empty. A line is dropped as soon as it
 /// is answered, and the answers to the lines that are over are written before more is read: a read that fails shows
 /// how it stands there. So the memory that is taken is bounded by the longest line, by the answers to a few thousand
 /// bytes and by what the job keeps. A line may have 16,777,216 bytes.

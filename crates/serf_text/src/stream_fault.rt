@@ -13,7 +13,7 @@ pub enum StreamLineFault<F> {
 
 /// Why a stream was not answered to its end.
 ///
-/// The answers of all lines before were written, in order. After a `WriteFault` a front of them was written.
+/// The answers of all lines before were written, in order. After a `WriteFault` a prefix of them was written.
 #[derive(Clone, Copy, Debug, PartialEq, Eq)]
 pub enum StreamFault<F> {
     /// A read failed, or there were 2^64 - 1 of them. Each line that is over was answered.

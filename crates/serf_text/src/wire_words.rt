@@ -85,7 +85,7 @@ fn put_pack_fault(out: &mut Vec<u8>, fault: PackFault) -> Result<(), AllocError>
 }
 
 /// Appends the words of a packet's fault, or is an `AllocError` where there is no memory for them; then `out`
-/// may have a front of the words.
+/// may have a prefix of the words.
 pub fn put_wire_fault(out: &mut Vec<u8>, fault: WireFault) -> Result<(), AllocError>
     ensures { OnOk result (out.new.items ≡ out.old.items ++ wire_text fault) }
 {

@@ -55,7 +55,7 @@ pub fn cut(text: &[u8], separator: u8) -> (&[u8], Option<&[u8]>)
 pub const FIXED_WORDS: usize = 8;
 
 /// Puts the words of a line, in order and at most eight, in place of those that were there. Gives what is left of
-/// the line: the ninth word and all behind it, or nothing. Words stand between spaces.
+/// the line: the ninth word and all after it, or nothing. Words stand between spaces.
 ///
 /// Where there is no memory for the words, `words` has some of them.
 pub fn take_words<'a>(line: &'a [u8], words: &mut Vec<&'a [u8]>) -> Result<&'a [u8], AllocError>

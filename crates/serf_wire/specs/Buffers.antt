@@ -8,7 +8,7 @@ use Rattle.serf_wire.specs.declared.texts.TimeSlot.{TimeSlot}
 abbrev pub unused_slot : {K : Type 0} → TimeSlot K
 unused_slot = record { time = 0; held = record { items = []; room = 0 } }
 
--- the slots that are lent: those in memory, and behind them those that were never used
+-- the slots that are lent: those in memory, and after them those that were never used
 abbrev pub slots_lent : {K : Type 0} → LentSlots K → List (TimeSlot K)
 slots_lent slots = slots.used.now ++ replicate slots.unused unused_slot
 

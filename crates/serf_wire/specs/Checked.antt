@@ -21,7 +21,7 @@ sound_pairs layout (raw p s) = Err NotAMap
 sound_pairs layout (array p vs) = Err NotAMap
 sound_pairs layout (pairs p ps) = unless_fault (first (layout_faults layout (pair_list ps))) (pair_list ps)
 
--- the same of what was read behind a type byte
+-- the same of what was read after a type byte
 abbrev pub checked_pairs : Layout → Result Tree PackFault → Result (List (Tree × Tree)) WireFault
 checked_pairs layout (Ok v) = sound_pairs layout v
 checked_pairs layout (Err f) = Err (Pack (shifted f))

@@ -19,7 +19,7 @@ abbrev pub read_value : MessageType → Result Tree PackFault → Result Message
 read_value message (Ok v) = read_tree message v
 read_value message (Err f) = Err (faults.Pack (shifted f))
 
--- what the bytes behind a type byte of this class decode to
+-- what the bytes after a type byte of this class decode to
 abbrev pub decoded_behind : Class → ℕ → List ℕ → Result Message WireFault
 decoded_behind (classes.Read message) kind bytes = read_value message (whole_at 8 bytes)
 decoded_behind classes.Foreign kind bytes = Ok (foreign kind)

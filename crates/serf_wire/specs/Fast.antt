@@ -35,7 +35,7 @@ pub record Spans {A : Type 0} (limit : ℕ) (meaning : Tree → Option A) (bytes
   pub value : A
   pub reads : ReadsIn limit meaning value bytes rest
 
--- the bytes begin with a key of this name and a value behind it that stands for x
+-- the bytes begin with a key of this name and a value after it that stands for x
 pub record ReadsPair {A : Type 0} (limit : ℕ) (meaning : Tree → Option A) (name : List ℕ) (x : A) (bytes rest : List ℕ) : Type 0 where
   pub behind : List ℕ
   pub bytes_are : bytes ≡ raw_bytes name ++ behind

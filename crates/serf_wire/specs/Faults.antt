@@ -83,7 +83,7 @@ status_faults (raw p s) = WrongKind (p + 1) ∷ []
 status_faults (array p vs) = WrongKind (p + 1) ∷ []
 status_faults (pairs p ps) = items_faults status_time_faults (pair_list ps)
 
--- a pair behind these others, whose key is the name of a field of this kind, or of none, where vf gives the faults of values
+-- a pair after these others, whose key is the name of a field of this kind, or of none, where vf gives the faults of values
 abbrev pub field_faults : (Kind → Tree → List WireFault) → List (Tree × Tree) → Tree × Tree → List ℕ → Option Kind → List WireFault
 field_faults vf earlier p name None = []
 field_faults vf earlier p name (Some kind) = (if has_key name earlier then Twice (at p.0) ∷ [] else []) ++ vf kind p.1
@@ -92,7 +92,7 @@ abbrev pub key_faults : (Kind → Tree → List WireFault) → Layout → List (
 key_faults vf layout earlier p None = BadKey (at p.0) ∷ []
 key_faults vf layout earlier p (Some name) = field_faults vf earlier p name (kind_in name (fields_of layout))
 
--- the faults of the pairs that stand behind these others
+-- the faults of the pairs that stand after these others
 abbrev pub faults_behind : (Kind → Tree → List WireFault) → Layout → List (Tree × Tree) → List (Tree × Tree) → List WireFault
 faults_behind vf layout earlier [] = []
 faults_behind vf layout earlier (p ∷ ps) = key_faults vf layout earlier p (raw_of p.0) ++ faults_behind vf layout (earlier ++ p ∷ []) ps

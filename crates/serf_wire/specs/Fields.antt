@@ -80,7 +80,7 @@ is_text name (Some s) = bytes_eq s name
 abbrev pub is_key : List ℕ → Tree → Bool
 is_key name key = is_text name (raw_of key)
 
--- the values behind this key, in order
+-- the values after this key, in order
 abbrev pub values_of : List ℕ → List (Tree × Tree) → List Tree
 values_of name [] = []
 values_of name (p ∷ ps) = if is_key name p.0 then p.1 ∷ values_of name ps else values_of name ps

@@ -19,7 +19,7 @@ trees_found found = map (option_map tree_of) found.values
 abbrev pub found_at : FoundFields → ℕ → Option Tree
 found_at found place = get_or (trees_found found) place None
 
--- at each field's place stands the first value behind its name in these pairs
+-- at each field's place stands the first value after its name in these pairs
 pub record Finds (layout : Layout) (found : FoundFields) (ps : List (Tree × Tree)) : Type 0 where
   pub size : length found.values ≡ MAX_FIELDS
   pub values : (name : List ℕ) (f : Field) → field_in 0 name (fields_of layout) ≡ Some f → found_at found f.place ≡ first (values_of name ps)

@@ -55,6 +55,6 @@ abbrev pub InOrder : ℕ → List WireFault → ℕ → Type 0
 InOrder from [] to = from ≤ to
 InOrder from (f ∷ fs) to = (from ≤ map_place f) × InOrder (map_place f) fs to
 
--- the faults of a map stand in reading order, behind the packet's first byte, whichever layout its fields have
+-- the faults of a map stand in reading order, after the packet's first byte, whichever layout its fields have
 abbrev pub FaultsInOrder : Type 0
 FaultsInOrder = (layout : Layout) (ps : Pairs) (bytes : List ℕ) → Packs (pairs 0 ps) 0 0 bytes → InOrder 1 (layout_faults layout (pair_list ps)) (length bytes + 1)

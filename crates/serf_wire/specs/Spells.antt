@@ -85,7 +85,7 @@ abbrev pub Spells : Message → List ℕ → Type 0
 Spells m [] = ⊥
 Spells m (kind ∷ bytes) = SpellsBehind (class_of kind) kind m bytes
 
--- a fault of what stands behind the type byte
+-- a fault of what stands after the type byte
 abbrev pub shifted : PackFault → PackFault
 shifted (pack.Truncated p) = pack.Truncated (p + 1)
 shifted (pack.Unsupported b p) = pack.Unsupported b (p + 1)

@@ -1,4 +1,4 @@
-//! Values in compact spellings, read from the front of bytes.
+//! Values in compact spellings, read from the start of bytes.
 //!
 //! Each reader gives up, by `None`, at what is not spelled so.
 
@@ -19,7 +19,7 @@ use crate::laws::laws_below;
 use crate::lists::Texts;
 use serf_pack::{View, view_packed};
 
-/// The number in one byte at the front, the highest first, and what follows it.
+/// The number in one byte at the start, the highest first, and what follows it.
 #[inline(always)]
 fn one_byte(bytes: &[u8]) -> Option<(u64, &[u8])>
     ensures room { IfSome result (λ x. 1 ≤ length bytes.now) }
@@ -33,7 +33,7 @@ fn one_byte(bytes: &[u8]) -> Option<(u64, &[u8])>
     }
 }
 
-/// The number in two bytes at the front, the highest first, and what follows it.
+/// The number in two bytes at the start, the highest first, and what follows it.
 #[inline(always)]
 fn two_bytes(bytes: &[u8]) -> Option<(u64, &[u8])>
     ensures room { IfSome result (λ x. 2 ≤ length bytes.now) }
@@ -47,7 +47,7 @@ fn two_bytes(bytes: &[u8]) -> Option<(u64, &[u8])>
     }
 }
 
-/// The number in four bytes at the front, the highest first, and what follows it.
+/// The number in four bytes at the start, the highest first, and what follows it.
 #[inline(always)]
 fn four_bytes(bytes: &[u8]) -> Option<(u64, &[u8])>
     ensures room { IfSome result (λ x. 4 ≤ length bytes.now) }
@@ -64,7 +64,7 @@ fn four_bytes(bytes: &[u8]) -> Option<(u64, &[u8])>
     }
 }
 
-/// The number in eight bytes at the front, the highest first, and what follows it.
+/// The number in eight bytes at the start, the highest first, and what follows it.
 #[inline(always)]
 fn eight_bytes(bytes: &[u8]) -> Option<(u64, &[u8])>
     ensures room { IfSome result (λ x. 8 ≤ length bytes.now) }
@@ -77,7 +77,7 @@ fn eight_bytes(bytes: &[u8]) -> Option<(u64, &[u8])>
     Some((high * 0x1_0000_0000 + low, rest))
 }
 
-/// The number of 64 bits at the front, and what follows it.
+/// The number of 64 bits at the start, and what follows it.
 #[inline(always)]
 pub fn read_number(bytes: &[u8]) -> Option<(u64, &[u8])>
     ensures { IfSome result (λ x. Reads (number greatest_clock) x.0 bytes.now x.1.now) }
@@ -112,7 +112,7 @@ pub fn read_map_head(bytes: &[u8]) -> Option<(u8, &[u8])>
     }
 }
 
-/// So many bytes at the front, and what follows them.
+/// So many bytes at the start, and what follows them.
 #[inline(always)]
 fn split(n: usize, bytes: &[u8]) -> Option<(&[u8], &[u8])>
     ensures room { IfSome result (λ x. n ≤ length bytes.now) }
@@ -125,7 +125,7 @@ fn split(n: usize, bytes: &[u8]) -> Option<(&[u8], &[u8])>
     Some((&bytes[..n], &bytes[n..]))
 }
 
-/// The byte string at the front, and what follows it.
+/// The byte string at the start, and what follows it.
 #[inline(always)]
 pub fn read_raw(bytes: &[u8]) -> Option<(&[u8], &[u8])>
     ensures { IfSome result (λ x. Reads raw_of x.0.now bytes.now x.1.now) }
@@ -144,7 +144,7 @@ pub fn read_raw(bytes: &[u8]) -> Option<(&[u8], &[u8])>
     }
 }
 
-/// What follows nil at the front.
+/// What follows nil at the start.
 #[inline(always)]
 pub fn skip_nil(bytes: &[u8]) -> Option<&[u8]>
     ensures { IfSome result (λ rest. bytes.now ≡ 0xc0 ∷ rest.now) }
@@ -155,7 +155,7 @@ pub fn skip_nil(bytes: &[u8]) -> Option<&[u8]>
     }
 }
 
-/// The text at the front, and what follows it.
+/// The text at the start, and what follows it.
 #[inline(always)]
 pub fn read_text(bytes: &[u8]) -> Option<(&[u8], &[u8])>
     ensures { IfSome result (λ x. Reads text x.0.now bytes.now x.1.now) }
@@ -212,7 +212,7 @@ pub fn view_before<'a>(bytes: &'a [u8], rest: &[u8]) -> View<'a>
     view_packed(&bytes[..bytes.len() - rest.len()])
 }
 
-/// The truth value at the front, and what follows it.
+/// The truth value at the start, and what follows it.
 #[inline(always)]
 fn read_flag(bytes: &[u8]) -> Option<(bool, &[u8])>
     ensures { IfSome result (λ x. Reads truth x.0 bytes.now x.1.now) }
@@ -229,7 +229,7 @@ fn read_flag(bytes: &[u8]) -> Option<(bool, &[u8])>
     }
 }
 
-/// The number of 64 bits at the front, of which nothing was found before.
+/// The number of 64 bits at the start, of which nothing was found before.
 #[inline(always)]
 pub fn once_number(found: Option<u64>, bytes: &[u8]) -> Option<(u64, &[u8])>
     ensures none { IfSome result (λ x. found ≡ None) }
@@ -241,7 +241,7 @@ pub fn once_number(found: Option<u64>, bytes: &[u8]) -> Option<(u64, &[u8])>
     }
 }
 
-/// The text at the front, of which nothing was found before.
+/// The text at the start, of which nothing was found before.
 #[inline(always)]
 pub fn once_text<'a>(found: Option<&[u8]>, bytes: &'a [u8]) -> Option<(&'a [u8], &'a [u8])>
     ensures none { IfSome result (λ x. option_copied found.entry ≡ None) }
@@ -253,7 +253,7 @@ pub fn once_text<'a>(found: Option<&[u8]>, bytes: &'a [u8]) -> Option<(&'a [u8],
     }
 }
 
-/// The truth value at the front, of which nothing was found before.
+/// The truth value at the start, of which nothing was found before.
 #[inline(always)]
 pub fn once_flag(found: Option<bool>, bytes: &[u8]) -> Option<(bool, &[u8])>
     ensures none { IfSome result (λ x. found ≡ None) }
@@ -265,7 +265,7 @@ pub fn once_flag(found: Option<bool>, bytes: &[u8]) -> Option<(bool, &[u8])>
     }
 }
 
-/// So many texts at the front: what follows them.
+/// So many texts at the start: what follows them.
 #[inline(always)]
 fn skip_texts(count: u64, bytes: &[u8]) -> Option<&[u8]>
     ensures { IfSome result (λ rest. AreItems 9 text count bytes.now rest.now) }
@@ -280,7 +280,7 @@ fn skip_texts(count: u64, bytes: &[u8]) -> Option<&[u8]>
     Some(rest)
 }
 
-/// The list of texts at the front: what follows it.
+/// The list of texts at the start: what follows it.
 #[inline(always)]
 fn skip_text_list(bytes: &[u8]) -> Option<&[u8]>
     ensures { IfSome result (λ rest. Spans 8 (list text) bytes.now rest.now) }
@@ -290,7 +290,7 @@ fn skip_text_list(bytes: &[u8]) -> Option<&[u8]>
     skip_texts(count, items)
 }
 
-/// The list of texts at the front, and what follows it.
+/// The list of texts at the start, and what follows it.
 fn read_texts(bytes: &[u8]) -> Option<(Texts<'_>, &[u8])>
     ensures { IfSome result (λ x. ReadsIn 8 (list text) (texts_left x.0) bytes.now x.1.now) }
 {
@@ -299,7 +299,7 @@ fn read_texts(bytes: &[u8]) -> Option<(Texts<'_>, &[u8])>
     Some((Texts::of(Some(list)), rest))
 }
 
-/// No texts, or nil, at the front: what follows them.
+/// No texts, or nil, at the start: what follows them.
 #[inline(always)]
 fn read_no_texts(bytes: &[u8]) -> Option<&[u8]>
     ensures { IfSome result (λ rest. ReadsIn 8 (list text) [] bytes.now rest.now) }
@@ -315,7 +315,7 @@ fn read_no_texts(bytes: &[u8]) -> Option<&[u8]>
     }
 }
 
-/// The list of texts at the front, of which nothing was found before.
+/// The list of texts at the start, of which nothing was found before.
 #[inline(always)]
 pub fn once_texts<'a>(found: Option<Texts<'a>>, bytes: &'a [u8]) -> Option<(Texts<'a>, &'a [u8])>
     ensures none { IfSome result (λ x. option_map texts_left found.entry ≡ None) }

@@ -131,7 +131,7 @@ fn read_packet(packet: &[u8]) -> Result<Option<Intent<'_>>, WireFault>
 ///
 /// A field that is missing or nil is zero: the time 0, the empty name, no prune. Keys that are not known are passed over,
 /// and so is a prune of a join. `Empty` comes where there is no byte, then `UnknownType`, and of the types 0 and 1 `Pack`
-/// where the bytes behind the type are no value of MessagePack, then `NotAMap`, then the fault of the map's first faulty
+/// where the bytes after the type are no value of MessagePack, then `NotAMap`, then the fault of the map's first faulty
 /// place, as `decode` has it of other messages; 2^64 - 1 is no time. `decode` itself reads no intent. Takes no memory.
 pub fn read_intent(packet: &[u8]) -> Result<Option<Intent<'_>>, WireFault>
     // What is read is spelled so.

@@ -1,4 +1,4 @@
-//! Known keys, each behind its raw header of one byte.
+//! Known keys, each after its raw header of one byte.
 
 ghost use Rattle.std.specs.Prelude.{◌≡◌, ◌++◌, IfSome};
 ghost use Rattle.serf_pack.specs.Canonical.{raw_bytes};
@@ -24,7 +24,7 @@ pub enum StateKey {
     QueryTime,
 }
 
-/// The key of a user event at the front, and what follows it.
+/// The key of a user event at the start, and what follows it.
 #[inline(always)]
 pub fn read_event_key(bytes: &[u8]) -> Option<(EventKey, &[u8])>
     ensures { IfSome result (λ x. bytes.now ≡ raw_bytes (event_name x.0) ++ x.1.now) }
@@ -41,9 +41,9 @@ pub fn read_event_key(bytes: &[u8]) -> Option<(EventKey, &[u8])>
     }
 }
 
-/// A long key of a state at the front, and what follows it.
+/// The key of a state's list of members at the start, and what follows it.
 #[inline(always)]
-fn read_long_state_key(bytes: &[u8]) -> Option<(StateKey, &[u8])>
+fn read_members_key(bytes: &[u8]) -> Option<(StateKey, &[u8])>
     ensures { IfSome result (λ x. bytes.now ≡ raw_bytes (state_name x.0) ++ x.1.now) }
 {
     match bytes {
@@ -78,6 +78,16 @@ fn read_long_state_key(bytes: &[u8]) -> Option<(StateKey, &[u8])>
             b's',
             value @ ..,
         ] => Some((StateKey::LeftMembers, value)),
+        _ => None,
+    }
+}
+
+/// The key of a state's clock of events or queries at the start, and what follows it.
+#[inline(always)]
+fn read_clock_key(bytes: &[u8]) -> Option<(StateKey, &[u8])>
+    ensures { IfSome result (λ x. bytes.now ≡ raw_bytes (state_name x.0) ++ x.1.now) }
+{
+    match bytes {
         [
             0xaa,
             b'E',
@@ -110,7 +120,7 @@ fn read_long_state_key(bytes: &[u8]) -> Option<(StateKey, &[u8])>
     }
 }
 
-/// The key of a state at the front, and what follows it.
+/// The key of a state at the start, and what follows it.
 #[inline(always)]
 pub fn read_state_key(bytes: &[u8]) -> Option<(StateKey, &[u8])>
     ensures { IfSome result (λ x. bytes.now ≡ raw_bytes (state_name x.0) ++ x.1.now) }
@@ -118,6 +128,7 @@ pub fn read_state_key(bytes: &[u8]) -> Option<(StateKey, &[u8])>
     match bytes {
         [0xa5, b'L', b'T', b'i', b'm', b'e', value @ ..] => Some((StateKey::Time, value)),
         [0xa6, b'E', b'v', b'e', b'n', b't', b's', value @ ..] => Some((StateKey::Events, value)),
-        _ => read_long_state_key(bytes),
+        [0xaa, ..] => read_clock_key(bytes),
+        _ => read_members_key(bytes),
     }
 }

@@ -17,7 +17,7 @@ pub struct LentSlot<'a, T> {
 
 /// The slots of a buffer that are still to come, in order, lent where they lie.
 ///
-/// Those that were never used stand behind the others, and in no memory. Each has the time 0, and holds nothing.
+/// Those that were never used stand after the others, and in no memory. Each has the time 0, and holds nothing.
 #[derive(Drop)]
 pub struct LentSlots<'a, T> {
     pub(crate) used: &'a [TimeSlot<T>],
@@ -60,7 +60,7 @@ fn unused<'a, T>() -> LentSlot<'a, T>
 }
 
 impl<'a, T> LentSlots<'a, T> {
-    /// These slots, and behind them so many that were never used. Takes no memory.
+    /// These slots, and after them so many that were never used. Takes no memory.
     pub fn of(used: &'a [TimeSlot<T>], unused: u32) -> LentSlots<'a, T>
         ensures { slots_lent result ≡ used.now ++ replicate unused unused_slot }
     {

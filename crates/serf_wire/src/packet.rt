@@ -154,7 +154,7 @@ fn read_packet(packet: &[u8]) -> Result<Message<'_>, WireFault>
 /// The message that a packet spells, in whatever order of keys and spelling of values, or the packet's first
 /// fault in reading order.
 ///
-/// `Empty` comes where there is no byte, then `UnknownType`, then `Pack` where the bytes behind the type are no
+/// `Empty` comes where there is no byte, then `UnknownType`, then `Pack` where the bytes after the type are no
 /// value of MessagePack, then `NotAMap`, then the fault of the map's first faulty place. Of the types 0, 1
 /// and 6 to 9 the answer is `Foreign`, whatever follows. Takes no memory.
 #[inline(always)]

@@ -157,7 +157,7 @@ pub(crate) fn compact_at(alloc: Global, node: &mut Node) -> Result<Line, AllocEr
     Ok(line)
 }
 
-/// An agent lets go of its open queries that are past their deadlines.
+/// An agent closes its open queries that are past their deadlines.
 pub(crate) fn close_at(alloc: Global, node: &mut Node, now: u64) -> Line
     ensures { (m : IdealNode) (number : ℕ) (sent : List (List ℕ)) → IsRepresentable m.agent
         → node.old ≡ node_of m → TakesTurn number sent sent (closes m now) node.new result }

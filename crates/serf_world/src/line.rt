@@ -172,7 +172,7 @@ fn send(alloc: Global, sent: &mut Vec<Bytes>, packets: BytesList) -> Result<Numb
     Ok(numbers)
 }
 
-/// The packets of a query: itself, where it is to be sent, and its ack behind it.
+/// The packets of a query: itself, where it is to be sent, and its ack after it.
 pub(crate) fn query_packets(
     alloc: Global,
     query: Option<Bytes>,

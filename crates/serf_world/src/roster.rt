@@ -103,7 +103,7 @@ impl Roster {
         }
     }
 
-    /// Adds an agent of these settings behind the others.
+    /// Adds an agent of these settings after the others.
     pub fn add(&mut self, alloc: Global, config: Config) -> Result<(), RosterFault>
         ensures ok { OnOk result (self.new ≡ self.old ++ config ∷ []) }
         ensures free { OnOk result (has_name self.old config.name ≡ false) }

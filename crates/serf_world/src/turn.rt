@@ -17,7 +17,7 @@ use serf_model::{Act, Line};
 use serf_wire::Bytes;
 use std::alloc::{AllocError, Global};
 
-/// What the agent of this number does, where these packets were sent; what it sends stands behind them then. Where
+/// Applies an act to the agent of this number. These packets were sent before, and what it sends is appended. Where
 /// there is no memory for it, nothing was sent.
 #[inline(always)]
 pub(crate) fn take_turn(

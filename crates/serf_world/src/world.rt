@@ -85,8 +85,8 @@ impl World {
     /// Does an action. A refused action is a line too.
     ///
     /// `OutOfMemory` where it found no memory: the cluster is poisoned then, and answers `Poisoned` from then on, which
-    /// changes nothing. The agent may have done the action, with no line of it; what [`World::agent`] lends of a poisoned
-    /// cluster is of no run.
+    /// changes nothing. The agent may have done the action, without a line. So what [`World::agent`] lends of a poisoned
+    /// cluster belongs to no run.
     ///
     /// Where each step so far answered a line, these lines are those of a run that keeps all promises, and the agents
     /// that are stored hold of their open queries what was counted (`done`).

@@ -15,7 +15,7 @@ use Rattle.serf_write.specs.Gives.{◌>>=◌, wrong, or_wrong}
 abbrev pub before_return : List ℕ → List ℕ
 before_return line = if nat_lt 0 (length line) && (slice_index line (length line - 1) == 13) then take (length line - 1) line else line
 
--- what stands behind a backslash: x, two hex digits and more text
+-- what stands after a backslash: x, two hex digits and more text
 abbrev pub escaped_of : List ℕ → Option (List ℕ)
 escaped_of rest = if nat_le 3 (length rest) && (slice_index rest 0 == 120)
     then option_map (λ byte. byte ++ drop 3 rest) (result_ok (decode_of (take 2 (drop 1 rest)))) else None
@@ -24,7 +24,7 @@ abbrev pub with_escaped : List ℕ → Option (List ℕ) → (List ℕ → Optio
 with_escaped before None next = None
 with_escaped before (Some text) next = next (before ++ text)
 
--- a text so far, and the parts between the backslashes behind it
+-- a text so far, and the parts between the backslashes after it
 abbrev pub text_from : List ℕ → List (List ℕ) → Option (List ℕ)
 text_from before [] = Some before
 text_from before (part ∷ parts) = with_escaped before (escaped_of part) (λ text. text_from text parts)
@@ -37,12 +37,12 @@ text_of_parts (part ∷ parts) = text_from part parts
 unfoldable pub text_within : List ℕ → Option (List ℕ)
 text_within quoted = text_of_parts (slice_split (λ b. b == 92) quoted)
 
--- pieces, and whether a comment ends the line behind them
+-- pieces, and whether a comment ends the line after them
 pub record Cut : Type 0 where
   pub pieces : List Piece
   pub is_over : Bool
 
--- these words behind some pieces, up to the first that begins with `#`
+-- these words after some pieces, up to the first that begins with `#`
 abbrev pub words_behind : List Piece → List (List ℕ) → Cut
 words_behind before [] = record { pieces = before; is_over = false }
 words_behind before (word ∷ words) =
@@ -51,7 +51,7 @@ words_behind before (word ∷ words) =
 abbrev pub unless_over : Cut → (List Piece → Result (List Piece) Fault) → Result (List Piece) Fault
 unless_over cut next = if cut.is_over then Ok cut.pieces else next cut.pieces
 
--- The parts of a line between its quotes, behind some pieces: in turn they stand outside of quotes, and within.
+-- The parts of a line between its quotes, after some pieces: in turn they stand outside of quotes, and within.
 abbrev pub pieces_from : Bool → List Piece → List (List ℕ) → Result (List Piece) Fault
 pieces_from is_within before [] = Ok before
 pieces_from false before (part ∷ parts) = unless_over (words_behind before (words_of part)) (λ pieces. pieces_from true pieces parts)

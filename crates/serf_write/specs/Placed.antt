@@ -1,4 +1,4 @@
--- A fault behind a label, as the code holds it: private to the crate.
+-- A fault after a label, as the code holds it: private to the crate.
 use Rattle.std.specs.Prelude.{◌^◌, ◌-◌, ◌+◌, min}
 use Rattle.serf_write.specs.declared.fault.LineFault.{LineFault}
 use Rattle.serf_write.specs.declared.fault.LineFault.TheVariants.{Bad, OutOfMemory}

@@ -41,7 +41,7 @@ abbrev pub options_from : ℕ → Asked → List Piece → Result Asked Fault
 options_from place asked [] = Ok asked
 options_from place asked (piece ∷ pieces) = with_option place asked (word_of (Some piece)) >>= (λ asked. options_from (place + 1) asked pieces)
 
--- `at` and a moment may stand behind the payload, at the fifth place
+-- `at` and a moment may stand after the payload, at the fifth place
 unfoldable pub query_moment : List Piece → Result ℕ Fault
 query_moment pieces = if bytes_eq (word_at 5 pieces) (codes "at") then time_in 6 pieces else Ok 0
 

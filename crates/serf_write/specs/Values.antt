@@ -49,7 +49,7 @@ times None unit = None
 times (Some n) None = None
 times (Some n) (Some unit) = if nat_lt (n * unit) (2 ^ 64) then Some (n * unit) else None
 
--- digits, and the unit behind them at this place; nanoseconds where there is none
+-- digits, and the unit after them at this place; nanoseconds where there is none
 abbrev pub time_cut : List ℕ → Option ℕ → Option ℕ
 time_cut word None = number_of word
 time_cut word (Some at) = times (number_of (take at word)) (unit_of (drop at word))
@@ -109,7 +109,7 @@ packet_behind None k = None
 packet_behind (Some l) None = None
 packet_behind (Some l) (Some k) = if nat_lt k (l.past - l.first) then Some (l.first + k) else None
 
--- a label, and the number behind a slash at this place; the first packet where there is none
+-- a label, and the number after a slash at this place; the first packet where there is none
 abbrev pub packet_cut : List Label → List ℕ → Option ℕ → Option ℕ
 packet_cut labels word None = packet_behind (label_named labels word) (Some 0)
 packet_cut labels word (Some at) = packet_behind (label_named labels (take at word)) (number_of (drop (at + 1) word))
@@ -128,7 +128,7 @@ mode_in place pieces = or_wrong place wanted.Mode (choice_of (codes "sync") (cod
 unfoldable pub sink_call_in : ℕ → List Piece → Result SinkCall Fault
 sink_call_in place pieces = or_wrong place wanted.SinkCall (sink_call_of (word_at place pieces))
 
--- the moment behind `at`, or 0 where the line ends before it
+-- the moment after `at`, or 0 where the line ends before it
 unfoldable pub moment_in : ℕ → List Piece → Result ℕ Fault
 moment_in place pieces =
     if nat_lt (length pieces) place then Ok 0

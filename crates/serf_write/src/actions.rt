@@ -39,7 +39,7 @@ fn coalesce_at(pieces: &[Piece], place: usize) -> Result<bool, LineFault>
     }
 }
 
-/// The bytes behind `tail`; none where the line ends before it.
+/// The bytes after `tail`; none where the line ends before it.
 #[tactic(auto, unfolding(crate::specs::Lines::tail_in))]
 fn tail_at(alloc: Global, pieces: &[Piece], place: usize) -> Result<Bytes, LineFault>
     requires { place < 100 }

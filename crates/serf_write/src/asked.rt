@@ -131,7 +131,7 @@ fn take_words(
     }
 }
 
-/// The moment behind `at` at the fifth place, or 0.
+/// The moment after `at` at the fifth place, or 0.
 #[tactic(auto, unfolding(crate::specs::Queries::query_moment))]
 fn moment(pieces: &[Piece]) -> Result<u64, LineFault>
     ensures { Gives (λ n. n) result (query_moment pieces.now) }
@@ -143,7 +143,7 @@ fn moment(pieces: &[Piece]) -> Result<u64, LineFault>
     }
 }
 
-/// What the pieces behind the payload, and behind the moment, say of a query.
+/// What the pieces after the payload, and after the moment, say of a query.
 #[tactic(auto, unfolding(crate::specs::Queries::options_in))]
 fn options(alloc: Global, pieces: &[Piece]) -> Result<Asked, LineFault>
     ensures { Gives (λ a. a) result (options_in pieces.now) }

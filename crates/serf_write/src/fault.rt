@@ -50,7 +50,7 @@ pub enum Wanted {
     End,
 }
 
-/// The first word that is wrong, counted from 1 in its line, and what may stand there. It may be the word behind the
+/// The first word that is wrong, counted from 1 in its line, and what may stand there. It may be the word after the
 /// last one, where a word is missing.
 #[derive(Clone, Copy, Debug, Drop, PartialEq, Eq)]
 pub struct Fault {

@@ -32,7 +32,7 @@ fn without_return(line: &[u8]) -> &[u8]
     }
 }
 
-/// What stands behind a backslash: x, two hex digits and more text. `None` for anything else.
+/// What stands after a backslash: x, two hex digits and more text. `None` for anything else.
 fn escaped(alloc: Global, rest: &[u8]) -> Result<Option<Vec<u8>>, AllocError>
     ensures { IfOk result (λ found. option_map (λ text. text.items) found ≡ escaped_of rest.now) }
 {
@@ -72,7 +72,7 @@ fn text(alloc: Global, quoted: &[u8]) -> Result<Option<Bytes>, AllocError>
     }
 }
 
-/// Puts a piece behind the others.
+/// Puts a piece after the others.
 fn put_piece(pieces: &mut Vec<Piece>, piece: Piece) -> Result<(), AllocError>
     ensures { OnOk result (pieces.new.items ≡ pieces.old.items ++ piece ∷ []) }
 {
@@ -80,7 +80,7 @@ fn put_piece(pieces: &mut Vec<Piece>, piece: Piece) -> Result<(), AllocError>
     Ok(())
 }
 
-/// Puts the words of a part outside of quotes behind the pieces, and says whether a comment ends the line.
+/// Puts the words of a part outside of quotes after the pieces, and says whether a comment ends the line.
 fn put_words(alloc: Global, part: &[u8], pieces: &mut Vec<Piece>) -> Result<bool, AllocError>
     ensures { IfOk result (λ is_over. words_behind pieces.old.items (words_of part.now)
         ≡ record { pieces = pieces.new.items; is_over = is_over }) }
@@ -101,7 +101,7 @@ fn put_words(alloc: Global, part: &[u8], pieces: &mut Vec<Piece>) -> Result<bool
     }
 }
 
-/// Puts the text behind an opening quote behind the pieces, and gives what follows its closing quote.
+/// Puts the text after an opening quote after the pieces, and gives what follows its closing quote.
 fn put_text<'a>(
     alloc: Global,
     quoted: &'a [u8],

@@ -111,7 +111,7 @@ fn settings(config: Config, pieces: &[Piece]) -> Result<Config, LineFault>
     }
 }
 
-/// The pieces behind so many.
+/// The pieces after so many.
 pub(crate) fn behind(pieces: &[Piece], count: usize) -> &[Piece]
     ensures { result.now ≡ drop count pieces.now }
 {

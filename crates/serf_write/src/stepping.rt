@@ -29,7 +29,7 @@ pub(crate) fn world_of(
     }
 }
 
-/// The world behind one more action.
+/// The world after one more action.
 pub(crate) fn world_behind(
     alloc: Global,
     world: World,

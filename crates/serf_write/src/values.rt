@@ -41,7 +41,7 @@ fn place_of(word: &[u8], byte: u8) -> Option<usize>
     word.iter().position(|b| *b == byte)
 }
 
-/// The bytes before a byte, and those behind it; `None` where there is no such byte.
+/// The bytes before a byte, and those after it; `None` where there is no such byte.
 pub(crate) fn halves(word: &[u8], byte: u8) -> Option<(&[u8], &[u8])>
     ensures { MatchOption result (position (λ b. b == byte) word.now ≡ None) (λ parts. (at : ℕ)
         × (position (λ b. b == byte) word.now ≡ Some at) × (parts.0.now ≡ take at word.now)
@@ -135,7 +135,7 @@ pub(crate) fn time_at(pieces: &[Piece], place: usize) -> Result<u64, LineFault>
     }
 }
 
-/// The moment behind `at`, or 0 where the line ends before it.
+/// The moment after `at`, or 0 where the line ends before it.
 #[tactic(auto, unfolding(crate::specs::Values::moment_in))]
 pub(crate) fn moment_at(pieces: &[Piece], place: usize) -> Result<u64, LineFault>
     requires { place < 100 }

@@ -146,7 +146,7 @@ impl Writing {
         }
     }
 
-    /// Reads a line of actions behind its label.
+    /// Reads a line of actions after its label.
     fn add_labelled(
         &mut self,
         alloc: Global,

@@ -1,4 +1,5 @@
-/* What a host of members asks: intents read and written, the members that a state names, and the time of a query; with
+/* What a host of members asks: intents read and written, the members that a state names, the filters of a query and what the
+ * host says of its tags, and the time of a query; with
  * little room, faulty packets and no memory.
  *
  * Linked with malloc and realloc wrapped. Prints `FAILED ..` for each that doesn't hold, and `N passed, M failed`. */
@@ -248,7 +249,110 @@ static void times_of_members(void) {
     is("close", serf_agent_close(&agent), SERF_AGENT_OK);
 }
 
+/* A query of agent q with these filters, each with its length before it, and a 0 behind them. */
+static size_t query_of(const char *filters, uint8_t *to, size_t size) {
+    struct serf_agent agent = {0};
+    struct serf_agent_params params = {.timeout = 1000, .want_ack = true};
+    size_t len = 0;
+    is("open", serf_agent_open(&agent, BYTES("q"), &settings, NULL, 0), SERF_AGENT_OK);
+    for (; *filters; filters += 1 + *filters) {
+        is("a filter", serf_agent_add_filter(&agent, (const uint8_t *)filters + 1, (size_t)*filters), SERF_AGENT_OK);
+    }
+    is("query", serf_agent_query(&agent, 5, 7, BYTES("who"), NULL, 0, NULL, 0, &params), SERF_AGENT_OK);
+    is_written(&agent);
+    is("its packet", serf_agent_packet(&agent, &len, to, size), SERF_AGENT_OK);
+    is("close", serf_agent_close(&agent), SERF_AGENT_OK);
+    return len;
+}
+
+/* Filters as Serf writes them: of the node b, of another, of a tag, and of a type that nobody knows. */
+#define NODE "\x04\x00\x91\xa1" "b"
+#define OTHER "\x04\x00\x91\xa1" "c"
+#define TAG "\x0e\x01\x82\xa4" "Expr\xa0\xa3" "Tag\xa1" "a"
+#define UNKNOWN "\x01\x02"
+
+static void filters(void) {
+    static uint8_t packet[1024];
+    struct serf_agent_filters all = {77, 78};
+    size_t lens[4] = {55, 55, 55, 55}, len = query_of(NODE TAG UNKNOWN, packet, sizeof packet);
+    is("the sizes", serf_agent_query_filters(packet, len, &all, NULL, 0, NULL, 0), SERF_AGENT_OK);
+    holds("of three", all.filters == 3 && all.filters_len == 19);
+    memset(room, 'x', 32);
+    is("two of them", serf_agent_query_filters(packet, len, &all, lens, 2, room, 6), SERF_AGENT_OK);
+    holds("two, and no more", all.filters == 3 && lens[0] == 4 && lens[1] == 14 && lens[2] == 55);
+    holds("six bytes, and no more", memcmp(room, "\x00\x91\xa1" "b\x01\x82x", 7) == 0);
+    is("all", serf_agent_query_filters(packet, len, &all, lens, 4, room, sizeof room), SERF_AGENT_OK);
+    holds("all of them", lens[2] == 1 && lens[3] == 55 && memcmp(room + 4, &TAG[1], 14) == 0 && room[18] == 2 && room[19] == 'x');
+    all.filters = 78;
+    is("an event", serf_agent_query_filters(BYTES("\x03\x80"), &all, lens, 4, room, sizeof room), SERF_AGENT_NOTHING);
+    is("a cut query", serf_agent_query_filters(packet, len - 1, &all, lens, 4, room, sizeof room), SERF_AGENT_NOTHING);
+    is("nothing", serf_agent_query_filters(NULL, 0, &all, lens, 4, room, sizeof room), SERF_AGENT_NOTHING);
+    uint32_t code = SERF_AGENT_OUT_OF_MEMORY;
+    long requests = 0;
+    for (; code == SERF_AGENT_OUT_OF_MEMORY && requests < 99; requests++) {
+        holds("what stood there stays", all.filters == 78);
+        granted = requests;
+        code = serf_agent_query_filters(packet, len, &all, lens, 4, room, sizeof room);
+    }
+    granted = -1;
+    is("memory was wanting, and then there", code, SERF_AGENT_OK);
+    holds("two requests at least", requests > 2 && all.filters == 3);
+    is("a query of none", serf_agent_query_filters(packet, query_of("", packet, sizeof packet), &all, lens, 4, room, sizeof room), SERF_AGENT_OK);
+    holds("of none", all.filters == 0 && all.filters_len == 0);
+}
+
+/* Whether agent b hands out a query of these filters, whose host says this of its tags: alone and within a burst. */
+static void hands_out(const char *what, const char *filters, bool tags_pass, bool wanted) {
+    static uint8_t packet[1024];
+    size_t len = query_of(filters, packet, sizeof packet), ack = 0;
+    for (int is_burst = 0; is_burst < 2; is_burst++) {
+        struct serf_agent agent = {0};
+        struct serf_agent_gave gave = {0};
+        uint32_t answered = 0;
+        is("open", serf_agent_open(&agent, BYTES("b"), &settings, NULL, 0), SERF_AGENT_OK);
+        if (is_burst) {
+            is(what, serf_agent_burst_receive_tagged(&agent, 9, packet, len, tags_pass), SERF_AGENT_OK);
+            is("and again", serf_agent_burst_receive(&agent, 9, packet, len), SERF_AGENT_OK);
+            is_written(&agent);
+            is("the first", serf_agent_next(&agent, &answered), SERF_AGENT_OK);
+        } else {
+            is(what, serf_agent_receive_tagged(&agent, 9, packet, len, tags_pass), SERF_AGENT_OK);
+            is_written(&agent);
+        }
+        is("what came of it", serf_agent_gave(&agent, &gave), SERF_AGENT_OK);
+        holds(what, gave.kind == SERF_AGENT_GAVE_QUERY && gave.rebroadcast && (gave.handed != 0) == wanted);
+        is("its ack", serf_agent_ack(&agent, &ack, room, 0), wanted ? SERF_AGENT_OK : SERF_AGENT_NOTHING);
+        if (is_burst) {
+            is("the second", serf_agent_next(&agent, &answered), SERF_AGENT_OK);
+        } else {
+            is("and again", serf_agent_receive_tagged(&agent, 9, packet, len, true), SERF_AGENT_OK);
+        }
+        is("what came of that", serf_agent_gave(&agent, &gave), SERF_AGENT_OK);
+        holds("it was taken before", gave.kind == SERF_AGENT_GAVE_IGNORED && gave.reason == SERF_AGENT_SEEN);
+        is("close", serf_agent_close(&agent), SERF_AGENT_OK);
+    }
+}
+
+static void verdicts(void) {
+    hands_out("no filter", "", false, true);
+    hands_out("no filter, and tags that pass", "", true, true);
+    hands_out("a tag", TAG, false, false);
+    hands_out("a tag that passes", TAG, true, true);
+    hands_out("its name and tags that pass", NODE TAG TAG, true, true);
+    hands_out("another name and a tag that passes", TAG OTHER, true, false);
+    hands_out("an unknown filter and a tag that passes", TAG UNKNOWN, true, false);
+    hands_out("its name and tags that don't pass", NODE TAG, false, false);
+    struct serf_agent agent = {0};
+    is("an empty handle", serf_agent_receive_tagged(&agent, 1, NULL, 0, true), SERF_AGENT_EMPTY);
+    is("an empty handle", serf_agent_burst_receive_tagged(&agent, 1, NULL, 0, true), SERF_AGENT_EMPTY);
+    is("open", serf_agent_open(&agent, BYTES("b"), &settings, NULL, 0), SERF_AGENT_OK);
+    is("no message", serf_agent_receive_tagged(&agent, 1, NULL, 0, true), SERF_AGENT_NO_MESSAGE);
+    is("close", serf_agent_close(&agent), SERF_AGENT_OK);
+}
+
 int main(void) {
+    filters();
+    verdicts();
     times_of_members();
     intents();
     written_intents();

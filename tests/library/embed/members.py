@@ -7,7 +7,8 @@ import os
 import sys
 
 sys.path.insert(0, os.path.join(os.path.dirname(os.path.abspath(__file__)), "..", "..", "..", "bindings", "python"))
-from serf_agent import Agent, AgentError, Code, Fault, intent, intent_fault, Join, Leave, Members, PacketFault, state_members
+from serf_agent import Agent, AgentError, Code, Fault, intent, intent_fault, Join, Kind, Leave, Members, PacketFault
+from serf_agent import query_filters, state_members, TAG_FILTER
 
 FOLDER = sys.argv[1]
 passed = failed = 0
@@ -102,7 +103,42 @@ def member_times():
     refused("closed", Code.EMPTY, agent.observe_member, 1)
 
 
-for part in (intents, members, times, member_times):
+# Filters of the node b, of another one, of a tag, and of a type that nobody knows; and whether b gets a query of them,
+# where its host says that its tags don't pass, and where it says that they do.
+NODE, OTHER, TAG, UNKNOWN = b"\x00\x91\xa1b", b"\x00\x91\xa1c", b"\x01\x82\xa4Expr\xa0\xa3Tag\xa1a", b"\x02"
+VERDICTS = {
+    (): (True, True),
+    (TAG,): (False, True),
+    (NODE, TAG, TAG): (False, True),
+    (TAG, OTHER): (False, False),
+    (TAG, UNKNOWN): (False, False),
+    (NODE,): (True, True),
+    (b"",): (False, False),
+}
+
+
+def verdicts():
+    with Agent(b"q", os.path.join(FOLDER, "q")) as asks, Agent(b"b", os.path.join(FOLDER, "d")) as agent:
+        for filters, wanted in VERDICTS.items():
+            for passes, handed in zip((False, True), wanted):
+                packet = asks.query(1, 7, b"who", timeout=1000, filters=filters).packet
+                found = query_filters(packet)
+                check(f"the filters {filters}", found == filters, found)
+                check("of tags", [one[:1] == bytes([TAG_FILTER]) for one in found] == [one is TAG for one in filters])
+                got = agent.receive(1, packet, tags_pass=passes)
+                check(f"{filters}, {passes}", got.kind is Kind.QUERY and (got.query is not None) == handed, got)
+                packet = asks.query(1, 7, b"who", timeout=1000, filters=filters).packet
+                with agent.burst() as burst:
+                    burst.receive(1, packet, passes)
+                check(f"{filters}, {passes}, in a burst", (burst.outcomes[0].query is not None) == handed, burst.outcomes)
+        packet = asks.query(1, 7, b"who", timeout=1000, filters=[TAG]).packet
+        check("where nothing is said", agent.receive(1, packet).query is None)
+        refused("a verdict that is no bool", TypeError, agent.receive, 1, packet, 1)
+    for packet in (b"", b"\x04", b"\x03\x80", packet[:-1], *OF_SERF):
+        check(f"no filters in {packet}", query_filters(packet) is None)
+
+
+for part in (intents, members, times, member_times, verdicts):
     part()
 print(f"{passed} passed, {failed} failed")
 sys.exit(1 if failed else 0)

@@ -1,6 +1,7 @@
 /* What stands before the library where a host's first merge, its first query with filters, its first state with members and
  * its first burst are to run out of memory: SERF_AGENT_GRANTED says how many requests each is granted. The second such query
- * and the second such state are granted none. All else is granted. A burst lasts until its last outcome is read. The library's own calls have other names then (starved.py gives them). */
+ * and the second such state are granted none. All else is granted. A burst lasts until its last outcome is read. The
+ * library's own calls have other names then (starved.py gives them). */
 #include "serf_agent.h"
 
 #include <stdlib.h>
@@ -22,6 +23,8 @@ uint32_t whole_add_status(struct serf_agent *handle, const uint8_t *name, size_t
 uint32_t whole_add_left(struct serf_agent *handle, const uint8_t *name, size_t name_len);
 uint32_t whole_local_state(struct serf_agent *handle);
 uint32_t whole_burst_receive(struct serf_agent *handle, uint64_t now, const uint8_t *packet, size_t packet_len);
+uint32_t whole_burst_receive_tagged(struct serf_agent *handle, uint64_t now, const uint8_t *packet, size_t packet_len,
+                                    bool tags_pass);
 uint32_t whole_burst_fire(struct serf_agent *handle, const uint8_t *name, size_t name_len, const uint8_t *payload,
                           size_t payload_len, bool coalesce);
 uint32_t whole_burst_filter(struct serf_agent *handle, const uint8_t *filter, size_t filter_len);
@@ -119,6 +122,12 @@ uint32_t serf_agent_local_state(struct serf_agent *handle) {
 uint32_t serf_agent_burst_receive(struct serf_agent *handle, uint64_t now, const uint8_t *packet, size_t packet_len) {
     begin(&bursts);
     return ended(&bursts, whole_burst_receive(handle, now, packet, packet_len), false);
+}
+
+uint32_t serf_agent_burst_receive_tagged(struct serf_agent *handle, uint64_t now, const uint8_t *packet, size_t packet_len,
+                                         bool tags_pass) {
+    begin(&bursts);
+    return ended(&bursts, whole_burst_receive_tagged(handle, now, packet, packet_len, tags_pass), false);
 }
 
 uint32_t serf_agent_burst_fire(struct serf_agent *handle, const uint8_t *name, size_t name_len, const uint8_t *payload,

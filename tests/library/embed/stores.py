@@ -71,6 +71,10 @@ class Cases:
     def check(self, name, holds, said=""):
         self.count.check(f"{self.language}'s store: {name}", holds, said)
 
+    def is_nothing_beside(self, path):
+        """Whether a replacement that failed has left nothing beside the file."""
+        return not os.path.exists(path + ".new")
+
     def says(self, name, driver, line, wanted):
         said = driver.says(line)
         self.check(name, said == wanted, f"{line[:60]}: {said}, and {wanted} was wanted")
@@ -200,7 +204,7 @@ def full(cases):
         cases.says("open again", driver, f"open {path}", "ok")
         cases.says("replace on a full disk", driver, f"replace {much}{much}", "Full")
         cases.check(
-            "the old text stays", read(path).startswith(b"a" * 40) and not os.path.exists(path + ".new"), read(path)
+            "the old text stays", read(path).startswith(b"a" * 40) and cases.is_nothing_beside(path), read(path)
         )
         cases.says("close a broken one", driver, "close", "ok")
         cases.says("open a third time", driver, f"open {path}", "ok")

@@ -100,7 +100,6 @@ class InGo(Store):
             GOFLAGS="-mod=mod",
             GOPROXY="off",
             GO111MODULE="on",
-            GOCACHE=places.of("go_cache"),
         )
         self.paths = {False: places.of("go_host"), True: places.of("go_planted")}
         for is_planted, path in self.paths.items():

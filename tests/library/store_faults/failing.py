@@ -3,6 +3,7 @@
 strace has one call answer an error, or wait. Each part is one of embed/stores.py's kind: it takes the cases of a store.
 """
 
+import fcntl
 import os
 import stat
 import time
@@ -73,8 +74,13 @@ def failed_read(cases):
 
 
 def failed_sync_of_a_line(cases):
+    failed_sync(cases, "fdatasync", 1)
+
+
+def failed_sync(cases, calls, number):
+    """The sync of this number is that of the first line, and fails."""
     path = old_file(cases, "line")
-    with Traced(cases.words, "fdatasync", "error=EIO:when=1") as driver:
+    with Traced(cases.words, calls, f"error=EIO:when={number}") as driver:
         cases.says("open", driver, f"open {path}", "ok")
         cases.says("append", driver, "append 620a", "Failed")
         cases.says("append more", driver, "append 630a", "Broken")
@@ -89,7 +95,7 @@ def failing_replacement(cases, path, calls, how, of, text):
         cases.says("replace", driver, "replace 620a", "Failed")
         cases.says("append", driver, "append 630a", "Broken")
     cases.check("the text", stores.read(path) == text, stores.read(path))
-    cases.check("nothing is left beside it", not os.path.exists(path + ".new"))
+    cases.check("nothing is left beside it", cases.is_nothing_beside(path))
 
 
 def failed_sync_beside(cases):
@@ -136,6 +142,28 @@ def replaced_before_its_lock(cases):
     cases.check("the new text is read", text == "62 ok", text)
 
 
+def is_locked(path):
+    """Whether somebody has the lock of the file that has this name now, as each store asks for it."""
+    with open(path, "rb") as file:
+        try:
+            fcntl.flock(file, fcntl.LOCK_EX | fcntl.LOCK_NB)
+        except BlockingIOError:
+            return True
+    return False
+
+
+def lock_of_the_text(cases):
+    """The lock is that of the text's own file, so that all stores exclude each other."""
+    path = old_file(cases, "own_lock")
+    with stores.Driver(cases.words) as driver:
+        cases.says("open", driver, f"open {path}", "ok")
+        cases.check("the text is locked", is_locked(path))
+        cases.says("replace", driver, "replace 620a", "ok")
+        cases.check("what replaced it is locked", is_locked(path))
+        cases.says("close", driver, "close", "ok")
+        cases.check("it is free", not is_locked(path))
+
+
 def made(cases):
     path = cases.path("made")
     before = os.umask(0)
@@ -158,6 +186,7 @@ PARTS = {
         stores.read_only,
         stores.full,
         made,
+        lock_of_the_text,
         replaced_before_its_lock,
         failed_removal,
         failed_read,

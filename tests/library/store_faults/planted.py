@@ -1,6 +1,7 @@
-"""The wrong bodies of the bindings' stores, planted into copies of their sources: each step of a store has two or more.
+"""The wrong bodies of the stores, planted into copies of their sources: each step of a store has two or more.
 
-One copy of a store has them all, and the environment's STORE_FAULT says which is on. languages.py has the edits.
+One copy of a store has them all, and the environment's STORE_FAULT says which is on. languages.py has the edits of the
+bindings' stores, and system_file.py those of the file of the system beneath `FileStore`.
 """
 
 from collections import namedtuple
@@ -63,13 +64,28 @@ FAULTS = {
     "writes_broken": Fault(BROKEN, "a refused append is written", "read_only", "its text stays"),
 }
 
+# Of the file beneath `FileStore`, beside those of FAULTS that are no bodies of what stands on that file: a contract refuses
+# these, which speak of an opening's syncs and of a store that failed.
+OF_CONTRACTS = ("opened_text_ok", "opened_name_ok", "goes_on", "refused_once", "writes_broken")
+FILE_FAULTS = {name: fault for name, fault in FAULTS.items() if name not in OF_CONTRACTS} | {
+    "lock_another": Fault(LOCK, "another file is locked in the text's place", "lock_of_the_text", "the text is locked"),
+    "link_made": Fault(PLAIN, "the file that a link names is made", "no_plain_files", "a link to nothing"),
+    "write_nothing": Fault(WRITE, "nothing is written", "full", "what was there stays"),
+    "no_line": Fault(LINE, "a line isn't synced", "failed_sync_of_a_line", "append"),
+    "no_text": Fault(TEXT, "the text beside isn't synced", "failed_sync_beside", "replace"),
+    "no_name": Fault(NAME, "the folder isn't synced", "failed_sync_of_the_folder", "replace"),
+    "old_file": Fault(RENAME, "the old file is written on", "plain_file", "what is there"),
+    "opened_anew": Fault(RENAME, "the new file is opened anew, without its lock", "locks", "behind a replacement"),
+    "read_ok": Fault(READ, "a failed read is an empty text", "failed_read", "open"),
+}
+
 # Of these steps the power cuts have a wrong body too: its name there (tests/library/power_cuts/faults.py).
 OF_POWER_CUTS = {OPENED_TEXT: "opened_text", OPENED_NAME: "opened_name", LINE: "line", TEXT: "text", NAME: "name"}
 
 
-def steps():
+def steps(faults=FAULTS):
     """Each step, with its wrong bodies that are planted here."""
     found = {}
-    for fault in FAULTS.values():
+    for fault in faults.values():
         found.setdefault(fault.step, []).append(fault)
     return found

@@ -16,6 +16,15 @@ pub enum Call<'a> {
         /// The packet, with its type byte in front.
         packet: &'a [u8],
     },
+    /// A packet of the network, with what the host says of tag filters, as [`Agent::receive_tagged`] has it.
+    ReceiveTagged {
+        /// The moment.
+        now: u64,
+        /// The packet, with its type byte in front.
+        packet: &'a [u8],
+        /// Whether the host's tags pass every tag filter of the packet's query.
+        tags_pass: bool,
+    },
     /// An event to fire.
     Fire {
         /// The event's name.
@@ -61,7 +70,7 @@ pub(super) enum Made {
 impl Call<'_> {
     fn made(&self) -> Made {
         match self {
-            Call::Receive { packet, .. } => Made::Received(packet.to_vec()),
+            Call::Receive { packet, .. } | Call::ReceiveTagged { packet, .. } => Made::Received(packet.to_vec()),
             Call::Fire { .. } => Made::Fired,
             Call::Query { .. } => Made::Asked,
         }
@@ -144,6 +153,10 @@ impl Agent {
         let code = match call {
             // SAFETY: the pointer comes with its length.
             Call::Receive { now, packet } => unsafe { raw::serf_agent_burst_receive(&mut *self.handle, now, packet.as_ptr(), packet.len()) },
+            Call::ReceiveTagged { now, packet, tags_pass } => {
+                // SAFETY: the pointer comes with its length.
+                unsafe { raw::serf_agent_burst_receive_tagged(&mut *self.handle, now, packet.as_ptr(), packet.len(), tags_pass) }
+            }
             Call::Fire { name, payload, coalesce } => {
                 // SAFETY: each pointer comes with its length.
                 unsafe { raw::serf_agent_burst_fire(&mut *self.handle, name.as_ptr(), name.len(), payload.as_ptr(), payload.len(), coalesce) }

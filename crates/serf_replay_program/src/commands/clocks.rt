@@ -22,7 +22,7 @@ pub(crate) fn command<'a>(alloc: Global) -> Result<Command<'a>, AllocError> {
     with(Ok(bare_command(alloc, "clocks", about, example)), file)
 }
 
-/// Appends these lines, each behind a few words.
+/// Appends these lines, each after a few words.
 fn put_behind(text: &mut Vec<u8>, words: &[u8], lines: &[u8]) -> Result<(), AllocError> {
     let mut begins = true;
     for byte in lines {

@@ -35,7 +35,7 @@ struct Asked<'a> {
     shrinking: Shrinking<'a>,
     /// The file of the report for machines; `None` where none is asked for.
     report: Option<&'a str>,
-    /// How many disagreements of seeds are told; `None` where the first one ends it.
+    /// How many disagreements of seeds are reported; `None` where the first one ends it.
     go_on: Option<u64>,
     /// Whether it is shown how far a hunt is.
     is_terminal: bool,
@@ -120,7 +120,7 @@ fn shrinking_of<'a>(matches: &ArgMatches<'a>) -> Option<Shrinking<'a>> {
     Some(Shrinking { is_wanted, save })
 }
 
-/// How many disagreements are told; `None` where the option doesn't stand with the others: fewer calls are tried of one.
+/// How many disagreements are reported; `None` where the option doesn't stand with the others: fewer calls are tried of one.
 fn go_on_of(matches: &ArgMatches) -> Option<Option<u64>> {
     let go_on = matches.get_one::<u64>("go-on");
     if go_on.is_some() && (matches.get_flag("shrink") || matches.get_str("random").is_none()) {

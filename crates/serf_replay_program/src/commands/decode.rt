@@ -21,13 +21,13 @@ pub(crate) fn command<'a>(alloc: Global) -> Result<Command<'a>, AllocError> {
     with(Ok(bare_command(alloc, "decode", about, example)), hex)
 }
 
-/// Tells of framing on standard error, a line for each packet.
+/// Reports framing on standard error, a line for each packet.
 #[derive(Drop)]
 struct Told<'a, R> {
     rt: &'a R,
 }
 
-/// What is told of a packet.
+/// What is said of a packet.
 fn said_of(framing: Framing) -> &'static str {
     match framing {
         Framing::Probe => "looks like memberlist's own: a ping or an ack",
@@ -46,7 +46,7 @@ impl<R: Eprint> FramingNotes for Told<'_, R> {
     }
 }
 
-/// Tells of a packet that is given alone.
+/// Reports a packet that is given alone.
 fn tell_alone(rt: &impl Eprint, packet: &[u8]) {
     if let Some(framing) = framing_of(packet) {
         let said = said_of(framing);
@@ -101,7 +101,7 @@ fn other_place(text: &str) -> Option<u64> {
     None
 }
 
-/// Tells why a word is no packet in hex. Of one that names a file the second line says how a file is read.
+/// Says why a word is no packet in hex. Of one that names a file the second line says how a file is read.
 fn bad_hex<F: Files>(files: &F, rt: &impl Eprint, text: &str) -> u8 {
     match other_place(text) {
         Some(place) => {

@@ -76,7 +76,7 @@ fn asked_of(matches: &ArgMatches, agents: Vec<u64>, event: Option<Bytes>) -> Ask
     }
 }
 
-/// Tells on standard error that a picture has nothing to show.
+/// Says on standard error that a picture has nothing to show.
 fn tell_empty(rt: &impl Eprint, picture: &Picture) {
     if picture.lanes.is_empty() {
         let _ = eprintln!(rt; "the schedule has no agents: the picture is empty");
@@ -98,7 +98,7 @@ fn lanes_of<R: Eprint + AllocGlobal>(
     }
 }
 
-/// Tells of an agent that the schedule doesn't have.
+/// Reports an agent that the schedule doesn't have.
 fn no_agent(rt: &impl Eprint, agent: u64, count: u64) -> u8 {
     let _ = eprintln!(rt;
         "error: --agent {agent}: the schedule has {count} agents, counted from 0"

@@ -1,4 +1,4 @@
-//! `encode`: texts of messages to packets, with an empty line behind each text.
+//! `encode`: texts of messages to packets, with an empty line after each text.
 
 use crate::ending::{DONE, REFUSED, bad_line_for, no_memory, read_failed, write_failed};
 use crate::options::bare_command;

@@ -38,7 +38,7 @@ fn range_of(matches: &ArgMatches, agent: Option<u64>) -> Range {
     }
 }
 
-/// Tells of a range that has no action of a schedule with so many.
+/// Reports a range that has no action of a schedule with so many.
 fn tell_empty(rt: &impl Eprint, range: &Range, actions: u64) {
     let Range { from, to, .. } = *range;
     if from > actions {

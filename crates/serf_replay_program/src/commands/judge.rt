@@ -54,7 +54,7 @@ fn log_of<F: Files, R: Input + Print + Eprint + AllocGlobal>(
     })
 }
 
-/// A log, and behind it the log of a file; or the status of a fault.
+/// A log, and after it the log of a file; or the status of a fault.
 fn log_behind<F: Files, R: Input + Print + Eprint + AllocGlobal>(
     files: &F,
     rt: &R,
@@ -65,7 +65,7 @@ fn log_behind<F: Files, R: Input + Print + Eprint + AllocGlobal>(
     join_logs(log, more).map_err(|_| no_memory(rt))
 }
 
-/// The logs of these files, one behind another, and where each begins; or the status of a fault.
+/// The logs of these files, one after another, and where each begins; or the status of a fault.
 fn logs_of<'a, F: Files, R: Input + Print + Eprint + AllocGlobal>(
     files: &F,
     rt: &R,

@@ -18,7 +18,7 @@ use std::time::Clock;
 
 const EXAMPLE: &str = "Example: serf-replay replay examples/deploy_gossiped_twice.schedule";
 
-/// What may stand behind `--as`.
+/// What may stand after `--as`.
 const FORMS: &str = "text, csv or json, where --summary is given too";
 
 /// What the command takes.

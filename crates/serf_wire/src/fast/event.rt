@@ -23,7 +23,7 @@ struct EventFields<'a> {
     coalesce: Option<bool>,
 }
 
-/// Adds the pair at the front.
+/// Adds the pair at the start.
 #[inline(always)]
 fn read_pair<'a>(found: &mut EventFields<'a>, bytes: &'a [u8]) -> Option<&'a [u8]>
     ensures { IfSome result (λ rest. Extends IsEventSoFar found.old found.new bytes.now rest.now) }

@@ -13,7 +13,7 @@ use crate::laws::laws_below;
 use crate::lists::{EventView, EventViews, SlotView, SlotViews};
 use serf_lamport::Time;
 
-/// The name at the front, behind its key, and what follows it.
+/// The name at the start, after its key, and what follows it.
 #[inline(always)]
 fn read_name(bytes: &[u8]) -> Option<(&[u8], &[u8])>
     ensures { IfSome result (λ x. ReadsPair 9 text (codes "Name") x.0.now bytes.now x.1.now) }
@@ -24,7 +24,7 @@ fn read_name(bytes: &[u8]) -> Option<(&[u8], &[u8])>
     read_text(value)
 }
 
-/// The payload at the front, behind its key, and what follows it.
+/// The payload at the start, after its key, and what follows it.
 #[inline(always)]
 fn read_payload(bytes: &[u8]) -> Option<(&[u8], &[u8])>
     ensures { IfSome result (λ x. ReadsPair 9 text (codes "Payload") x.0.now bytes.now x.1.now) }
@@ -35,7 +35,7 @@ fn read_payload(bytes: &[u8]) -> Option<(&[u8], &[u8])>
     read_text(value)
 }
 
-/// The event at the front, and what follows it.
+/// The event at the start, and what follows it.
 #[inline(always)]
 pub fn read_event(bytes: &[u8]) -> Option<(EventView<'_>, &[u8])>
     ensures { IfSome result (λ x. ReadsIn 8 event_body (event_of_view x.0) bytes.now x.1.now) }
@@ -49,7 +49,7 @@ pub fn read_event(bytes: &[u8]) -> Option<(EventView<'_>, &[u8])>
     Some((EventView { name, payload }, rest))
 }
 
-/// What follows so many events at the front.
+/// What follows so many events at the start.
 fn skip_events(count: u64, bytes: &[u8]) -> Option<&[u8]>
     ensures { IfSome result (λ rest. AreItems 8 event_body count bytes.now rest.now) }
 {
@@ -63,7 +63,7 @@ fn skip_events(count: u64, bytes: &[u8]) -> Option<&[u8]>
     Some(rest)
 }
 
-/// What follows a list of events at the front.
+/// What follows a list of events at the start.
 #[inline(always)]
 fn skip_event_list(bytes: &[u8]) -> Option<&[u8]>
     ensures { IfSome result (λ rest. Spans 7 (list event_body) bytes.now rest.now) }
@@ -73,7 +73,7 @@ fn skip_event_list(bytes: &[u8]) -> Option<&[u8]>
     skip_events(count, items)
 }
 
-/// The list of events at the front, and what follows it.
+/// The list of events at the start, and what follows it.
 #[inline(always)]
 fn read_event_list(bytes: &[u8]) -> Option<(EventViews<'_>, &[u8])>
     ensures { IfSome result (λ x. ReadsIn 7 (list event_body) (events_left x.0) bytes.now x.1.now) }
@@ -83,7 +83,7 @@ fn read_event_list(bytes: &[u8]) -> Option<(EventViews<'_>, &[u8])>
     Some((EventViews::of(Some(list)), rest))
 }
 
-/// The list of events at the front, behind its key, and what follows it.
+/// The list of events at the start, after its key, and what follows it.
 #[inline(always)]
 fn read_events(bytes: &[u8]) -> Option<(EventViews<'_>, &[u8])>
     ensures { IfSome result (λ x.
@@ -95,7 +95,7 @@ fn read_events(bytes: &[u8]) -> Option<(EventViews<'_>, &[u8])>
     read_event_list(value)
 }
 
-/// The time at the front, behind its key, and what follows it.
+/// The time at the start, after its key, and what follows it.
 #[inline(always)]
 fn read_time(bytes: &[u8]) -> Option<(u64, &[u8])>
     ensures { IfSome result (λ x. ReadsPair 7 time (codes "LTime") x.0 bytes.now x.1.now) }
@@ -110,7 +110,7 @@ fn read_time(bytes: &[u8]) -> Option<(u64, &[u8])>
     Some((number, rest))
 }
 
-/// The slot at the front, a map whose time stands first, and what follows it. So our encoder writes it.
+/// The slot at the start, a map whose time stands first, and what follows it. So our encoder writes it.
 #[inline(always)]
 fn read_time_first(fields: &[u8]) -> Option<(u64, EventViews<'_>, &[u8])>
     ensures { IfSome result (λ x.
@@ -126,7 +126,7 @@ fn read_time_first(fields: &[u8]) -> Option<(u64, EventViews<'_>, &[u8])>
     }
 }
 
-/// The slot at the front, a map whose events stand first, and what follows it. So Serf writes it.
+/// The slot at the start, a map whose events stand first, and what follows it. So Serf writes it.
 #[inline(always)]
 fn read_events_first(fields: &[u8]) -> Option<(u64, EventViews<'_>, &[u8])>
     ensures { IfSome result (λ x.
@@ -142,7 +142,7 @@ fn read_events_first(fields: &[u8]) -> Option<(u64, EventViews<'_>, &[u8])>
     }
 }
 
-/// The slot at the front that holds a time, and what follows it.
+/// The slot at the start that holds a time, and what follows it.
 #[inline(always)]
 fn read_held(bytes: &[u8]) -> Option<(u64, EventViews<'_>, &[u8])>
     ensures { IfSome result (λ x. ReadsIn 6 slot (held x.0 (events_left x.1)) bytes.now x.2.now) }
@@ -156,7 +156,7 @@ fn read_held(bytes: &[u8]) -> Option<(u64, EventViews<'_>, &[u8])>
     }
 }
 
-/// The slot at the front, and what follows it.
+/// The slot at the start, and what follows it.
 #[inline(always)]
 pub fn read_slot(bytes: &[u8]) -> Option<(SlotView<'_>, &[u8])>
     ensures { IfSome result (λ x. ReadsIn 6 slot (slot_of_view x.0) bytes.now x.1.now) }
@@ -173,7 +173,7 @@ pub fn read_slot(bytes: &[u8]) -> Option<(SlotView<'_>, &[u8])>
     }
 }
 
-/// What follows so many slots at the front.
+/// What follows so many slots at the start.
 fn skip_slots(count: u64, bytes: &[u8]) -> Option<&[u8]>
     ensures { IfSome result (λ rest. AreItems 6 slot count bytes.now rest.now) }
 {
@@ -187,7 +187,7 @@ fn skip_slots(count: u64, bytes: &[u8]) -> Option<&[u8]>
     Some(rest)
 }
 
-/// What follows a list of slots at the front.
+/// What follows a list of slots at the start.
 fn skip_slot_list(bytes: &[u8]) -> Option<&[u8]>
     ensures { IfSome result (λ rest. Spans 5 (list slot) bytes.now rest.now) }
 {
@@ -201,7 +201,7 @@ fn skip_slot_list(bytes: &[u8]) -> Option<&[u8]>
     }
 }
 
-/// The list of slots at the front, and what follows it.
+/// The list of slots at the start, and what follows it.
 fn read_slots(bytes: &[u8]) -> Option<(SlotViews<'_>, &[u8])>
     ensures { IfSome result (λ x. ReadsIn 5 (list slot) (slots_left x.0) bytes.now x.1.now) }
 {
@@ -210,7 +210,7 @@ fn read_slots(bytes: &[u8]) -> Option<(SlotViews<'_>, &[u8])>
     Some((SlotViews::of(Some(list)), rest))
 }
 
-/// The list of slots at the front, of which nothing was found before.
+/// The list of slots at the start, of which nothing was found before.
 pub fn once_slots<'a>(
     found: Option<SlotViews<'a>>,
     bytes: &'a [u8],

@@ -27,7 +27,7 @@ struct StateFields<'a> {
     query_clock: Option<u64>,
 }
 
-/// Adds the pair at the front.
+/// Adds the pair at the start.
 fn read_pair<'a>(found: &mut StateFields<'a>, bytes: &'a [u8]) -> Option<&'a [u8]>
     ensures { IfSome result (λ rest. Extends IsStateSoFar found.old found.new bytes.now rest.now) }
 {

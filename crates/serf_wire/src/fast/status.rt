@@ -12,7 +12,7 @@ use crate::compact::{read_long_map_head, read_number, read_raw, skip_nil, view_b
 use crate::laws::laws_below;
 use crate::lists::StatusTimes;
 
-/// What follows a name and its time at the front.
+/// What follows a name and its time at the start.
 #[inline(always)]
 fn skip_status_time(bytes: &[u8]) -> Option<&[u8]>
     ensures { IfSome result (λ rest. SpansStatusTime bytes.now rest.now) }
@@ -22,7 +22,7 @@ fn skip_status_time(bytes: &[u8]) -> Option<&[u8]>
     Some(rest)
 }
 
-/// What follows so many names with their times at the front.
+/// What follows so many names with their times at the start.
 fn skip_status_times(count: u64, bytes: &[u8]) -> Option<&[u8]>
     ensures { IfSome result (λ rest. AreParts status_part_bytes count bytes.now rest.now) }
 {
@@ -36,7 +36,7 @@ fn skip_status_times(count: u64, bytes: &[u8]) -> Option<&[u8]>
     Some(rest)
 }
 
-/// What follows a map of names and times at the front.
+/// What follows a map of names and times at the start.
 fn skip_status(bytes: &[u8]) -> Option<&[u8]>
     ensures { IfSome result (λ rest. Spans 8 status bytes.now rest.now) }
 {
@@ -50,7 +50,7 @@ fn skip_status(bytes: &[u8]) -> Option<&[u8]>
     }
 }
 
-/// The names with their times at the front, and what follows them.
+/// The names with their times at the start, and what follows them.
 fn read_status(bytes: &[u8]) -> Option<(StatusTimes<'_>, &[u8])>
     ensures { IfSome result (λ x. ReadsIn 8 status (status_left x.0) bytes.now x.1.now) }
 {
@@ -59,7 +59,7 @@ fn read_status(bytes: &[u8]) -> Option<(StatusTimes<'_>, &[u8])>
     Some((StatusTimes::of(Some(map)), rest))
 }
 
-/// The names with their times at the front, of which nothing was found before.
+/// The names with their times at the start, of which nothing was found before.
 pub fn once_status<'a>(
     found: Option<StatusTimes<'a>>,
     bytes: &'a [u8],

@@ -3,4 +3,4 @@ use Rattle.serf_agent.specs.Queries.{all_pass}
 use Rattle.serf_agent.proofs.queries.lent_filters_pass.Given as goal
 
 abbrev pub invariant-loop-filter : goal.invariant-loop-filter
-invariant-loop-filter l = all_pass (texts_left l.filter-iterator) l.node ≡ all_pass (texts_left l.fn.filters) l.node
+invariant-loop-filter l = all_pass l.tags_pass (texts_left l.filter-iterator) l.node ≡ all_pass l.tags_pass (texts_left l.fn.filters) l.node

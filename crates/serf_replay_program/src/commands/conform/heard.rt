@@ -3,7 +3,7 @@
 use serf_conform::ConformFault;
 use std::io::{self, Read};
 
-/// What is told of an agent that ended before it wrote a whole reply.
+/// What is said of an agent that ended before it wrote a whole reply.
 pub(super) const SILENT: &str = "the agent ended before its first reply";
 
 /// A reader that knows whether anything came.

@@ -20,7 +20,7 @@ use std::time::Clock;
 struct Part {
     /// What is asked for of each seed, in the place of its own seed.
     ask: Ask,
-    /// The kind's name, where it is told; else empty.
+    /// The kind's name, where it is printed; else empty.
     name: &'static str,
     /// The first seed that wasn't held.
     next: u64,
@@ -60,7 +60,7 @@ impl Part {
 
 /// What came of a hunt.
 enum Came {
-    /// An agent did otherwise, behind which it may go on.
+    /// An agent did otherwise, after which it may go on.
     Found,
     /// All seeds of the kind were held; the status.
     Held(u8),
@@ -68,7 +68,7 @@ enum Came {
     Ended(u8),
 }
 
-/// Prints the kind before what is told, where that is to be said.
+/// Prints the kind before what is reported, where that is to be said.
 fn say_kind(rt: &impl Eprint, part: &Part) {
     if !part.name.is_empty() {
         let name = part.name;
@@ -83,7 +83,7 @@ fn made_again(alloc: Global, ask: Ask, seed: u64) -> Result<(Vec<u8>, Case), All
     Ok((made.text, case))
 }
 
-/// Tells which agent of which seed does otherwise, and gives the status.
+/// Reports which agent of which seed does otherwise, and gives the status.
 fn tell_found<F: Files, R: Clock + Eprint + AllocGlobal, I: Read, O: Write>(
     files: &F,
     rt: &R,
@@ -106,14 +106,14 @@ fn tell_found<F: Files, R: Clock + Eprint + AllocGlobal, I: Read, O: Write>(
     shrink_found(files, rt, asked, &case, agent, verdict, reader, writer)
 }
 
-/// Tells where an agent was found.
+/// Reports where an agent was found.
 fn tell_place(rt: &impl Eprint, part: &Part, seed: u64) {
     let Part { agreed, calls, .. } = part;
     say_kind(rt, part);
     let _ = eprintln!(rt; "seed {seed}: {agreed} seeds and {calls} calls agree before");
 }
 
-/// Tells what came of all seeds of a kind, and gives the status.
+/// Reports what came of all seeds of a kind, and gives the status.
 fn tell_end(rt: &impl Eprint, part: &Part) -> u8 {
     let Part {
         agreed,
@@ -141,7 +141,7 @@ fn fault_told(rt: &impl Eprint, part: &Part, fault: &HuntFault, has_any: bool) -
     status_of(fault)
 }
 
-/// Holds an agent against the seeds of a kind that are left, up to the first that it does otherwise on, and tells what
+/// Holds an agent against the seeds of a kind that are left, up to the first that it does otherwise on, and reports what
 /// came of it.
 fn hold_on<F: Files, R: Clock + Eprint + AllocGlobal, I: Read, O: Write>(
     files: &F,
@@ -187,7 +187,7 @@ fn hold_on<F: Files, R: Clock + Eprint + AllocGlobal, I: Read, O: Write>(
     Came::Found
 }
 
-/// Holds an agent against all seeds of a kind, and goes on behind a disagreement as often as is asked for. Gives the
+/// Holds an agent against all seeds of a kind, and goes on after a disagreement as often as is asked for. Gives the
 /// status with which it goes on, or that which ends all.
 fn hold_kind<F: Files, R: Clock + Eprint + AllocGlobal, I: Read, O: Write>(
     files: &F,

@@ -1,4 +1,4 @@
-//! What is told of an agent that was held, on standard error.
+//! What is said of an agent that was held, on standard error.
 
 use super::heard::SILENT;
 use super::reporting::Reporting;
@@ -37,7 +37,7 @@ fn say<R: Eprint + AllocGlobal>(rt: &R, text: &[u8]) {
     }
 }
 
-/// Prints each line of a text behind this word.
+/// Prints each line of a text after this word.
 fn say_lines<R: Eprint + AllocGlobal>(rt: &R, word: &[u8], text: &[u8]) -> Result<(), AllocError> {
     let mut before = word;
     for line in text.split(|b| *b == b'\n') {
@@ -146,7 +146,7 @@ fn look_and_wanted(alloc: Global, look: &Look) -> Result<(Vec<u8>, Reply), Alloc
 }
 
 /// Where a call stands: its agent, and its action with the line of the schedule, or no action for the opening. A look
-/// stands behind an action.
+/// stands after an action.
 fn place_text(
     alloc: Global,
     text: &[u8],
@@ -174,7 +174,7 @@ fn head_of(alloc: Global, place: &str, call: &[u8]) -> Result<Vec<u8>, AllocErro
     Ok(head)
 }
 
-/// Tells where an agent is told apart from the reference, and how, and adds it to the report.
+/// Reports where an agent is told apart from the reference, and how, and adds it to the report.
 fn tell<R: Eprint + AllocGlobal>(
     rt: &R,
     reporting: &mut Reporting,
@@ -208,7 +208,7 @@ fn tell<R: Eprint + AllocGlobal>(
     say_what_differs(rt, &wanted, got)
 }
 
-/// What is told in the place of a reply, where the agent ended. The sums have its verdict already.
+/// What is printed in place of a reply, where the agent ended. The sums have its verdict already.
 fn ended_words(reporting: &Reporting, verdict: &Verdict) -> &'static [u8] {
     let is_first = reporting.counts.agents <= 1 && verdict.calls == 0;
     if is_first {

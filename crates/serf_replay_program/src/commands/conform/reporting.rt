@@ -84,9 +84,9 @@ impl<'a> Reporting<'a> {
         put_sums(&mut self.text, &sums)
     }
 
-    /// Tells of agents and looks that are unsupported, and writes the report, where one is asked for. Gives the status:
+    /// Reports agents and looks that are unsupported, and writes the report, where one is asked for. Gives the status:
     /// this one, that of a disagreement where no call but `open` was compared, or that of a device that failed. Where a hunt
-    /// ended at a fault before any disagreement, there is nothing to tell.
+    /// ended at a fault before any disagreement, there is nothing to report.
     pub(super) fn finish<F: Files>(&mut self, files: &F, rt: &impl Eprint, status: u8) -> u8 {
         if self.has_fault && self.disagreements == 0 {
             return status;
@@ -106,7 +106,7 @@ impl<'a> Reporting<'a> {
     }
 }
 
-/// Tells of how many agents the comparison ended at an unsupported call, and how many looks are unsupported. Where by that
+/// Reports how many agents the comparison ended at an unsupported call, and how many looks are unsupported. Where by that
 /// no call but the openings was compared, all that agrees says nothing, and the status is that of a disagreement.
 fn told_unsupported(rt: &impl Eprint, counts: Counts, status: u8) -> u8 {
     let Counts {

@@ -18,7 +18,7 @@ fn lines_of(alloc: Global, text: &str) -> Result<Vec<&str>, AllocError> {
     Ok(lines)
 }
 
-/// How many lines two texts have in common at their front.
+/// How many lines two texts have in common at their start.
 fn common_front(left: &[&str], right: &[&str]) -> usize {
     let mut count: usize = 0;
     for (one, other) in left.iter().zip(right.iter()) {
@@ -61,14 +61,14 @@ fn say_pairs(rt: &impl Eprint, wanted: &[&str], got: &[&str]) {
     }
 }
 
-/// Prints these lines, each behind this word.
+/// Prints these lines, each after this word.
 fn say_all(rt: &impl Eprint, word: &str, lines: &[&str]) {
     for line in lines {
         let _ = eprintln!(rt; "  {word} {line}");
     }
 }
 
-/// The lines behind so many at the front, and before so many at the end.
+/// The lines after so many at the start, and before so many at the end.
 fn middle<'a, 'b>(lines: &'a [&'b str], front: usize, end: usize) -> &'a [&'b str] {
     let stop = lines.len().saturating_sub(end);
     &lines[front.min(stop)..stop]

@@ -22,7 +22,7 @@ pub(super) struct Shrinking<'a> {
     pub(super) save: Option<&'a str>,
 }
 
-/// How many calls there are up to the one at which an agent fails, or behind which its look does. The opening is none of
+/// How many calls there are up to the one at which an agent fails, or after which its look does. The opening is none of
 /// them.
 fn failing_calls(verdict: &Verdict) -> usize {
     let calls = verdict.calls as usize;
@@ -71,7 +71,7 @@ fn put_out<F: Files, R: Eprint>(files: &F, rt: &R, asked: &Shrinking, text: &[u8
     }
 }
 
-/// Tells what is left, and writes its schedule.
+/// Reports what is left, and writes its schedule.
 fn tell_shrunk<F: Files, R: Eprint + AllocGlobal>(
     files: &F,
     rt: &R,
@@ -99,7 +99,7 @@ fn tell_shrunk<F: Files, R: Eprint + AllocGlobal>(
 }
 
 /// Makes the calls fewer at which an agent of a case fails, and gives the status: as without this, or that of a device
-/// that fails. Where the calls by themselves don't fail, that is told.
+/// that fails. Where the calls by themselves don't fail, that is reported.
 pub(super) fn shrink_found<F: Files, R: Clock + Eprint + AllocGlobal, I: Read, O: Write>(
     files: &F,
     rt: &R,

@@ -7,7 +7,7 @@ use std::alloc::{AllocError, Global};
 /// How many nodes are named of an event that they never had.
 const NAMED: usize = 16;
 
-/// Appends nodes with a comma between each two, and that there are others behind the first so many.
+/// Appends nodes with a comma between each two, and that there are others after the first so many.
 fn put_nodes(text: &mut Vec<u8>, nodes: &[&[u8]]) -> Result<(), AllocError> {
     for (place, node) in nodes.iter().enumerate() {
         if place == NAMED {

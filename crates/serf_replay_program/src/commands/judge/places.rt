@@ -6,7 +6,7 @@ use std::alloc::{AllocError, Global};
 #[derive(Clone, Copy)]
 struct Part<'a> {
     name: &'a str,
-    /// How many lines the logs in front of it have.
+    /// How many lines the logs before it have.
     before: u64,
 }
 
@@ -24,13 +24,13 @@ impl<'a> Places<'a> {
         }
     }
 
-    /// Puts a log behind the others, which have so many lines.
+    /// Puts a log after the others, which have so many lines.
     pub(super) fn add(&mut self, name: &'a str, before: u64) -> Result<(), AllocError> {
         self.logs.push(Part { name, before })?;
         Ok(())
     }
 
-    /// The log of a line, counted from 1 over all logs: the last one that begins in front of it. `None` of a log alone.
+    /// The log of a line, counted from 1 over all logs: the last one that begins before it. `None` of a log alone.
     fn part_of(&self, line: u64) -> Option<Part<'a>> {
         if self.logs.len() < 2 {
             return None;

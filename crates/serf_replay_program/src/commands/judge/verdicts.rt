@@ -161,7 +161,7 @@ impl<'a> Verdicts<'a> {
         self.put_holds("QueryOnce")
     }
 
-    /// Whether each event was fired on a line above, where the log tells of firings.
+    /// Whether each event was fired on a line above, where the log has firings.
     fn judge_fired(
         &mut self,
         alloc: Global,
@@ -201,7 +201,7 @@ impl<'a> Verdicts<'a> {
         self.put_event(alloc, firing)
     }
 
-    /// Whether each node fired only later than what it was handed on lines above, where the log tells of firings.
+    /// Whether each node fired only later than what it was handed on lines above, where the log has firings.
     fn judge_later(
         &mut self,
         alloc: Global,
@@ -228,7 +228,7 @@ impl<'a> Verdicts<'a> {
         self.put_holds("Later")
     }
 
-    /// Judges a log, behind lines that say how much was read and what is bad; and where it is wanted, tells what nodes
+    /// Judges a log, after lines that say how much was read and what is bad; and where it is wanted, reports what nodes
     /// missed.
     pub fn judge(
         &mut self,

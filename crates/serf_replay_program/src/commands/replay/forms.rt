@@ -84,7 +84,7 @@ fn put_text_member(out: &mut Vec<u8>, name: &[u8], text: &[u8]) -> Result<(), Al
     out.extend_from_slice(b"\"")
 }
 
-/// Appends the members that tell what a row counts.
+/// Appends the members that say what a row counts.
 fn put_members(out: &mut Vec<u8>, counted: Counted) -> Result<(), AllocError> {
     match counted {
         Counted::Actions => out.extend_from_slice(b"{\"what\":\"actions\""),

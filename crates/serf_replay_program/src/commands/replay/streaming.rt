@@ -6,7 +6,7 @@ use crate::standard_output::StandardOutput;
 use serf_replay::replay_lines;
 use std::rt::Files;
 
-/// Does the lines of a file, or of standard input, and gives the status. A line that is bad ends it, behind the text of
+/// Does the lines of a file, or of standard input, and gives the status. A line that is bad ends it, after the text of
 /// those before.
 pub(crate) fn run<F: Files, R: Input + Print + Eprint + AllocGlobal>(
     files: &F,

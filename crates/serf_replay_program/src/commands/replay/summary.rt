@@ -118,7 +118,7 @@ pub(super) fn run<F: Files, R: Clock + Input + Print + Eprint + AllocGlobal>(
     }
 }
 
-/// Runs the schedule of a file, or of standard input, line by line, and writes its summary behind the last line; gives the
+/// Runs the schedule of a file, or of standard input, line by line, and writes its summary after the last line; gives the
 /// status. Of a schedule with a bad line nothing is written.
 pub(super) fn run_lines<F: Files, R: Input + Print + Eprint + AllocGlobal>(
     files: &F,

@@ -8,10 +8,10 @@ pub returns-in-Ok-clause-step : goal.returns-in-Ok-clause-step
 returns-in-Ok-clause-step g c = λ i sound is not_memory.
     let runs = sym (ap (λ (s : ConcreteState). s.snapshot.stopped) is) ∙ c.requires in
     let right = rw c.in-Ok.is at c.decode.ensures.exact in
-    steps-receive i c.args.now c.args.packet.now _ c.receive_message.result c.args.self.now.device c.receive_message.new.self runs right (c.receive_message.ensures.step i sound is not_memory)
+    steps-receive c.args.tags_pass i c.args.now c.args.packet.now _ c.receive_message.result c.args.self.now.device c.receive_message.new.self runs right (c.receive_message.ensures.step i sound is not_memory)
 
 pub returns-in-Err-clause-step : goal.returns-in-Err-clause-step
 returns-in-Err-clause-step g c = λ i sound is _.
     let runs = sym (ap (λ (s : ConcreteState). s.snapshot.stopped) is) ∙ c.requires in
     let wrong = rw c.in-Err.is at c.decode.ensures.exact in
-    steps-receive i c.args.now c.args.packet.now (Err c.in-Err.fault) _ c.args.self.now.device c.args.self.now runs wrong (steps-answers i (Err (Wire c.in-Err.fault)) _ c.args.self.now.device c.args.self.now sound refl is refl)
+    steps-receive c.args.tags_pass i c.args.now c.args.packet.now (Err c.in-Err.fault) _ c.args.self.now.device c.args.self.now runs wrong (steps-answers i (Err (Wire c.in-Err.fault)) _ c.args.self.now.device c.args.self.now sound refl is refl)

@@ -20,7 +20,7 @@ returns-in-Some-clause-step g c = λ i sound is _.
     let was = ap (λ (a : AgentState). a.concrete) c.self.view_is ∙ is in
     let q = query_said c.args.query.now in
     let e = c.observe.ensures in
-    steps-query_ignored i c.args.now q c.in-Some.reason c.args.self.now.device _ sound (sym (c.in-Some.ensures.reason i sound is))
+    steps-query_ignored c.args.tags_pass i c.args.now q c.in-Some.reason c.args.self.now.device _ sound (sym (c.in-Some.ensures.reason i sound is))
     (query_observed-view i _ _ q.time was e.clock e.minimum (ap (λ (w : WindowOf ℕ). w.slots) e.window)) (ap (λ (a : AgentState). a.device) c.self.view_is)
 
 pub returns-in_ok-handed-in-None-clause-step : goal.returns-in_ok-handed-in-None-clause-step
@@ -30,14 +30,14 @@ returns-in_ok-handed-in-None-clause-step g c = λ i sound is _.
     let new = c.in-None.ensures in
     let e = c.in_ok-handed-in-None.ensures in
     let node = ap (λ (s : ConcreteState). s.config.name) is in
-    let passed = c.lent_filters_pass-passed.ensures ∙ ap (λ (n : List ℕ). all_pass q.filters n) (c.as_slice.ensures ∙ ap (λ (s : ConcreteState). s.config.name) was) in
+    let passed = c.lent_filters_pass-passed.ensures ∙ ap (λ (n : List ℕ). all_pass c.args.tags_pass q.filters n) (c.as_slice.ensures ∙ ap (λ (s : ConcreteState). s.config.name) was) in
     let handed = e.handed ∙ (λ k. cond (passed k) (Some (handed_query (node k) c.args.now q)) None) in
     let ack = e.ack ∙ (λ k. cond (passed k) (cond (has_flag 1 q.flags) (Some (ack_packet (node k) q)) None) None) in
     let broadcast = c.has_flag.ensures in
     let runs = sym (ap (λ (s : ConcreteState). s.snapshot.stopped) is) ∙ c.requires in
     let may = subst (λ (s : ConcreteState). MayNote kinds.Query q.time s.snapshot Kept) is e.line.allowed in
     let device = e.line.device ∙ ap (λ (s : ConcreteState). device_noted kinds.Query q.time s.snapshot c.args.self.now.device) is in
-    steps-query_entered c.sound_snapshots.ensures i c.args.now q _ c.args.self.now.device c.take_in_query.new.self sound runs new.small (sym (new.reason i sound is)) may
+    steps-query_entered c.sound_snapshots.ensures c.args.tags_pass i c.args.now q _ c.args.self.now.device c.take_in_query.new.self sound runs new.small (sym (new.reason i sound is)) may
     (λ k. Ok (outcomes.Query (handed k) (ack k) (not (broadcast k)))) (e.entered i is) device
 
 pub returns-in_err-handed-in-None-clause-step : goal.returns-in_err-handed-in-None-clause-step
@@ -49,8 +49,8 @@ returns-in_err-handed-in-None-clause-step g c = λ i sound is memory.
     let ended : result ≡ Err (receive_fault_of fault) = p.1 ∙ ap (λ (x : ReceiveFault). Err x) p.2 in
     let old = c.args.self.now in
     let new = c.take_in_query.new.self in
-    by-fault kinds.Query q.time old new fault (λ (f : NoteFault). result ≡ Err (receive_fault_of f) → Steps i (receive_query i c.args.now q) result old.device new) c.in_err-handed-in-None.ensures.line (λ _ at. absurd (memory at)) (λ e answers.
+    by-fault kinds.Query q.time old new fault (λ (f : NoteFault). result ≡ Err (receive_fault_of f) → Steps i (receive_query c.args.tags_pass i c.args.now q) result old.device new) c.in_err-handed-in-None.ensures.line (λ _ at. absurd (memory at)) (λ e answers.
     let durable = c.take_in_query.new.self.concrete.snapshot.durable in
     let may = subst (λ (s : ConcreteState). MayNote kinds.Query q.time s.snapshot (Failed durable)) is e.allowed in
-    steps-query_failed c.sound_snapshots.ensures i c.args.now q durable result old.device new sound (sym (c.in-None.ensures.reason i sound is)) may answers
+    steps-query_failed c.sound_snapshots.ensures c.args.tags_pass i c.args.now q durable result old.device new sound (sym (c.in-None.ensures.reason i sound is)) may answers
     (failed-view i c.args.self.now.concrete c.take_in_query.new.self.concrete kinds.Query q.time durable is e.failed) e.device) ended

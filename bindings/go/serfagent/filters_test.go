@@ -1,0 +1,58 @@
+package serfagent
+
+import (
+	"reflect"
+	"testing"
+)
+
+// Filters of the node test, of another one, of a tag, and of a type that nobody knows; and whether the node is handed a query
+// of them, where its host says that its tags don't pass, and where it says that they do.
+func TestWhatTheHostSaysOfTags(t *testing.T) {
+	node, other, tag, unknown := "\x00\x91\xa4test", "\x00\x91\xa1c", "\x01\x82\xa4Expr\xa0\xa3Tag\xa1a", "\x02"
+	asks, _ := opened(t, "asks")
+	agent, _ := opened(t, "test")
+	for _, one := range []struct {
+		filters []string
+		handed  [2]bool
+	}{
+		{nil, [2]bool{true, true}}, {[]string{tag}, [2]bool{false, true}}, {[]string{node, tag, tag}, [2]bool{false, true}},
+		{[]string{tag, other}, [2]bool{}}, {[]string{tag, unknown}, [2]bool{}}, {[]string{node}, [2]bool{true, true}}, {[]string{""}, [2]bool{}},
+	} {
+		filters := make([][]byte, 0)
+		for _, filter := range one.filters {
+			filters = append(filters, []byte(filter))
+		}
+		packet := func() []byte {
+			asked, err := asks.Query(1, 7, []byte("who"), nil, QueryParams{Timeout: 1000, Filters: filters})
+			if err != nil {
+				t.Fatal(err)
+			}
+			return asked.Packet
+		}
+		for i, passes := range []bool{false, true} {
+			first := packet()
+			if found, err := FiltersOf(first); err != nil || !reflect.DeepEqual(found, filters) {
+				t.Errorf("%q: %q %v", one.filters, found, err)
+			}
+			received, err := agent.ReceiveTagged(1, first, passes)
+			if err != nil || received.Kind != NewQuery || (received.Query != nil) != one.handed[i] {
+				t.Errorf("%q, %v: %v %v", one.filters, passes, received, err)
+			}
+			var burst Burst
+			burst.ReceiveTagged(1, packet(), passes)
+			outcomes, err := agent.Burst(&burst)
+			if err != nil || (outcomes[0].Received.Query != nil) != one.handed[i] {
+				t.Errorf("%q, %v, in a burst: %v %v", one.filters, passes, outcomes, err)
+			}
+		}
+		received, err := agent.Receive(1, packet())
+		if err != nil || (received.Query != nil) != one.handed[0] {
+			t.Errorf("%q, and nothing is said: %v %v", one.filters, received, err)
+		}
+	}
+	for _, packet := range []string{"", "\x04", "\x03\x80"} {
+		if found, err := FiltersOf([]byte(packet)); found != nil || err != nil {
+			t.Errorf("%x: %q %v", packet, found, err)
+		}
+	}
+}

@@ -1,0 +1,8 @@
+use Rattle.std.proofs.Common.{◌≡◌, ◌++◌}
+use Rattle.std.specs.List.{flat_map}
+use Rattle.serf_wire.specs.Lists.{texts_left}
+use Rattle.serf_agent_c.proofs.told.put_texts.Given as goal
+
+-- what was put so far, and then what is left
+abbrev pub invariant-loop-text : goal.invariant-loop-text
+invariant-loop-text l = l.out.items ++ flat_map (λ text. text) (texts_left l.text-iterator) ≡ l.fn.out.items ++ flat_map (λ text. text) (texts_left l.fn.texts)

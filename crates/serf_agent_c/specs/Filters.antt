@@ -1,0 +1,38 @@
+-- What C reads of the filters that a query's packet has.
+use Rattle.std.specs.Prelude.{◌≡◌, ◌≢◌, ℕ, List, map, length, Option, Some, None, Result, Ok, Err}
+use Rattle.std.specs.List.{flat_map}
+use Rattle.serf_wire.specs.declared.fault.WireFault.{WireFault}
+use Rattle.serf_wire.specs.Lists.{texts_left}
+use Rattle.serf_wire.specs.Message.{Message, query}
+use Rattle.serf_agent_c.specs.declared.code.Code.{Code}
+use Rattle.serf_agent_c.specs.declared.code.Code.TheVariants.{Done, Nothing, OutOfMemory}
+use Rattle.serf_agent_c.specs.declared.tagged.FiltersHead.{FiltersHead}
+use Rattle.serf_agent_c.specs.declared.tagged.LentFilters.{LentFilters}
+
+-- the filters of a query, lent from its packet
+abbrev pub filters_lent : LentFilters → List (List ℕ)
+filters_lent f = texts_left f.filters
+
+-- the filters that a message has, where it is a query; and that a packet has
+abbrev pub filters_of : Message → Option (List (List ℕ))
+filters_of (query q) = Some q.filters
+filters_of _ = None
+
+abbrev pub filters_in : Result Message WireFault → Option (List (List ℕ))
+filters_in (Ok message) = filters_of message
+filters_in (Err f) = None
+
+-- how long each is, and their bytes, one after the other
+abbrev pub filter_lens : List (List ℕ) → List ℕ
+filter_lens filters = map (λ filter. length filter) filters
+
+abbrev pub filter_bytes : List (List ℕ) → List ℕ
+filter_bytes filters = flat_map (λ filter. filter) filters
+
+abbrev pub filters_head : List (List ℕ) → FiltersHead
+filters_head filters = record { filters = length (filter_lens filters); filters_len = length (filter_bytes filters) }
+
+-- The filters of a query are read, but for want of memory; of another packet the code says that there is nothing.
+abbrev pub ReadsFilters : Option (List (List ℕ)) → (List (List ℕ) → Type 0) → Code → Type 0
+ReadsFilters None P code = code ≡ Nothing
+ReadsFilters (Some filters) P code = (code ≢ Done → code ≡ OutOfMemory) × (code ≡ Done → P filters)

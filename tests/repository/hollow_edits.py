@@ -1,0 +1,97 @@
+"""Must-fail edits that are refused by no goal of a contract: ./test names each, and its mark isn't green then.
+
+What the toolchain says of an edit is made by its own command, over checks that this plays. So where its words change,
+this fails.
+"""
+
+import contextlib
+import importlib.machinery
+import importlib.util
+import io
+import os
+import sys
+from types import SimpleNamespace
+
+sys.dont_write_bytecode = True
+sys.path.insert(0, os.path.dirname(os.path.dirname(os.path.abspath(__file__))))
+import checks
+import gate
+import green
+import toolchain
+
+GOAL = "note: src/lib.rt:9:5: what the function ensures holds (`returns-clause-sum`)"
+GONE = "./proofs/add/Answers.antt:3:4: error: `returns`: the record has no field `clear`"
+LIMIT = "src/lib.rt:9:5: error: antt ran out of stack"
+NOT_PROVED = "logic=not-proved"
+
+# What a check says and its status, by what refuses the edit; and whether that shows nothing of a contract.
+CHECKS = {
+    "a_goal": (1, [GOAL, NOT_PROVED], False),
+    "names_and_a_goal": (1, [GONE, GOAL, NOT_PROVED], False),
+    "names_alone": (1, [GONE, NOT_PROVED], True),
+    "names_of_two_files": (1, [GONE, GONE.replace("add", "sum"), NOT_PROVED], True),
+    "a_limit": (3, [LIMIT, "logic=unknown"], True),
+    "a_limit_with_no_line": (3, ["the check outgrew the memory limit (2 GB)", "logic=unknown"], True),
+}
+
+
+def gate_script():
+    """./test, as a module."""
+    loader = importlib.machinery.SourceFileLoader("gate_script", os.path.join(checks.TOP, "test"))
+    module = importlib.util.module_from_spec(importlib.util.spec_from_loader("gate_script", loader))
+    loader.exec_module(module)
+    return module
+
+
+def said_of(rt, name):
+    """The line of `rt ci` for an edit whose check is that of this name."""
+    status, lines, _ = CHECKS[name]
+    rt.read_edit = lambda edit, folder: ({}, None)
+    rt.checked = lambda *_: SimpleNamespace(returncode=status, stdout="\n".join(lines) + "\n")
+    return "rt: " + rt.must_fail(SimpleNamespace(name="serf_low", folder=""), f"{name}.edit", [])[1]
+
+
+def named(count, script, said):
+    for name, (_, _, is_hollow) in CHECKS.items():
+        line = said[name]
+        found = script.hollow(line)
+        count.check(f"{name}: it counts as refused", len(gate.REFUSED.findall(line)) == 1, line)
+        wanted = [f"must-fail serf_low/{name}.edit: refused by no goal of a contract"] if is_hollow else []
+        count.check(f"{name}: hollow, {is_hollow}", found == wanted, (line, found))
+    of_all = script.hollow("".join(f"{line}\nrt: serf_low proved\n" for line in said.values()))
+    count.check("each is named", len(of_all) == sum(is_hollow for _, _, is_hollow in CHECKS.values()), of_all)
+
+
+def whole_gate(script, said):
+    """What ./test makes of a run in which all is well but for what `rt ci` said: its counts, and how often it noted that
+    the gate is green."""
+    part = gate.Part("rt ci")
+    part.said, part.passed = said, 1
+    marks = []
+    script.run_ci = lambda crates: part
+    script.run_scripts = lambda *_: []
+    script.say_first = script.show_costs = script.show_budget = lambda *_: None
+    script.too_few = lambda parts: []
+    green.state, green.keep = lambda top: "a state", lambda *state: marks.append(state)
+    with contextlib.redirect_stdout(io.StringIO()):
+        counts = script.whole(False)
+    return counts, len(marks)
+
+
+def of_the_gate(count, script, said):
+    got = whole_gate(script, said["a_goal"])
+    count.check("an edit that a goal refuses: the gate is green", got == ((1, 0), 1), got)
+    for name in ("names_alone", "a_limit"):
+        got = whole_gate(script, f"{said['a_goal']}\n{said[name]}\n")
+        count.check(f"{name}: the gate is not green", got == ((1, 1), 0), got)
+
+
+def hollow_edits(count):
+    rt, script = toolchain.load(), gate_script()
+    said = {name: said_of(rt, name) for name in CHECKS}
+    named(count, script, said)
+    of_the_gate(count, script, said)
+
+
+if __name__ == "__main__":
+    sys.exit(checks.run(hollow_edits))
