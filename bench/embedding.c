@@ -34,7 +34,7 @@ static void *counted_realloc(void *old, size_t size) {
 
 enum { SLOTS = 512, SAMPLES = 200, FLUSHED = 500, BURST = 64 };
 
-static const struct serf_agent_settings settings = {SLOTS, SLOTS, 512, 8, 1024, false};
+static const struct serf_agent_settings settings = {SLOTS, SLOTS, 512, 1024, 1024, 8, 1024, false};
 static uint8_t packets[SLOTS][64];
 static size_t lens[SLOTS];
 

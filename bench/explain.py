@@ -1,8 +1,8 @@
-"""explain.py PROGRAM: `explain` beside `replay`, on schedules of deliveries, firings and merges.
+"""explain.py PROGRAM: `explain` and `explain --stream` beside `replay`, on schedules of deliveries, firings and merges.
 
-Runs the two by turns. Prints for each schedule the least processor seconds of five runs, the peak of the
-resident set in MB of 1,000,000 bytes, and how many times those of `replay` these are of `explain`. `explain`
-writes a line for each event of a merged state, so how many times the bytes it writes stands beside.
+Runs them by turns. Prints for each schedule the least processor seconds of five runs, the peak of the resident set in
+MB of 1,000,000 bytes, and how many times those of `replay` these are of the two. `explain` writes a line for each event
+of a merged state, so how many times the bytes it writes stands beside.
 """
 
 import os
@@ -75,15 +75,19 @@ SCHEDULES = {
 }
 
 
-def cost(program, word, given):
+# What is run, by turns.
+WAYS = (["replay"], ["explain"], ["explain", "--stream"])
+
+
+def cost(program, words, given):
     """The processor seconds, the peak of the resident set and the bytes written of a run."""
     with tempfile.TemporaryFile() as out:
         given.seek(0)
         actions = [(os.POSIX_SPAWN_DUP2, given.fileno(), 0), (os.POSIX_SPAWN_DUP2, out.fileno(), 1)]
-        child = os.posix_spawn(program, [program, word, "-"], os.environ, file_actions=actions)
+        child = os.posix_spawn(program, [program, *words, "-"], os.environ, file_actions=actions)
         _, status, usage = os.wait4(child, 0)
         if status != 0:
-            sys.exit(f"explain.py: {word} ended with status {os.waitstatus_to_exitcode(status)}")
+            sys.exit(f"explain.py: {words} ended with status {os.waitstatus_to_exitcode(status)}")
         return usage.ru_utime + usage.ru_stime, usage.ru_maxrss * 1024, os.fstat(out.fileno()).st_size
 
 
@@ -93,14 +97,12 @@ def main():
         with tempfile.TemporaryFile() as given:
             given.writelines(line.encode() for line in lines)
             given.flush()
-            runs = [[cost(program, word, given) for word in ("replay", "explain")] for _ in range(RUNS)]
-        (plain, small, short), (told, large, long) = ([min(of) for of in zip(*side)] for side in zip(*runs))
-        print(
-            f"{name}: replay {plain:.2f} s, {small / 1e6:.1f} MB; explain {told:.2f} s, {large / 1e6:.1f} MB;"
-            f" {told / plain:.1f} times the time, {large / small:.1f} times the memory, {long / short:.1f} times"
-            " the bytes",
-            flush=True,
-        )
+            runs = [[cost(program, words, given) for words in WAYS] for _ in range(RUNS)]
+        (plain, small, short), *told = ([min(of) for of in zip(*way)] for way in zip(*runs))
+        line = f"{name}: replay {plain:.2f} s, {small / 1e6:.1f} MB"
+        for words, (time, large, long) in zip(WAYS[1:], told):
+            line += f"; {' '.join(words)} {time:.2f} s, {large / 1e6:.1f} MB, {time / plain:.1f} times the time, {large / small:.1f} times the memory"
+        print(f"{line}; {long / short:.1f} times the bytes", flush=True)
 
 
 main()

@@ -164,15 +164,16 @@ class Schedule:
         if not node.agents or any(now < before for now, before in zip(clocks[1:], node.clocks[1:])):
             more = f" ({len(node.agents) + 1})" if node.agents else ""
             name = text((node.name + more.encode()).hex())
-            _, _, events, queries, limit, responders, mode, per_time, _ = call.words
-            self.heads.append(f"agent {name} events={events} queries={queries} limit={limit} responders={responders} pertime={per_time} {mode}")
+            _, _, events, queries, limit, responders, mode, per_time, *limits, _ = call.words
+            packets = f" querylimit={limits[0]} responselimit={limits[1]}" if limits else ""
+            self.heads.append(f"agent {name} events={events} queries={queries} limit={limit} responders={responders} pertime={per_time} {mode}{packets}")
             node.agents.append(name)
             is_new = True
         else:
             is_new = False
         node.handed, node.clocks = {}, clocks
-        if not is_new or call.words[8] != "-":
-            self.lines.append(f"restart {node.agents[-1]} tail {text(call.words[8])}")
+        if not is_new or call.words[-1] != "-":
+            self.lines.append(f"restart {node.agents[-1]} tail {text(call.words[-1])}")
 
     def packet(self, data):
         """Where a packet stands; what nobody here sent is injected."""

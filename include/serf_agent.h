@@ -118,12 +118,14 @@ struct serf_agent {
 
 /* An agent's settings; its name stands beside them. */
 struct serf_agent_settings {
-    uint64_t event_buffer; /* slots for events: 1 to 65,536; Serf has 512 */
-    uint64_t query_buffer; /* slots for queries: 1 to 65,536; Serf has 512 */
-    uint64_t event_limit;  /* the greatest length of a fired event: at most 9,216; Serf has 512 */
-    uint64_t responders;   /* names counted of a query's acks, and of its responses: 1 to 65,536 */
-    uint64_t per_time;     /* events, or queries, that are taken of one time: 1 to 65,536 */
-    bool ignore_old;       /* whether joining lifts the least time of events to the other agent's clock */
+    uint64_t event_buffer;   /* slots for events: 1 to 65,536; Serf has 512 */
+    uint64_t query_buffer;   /* slots for queries: 1 to 65,536; Serf has 512 */
+    uint64_t event_limit;    /* the greatest length of a fired event: at most 9,216; Serf has 512 */
+    uint64_t query_limit;    /* the greatest length of a fired query's packet: at most 9,216; 0 is 1,024, as in Serf */
+    uint64_t response_limit; /* the greatest length of a response's packet: at most 9,216; 0 is 1,024, as in Serf */
+    uint64_t responders;     /* names counted of a query's acks, and of its responses: 1 to 65,536 */
+    uint64_t per_time;       /* events, or queries, that are taken of one time: 1 to 65,536 */
+    bool ignore_old;         /* whether joining lifts the least time of events to the other agent's clock */
 };
 
 /* What the last call gave. */

@@ -2,7 +2,7 @@
 
 A file's first lines name the toolchain, and a sum of the scripts that judged. Then each edit has a line: its name, a sum
 of all that its check reads (tools/reach.py), the kind of its refusal (tools/edit_checks.py) and the goal. A line is
-believed only where toolchain, scripts and sum are those of now; else the edit is tried.
+believed only where the toolchain's logic, scripts and sum are those of now; else the edit is tried.
 
 Of the edits whose lines are believed the gate tries a share all the same, drawn by the commit's hash: nobody knows
 before a commit which these are. So a line that claims what isn't so is found sooner or later.
@@ -27,7 +27,10 @@ CRATES, EDITS = 25, 20
 # The scripts that decide how an edit is tried and judged.
 JUDGES = ["edits.py", "edit_checks.py"]
 
-HEAD = re.compile(r"toolchain (.*)\njudge ([0-9a-f]+)$")
+# What a toolchain says of itself: its name, and the sum of its logic. Two of one logic refuse an edit by one goal, so what
+# one refused needn't be tried by the other; what else they differ in is for the share that a commit draws.
+TOOLCHAIN = re.compile(r"toolchain \S+ logic ([0-9a-f]+)$")
+
 LINE = re.compile(r"(\w+) ([0-9a-f]{32}) (false|shape|twin|law|open) (.+)$")
 
 
@@ -48,12 +51,18 @@ def head():
     return f"toolchain {said_by('rt', 'version')}\njudge {judge()}"
 
 
+def logic_of(first):
+    """The logic that the first line of a file is of, or all of the line where it names none."""
+    named = TOOLCHAIN.match(first)
+    return named[1] if named else first
+
+
 def path_of(crate):
     return os.path.join(FOLDER, f"{crate}.txt")
 
 
-# What is said of a crate whose evidence is of another toolchain.
-ELSEWHERE = re.compile(r"^tests/refused/(\w+)\.txt is of another toolchain: ", re.M)
+# What is said of a crate whose evidence is of a toolchain of another logic.
+ELSEWHERE = re.compile(r"^tests/refused/(\w+)\.txt is of a toolchain of another logic: ", re.M)
 
 
 class Evidence:
@@ -69,8 +78,9 @@ class Evidence:
         except OSError:
             return
         first, second, *lines = [line for line in text.split("\n") if not line.startswith("#")] + ["", ""]
-        if f"{first}\n{second}" != now:
-            why = "is of another toolchain" if first != now.split("\n")[0] else "was judged by other scripts"
+        toolchain, judged = now.split("\n")
+        if logic_of(first) != logic_of(toolchain) or second != judged:
+            why = "was judged by other scripts" if logic_of(first) == logic_of(toolchain) else "is of a toolchain of another logic"
             self.faults.append(f"tests/refused/{crate}.txt {why}: its edits are tried anew")
             return
         for line in lines:

@@ -147,8 +147,8 @@ class Budget:
 
 
 def seconds_elsewhere(part):
-    """The processor seconds that the wrong bodies took of the crates whose evidence is of another toolchain: all edits of
-    these are tried, which no change of a source has caused. So they stand beside the budget."""
+    """The processor seconds that the wrong bodies took of the crates whose evidence is of a toolchain of another logic:
+    all edits of these are tried, which no change of a source has caused. So they stand beside the budget."""
     crates = set(evidence.ELSEWHERE.findall(part.said))
     return sum(used for (crate, _), used in part.crates.items() if crate in crates)
 

@@ -6,6 +6,7 @@ the compiled program while such a run lasts, and keeps it in crates/CRATE/out/un
 and a sentence on standard error, where that can't be had.
 """
 
+import fcntl
 import glob
 import os
 import shutil
@@ -86,15 +87,17 @@ def compiled(crate, folder):
         os.chmod(path, 0o755)
 
 
-def built(crate):
-    """The path of the unproved program, of the sources as they are; compiled where it isn't there."""
-    folder = os.path.join(TOP, "crates", crate, "out", "unproved")
-    before, note = sources(crate), os.path.join(folder, "sources")
-    path = os.path.join(folder, crate)
-    if os.path.exists(note):
-        with open(note, encoding="utf-8") as file:
-            if file.read() == before:
-                return path
+def is_of(folder, before):
+    """Whether a folder has the program of these sources."""
+    try:
+        with open(os.path.join(folder, "sources"), encoding="utf-8") as file:
+            return file.read() == before
+    except FileNotFoundError:
+        return False
+
+
+def build(crate, folder, before):
+    """Compiles the program of these sources into a folder."""
     if shutil.which("rt") is None:
         raise Stopped("rt, the command of the Rattle toolchain, is not on PATH")
     shutil.rmtree(folder, ignore_errors=True)
@@ -102,9 +105,22 @@ def built(crate):
     compiled(crate, folder)
     if sources(crate) != before:
         raise Stopped("a source changed while the program was compiled")
-    with open(note, "w", encoding="utf-8") as file:
+    with open(os.path.join(folder, "sources"), "w", encoding="utf-8") as file:
         file.write(before)
-    return path
+
+
+def built(crate):
+    """The path of the unproved program, of the sources as they are; compiled where it isn't there. A second call that
+    comes meanwhile waits for the first."""
+    out = os.path.join(TOP, "crates", crate, "out")
+    folder, before = os.path.join(out, "unproved"), sources(crate)
+    if not is_of(folder, before):
+        os.makedirs(out, exist_ok=True)
+        with open(os.path.join(out, "unproved.lock"), "w", encoding="utf-8") as lock:
+            fcntl.flock(lock, fcntl.LOCK_EX)
+            if not is_of(folder, before):
+                build(crate, folder, before)
+    return os.path.join(folder, crate)
 
 
 if __name__ == "__main__":

@@ -84,11 +84,26 @@ static void open_on(struct bytes more, const char *answer) {
     put_clocks(answer);
 }
 
+/* Makes an agent. To the library a limit of 0 says that Serf's own is meant, so no agent has it. */
 static void make(void) {
+    bool limits = count == 11;
+    if (limits && (number_of(8) == 0 || number_of(9) == 0)) {
+        puts("unsupported");
+        return;
+    }
     name.len = text.len = 0;
     append(&name, bytes_of(words[1]));
-    settings = (struct serf_agent_settings){number_of(2), number_of(3), number_of(4), number_of(5), number_of(7), words[6][0] == 'i'};
-    open_on(bytes_of(words[8]), "opened");
+    settings = (struct serf_agent_settings){
+        .event_buffer = number_of(2),
+        .query_buffer = number_of(3),
+        .event_limit = number_of(4),
+        .query_limit = limits ? number_of(8) : 0,
+        .response_limit = limits ? number_of(9) : 0,
+        .responders = number_of(5),
+        .per_time = number_of(7),
+        .ignore_old = words[6][0] == 'i',
+    };
+    open_on(bytes_of(words[count - 1]), "opened");
 }
 
 static uint32_t query(void) {

@@ -189,8 +189,11 @@ func (a *PipeAgent) open(words []string) string {
 	config.NodeName = string(unhexed(words[0]))
 	config.EventBuffer, config.QueryBuffer = int(number(words[1])), int(number(words[2]))
 	config.UserEventSizeLimit = int(number(words[3]))
+	if len(words) == 10 { // else both limits are Serf's own
+		config.QuerySizeLimit, config.QueryResponseSizeLimit = int(number(words[7])), int(number(words[8]))
+	}
 	a.config, a.responders, a.perTime, a.ignoreOld = config, int(number(words[4])), int(number(words[6])), words[5] == "ignore"
-	return a.restartOn(unhexed(words[7]), "opened")
+	return a.restartOn(unhexed(words[len(words)-1]), "opened")
 }
 
 func (a *PipeAgent) restartOn(text []byte, answer string) string {

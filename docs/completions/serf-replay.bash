@@ -33,7 +33,7 @@ _serf_replay() {
         'random --rules') words='serf own' ;;
         *) case "$command" in
             replay) words='--stream --summary --as --help' files=yes ;;
-            explain) words='--agent --from --to --help' files=yes ;;
+            explain) words='--stream --agent --from --to --help' files=yes ;;
             draw) words='--as --agent --from --to --taken --event --help' files=yes ;;
             write) words='--help' files=yes ;;
             judge) words='--missed --kept --help' files=yes ;;

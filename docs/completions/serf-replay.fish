@@ -10,6 +10,7 @@ complete -c serf-replay -n '__fish_seen_subcommand_from replay' -l as -x -a 'tex
 complete -c serf-replay -n '__fish_seen_subcommand_from replay' -l help -d 'Print help'
 complete -c serf-replay -n __fish_use_subcommand -a explain -d 'Writes a schedule\'s trace, and why each answer came'
 complete -c serf-replay -n '__fish_seen_subcommand_from explain' -F
+complete -c serf-replay -n '__fish_seen_subcommand_from explain' -l stream -d 'Does, explains and writes line by line: a schedule of any length, and all of it'
 complete -c serf-replay -n '__fish_seen_subcommand_from explain' -l agent -x -d 'The only agent that is explained, by its number, from 0 on, or its name; all where it is left out'
 complete -c serf-replay -n '__fish_seen_subcommand_from explain' -l from -x -d 'The first action that is explained, counted from 1'
 complete -c serf-replay -n '__fish_seen_subcommand_from explain' -l to -x -d 'The last action that is explained'
@@ -39,7 +40,7 @@ complete -c serf-replay -n '__fish_seen_subcommand_from conform' -l random -x -d
 complete -c serf-replay -n '__fish_seen_subcommand_from conform' -l kind -x -a 'mixed tiny merges restarts devices injections queries limits exhaustion per-time compactions gossip spellings rounds all' -d 'mixed (where left out), tiny, merges, restarts, devices, injections, queries, limits, exhaustion, per-time, compactions, gossip, spellings, rounds or all'
 complete -c serf-replay -n '__fish_seen_subcommand_from conform' -l agents -x -d 'How many agents, at most 64, or 10,000 in rounds; by the seed where left out or 0'
 complete -c serf-replay -n '__fish_seen_subcommand_from conform' -l actions -x -d 'How many actions at most, 200 where left out'
-complete -c serf-replay -n '__fish_seen_subcommand_from conform' -l go-on -x -d 'With --random: goes on behind a disagreement, until so many were told'
+complete -c serf-replay -n '__fish_seen_subcommand_from conform' -l go-on -x -d 'With --random: goes on after a disagreement, until so many are reported'
 complete -c serf-replay -n '__fish_seen_subcommand_from conform' -l shrink -d 'Tries fewer of the calls at which an agent fails, until no single one can be left out'
 complete -c serf-replay -n '__fish_seen_subcommand_from conform' -l save -r -F -d 'Where --shrink writes the schedule of what is left; standard error where it is left out'
 complete -c serf-replay -n '__fish_seen_subcommand_from conform' -l report -r -F -d 'Where a line of JSON is written for each disagreement, and one at the end'

@@ -4,8 +4,8 @@
 
 Serf's package and conformance/serf are compiled together, by `go` and the sources of Debian's packages
 golang-github-hashicorp-serf-dev and golang-github-hashicorp-memberlist-dev, or of SERF_GOPATH. Each example is held, and
-then the random schedules of SEEDS (1-2000 where left out), of each kind a share, all by Serf's rules. It prints each
-report, and fails where one is no agreement.
+a row of tests/rows with limits of packets, and then the random schedules of SEEDS (1-2000 where left out), of each kind a
+share, all by Serf's rules. It prints each report, and fails where one is no agreement.
 """
 
 import glob
@@ -44,6 +44,7 @@ def main(words):
     with tempfile.TemporaryDirectory(prefix="serf-") as folder:
         agent = [build(folder), "-note-all"]
         asked = [[path] for path in sorted(glob.glob(os.path.join(TOP, "examples", "*.schedule")))]
+        asked.append([os.path.join(checks.ROWS, "packet_limits.schedule")])
         share = -(-(last + 1 - first) // len(KINDS))
         for number, kind in enumerate(KINDS):
             begin = first + number * share

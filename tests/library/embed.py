@@ -108,7 +108,7 @@ def bad_input(count, places):
         )[0]
         == 0
     )
-    for name, what in (("bad_input", "bad input"), ("burst", "bursts")):
+    for name, what in (("bad_input", "bad input"), ("limits", "the limits of packets"), ("burst", "bursts")):
         source = os.path.join(SOURCES, f"{name}.c")
         plain = compile_c(count, places, name, source)
         if plain:
@@ -289,12 +289,29 @@ def delegate_in_go(count, places, env):
     env = dict(env, GO111MODULE="off", GOFLAGS="-trimpath", GOPATH=f"{own}:{GO_CODE}")
     races.try_reports(count)
     tests_in_go(count, "serfdelegate", "kitchenrue.example/serfdelegate", {"env": env})
+    starved_delegate(count, places, env)
     lines = os.path.join(own, "src", "lines")
     os.mkdir(lines)
     with open(os.path.join(lines, "main.go"), "w", encoding="utf-8") as file:
         file.write(host_lines.program("go"))
     status, said = c_library.ran(["go", "vet", "lines"], env=env)
     count.check("Go: README's lines", status == 0, said[-2000:])
+
+
+def starved_delegate(count, places, env):
+    """A delegate whose first burst, and whose first merge, run out of memory one request later each time."""
+    path = places.of("delegate.test")
+    env = dict(env, **c_library.go_flags(places.starved))
+    status, said = c_library.ran(["go", "test", "-c", "-o", path, "kitchenrue.example/serfdelegate"], env=env)
+    count.check("Go: the starved delegate builds", status == 0, said[-2000:])
+    granted, is_whole = 0, status != 0
+    while not is_whole and granted < starved.MOST:
+        words = [path, "-test.run", "^TestABurstOfMoreThanMemoryHas$"]
+        status, said = c_library.ran(words, env=dict(os.environ, SERF_AGENT_GRANTED=str(granted)))
+        count.check(f"Go: a delegate with {granted} requests for memory", status == 0, said[-900:])
+        is_whole = status != 0 or "nothing is wanting" in said
+        granted += 1
+    count.check("Go: a delegate with memory at last", 10 < granted < starved.MOST, granted)
 
 
 def in_pipe(count, places, program):

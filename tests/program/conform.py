@@ -216,6 +216,32 @@ def rules(cases):
     cases.replies("all rules", replies, path + ".schedule", 0, said, ["--agent", "1", "--rules", "own"])
 
 
+# The words of an agent's line behind its name, and those of `open`: the limits of packets stand there where one isn't 1,024.
+OPENED = {
+    "4 4 512 8 keep": "4 4 512 8 keep 1024",
+    "4 4 512 8 keep 7": "4 4 512 8 keep 7",
+    "4 4 512 8 keep 7 1024 1024": "4 4 512 8 keep 7",
+    "4 4 512 8 ignore 7 1025 1024": "4 4 512 8 ignore 7 1025 1024",
+    "4 4 512 8 keep 1024 1024 1023": "4 4 512 8 keep 1024 1024 1023",
+    "4 4 512 8 keep 01024 0 09216": "4 4 512 8 keep 1024 0 9216",
+}
+
+
+def limits(cases):
+    """The call that opens an agent, and agents with limits of packets of their own."""
+    path = os.path.join(cases.folder, "opened.schedule")
+    for said, call in OPENED.items():
+        with open(path, "w") as file:
+            file.write(f"agent 61 {said}\n")
+        ran = subprocess.run([checks.PROGRAM, "conform", path], stdin=subprocess.DEVNULL, capture_output=True, timeout=LIMIT)
+        cases.count.check(f"{said} is opened", ran.stdout == f"open 61 {call} -\n".encode(), ran)
+    row = os.path.join(checks.ROWS, "packet_limits.schedule")
+    agree = [f"agent {a}: {count} calls agree" for a, count in enumerate((5, 6, 4))]
+    cases.run("limits of packets", [sys.executable, PYTHON_AGENT], row, 0, agree)
+    for name in switches.ONLY_BY_LIMITS:
+        cases.run(f"limits of packets, {name}", [sys.executable, PYTHON_AGENT, "--wrong", name], row, 1, ["agent 0: action "])
+
+
 def machine_reports(cases):
     """A report for machines: where replies differ, where an agent ends, of seeds, and where all agree."""
     path = os.path.join(checks.EXAMPLES, "deploy_gossiped_twice")
@@ -311,7 +337,7 @@ def pipe(cases):
         cases.count.check(f"{page}: {name}", ran.stdout == shown, ran)
 
 
-PARTS = (examples, by_meaning, states, whole_reports, refused, looks, rules, machine_reports, reports, shares, pipe)
+PARTS = (examples, by_meaning, states, whole_reports, refused, looks, rules, limits, machine_reports, reports, shares, pipe)
 
 
 if __name__ == "__main__":

@@ -1,10 +1,12 @@
 """`explain`: each trace with its reasons is taken apart again, and what the reasons say is held against the trace's
-other lines; the incident's last lines; ranges; bytes that could leave their place; what is refused.
+other lines; the incident's last lines; ranges; bytes that could leave their place; what is refused; and the same line by line.
 """
 
 import os
 import re
+import subprocess
 import sys
+import tempfile
 
 sys.dont_write_bytecode = True
 sys.path.insert(0, os.path.dirname(os.path.dirname(os.path.abspath(__file__))))
@@ -14,7 +16,11 @@ from checks import ran, read
 REASON = re.compile(rb"(\d+) because ([\x20-\x7e]+)\Z")
 SEEDS = (1, 2, 3)
 ACTIONS = "150"
+STREAM = ["explain", "--stream"]
 AGENTS = b"agent 61 4 4 512 2 keep 2\nagent 62 4 4 512 2 keep 2\n"
+
+# An agent whose queries have at most 120 bytes, and its responses at most 64.
+LIMITED = b"agent 61 4 4 512 2 keep 2 120 64\n"
 
 
 def quoted(text):
@@ -307,6 +313,24 @@ def said_rows(count):
             1,
             b"name and payload have 601 bytes together, and the packet 631; at most 512 may be fired",
         ),
+        (
+            "a query too large",
+            LIMITED + b"query 0 0 7 61 %s 1000 0\n" % (b"41" * 30),
+            1,
+            b"the query's packet, whose name and payload have 31 bytes together, is longer than 120 bytes",
+        ),
+        (
+            "a response too large",
+            LIMITED + b"query 0 0 7 61 - 1000 0\nrespond 0 0 5 %s\n" % (b"41" * 30),
+            2,
+            b"the answer's packet, whose payload has 30 bytes, is longer than 64 bytes",
+        ),
+        (
+            "a query above the usual limit",
+            AGENTS + b"query 0 0 7 61 %s 1000 0\n" % (b"41" * 1000),
+            1,
+            b"the query's packet, whose name and payload have 1001 bytes together, is longer than 1024 bytes",
+        ),
     ):
         got = reasons_of(schedule, number)
         count.check(name, got == [wanted], got)
@@ -319,5 +343,95 @@ def refusals(count):
     count.check("a file that is not there", ran(["explain", "/nowhere/at/all"]) == (3, b"", b"/nowhere/at/all: no such file\n"))
 
 
+def streamed(count, name, schedule):
+    """Line by line the text is the same; of a schedule that is refused it is the text of the lines before the bad one."""
+    wanted, got = ran(["explain"], schedule), ran(STREAM, schedule)
+    if wanted[0] == 0:
+        count.check(f"{name}, line by line", got == wanted, str((wanted, got))[:400])
+        return
+    line = int(wanted[2].split()[2])
+    front = ran(["explain"], b"\n".join(schedule.split(b"\n")[: line - 1]))
+    count.check(f"{name}, line by line", front[0] == 0 and got == (wanted[0], front[1], wanted[2]), str((wanted, got))[:400])
+
+
+def streams(count):
+    fire = b"fire 0 61 - 0\n"
+    for folder in (checks.EXAMPLES, checks.ROWS):
+        for name in checks.names_in(folder):
+            streamed(count, name, read(folder, name + ".schedule"))
+    for kind in checks.KINDS:
+        streamed(count, f"{kind} 4", ran(["random", "4", "--kind", kind, "--actions", ACTIONS])[1])
+    for name, schedule in {
+        "nothing": b"",
+        "agents alone": AGENTS,
+        "no newline": AGENTS + b"state 0",
+        "no agents": fire * 2,
+        "comments": b"# a\n\n" + AGENTS + b"# b\n" + fire + b"\n# c",
+        "a late agent": AGENTS + fire + b"agent 63 4 4 512 8 keep\n" + fire,
+        "a name twice": AGENTS + AGENTS + fire,
+        "a bad first line": b"fires 0\n" + AGENTS,
+        "a bad line in the middle": AGENTS + fire + b"deliver 1 0 0\ndeliver 1 x 0\n" + fire,
+        "a bad last line": AGENTS + fire + b"deliver 1 0",
+        "seen at the first action": AGENTS + fire + b"deliver 0 0 0\ndeliver 1 0 0\ndeliver 1 0 0\n",
+    }.items():
+        streamed(count, name, schedule)
+    said = b"error: --stream explains all actions: leave out --agent, --from and --to\n"
+    for words in (["--agent", "0"], ["--from", "2"], ["--to", "2"]):
+        count.exactly(f"a part of a stream: {words}", [*STREAM, *words], 2, b"", said, AGENTS + fire)
+    count.exactly("a stream of a file that isn't there", [*STREAM, "/nowhere"], 3, b"", b"/nowhere: no such file\n")
+
+
+def while_it_runs(count):
+    """An action's reasons are written before more is read, and a reader that goes ends the run."""
+    with subprocess.Popen([checks.PROGRAM, *STREAM], stdin=subprocess.PIPE, stdout=subprocess.PIPE) as run:
+        run.stdin.write(AGENTS + b"save 1\n")
+        run.stdin.flush()
+        said = [run.stdout.readline(), run.stdout.readline()]
+        count.check("the first action's reason", said[0] == b"1 saved\n" and said[1].startswith(b"1 because "), said)
+        run.stdin.write(b"save 0\n" * 100)
+        run.stdin.flush()
+        run.stdout.readline()
+        run.stdout.close()
+        try:
+            run.stdin.write(b"save 0\n" * 100_000)
+            run.stdin.close()
+        except BrokenPipeError:
+            pass
+        count.check("a reader that goes", run.wait(60) == 3)
+
+
+def to_full_device(count):
+    """A write that fails ends the run."""
+    with open("/dev/full", "wb") as full:
+        run = subprocess.run([checks.PROGRAM, *STREAM], input=AGENTS + b"state 0\n", stdout=full, stderr=subprocess.PIPE, timeout=60)
+        count.check("a full device", (run.returncode, run.stderr) == (3, b"write fault\n"), run)
+
+
+def memory_of(lines):
+    """The status of a run over these lines, the peak of its memory in units of 1,024 bytes, and the bytes it wrote."""
+    with tempfile.TemporaryDirectory() as folder:
+        path, to = os.path.join(folder, "schedule"), os.path.join(folder, "text")
+        with open(path, "wb") as file:
+            file.writelines(lines)
+        with open(to, "wb") as out:
+            run = subprocess.Popen([checks.PROGRAM, *STREAM, path], stdout=out)
+            _, status, used = os.wait4(run.pid, 0)
+        return status, used.ru_maxrss, os.path.getsize(to)
+
+
+def long_runs(count):
+    """2,000 merges of 512 slots are explained in little memory, which is that of 200; and more than 16 MiB of lines too."""
+    front = [b"agent 61 512 512 512 8 keep\nagent 62 512 512 512 8 keep\n"]
+    front += [b"fire 0 6465706c6f79 76 0\n"] * 512 + [b"state 0\n"]
+    few, many = (memory_of(front + [b"merge 1 512 sync\n"] * merges) for merges in (200, 2000))
+    count.check("2,000 merges", few[0] == many[0] == 0 and many[2] > 2000 * 512 * 40, (few, many))
+    count.check("their memory", many[1] < 62_500, many)
+    count.check("it doesn't grow", many[1] < few[1] + 2048, (few, many))
+    seen = AGENTS + b"fire 0 61 - 0\n" + b"deliver 1 0 0\n" * 1_300_000
+    status, text, said = ran(STREAM, seen)
+    wanted = b'\n1300001 because "b" was handed event 1 "a" "" at action 2\n'
+    count.check("more than 16 MiB", (status, said) == (0, b"") and text.endswith(wanted), (status, said, text[-200:]))
+
+
 if __name__ == "__main__":
-    sys.exit(checks.over_program(examples, random_schedules, incident, partition, ranges, any_bytes, said_rows, refusals))
+    sys.exit(checks.over_program(examples, random_schedules, incident, partition, ranges, any_bytes, said_rows, refusals, streams, while_it_runs, to_full_device, long_runs))

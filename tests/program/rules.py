@@ -310,6 +310,25 @@ CASES = {
         ],
         "agent 61 4 4 512 1 keep",
     ),
+    "the size of a query": (
+        [
+            ("query 100 1 71 00000000 50 0", "refused TooLarge"),
+            ("query 100 1 71 000000 50 0", "queried 1, sent, handed 0 0 1 1 71 000000"),
+            ("query 100 2 71 000000 50 0", "queried 2, sent, handed 0 1 2 2 71 000000"),
+            ("query 100 256 71 000000 50 0", "refused TooLarge"),
+        ],
+        "agent 61 4 4 512 8 keep 1024 95 0",
+    ),
+    "the size of a response": (
+        [
+            (deliver(query(1, flags=1)), "query, sent, sent, handed 0 0 1 1 71 -"),
+            (deliver(query(2, id=(1 << 32) - 1, flags=1)), "query, sent, sent, handed 0 1 2 4294967295 71 -"),
+            ("respond 0 5 000000", "refused TooLarge"),
+            ("respond 0 5 0000", "replied, sent"),
+            ("respond 1 5 -", "refused TooLarge"),
+        ],
+        "agent 61 4 4 512 8 keep 1024 0 38",
+    ),
     "one answer a query": [
         (ASK, asked(1)),
         ("respond 0 100 " + "00" * 1024, "refused TooLarge"),

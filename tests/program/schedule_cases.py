@@ -22,6 +22,7 @@ CASES = os.path.join(checks.TOP, "conformance", "schedules", "cases.jsonl")
 
 PLAIN = """agent 61 4 4 512 8 keep 1024
 agent 62 4 4 512 8 ignore 3
+agent 63 4 4 512 8 keep 1024 2000 9216
 fire 0 6465706c6f79 7631 0
 deliver 1 0 7
 state 0
@@ -79,8 +80,9 @@ LINES = {
     "compact": [COUNT],
 }
 
-# The ranges of an agent's numbers, from the second word on.
+# The ranges of an agent's numbers, from the second word on and behind the mode.
 RANGES = [(1, 65_536), (1, 65_536), (0, 9_216), (1, 65_536)]
+MORE_RANGES = [(1, 65_536), (0, 9_216), (0, 9_216)]
 
 
 def kinds_of(words):
@@ -88,17 +90,16 @@ def kinds_of(words):
     kinds = LINES[words[0]]
     if words[0] == "query":
         return kinds + [DATA] * (len(words) - 8) if len(words) >= 8 else None
-    if words[0] == "agent" and len(words) == 8:
-        return kinds + [COUNT]
+    if words[0] == "agent" and len(words) in (8, 10):
+        return kinds + [COUNT] * (len(words) - 7)
     return kinds if len(words) == len(kinds) + 1 else None
 
 
 def is_config(words):
     """Whether the words of an agent, as they are read, are in their ranges."""
-    numbers = [int(word) for word in words[1:5]]
+    numbers = [*words[1:5], *words[6:]]
     name = b"" if words[0] == "-" else bytes.fromhex(words[0])
-    per_time = int(words[6]) if len(words) > 6 else 1_024
-    return 1 <= len(name) <= 128 and 1 <= per_time <= 65_536 and all(low <= n <= high for n, (low, high) in zip(numbers, RANGES))
+    return 1 <= len(name) <= 128 and all(low <= int(n) <= high for n, (low, high) in zip(numbers, RANGES + MORE_RANGES))
 
 
 def cause_of(words, names, acted):
@@ -181,7 +182,7 @@ def schedules():
     made = [PLAIN, "", "\n", PLAIN[:-1], PLAIN.replace(" ", "  "), PLAIN.replace(" ", "\t"), PLAIN.replace("\n", "\r\n"), PLAIN.upper()]
     for at, line in enumerate(lines):
         # (of the other lines the agents stay before an action, and one line behind it, so that a case is short)
-        first = [] if line.startswith("agent") else lines[:2]
+        first = [] if line.startswith("agent") else lines[:3]
         made += ["\n".join([*first, row, *lines[at + 1 : at + 2], ""]) for row in turned(line)]
         made.append("\n".join([*lines[at:], *lines[:at], ""]))
     return list(dict.fromkeys(made))

@@ -153,7 +153,7 @@ class Run(mutants.Run):
     def __init__(self, harmless, commit, words=()):
         self.rt, self.harmless, self.commit, self.tried_names = None, harmless, commit, []
         self.is_control, self.is_anew, self.writes = False, "--anew" in words, "--write" in words
-        self.now, self.reach, self.counts = "toolchain a\njudge 0", reach.Reach(edits.TOP), mutants.Counts()
+        self.now, self.reach, self.counts = "toolchain a logic 0a\njudge 0", reach.Reach(edits.TOP), mutants.Counts()
 
     def tried(self, crate, own):
         found = {}
@@ -202,7 +202,9 @@ def believed(count, top):
     with open(path, encoding="utf-8") as file:
         text = file.read()
     for name, changed, tried in (
-        ("another toolchain", text.replace("toolchain a", "toolchain b"), names),
+        ("a toolchain of another logic", text.replace("logic 0a", "logic 0b"), names),
+        ("another toolchain of the same logic", text.replace("toolchain a", "toolchain b"), []),
+        ("a toolchain that names no logic", text.replace(" logic 0a", ""), names),
         ("other scripts", text.replace("judge 0", "judge 1"), names),
         ("a sum that was changed by hand", text.replace("adds_nothing ", "adds_nothing 0"), ["adds_nothing"]),
         ("cut off in the middle", text[: len(text) - 40], [names[-1]]),
@@ -213,17 +215,18 @@ def believed(count, top):
         got = sorted(run([], none).tried_names)
         count.check(name, got == sorted(tried), got)
     for name, changed, crates in (
-        ("evidence of another toolchain stands beside the budget", text.replace("toolchain a", "toolchain b"), ["serf_high"]),
+        ("evidence of another logic stands beside the budget", text.replace("logic 0a", "logic 0b"), ["serf_high"]),
+        ("that of another toolchain of the same logic does not", text.replace("toolchain a", "toolchain b"), []),
         ("what other scripts judged does not", text.replace("judge 0", "judge 1"), []),
         ("nor what is believed", text, []),
     ):
         write(top, os.path.relpath(path, top), changed)
-        said = "\n".join(evidence.Evidence("serf_high", "toolchain a\njudge 0").faults)
+        said = "\n".join(evidence.Evidence("serf_high", "toolchain a logic 0a\njudge 0").faults)
         part = gate.Part("wrong bodies")
         part.said, part.crates = said, {("serf_high", "edits"): 5.0, ("serf_low", "edits"): 7.0}
         count.check(name, gate.seconds_elsewhere(part) == 5.0 * len(crates), said)
     write(top, os.path.relpath(path, top), text + "gone " + "0" * 32 + " shape double: x\n")
-    known = evidence.Evidence("serf_high", "toolchain a\njudge 0")
+    known = evidence.Evidence("serf_high", "toolchain a logic 0a\njudge 0")
     count.check("an edit that is gone is named", len(known.gone(set(names))) == 1)
     write(top, os.path.relpath(path, top), text)
     write(

@@ -2,9 +2,9 @@
 
 One call is real, over a copy of what git tracks, and so is README's command over the program that it compiled. All others
 go through a stand-in for the toolchain's command, in tests/repository/first_call, so that a build takes no time: fault
-lines and statuses of an unproved program, one that can't be compiled, one that is asked for by SERF_UNPROVED, a changed
-source, one that was taken away, one that changes during the build, a build that is broken off, a failed proof, no
-toolchain, and a folder that can't be written.
+lines and statuses of an unproved program, one that can't be compiled, two calls at once, one that is asked for by
+SERF_UNPROVED, a changed source, one that was taken away, one that changes during the build, a build that is broken off, a
+failed proof, no toolchain, and a folder that can't be written.
 """
 
 import os
@@ -15,6 +15,7 @@ import subprocess
 import sys
 import tempfile
 import time
+from concurrent.futures import ThreadPoolExecutor
 
 sys.dont_write_bytecode = True
 sys.path.insert(0, os.path.dirname(os.path.dirname(os.path.abspath(__file__))))
@@ -117,6 +118,19 @@ def unproved(count, clone):
     )
     clone.write(clone.source, "one\n")
     clone.order()
+
+
+def at_once(count, clone):
+    """Two calls at once over a source that is new compile it once, and both run it."""
+    tries = os.path.join(clone.bin, "tries")
+    clone.write(clone.source, "both\n")
+    clone.write(tries, "")
+    with ThreadPoolExecutor(2) as pool:
+        ran = list(pool.map(lambda _: clone.run("serf-replay", "x")[:2], range(2)))
+    count.check("two calls at once", ran == [(0, "unproved both x\n")] * 2, ran)
+    with open(tries, encoding="utf-8") as file:
+        count.check("they compile once", file.read() == "one more\n")
+    clone.write(clone.source, "one\n")
 
 
 def builds(count, clone):
@@ -289,7 +303,7 @@ def one_figure(count):
 def first_calls(count):
     with tempfile.TemporaryDirectory(prefix="first-call-") as root:
         clone = Clone(root)
-        for part in (unproved, builds, asked_for, sources, changing, broken_off, refused):
+        for part in (unproved, at_once, builds, asked_for, sources, changing, broken_off, refused):
             part(count, clone)
         fresh_clone(count, root)
 

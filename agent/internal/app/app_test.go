@@ -379,3 +379,17 @@ func TestMainsSignals(t *testing.T) {
 		}
 	}
 }
+
+// The limits of the configuration are those of the proved agent.
+func TestLimitsOfTheProvedAgent(t *testing.T) {
+	conf := config.Default()
+	conf.UserEventSizeLimit, conf.QuerySizeLimit, conf.QueryResponseSizeLimit = 700, 2000, 3000
+	found := (&App{config: conf}).settings()
+	if found.EventLimit != 700 || found.QueryLimit != 2000 || found.ResponseLimit != 3000 {
+		t.Errorf("%+v", found)
+	}
+	conf = config.Default()
+	if found = (&App{config: conf}).settings(); found.QueryLimit != 1024 || found.ResponseLimit != 1024 {
+		t.Errorf("%+v", found)
+	}
+}

@@ -15,6 +15,7 @@ import (
 func (a *App) settings() serfagent.Settings {
 	settings := serfagent.DefaultSettings()
 	settings.IgnoreOld, settings.EventLimit = true, uint64(a.config.UserEventSizeLimit)
+	settings.QueryLimit, settings.ResponseLimit = uint64(a.config.QuerySizeLimit), uint64(a.config.QueryResponseSizeLimit)
 	return settings
 }
 

@@ -60,11 +60,20 @@ type Config struct {
 	Compression bool
 	// UserEventSizeLimit is the greatest size of an event that is fired here, in bytes.
 	UserEventSizeLimit int
+	// QuerySizeLimit is the greatest size of the packet of a query that is fired here, and QueryResponseSizeLimit of that of an
+	// answer, in bytes.
+	QuerySizeLimit, QueryResponseSizeLimit int
 	// HandlerTimeout ends a handler that lasts longer; 0 never does.
 	HandlerTimeout time.Duration
 	// ShowVersion prints the version and does nothing else.
 	ShowVersion bool
 }
+
+// Sizes in bytes: what Serf has for queries and answers, and the greatest of any limit.
+const (
+	querySize   = 1024
+	greatestAny = 9216
+)
 
 // Default is what stands where nothing is said.
 func Default() Config {
@@ -72,7 +81,7 @@ func Default() Config {
 		Bind: "0.0.0.0", RPCAddr: "127.0.0.1:7373", LogLevel: "INFO", Profile: "lan", Tags: map[string]string{},
 		RetryInterval: 30 * time.Second, ReconnectInterval: 30 * time.Second, ReconnectTimeout: 24 * time.Hour,
 		TombstoneTimeout: 24 * time.Hour, BroadcastTimeout: 5 * time.Second, Compression: true, UserEventSizeLimit: 512,
-		HandlerTimeout: 10 * time.Minute, RecordSize: 64 << 20,
+		HandlerTimeout: 10 * time.Minute, RecordSize: 64 << 20, QuerySizeLimit: querySize, QueryResponseSizeLimit: querySize,
 	}
 }
 
@@ -174,9 +183,24 @@ func (c *Config) validateTags() error {
 	return nil
 }
 
+func (c *Config) validateSizes() error {
+	for _, one := range []struct {
+		key  string
+		size int
+	}{
+		{"user_event_size_limit", c.UserEventSizeLimit}, {"query_size_limit", c.QuerySizeLimit},
+		{"query_response_size_limit", c.QueryResponseSizeLimit},
+	} {
+		if one.size < 1 || one.size > greatestAny {
+			return fmt.Errorf("%s: %d is not between 1 and %d", one.key, one.size, greatestAny)
+		}
+	}
+	return nil
+}
+
 func (c *Config) validateNumbers() error {
-	if c.UserEventSizeLimit < 1 || c.UserEventSizeLimit > 9216 {
-		return fmt.Errorf("user_event_size_limit: %d is not between 1 and 9216", c.UserEventSizeLimit)
+	if err := c.validateSizes(); err != nil {
+		return err
 	}
 	if c.RetryMax < 0 {
 		return fmt.Errorf("-retry-max: %d is below 0", c.RetryMax)

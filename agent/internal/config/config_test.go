@@ -105,6 +105,11 @@ func TestRefusals(t *testing.T) {
 		{file(`{"tags": {"k": {}}}`), "neither a text"},
 		{file(`{"start_join": [[]]}`), "neither a text"},
 		{file(`{"user_event_size_limit": 9217}`), "9216"},
+		{file(`{"query_size_limit": 9217}`), "query_size_limit: 9217 is not between 1 and 9216"},
+		{file(`{"query_size_limit": 0}`), "query_size_limit: 0"},
+		{file(`{"query_response_size_limit": 9217}`), "query_response_size_limit: 9217 is not between 1 and 9216"},
+		{file(`{"query_response_size_limit": -1}`), "query_response_size_limit: -1"},
+		{file(`{"query_response_size_limit": "x"}`), "no number"},
 	} {
 		_, err := Parse(strings.Fields(one.words), io.Discard)
 		if err == nil || !strings.Contains(err.Error(), one.says) {

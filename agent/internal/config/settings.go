@@ -133,6 +133,8 @@ var settings = []setting{
 	{"", "reconnect_timeout", "", false, length(func(c *Config) *time.Duration { return &c.ReconnectTimeout })},
 	{"", "tombstone_timeout", "", false, length(func(c *Config) *time.Duration { return &c.TombstoneTimeout })},
 	{"", "user_event_size_limit", "", false, number(func(c *Config) *int { return &c.UserEventSizeLimit })},
+	{"", "query_size_limit", "", false, number(func(c *Config) *int { return &c.QuerySizeLimit })},
+	{"", "query_response_size_limit", "", false, number(func(c *Config) *int { return &c.QueryResponseSizeLimit })},
 }
 
 // refused are the flags and keys of `serf agent` that aren't taken, with the reason.
@@ -149,7 +151,5 @@ var refused = map[string]string{
 	"disable_coordinates":             "no coordinates are kept, so leave it out",
 	"disable_name_resolution":         "a name conflict is always settled by the cluster, so leave it out",
 	"enable_name_conflict_resolution": "a name conflict is always settled by the cluster, so leave it out",
-	"query_size_limit":                "the limit is 1024 bytes",
-	"query_response_size_limit":       "the limit is 1024 bytes",
 	"keyring_pass":                    "keys are kept in plain",
 }

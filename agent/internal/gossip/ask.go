@@ -14,9 +14,8 @@ import (
 	"kitchenrue.example/serfagent"
 )
 
-// Limits of queries: their size, and how many of this node's may be open.
+// Limits of queries: how many of this node's may be open, of their answers and of their time.
 const (
-	maxQuery   = 1024
 	maxOpen    = 256
 	maxAnswers = 2 * 1024
 	maxTimeout = time.Hour
@@ -84,14 +83,14 @@ func filtersOf(params rpc.QueryParams) [][]byte {
 	return filters
 }
 
-// isOverLimit says whether a query with these filters may be too long. It is sure where there are none, and counts the
+// isOverLimit says whether a query with these filters may be longer than this. It is sure where there are none, and counts the
 // longest numbers otherwise.
-func isOverLimit(params rpc.QueryParams, filters [][]byte, source string) bool {
+func isOverLimit(limit int, params rpc.QueryParams, filters [][]byte, source string) bool {
 	length := 160 + len(params.Name) + len(params.Payload) + len(source)
 	for _, filter := range filters {
 		length += 3 + len(filter)
 	}
-	return length > maxQuery
+	return length > limit
 }
 
 func (n *Node) ask(params rpc.QueryParams) (*rpc.Asked, error) {
@@ -107,8 +106,8 @@ func (n *Node) ask(params rpc.QueryParams) (*rpc.Asked, error) {
 	given, isPassing := filters, wire.Passes(filters, n.Tags())
 	if isPassing && len(params.Tags) > 0 {
 		given = filters[:len(filters)-len(params.Tags)]
-		if isOverLimit(params, filters, own.Name) {
-			return nil, refusal(fmt.Sprintf("query exceeds limit of %d bytes", maxQuery))
+		if isOverLimit(n.Config.QuerySizeLimit, params, filters, own.Name) {
+			return nil, refusal(fmt.Sprintf("query exceeds limit of %d bytes", n.Config.QuerySizeLimit))
 		}
 	}
 	how := serfagent.QueryParams{
@@ -130,7 +129,7 @@ func (n *Node) ask(params rpc.QueryParams) (*rpc.Asked, error) {
 		return nil
 	})
 	if errors.Is(err, serfagent.TooLarge) {
-		return nil, fmt.Errorf("query exceeds limit of %d bytes", maxQuery)
+		return nil, fmt.Errorf("query exceeds limit of %d bytes", n.Config.QuerySizeLimit)
 	}
 	if err != nil {
 		return nil, err

@@ -3,7 +3,10 @@ package gossip
 import (
 	"errors"
 	"fmt"
+	"log"
+	"net"
 	"reflect"
+	"strings"
 	"testing"
 	"time"
 
@@ -91,6 +94,45 @@ func TestBounds(t *testing.T) {
 }
 
 // Packets that wait while the agent is busy are given to it together, and go on in order.
+// A packet that is longer than any which memberlist sends isn't kept, and whoever waits for it goes on.
+func TestLongPackets(t *testing.T) {
+	a := start(t, "a", "", withAgent(&fake{}))
+	sent := make(chan struct{})
+	a.gossip(a.Node.events, make([]byte, 1400), nil)
+	a.gossip(a.Node.events, make([]byte, 1401), sent)
+	soon(t, "the word is sent", func() { <-sent })
+	if a.Node.events.NumQueued() != 1 || a.dropped.Load() != 1 {
+		t.Error(a.Node.events.NumQueued(), a.dropped.Load())
+	}
+}
+
+// The proved agent keeps a query until it is answered: one that nobody answered is forgotten behind so many others.
+func TestQueriesThatNobodyAnswers(t *testing.T) {
+	f := &fake{}
+	a := start(t, "a", "", withAgent(f))
+	for number := uint64(1); number <= unanswered+3; number++ {
+		a.handQuery(&serfagent.Handed{Number: number, Name: []byte("x")})
+	}
+	f.mu.Lock()
+	defer f.mu.Unlock()
+	if !reflect.DeepEqual(f.answered, []uint64{1, 2, 3}) {
+		t.Error(f.answered)
+	}
+}
+
+// An answer goes to an address of IP alone: no name is looked up.
+func TestNoAddress(t *testing.T) {
+	var said strings.Builder
+	a := start(t, "a", "", withAgent(&fake{}), func(o *Options) { o.Log = log.New(&said, "", 0) })
+	for _, addr := range []string{"", "abc", "localhost", strings.Repeat("x", 300)} {
+		said.Reset()
+		a.sendTo("b", net.IP(addr), 9, []byte("x"))
+		if !strings.Contains(said.String(), fmt.Sprintf("%x is no address", addr)) {
+			t.Errorf("%q: %s", addr, said.String())
+		}
+	}
+}
+
 func TestBursts(t *testing.T) {
 	f := &fake{flush: make(chan struct{})}
 	a := start(t, "a", "", withAgent(f), func(o *Options) { o.Burst = 64 })

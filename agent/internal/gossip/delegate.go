@@ -156,11 +156,18 @@ func (b *broadcast) Finished() {
 // UniqueBroadcast marks it for memberlist, which then doesn't look through all that wait.
 func (b *broadcast) UniqueBroadcast() {}
 
-// gossip queues a packet. Where too many wait, those that were sent most often are dropped.
+// gossip queues a packet. Where too many wait, those that were sent most often are dropped, and so is one that is too long to be
+// sent at all.
 func (n *Node) gossip(queue *memberlist.TransmitLimitedQueue, packet []byte, sent chan struct{}) {
+	one := &broadcast{packet, sent}
+	if len(packet) > n.longest {
+		n.dropped.Add(1)
+		one.Finished()
+		return
+	}
 	n.gossiping.Lock()
 	defer n.gossiping.Unlock()
-	queue.QueueBroadcast(&broadcast{packet, sent})
+	queue.QueueBroadcast(one)
 	if over := queue.NumQueued() - Waiting; over > 0 {
 		queue.Prune(Waiting)
 		n.dropped.Add(int64(over))

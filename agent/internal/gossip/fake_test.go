@@ -80,11 +80,22 @@ func withKeys(keys *keyring.Keys) change { return func(o *Options) { o.Keys = ke
 
 func withAgent(agent Agent) change { return func(o *Options) { o.Agent = agent } }
 
+func withLimits(query, response int) change {
+	return func(o *Options) { o.Config.QuerySizeLimit, o.Config.QueryResponseSizeLimit = query, response }
+}
+
 // open opens a proved agent on a file.
 func open(t *testing.T, name, path string) *serfagent.Agent {
 	t.Helper()
+	return openOf(t, name, path, config.Default())
+}
+
+// openOf opens a proved agent with the limits of a configuration.
+func openOf(t *testing.T, name, path string, conf config.Config) *serfagent.Agent {
+	t.Helper()
 	settings := serfagent.DefaultSettings()
 	settings.IgnoreOld = true
+	settings.QueryLimit, settings.ResponseLimit = uint64(conf.QuerySizeLimit), uint64(conf.QueryResponseSizeLimit)
 	agent, err := serfagent.Open(name, path, settings)
 	if err != nil {
 		t.Fatal(err)
@@ -111,7 +122,7 @@ func start(t *testing.T, name, folder string, changes ...change) *one {
 	}
 	if options.Agent == nil {
 		path := filepath.Join(folder, name)
-		options.Agent = Proved{open(t, name, path)}
+		options.Agent = Proved{openOf(t, name, path, conf)}
 		var err error
 		if options.Snapshot, options.Previous, err = snapshot.Open(path, false); err != nil {
 			t.Fatal(err)
@@ -193,6 +204,8 @@ type fake struct {
 	word chan struct{}
 	// For so many of them memory is wanting.
 	wanting atomic.Int64
+	// The numbers of the queries that were answered.
+	answered []uint64
 }
 
 // wordTime is the time of each word of this node's.
@@ -249,10 +262,15 @@ func (f *fake) Query(uint64, uint32, []byte, []byte, serfagent.QueryParams) (*se
 	return nil, serfagent.TooLarge
 }
 
-func (f *fake) Respond(uint64, uint64, []byte) ([]byte, error) { return nil, serfagent.NotHanded }
-func (f *fake) CloseDue(uint64) ([]*serfagent.Closed, error)   { return nil, nil }
-func (f *fake) Clocks() (serfagent.Clocks, error)              { return serfagent.Clocks{}, nil }
-func (f *fake) ObserveMember(uint64) error                     { return nil }
-func (f *fake) SaveMemberClock() error                         { return nil }
-func (f *fake) Compact() error                                 { return nil }
-func (f *fake) Close() error                                   { return nil }
+func (f *fake) Respond(_, number uint64, _ []byte) ([]byte, error) {
+	f.mu.Lock()
+	defer f.mu.Unlock()
+	f.answered = append(f.answered, number)
+	return nil, serfagent.NotHanded
+}
+func (f *fake) CloseDue(uint64) ([]*serfagent.Closed, error) { return nil, nil }
+func (f *fake) Clocks() (serfagent.Clocks, error)            { return serfagent.Clocks{}, nil }
+func (f *fake) ObserveMember(uint64) error                   { return nil }
+func (f *fake) SaveMemberClock() error                       { return nil }
+func (f *fake) Compact() error                               { return nil }
+func (f *fake) Close() error                                 { return nil }

@@ -76,18 +76,18 @@ func (n *Node) keyAnswer(command rpc.KeyCommand, payload []byte) []byte {
 		n.Log.Printf("[ERR] serf: %s failed: %v", command, err)
 		answer.Message = err.Error()
 	}
-	return fitting(answer)
+	return fitting(n.Config.QueryResponseSizeLimit, answer)
 }
 
-// fitting is an answer that isn't too long: with as many keys as have room.
-func fitting(answer wire.KeyAnswered) []byte {
+// fitting is an answer that isn't too long for a limit: with as many keys as have room.
+func fitting(limit int, answer wire.KeyAnswered) []byte {
 	all := len(answer.Keys)
 	if len(answer.Message) > 512 {
 		answer.Message = answer.Message[:512]
 	}
 	for {
 		written := wire.WriteKeyAnswered(answer)
-		if len(written) <= maxQuery-160-128 || len(answer.Keys) == 0 {
+		if len(written) <= limit-160-128 || len(answer.Keys) == 0 {
 			return written
 		}
 		answer.Keys = answer.Keys[:len(answer.Keys)-1]

@@ -80,6 +80,8 @@ type Node struct {
 	// gossiping is held while a packet is queued for broadcast.
 	gossiping                sync.Mutex
 	intents, queries, events *memberlist.TransmitLimitedQueue
+	// longest is how long a packet is at most that memberlist can gossip.
+	longest int
 
 	// isIgnoring counts joins that take no old events. isLeaving: this node says that it leaves.
 	isIgnoring atomic.Int64
@@ -126,6 +128,7 @@ func Create(options Options) (*Node, error) {
 		stop()
 		return nil, err
 	}
+	n.longest = conf.UDPBufferSize
 	for _, queue := range []**memberlist.TransmitLimitedQueue{&n.intents, &n.queries, &n.events} {
 		*queue = &memberlist.TransmitLimitedQueue{RetransmitMult: conf.RetransmitMult, NumNodes: n.Members.Size}
 	}

@@ -107,6 +107,59 @@ func TestQueries(t *testing.T) {
 	}
 }
 
+// Queries and answers are as long as their limits allow, and no byte longer.
+func TestLimitsOfQueriesAndAnswers(t *testing.T) {
+	var queries, answers []int
+	for _, limits := range [][2]int{{1024, 1024}, {1025, 1024}, {1024, 1025}, {300, 9216}, {9216, 200}} {
+		a := start(t, "a", t.TempDir(), withLimits(limits[0], limits[1]))
+		query := longest(limits[0], func(payload []byte) error {
+			_, err := a.Query(rpc.QueryParams{Name: "x", Payload: payload, Timeout: time.Minute})
+			if err != nil && err.Error() != fmt.Sprintf("query exceeds limit of %d bytes", limits[0]) {
+				t.Error(err)
+			}
+			return err
+		})
+		eventually(t, "it is asked", func() bool { return a.query("x") != nil })
+		answer := longest(limits[1], func(payload []byte) error {
+			err := a.query("x").Query.Respond(payload)
+			if err != nil && err.Error() != fmt.Sprintf("response exceeds limit of %d bytes", limits[1]) {
+				t.Error(err)
+			}
+			return err
+		})
+		queries, answers = append(queries, limits[0]-query), append(answers, limits[1]-answer)
+	}
+	// what is around a payload has one length, but for that of the length itself
+	for i := range queries {
+		if around := queries[i]; around > queries[0]+2 || around < queries[0]-2 || i < 3 && around != queries[0] {
+			t.Errorf("around queries: %v", queries)
+		}
+		if around := answers[i]; around > answers[0]+2 || around < answers[0]-2 || i < 3 && around != answers[0] {
+			t.Errorf("around answers: %v", answers)
+		}
+	}
+	// tags, which are put into the packet behind the agent, count as well
+	a := start(t, "a", t.TempDir(), withLimits(2000, 1024))
+	long := rpc.QueryParams{Name: "x", Payload: bytes.Repeat([]byte("x"), 1600), Tags: map[string]string{"none": ""}}
+	if _, err := a.Query(long); err != nil {
+		t.Error(err)
+	}
+	long.Payload = bytes.Repeat([]byte("x"), 1900)
+	if _, err := a.Query(long); err == nil || !strings.Contains(err.Error(), "limit of 2000 bytes") {
+		t.Error(err)
+	}
+}
+
+// longest is how long a payload is at most that isn't refused; it is tried from above, since the first that is taken may be the last.
+func longest(from int, takes func(payload []byte) error) int {
+	for length := from; length > 0; length-- {
+		if takes(make([]byte, length)) == nil {
+			return length
+		}
+	}
+	return 0
+}
+
 func TestQueriesThatAreRefused(t *testing.T) {
 	a := start(t, "a", t.TempDir())
 	long := bytes.Repeat([]byte("x"), 1100)
@@ -285,10 +338,17 @@ func TestKeysThatAreTooMany(t *testing.T) {
 	for i := 0; i < 100; i++ {
 		answer.Keys = append(answer.Keys, fmt.Sprintf("%044d", i))
 	}
-	written := fitting(answer)
-	found, err := wire.ReadKeyAnswered(written)
-	if err != nil || len(written) > 900 || len(found.Keys) < 10 || !strings.Contains(found.Message, "of 100 keys") {
-		t.Errorf("%d %+v %v", len(written), found, err)
+	before := 0
+	for _, limit := range []int{500, 1024, 2048} {
+		written := fitting(limit, answer)
+		found, err := wire.ReadKeyAnswered(written)
+		if err != nil || len(written) > limit-288 || !strings.Contains(found.Message, "of 100 keys") {
+			t.Errorf("%d: %d %+v %v", limit, len(written), found, err)
+		}
+		if limit > 1000 && len(found.Keys) < before+10 {
+			t.Errorf("%d: %d keys, and %d before", limit, len(found.Keys), before)
+		}
+		before = len(found.Keys)
 	}
 }
 

@@ -2,6 +2,7 @@ package gossip
 
 import (
 	"errors"
+	"fmt"
 	"net"
 	"strings"
 	"time"
@@ -259,6 +260,10 @@ func (n *Node) hand(events ...*serfagent.Event) {
 	}
 }
 
+// unanswered is how many queries may be answered, of those that were handed out last: as many as wait for a handler at most, and as
+// many again.
+const unanswered = 2 * Waiting
+
 // internalPrefix begins the names of the queries of the agents among themselves.
 const internalPrefix = "_serf_"
 
@@ -266,6 +271,10 @@ const internalPrefix = "_serf_"
 func (n *Node) handQuery(query *serfagent.Handed) {
 	if query == nil {
 		return
+	}
+	if query.Number > unanswered {
+		// (the proved agent keeps a query until it is answered: the answer to this one is thrown away)
+		_, _ = n.Agent.Respond(0, query.Number-unanswered, nil)
 	}
 	name := string(query.Name)
 	if strings.HasPrefix(name, internalPrefix) {
@@ -294,7 +303,7 @@ func (n *Node) respond(query *serfagent.Handed, payload []byte) error {
 	case errors.Is(err, serfagent.PastDeadline):
 		return errors.New("response is past the deadline")
 	case errors.Is(err, serfagent.TooLarge):
-		return errors.New("response exceeds limit of 1024 bytes")
+		return fmt.Errorf("response exceeds limit of %d bytes", n.Config.QueryResponseSizeLimit)
 	case err != nil:
 		return err
 	}
@@ -321,6 +330,11 @@ func (n *Node) send(query *serfagent.Handed, packet []byte) {
 }
 
 func (n *Node) sendTo(name string, addr net.IP, port uint16, packet []byte) {
+	if len(addr) != net.IPv4len && len(addr) != net.IPv6len {
+		// (its name would be looked up)
+		n.Log.Printf("[WARN] serf: an answer to %s was not sent: %x is no address", name, []byte(addr))
+		return
+	}
 	to := net.UDPAddr{IP: addr, Port: int(port)}
 	if err := n.List().SendToAddress(memberlist.Address{Addr: to.String(), Name: name}, packet); err != nil {
 		n.Log.Printf("[WARN] serf: an answer to %s was not sent: %v", name, err)

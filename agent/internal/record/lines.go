@@ -88,7 +88,11 @@ func (l *lines) open(name string, settings serfagent.Settings, clocks serfagent.
 		}
 	}
 	l.line("open").bytes([]byte(name)).number(settings.EventBuffer).number(settings.QueryBuffer).number(settings.EventLimit)
-	l.number(settings.Responders).word(mode).number(settings.PerTime).bytes(text)
+	l.number(settings.Responders).word(mode).number(settings.PerTime)
+	if serfs := serfagent.DefaultSettings(); settings.QueryLimit != serfs.QueryLimit || settings.ResponseLimit != serfs.ResponseLimit {
+		l.number(settings.QueryLimit).number(settings.ResponseLimit)
+	}
+	l.bytes(text)
 	l.line("opened").number(clocks.Member).number(clocks.Event).number(clocks.Query).end()
 }
 

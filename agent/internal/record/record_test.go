@@ -38,6 +38,18 @@ func opened(t *testing.T, name, folder string, limit int64, logger *log.Logger) 
 	return agent
 }
 
+// The limits of packets stand in the call where they aren't Serf's own, and nowhere else.
+func TestLimitsOfPackets(t *testing.T) {
+	for limits, want := range map[[2]uint64]string{{1024, 1024}: "1024 -", {2000, 1024}: "1024 2000 1024 -", {1024, 300}: "1024 1024 300 -"} {
+		settings, l := serfagent.DefaultSettings(), &lines{}
+		settings.QueryLimit, settings.ResponseLimit = limits[0], limits[1]
+		l.open("a", settings, serfagent.Clocks{Member: 1, Event: 1, Query: 1})
+		if found, want := string(l.text), "open 61 512 512 512 1024 keep "+want+"\nopened 1 1 1\n\n"; found != want {
+			t.Errorf("%v: %q", limits, found)
+		}
+	}
+}
+
 var quiet = log.New(io.Discard, "", 0)
 
 // recorded is the text of a record, without its moments.

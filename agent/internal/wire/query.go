@@ -3,6 +3,7 @@ package wire
 import (
 	"fmt"
 	"regexp"
+	"regexp/syntax"
 )
 
 // Types of filters.
@@ -110,8 +111,40 @@ func ReadTagFilter(filter []byte) (TagFilter, error) {
 	return found, nil
 }
 
-// Passes says whether these tags pass all filters of tags among these. A filter that can't be read lets nobody pass.
+// mostPieces is how many pieces the expressions of a query's filters may have together, where what is repeated counts as often as it
+// may be repeated. A packet of a few kilobytes can have millions, which would take seconds and hundreds of megabytes.
+const mostPieces = 2000
+
+// pieces counts those of an expression.
+func pieces(of *syntax.Regexp) int {
+	count := 1 + len(of.Rune)
+	for _, part := range of.Sub {
+		count += pieces(part)
+	}
+	if of.Op == syntax.OpRepeat && of.Max > 1 {
+		count *= of.Max
+	} else if of.Op == syntax.OpRepeat && of.Min > 1 {
+		count *= of.Min
+	}
+	return count
+}
+
+// readExpression reads an expression, unless it has more pieces than are left.
+func readExpression(expression string, left *int) (*regexp.Regexp, error) {
+	parsed, err := syntax.Parse(expression, syntax.Perl)
+	if err != nil {
+		return nil, err
+	}
+	if *left -= pieces(parsed); *left < 0 {
+		return nil, fmt.Errorf("an expression of more than %d pieces", mostPieces)
+	}
+	return regexp.Compile(expression)
+}
+
+// Passes says whether these tags pass all filters of tags among these. A filter that can't be read lets nobody pass, and so does one
+// whose expression is too large.
 func Passes(filters [][]byte, tags map[string]string) bool {
+	left := mostPieces
 	for _, filter := range filters {
 		if !IsTagFilter(filter) {
 			continue
@@ -120,7 +153,7 @@ func Passes(filters [][]byte, tags map[string]string) bool {
 		if err != nil {
 			return false
 		}
-		expression, err := regexp.Compile(one.Expr)
+		expression, err := readExpression(one.Expr, &left)
 		if err != nil || !expression.MatchString(tags[one.Tag]) {
 			return false
 		}

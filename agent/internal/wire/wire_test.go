@@ -7,6 +7,7 @@ import (
 	"reflect"
 	"strings"
 	"testing"
+	"time"
 
 	"kitchenrue.example/agent/internal/event"
 )
@@ -94,6 +95,31 @@ func TestFilters(t *testing.T) {
 		if q, err := ReadQuery([]byte(packet)); err == nil {
 			t.Errorf("%q: %+v", packet, q)
 		}
+	}
+}
+
+// Expressions of a few hundred bytes that would be programs of millions of steps.
+func TestExpressionsThatAreTooLarge(t *testing.T) {
+	tags := map[string]string{"role": strings.Repeat("x", 500)}
+	for expression, passes := range map[string]bool{
+		"^x+$": true, "x{500}": true, strings.Repeat("x{0,1000}", 1000): false, strings.Repeat("(x{0,1000})?", 100): false,
+		strings.Repeat("[^q]{1000,}", 100): false,
+	} {
+		began := time.Now()
+		filter := WriteTagFilter(TagFilter{Tag: "role", Expr: expression})
+		if Passes([][]byte{filter}, tags) != passes || time.Since(began) > 5*time.Second {
+			t.Errorf("%.30s: %v", expression, time.Since(began))
+		}
+	}
+	// many filters of one query have no more together
+	small := WriteTagFilter(TagFilter{Tag: "role", Expr: "x{20}"})
+	if many := func(count int) (all [][]byte) {
+		for i := 0; i < count; i++ {
+			all = append(all, small)
+		}
+		return all
+	}; !Passes(many(10), tags) || Passes(many(1000), tags) {
+		t.Error("a thousand filters")
 	}
 }
 

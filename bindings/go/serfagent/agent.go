@@ -70,12 +70,14 @@ func Open(name, path string, settings Settings) (*Agent, error) {
 	agent := &Agent{store: store, room: make([]byte, allRoom), handle: (*C.struct_serf_agent)(C.calloc(1, C.sizeof_struct_serf_agent))}
 	runtime.SetFinalizer(agent, (*Agent).free)
 	set := C.struct_serf_agent_settings{
-		event_buffer: C.uint64_t(settings.EventBuffer),
-		query_buffer: C.uint64_t(settings.QueryBuffer),
-		event_limit:  C.uint64_t(settings.EventLimit),
-		responders:   C.uint64_t(settings.Responders),
-		per_time:     C.uint64_t(settings.PerTime),
-		ignore_old:   C.bool(settings.IgnoreOld),
+		event_buffer:   C.uint64_t(settings.EventBuffer),
+		query_buffer:   C.uint64_t(settings.QueryBuffer),
+		event_limit:    C.uint64_t(settings.EventLimit),
+		query_limit:    C.uint64_t(settings.QueryLimit),
+		response_limit: C.uint64_t(settings.ResponseLimit),
+		responders:     C.uint64_t(settings.Responders),
+		per_time:       C.uint64_t(settings.PerTime),
+		ignore_old:     C.bool(settings.IgnoreOld),
 	}
 	named := []byte(name)
 	if err := agent.settled(C.serf_agent_open(agent.handle, ptr(named), size(named), &set, ptr(text), size(text))); err != nil {

@@ -9,6 +9,8 @@ type Settings struct {
 	EventBuffer, QueryBuffer uint64
 	// The greatest size of a fired event in bytes, 9,216 at most.
 	EventLimit uint64
+	// The greatest size in bytes of the packet of a query that is fired, and of a response's: 9,216 at most, and 1,024 where it is 0.
+	QueryLimit, ResponseLimit uint64
 	// How many names are counted of a query's acks, and of its responses, and how much is taken of one time: 1 to 65,536.
 	Responders, PerTime uint64
 	// Whether events from before a join are ignored.
@@ -17,7 +19,9 @@ type Settings struct {
 
 // DefaultSettings are Serf's.
 func DefaultSettings() Settings {
-	return Settings{EventBuffer: 512, QueryBuffer: 512, EventLimit: 512, Responders: 1024, PerTime: 1024}
+	return Settings{
+		EventBuffer: 512, QueryBuffer: 512, EventLimit: 512, QueryLimit: 1024, ResponseLimit: 1024, Responders: 1024, PerTime: 1024,
+	}
 }
 
 // Event is handed out: run its handler.

@@ -105,6 +105,8 @@ type Delegate struct {
 	// Broadcasts that wait: the words of members, and all else. gossiping is held while one is queued.
 	words, queue *memberlist.TransmitLimitedQueue
 	gossiping    sync.Mutex
+	// longest is how long a packet is at most that memberlist can gossip.
+	longest int
 
 	// The words of members that came; where others have it wrong that this node left; the queries of agents among themselves.
 	heard    *queue
@@ -150,7 +152,7 @@ func create(config *memberlist.Config, agent agent, handlers Handlers, options O
 	}
 	d := &Delegate{
 		agent: agent, handlers: handlers, burst: options.Burst, table: newTable(config.Name), meta: meta, began: time.Now(),
-		work: newWorks(), ended: make(chan struct{}), packets: newQueue(), states: newQueue(), heard: newQueue(),
+		work: newWorks(), ended: make(chan struct{}), longest: config.UDPBufferSize, packets: newQueue(), states: newQueue(), heard: newQueue(),
 		wronged: make(chan struct{}, 1), internal: make(chan *serfagent.Handed, internalWaiting), asked: make(chan chan<- []byte),
 	}
 	if d.state, err = agent.LocalState(nil, nil); err != nil {
@@ -253,8 +255,14 @@ func (d *Delegate) inOrder(call func() error) error {
 	return call()
 }
 
-// gossip queues a packet for broadcast. Where too many wait, those that were sent most often are dropped.
+// gossip queues a packet for broadcast. Where too many wait, those that were sent most often are dropped, and so is one that is
+// too long to be sent at all.
 func (d *Delegate) gossip(queue *memberlist.TransmitLimitedQueue, packet memberlist.Broadcast) {
+	if len(packet.Message()) > d.longest {
+		d.dropped.Add(1)
+		packet.Finished()
+		return
+	}
 	d.gossiping.Lock()
 	defer d.gossiping.Unlock()
 	queue.QueueBroadcast(packet)
@@ -273,7 +281,7 @@ func (d *Delegate) NotifyMsg(packet []byte) {
 	if packet[0] == leaveType || packet[0] == joinType {
 		queue = d.heard
 	}
-	if !queue.add(packet, false) {
+	if len(packet) > longestPacket || !queue.add(packet, false) {
 		d.dropped.Add(1)
 	}
 }

@@ -106,6 +106,10 @@ func (f *fake) NextMemberTime() (uint64, error) {
 
 func (f *fake) Flushes() uint64 { return 0 }
 
+func (f *fake) ShouldCompact(uint64) (bool, error) { return false, nil }
+
+func (f *fake) Compact() error { return nil }
+
 func (f *fake) CloseDue(uint64) ([]*serfagent.Closed, error) { return nil, nil }
 
 // start makes a member that nobody joins.

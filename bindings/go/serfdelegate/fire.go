@@ -1,6 +1,7 @@
 package serfdelegate
 
 import (
+	"errors"
 	"math/rand"
 	"net"
 	"sync"
@@ -11,6 +12,9 @@ import (
 
 	"kitchenrue.example/serfagent"
 )
+
+// errAddress: a query came with an address of another length than one of IP has. Its name isn't looked up.
+var errAddress = errors.New("serfdelegate: a query asks for its answers at no address")
 
 // firing is an event that is to be fired. What came of it is there when it is done.
 type firing struct {
@@ -108,7 +112,8 @@ func (d *Delegate) Query(name string, payload []byte, timeout time.Duration, wan
 	return nil
 }
 
-// Respond answers a query that was handed out.
+// Respond answers a query that was handed out. The error is the agent's, such as TooLarge or PastDeadline: NotHanded where the query was
+// answered, or where Unanswered others were handed out since.
 func (d *Delegate) Respond(query *serfagent.Handed, payload []byte) error {
 	packet, err := d.agent.Respond(d.now(), query.Number, payload)
 	if err != nil {
@@ -126,6 +131,9 @@ func (d *Delegate) sendAck(query *serfagent.Handed, ack []byte) {
 
 // send sends an answer to where a query says.
 func (d *Delegate) send(query *serfagent.Handed, packet []byte) error {
+	if len(query.Addr) != net.IPv4len && len(query.Addr) != net.IPv6len {
+		return errAddress
+	}
 	to := net.UDPAddr{IP: query.Addr, Port: int(query.Port)}
 	return d.List().SendToAddress(memberlist.Address{Addr: to.String(), Name: string(query.Source)}, packet)
 }

@@ -18,6 +18,9 @@ const (
 	earlyTime = 5 * time.Minute
 )
 
+// longestName is how long the name of a member may be whose word is kept before it comes, as Serf has it of all names.
+const longestName = 128
+
 // Status is how a member stands. The numbers are Serf's.
 type Status uint8
 
@@ -186,7 +189,7 @@ func (t *table) leaves(m *member, isPruned bool) {
 // keep keeps the word of a node that isn't known, where there is room for it: whether it is new.
 func (t *table) keep(word *serfagent.Intent) bool {
 	before, has := t.early[string(word.Node)]
-	if has && before.Time >= word.Time || !has && len(t.early) >= Waiting {
+	if has && before.Time >= word.Time || !has && len(t.early) >= Waiting || len(word.Node) > longestName {
 		return false
 	}
 	t.early[string(word.Node)] = early{*word, time.Now()}

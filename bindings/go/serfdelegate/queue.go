@@ -7,9 +7,16 @@ import "sync"
 // is taken, and Fire and Query are refused with ErrBusy: what the agent handed out is never dropped.
 const Waiting = 4096
 
+// Unanswered is how many queries may be answered, of those that were handed out last: as many as wait for a handler at most, and
+// as many again. An earlier one is forgotten, and Respond says NotHanded of it.
+const Unanswered = 2 * Waiting
+
 // waitingBytes is how many bytes of packets may wait for the agent, and how many of states. A state of memberlist's has
 // 20 mebibytes at most.
 const waitingBytes = 64 << 20
+
+// longestPacket is how long a packet may be that is taken: no agent sends one that doesn't fit into a datagram.
+const longestPacket = 1 << 16
 
 // piece is a packet, or a state with whether it is of a join.
 type piece struct {

@@ -4,7 +4,7 @@ package serfdelegate
 type Stats struct {
 	// Packets and States wait for the agent, and Handlers for those before them. Broadcasts wait for memberlist.
 	Packets, States, Handlers, Broadcasts int
-	// Dropped packets, states and broadcasts: more waited than may, or memory was wanting.
+	// Dropped packets, states and broadcasts: more waited than may, memory was wanting, or they were too long to be taken or sent.
 	Dropped uint64
 	// Bursts of packets, and Taken packets in them.
 	Bursts, Taken uint64

@@ -5,6 +5,7 @@ import (
 	"errors"
 	"fmt"
 	"regexp"
+	"regexp/syntax"
 	"sort"
 	"time"
 
@@ -119,9 +120,40 @@ func (d *Delegate) passes(packet []byte) bool {
 	return len(asked) > 0 && passes(asked, d.Tags())
 }
 
+// mostPieces is how many pieces the expressions of a query's filters may have together, where what is repeated counts as often as it
+// may be repeated. A packet of a few kilobytes can have millions, which would take seconds and hundreds of megabytes.
+const mostPieces = 2000
+
+// pieces counts those of an expression.
+func pieces(of *syntax.Regexp) int {
+	count := 1 + len(of.Rune)
+	for _, part := range of.Sub {
+		count += pieces(part)
+	}
+	if of.Op == syntax.OpRepeat && of.Max > 1 {
+		count *= of.Max
+	} else if of.Op == syntax.OpRepeat && of.Min > 1 {
+		count *= of.Min
+	}
+	return count
+}
+
+// readExpression reads an expression, unless it has more pieces than are left.
+func readExpression(expression string, left *int) (*regexp.Regexp, error) {
+	parsed, err := syntax.Parse(expression, syntax.Perl)
+	if err != nil {
+		return nil, err
+	}
+	if *left -= pieces(parsed); *left < 0 {
+		return nil, errPacked
+	}
+	return regexp.Compile(expression)
+}
+
 // passes says whether tags have what each of these filters asks for: somewhere in the tag's value its expression is found, and
-// a tag that isn't there is empty. A filter that can't be read lets no node pass.
+// a tag that isn't there is empty. A filter that can't be read lets no node pass, and so does one whose expression is too large.
 func passes(filters [][]byte, tags map[string]string) bool {
+	left := mostPieces
 	for _, filter := range filters {
 		var tag, expression string
 		r := reader{rest: filter[1:]}
@@ -136,7 +168,7 @@ func passes(filters [][]byte, tags map[string]string) bool {
 			}
 			return true
 		})
-		wanted, err := regexp.Compile(expression)
+		wanted, err := readExpression(expression, &left)
 		if r.end() != nil || err != nil || !wanted.MatchString(tags[tag]) {
 			return false
 		}

@@ -30,6 +30,8 @@ type agent interface {
 	ObserveMember(time uint64) error
 	NextMemberTime() (uint64, error)
 	Flushes() uint64
+	ShouldCompact(limit uint64) (bool, error)
+	Compact() error
 }
 
 // proved is the proved agent, and the burst that is made of it: one at a time.
@@ -89,7 +91,9 @@ func (d *Delegate) take() {
 			err = d.inOrder(func() error { return nil })
 		case <-second.C:
 			d.tellDropped()
-			err = d.closeDue()
+			if err = d.closeDue(); err == nil {
+				err = d.compact()
+			}
 		}
 		if err == ErrShutdown {
 			return
@@ -100,6 +104,15 @@ func (d *Delegate) take() {
 			return
 		}
 	}
+}
+
+// compact replaces the file by its last lines, where that is worth its while.
+func (d *Delegate) compact() error {
+	should, err := d.agent.ShouldCompact(serfagent.DefaultSnapshotLimit)
+	if err != nil || !should {
+		return err
+	}
+	return d.agent.Compact()
 }
 
 // taken is what is taken behind one flush: packets, and then firings.
@@ -218,6 +231,10 @@ func (d *Delegate) handEvent(event *serfagent.Event, works []func()) []func() {
 func (d *Delegate) handQuery(query *serfagent.Handed, works []func()) []func() {
 	if query == nil {
 		return works
+	}
+	if query.Number > Unanswered {
+		// (the agent keeps a query until it is answered: the answer to this one is thrown away)
+		d.agent.Respond(0, query.Number-Unanswered, nil)
 	}
 	handle := d.handlers.Query
 	if strings.HasPrefix(string(query.Name), internalPrefix) {

@@ -1,12 +1,13 @@
 """The proved Serf agent, by ctypes: ``Agent`` over a snapshot's file. docs/EMBEDDING.md says what to call when."""
 
-from .agent import Agent, Answer, Asked, Clocks, Closed, Event, Fired, Forked, Handed, Received, Settings
+from .agent import Agent, Answer, Asked, Clocks, Closed, Event, Fired, Forked, Handed, Received
 from .burst import Burst
 from .fault import PacketFault, packet_fault
 from .filters import query_filters, TAG_FILTER
 from .intents import intent, intent_fault, Join, Leave
 from .library import AgentError, Code, DEFAULT_SNAPSHOT_LIMIT, Fault, Kind, Library, NotLoaded, Reason
 from .members import Members, state_members
+from .settings import Settings
 from .store import Broken, Full, Locked, MissingFolder, NotAFile, ReadOnly, Store, StoreError
 
 __version__ = "0.1.0"

@@ -12,23 +12,12 @@ from typing import Iterable, Iterator, List, Optional, Tuple, Union
 from .burst import Burst, c_params
 from .checks import Buffer, flag, integer, texts
 from .library import AgentError, CAnswer, CBytes, CClocks, CClosed, CEvent, CGave, CHanded, Code, CParams, CResponse, CSettings, DEFAULT_SNAPSHOT_LIMIT, Handle, Kind, Library, Reason
+from .settings import Settings
 from .store import Path, Store
 
 
 class Forked(RuntimeError):
     """The agent is of the process that forked this one: only that one may use it."""
-
-
-@dataclass(frozen=True)
-class Settings:
-    """How many times are kept, the greatest size of a fired event in bytes, and what is taken of one query and one time."""
-
-    event_buffer: int = 512
-    query_buffer: int = 512
-    event_limit: int = 512
-    responders: int = 1024
-    per_time: int = 1024
-    ignore_old: bool = False
 
 
 @dataclass(frozen=True)

@@ -80,6 +80,8 @@ impl Agent {
             event_buffer: settings.event_buffer,
             query_buffer: settings.query_buffer,
             event_limit: settings.event_limit,
+            query_limit: settings.query_limit,
+            response_limit: settings.response_limit,
             responders: settings.responders,
             per_time: settings.per_time,
             ignore_old: settings.ignore_old,

@@ -18,6 +18,8 @@ pub struct Settings {
     pub event_buffer: u64,
     pub query_buffer: u64,
     pub event_limit: u64,
+    pub query_limit: u64,
+    pub response_limit: u64,
     pub responders: u64,
     pub per_time: u64,
     pub ignore_old: bool,

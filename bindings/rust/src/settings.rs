@@ -11,6 +11,10 @@ pub struct Settings {
     pub query_buffer: u64,
     /// The greatest size of a fired event in bytes, 9,216 at most.
     pub event_limit: u64,
+    /// The greatest size in bytes of the packet of a query that is fired, 9,216 at most; 0 stands for 1,024.
+    pub query_limit: u64,
+    /// The greatest size in bytes of the packet of a response, 9,216 at most; 0 stands for 1,024.
+    pub response_limit: u64,
     /// How many names are counted of a query's acks, and of its responses: 1 to 65,536.
     pub responders: u64,
     /// How many events, or queries, are taken of one time: 1 to 65,536.
@@ -21,7 +25,16 @@ pub struct Settings {
 
 impl Default for Settings {
     fn default() -> Self {
-        Settings { event_buffer: 512, query_buffer: 512, event_limit: 512, responders: 1024, per_time: 1024, ignore_old: false }
+        Settings {
+            event_buffer: 512,
+            query_buffer: 512,
+            event_limit: 512,
+            query_limit: 1024,
+            response_limit: 1024,
+            responders: 1024,
+            per_time: 1024,
+            ignore_old: false,
+        }
     }
 }
 

@@ -9,10 +9,11 @@ from .snapshot import SinkFault, Snapshot
 from .switches import wrong
 from .windows import Window
 
-# The greatest size of a received event's texts, and of the packets of queries and responses, in bytes.
+# The greatest size of a received event's texts, in bytes.
 MAX_EVENT = 9216
-MAX_QUERY = 1024
-MAX_RESPONSE = 1024
+
+# The greatest sizes of a query's packet and of a response's, where the settings say nothing, in bytes.
+DEFAULT_QUERY_LIMIT = DEFAULT_RESPONSE_LIMIT = 1024
 
 
 def limit_of(limit, name):
@@ -26,7 +27,7 @@ def limit_of(limit, name):
 ACK = 1
 NO_BROADCAST = 2
 
-Config = namedtuple("Config", "name events queries limit responders ignore_old per_time")
+Config = namedtuple("Config", "name events queries limit responders ignore_old per_time query_limit response_limit")
 
 
 class Refusal(Exception):
@@ -112,6 +113,17 @@ class Agent:
         reply = Reply("looked", *self.clocks(), self.events.minimum, self.queries.minimum)
         reply.kept.append(f"kept {hexed(self.snapshot.disk.durable)}")
         return reply
+
+    def packet_limits(self):
+        """The greatest sizes of a query's packet and of a response's."""
+        query, response = self.config.query_limit, self.config.response_limit
+        if wrong("query_limit_not_read"):
+            query = DEFAULT_QUERY_LIMIT
+        if wrong("response_limit_not_read"):
+            response = DEFAULT_RESPONSE_LIMIT
+        if wrong("limits_of_packets_turned"):
+            query, response = response, query
+        return limit_of(query, "query_limit"), limit_of(response, "response_limit")
 
     def running(self):
         if self.snapshot.stopped:
@@ -286,7 +298,7 @@ class Agent:
         time = self.queries.clock
         query = Query(time, query_id, b"", 0, self.config.name, filters, flags, 0, timeout, name, payload)
         packet = messages.encode_query(query)
-        most = 512 if wrong("query_limit_512") else limit_of(MAX_QUERY, "query_limit")
+        most = 512 if wrong("query_limit_512") else self.packet_limits()[0]
         if timeout == 0 and wrong("zero_timeout_before_too_large"):
             raise Refusal("ZeroTimeout")
         if len(packet) > most and not wrong("query_of_any_size"):
@@ -362,7 +374,7 @@ class Agent:
         packet = messages.encode_response(Response(query.time, query.id, self.config.name, 0, payload))
         if is_past(now, query.deadline):
             raise Refusal("PastDeadline")
-        if len(packet) > limit_of(MAX_RESPONSE, "response_limit") and not wrong("response_of_any_size"):
+        if len(packet) > self.packet_limits()[1] and not wrong("response_of_any_size"):
             raise Refusal("TooLarge")
         if not wrong("respond_twice"):
             self.handed[number] = None

@@ -1,6 +1,6 @@
 """The pipe: calls as lines in, replies as lines out."""
 
-from .agent import Agent, Config, Refusal, Reply
+from .agent import DEFAULT_QUERY_LIMIT, DEFAULT_RESPONSE_LIMIT, Agent, Config, Refusal, Reply
 from .snapshot import SinkFault
 
 
@@ -9,9 +9,10 @@ def unhexed(word):
 
 
 def settings(words):
-    """The settings of an `open` call, from its name on."""
+    """The settings of an `open` call, from its name on. The two limits of packets may be left out."""
     numbers = [int(word) for word in words[1:5]]
-    return Config(unhexed(words[0]), *numbers, words[5] == b"ignore", int(words[6]))
+    limits = [int(word) for word in words[7:]] or [DEFAULT_QUERY_LIMIT, DEFAULT_RESPONSE_LIMIT]
+    return Config(unhexed(words[0]), *numbers, words[5] == b"ignore", int(words[6]), *limits)
 
 
 class Pipe:
@@ -32,7 +33,7 @@ class Pipe:
 
     def call(self, name, words):
         if name == "open":
-            self.agent = Agent(settings(words), unhexed(words[7]))
+            self.agent = Agent(settings(words[:-1]), unhexed(words[-1]))
             return Reply("opened", *self.agent.clocks())
         if self.agent is None or name not in CALLS:
             return Reply("unsupported")

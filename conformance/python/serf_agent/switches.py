@@ -147,8 +147,10 @@ SWITCHES = {
     "zero_timeout_accepted": "a query without a timeout is fired",
     "query_of_any_size": "a query of any size is fired",
     "query_limit_512": "a query's packet has at most 512 bytes",
-    "query_limit_one_less": "a query's packet of just 1,024 bytes is too large",
-    "query_limit_one_more": "a query's packet of 1,025 bytes is sent",
+    "query_limit_one_less": "a query's packet of just the limit is too large",
+    "query_limit_one_more": "a query's packet of one byte more than the limit is sent",
+    "query_limit_not_read": "a query's packet has at most 1,024 bytes, whatever the settings say",
+    "limits_of_packets_turned": "the limit of queries counts for responses, and that of responses for queries",
     "zero_timeout_before_too_large": "a query without a timeout is told so before it is found too large",
     "ignored_query_moves_no_clock": "a query that is ignored moves no clock",
     "ack_for_its_flag_alone": "an ack is sent only where no other flag is set",
@@ -159,8 +161,9 @@ SWITCHES = {
     "deadline_is_past": "at the deadline itself an answer is too late",
     "no_deadline": "an answer is never too late",
     "response_of_any_size": "a response of any size is sent",
-    "response_limit_one_less": "a response's packet of just 1,024 bytes is too large",
-    "response_limit_one_more": "a response's packet of 1,025 bytes is sent",
+    "response_limit_one_less": "a response's packet of just the limit is too large",
+    "response_limit_one_more": "a response's packet of one byte more than the limit is sent",
+    "response_limit_not_read": "a response's packet has at most 1,024 bytes, whatever the settings say",
     "respond_twice": "a query can be answered twice",
     "answers_survive_restart": "queries of an earlier life can be answered",
     "answer_to_any_id": "an answer counts whatever its ID",
@@ -193,6 +196,9 @@ SWITCHES = {
 
 # No other reply shows these.
 ONLY_BY_LOOK = ("half_a_line_is_kept", "refused_join_lifts_nothing", "failed_line_moves_clock", "compaction_in_another_order")
+
+# Where no agent has limits of packets of its own, as in random schedules, nothing shows these.
+ONLY_BY_LIMITS = ("query_limit_not_read", "response_limit_not_read", "limits_of_packets_turned")
 
 chosen = set()
 

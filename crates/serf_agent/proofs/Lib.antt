@@ -14,3 +14,9 @@ pub mod ViewLaws
 pub mod WireLaws
 pub mod Deadlines
 pub mod Names
+pub mod KeepingLaws
+pub mod KeptTextLaws
+pub mod KeptRestartLaws
+pub mod KeptStepLaws
+pub mod KeptCompactionLaws
+pub mod UnkeptLaws

@@ -110,7 +110,7 @@ moves-query_received snapshots tags i now q Kept None s runs small is may =
     record {
       sound = sound-query_entered snapshots q.time q.id i s runs small new;
       events_grow = stays refl refl;
-      queries_grow = passes-grow i.queries.history (record { life = i.life; entry = record { time = q.time; key = q.id } }) (handed_query i.config.name now q) (all_pass tags q.filters i.config.name) refl new;
+      queries_grow = passes-grow i.queries.history (record { life = i.life; entry = record { time = q.time; key = q.id } }) (handed_query i.config now q) (all_pass tags q.filters i.config.name) refl new;
     }
 moves-query_received snapshots tags i now q (Failed durable) None s runs small is may = still i _ (sound-note_failed snapshots kinds.Query q.time durable i s may) refl refl
 
@@ -200,7 +200,7 @@ moves-query_fired : SnapshotLaws → (i : IdealAgent) (now id : ℕ) (name paylo
 moves-query_fired snapshots i now id name payload params w (Some fault) s is may = still i i s refl refl
 moves-query_fired snapshots i now id name payload params Kept None s is may =
     let q = query_at i.queries.clock i.config.name id name payload params in
-    let large = is_too_large_query i.config.name i.queries.clock id name payload params in
+    let large = is_too_large_query i.config i.queries.clock id name payload params in
     let none = is_no_timeout params.timeout in
     let spent = nat_le (2 ^ 64 - 1) i.queries.clock in
     let a = none-if i.snapshot.stopped asks_faults.Stopped (cond large (Some asks_faults.TooLarge) (cond none (Some asks_faults.ZeroTimeout) (cond spent (Some asks_faults.Exhausted) None))) is in
@@ -210,7 +210,7 @@ moves-query_fired snapshots i now id name payload params Kept None s is may =
     record {
       sound = sound-query_asked snapshots now q i s a.0 refl (leb-false (2 ^ 64 - 1) i.queries.clock d.0);
       events_grow = stays refl refl;
-      queries_grow = passes-grow i.queries.history (record { life = i.life; entry = record { time = i.queries.clock; key = id } }) (handed_query i.config.name now q) (all_pass false q.filters i.config.name) refl (later-fresh i.queries.history i.queries.clock id s.queries.below_clock);
+      queries_grow = passes-grow i.queries.history (record { life = i.life; entry = record { time = i.queries.clock; key = id } }) (handed_query i.config now q) (all_pass false q.filters i.config.name) refl (later-fresh i.queries.history i.queries.clock id s.queries.below_clock);
     }
 moves-query_fired snapshots i now id name payload params (Failed durable) None s is may = still i _ (sound-note_failed snapshots kinds.Query i.queries.clock durable i s may) refl refl
 

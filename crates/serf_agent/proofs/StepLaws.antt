@@ -98,7 +98,7 @@ steps-query_ignored tags i now q reason old new sound says state device =
     subst (λ (r : Option Reason). Steps i (query_received_as tags r i now q) (Ok (outcomes.Ignored reason)) old new) (sym says) (steps-ends i _ _ old new refl state (sound-query_observed q.time i sound) device)
 
 pub steps-query_entered : SnapshotLaws → (tags : Bool) (i : IdealAgent) (now : ℕ) (q : Query) (result : Result Outcome ReceiveFault) (old : Device) (new : AgentState) → IsSound i → i.snapshot.stopped ≡ false → q.time < 2 ^ 64 - 1 → query_admission i q.time q.id ≡ None → MayNote kinds.Query q.time i.snapshot Kept
-    → result ≡ Ok (outcomes.Query (handed_if_passed tags i.config.name now q) (ack_if_passed tags i.config.name q) (not (has_flag no_broadcast_flag q.flags)))
+    → result ≡ Ok (outcomes.Query (handed_if_passed tags i.config now q) (ack_if_passed tags i.config.name q) (not (has_flag no_broadcast_flag q.flags)))
     → new.concrete ≡ view_of (with_snapshot (noted kinds.Query q.time i.snapshot Kept) (query_entered q.time q.id i)) → new.device ≡ device_noted kinds.Query q.time i.snapshot old → Steps i (receive_query tags i now q) result old new
 steps-query_entered snapshots tags i now q result old new sound runs small says may answers state device =
     subst (λ (r : Option Reason). Steps i (query_received_as tags r i now q) result old new) (sym says)
@@ -136,12 +136,12 @@ event_decoded (Err fault) u is = absurd (cc is)
 
 -- ---- a query that is fired
 
-pub query-allowed : (i : IdealAgent) (id : ℕ) (name payload : List ℕ) (params : QueryParams) → i.snapshot.stopped ≡ false → is_too_large_query i.config.name i.queries.clock id name payload params ≡ false → is_no_timeout params.timeout ≡ false → i.queries.clock < 2 ^ 64 - 1
+pub query-allowed : (i : IdealAgent) (id : ℕ) (name payload : List ℕ) (params : QueryParams) → i.snapshot.stopped ≡ false → is_too_large_query i.config i.queries.clock id name payload params ≡ false → is_no_timeout params.timeout ≡ false → i.queries.clock < 2 ^ 64 - 1
     → query_fault i id name payload params ≡ None
 query-allowed i id name payload params runs small some time = let low : nat_le (2 ^ 64 - 1) i.queries.clock ≡ false = lt-leb _ _ time in rw (runs, small, some, low) refl
 
 pub steps-query_asked : SnapshotLaws → (i : IdealAgent) (now id : ℕ) (name payload : List ℕ) (params : QueryParams) (result : Result FiredQuery QueryFault) (old : Device) (new : AgentState) → IsSound i → i.snapshot.stopped ≡ false → i.queries.clock < 2 ^ 64 - 1 → query_fault i id name payload params ≡ None → MayNote kinds.Query i.queries.clock i.snapshot Kept
-    → result ≡ Ok (fired_query i.config.name now (query_at i.queries.clock i.config.name id name payload params))
+    → result ≡ Ok (fired_query i.config now (query_at i.queries.clock i.config.name id name payload params))
     → new.concrete ≡ view_of (with_snapshot (noted kinds.Query i.queries.clock i.snapshot Kept) (query_asked now (query_at i.queries.clock i.config.name id name payload params) i)) → new.device ≡ device_noted kinds.Query i.queries.clock i.snapshot old → Steps i (fire_query i now id name payload params) result old new
 steps-query_asked snapshots i now id name payload params result old new sound runs small says may answers state device =
     let q = query_at i.queries.clock i.config.name id name payload params in

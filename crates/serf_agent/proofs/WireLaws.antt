@@ -12,7 +12,7 @@ pub response-not_long : (t id : ℕ) (from : List ℕ) (flags : ℕ) (payload : 
 unfolding has_long
 response-not_long t id from flags payload short small = rw (short-fits from short, short-fits payload small) refl
 
-pub response-short : (t id : ℕ) (from : List ℕ) (flags : ℕ) (payload : List ℕ) → length (canonical (response_of t id from flags payload)) ≤ 1024 → (length from ≤ 9216) × (length payload ≤ 9216)
+pub response-short : (t id : ℕ) (from : List ℕ) (flags : ℕ) (payload : List ℕ) → length (canonical (response_of t id from flags payload)) ≤ 9216 → (length from ≤ 9216) × (length payload ≤ 9216)
 unfolding canonical
 response-short t id from flags payload short =
     let parts = simp length-append at short in
@@ -38,7 +38,7 @@ texts-short (t ∷ ts) short =
     let fits : is_long t ≡ false = short-fits t (omega arith) in
     (omega (arith, rest.0), rw (fits, rest.1) refl)
 
-pub query-not_long : (q : Query) → length (canonical (query q)) ≤ 1024 → has_long (query q) ≡ false
+pub query-not_long : (q : Query) → length (canonical (query q)) ≤ 9216 → has_long (query q) ≡ false
 unfolding canonical has_long
 query-not_long q short =
     let parts = simp length-append at short in

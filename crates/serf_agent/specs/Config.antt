@@ -1,5 +1,5 @@
--- An agent's settings (`config.go`: `NodeName`, `EventBuffer`, `QueryBuffer`, `UserEventSizeLimit`; the bounds are this
--- project's own).
+-- An agent's settings (`config.go`: `NodeName`, `EventBuffer`, `QueryBuffer`, `UserEventSizeLimit`, `QuerySizeLimit`,
+-- `QueryResponseSizeLimit`; the bounds are this project's own).
 use Rattle.std.specs.Prelude.{ℕ, ◌&&◌, nat_le, Bool, length}
 use Rattle.serf_window.specs.Window.{greatest_per_time, greatest_slot_count}
 use Rattle.serf_agent.specs.declared.config.Config.{Config}
@@ -11,6 +11,10 @@ longest_name = 128
 -- the most bytes that an event's name and payload have together (`serf.go`, `UserEventSizeLimit`)
 abbrev pub longest_texts : ℕ
 longest_texts = 9216
+
+-- the greatest limit of a query's packet, and of a response's (this project's own)
+abbrev pub greatest_packet_limit : ℕ
+greatest_packet_limit = 9216
 
 -- the most nodes whose acks and responses a query keeps (this project's own)
 abbrev pub greatest_responders : ℕ
@@ -26,5 +30,7 @@ is_sound c =
     && is_between 1 greatest_slot_count c.event_buffer
     && is_between 1 greatest_slot_count c.query_buffer
     && nat_le c.event_limit longest_texts
+    && nat_le c.query_limit greatest_packet_limit
+    && nat_le c.response_limit greatest_packet_limit
     && is_between 1 greatest_responders c.responders
     && is_between 1 greatest_per_time c.per_time

@@ -11,6 +11,13 @@ default_slots = 512
 abbrev pub default_event_limit : ℕ
 default_event_limit = 512
 
+-- the greatest length of a fired query's packet, and of a response's, in bytes
+abbrev pub default_query_limit : ℕ
+default_query_limit = 1024
+
+abbrev pub default_response_limit : ℕ
+default_response_limit = 1024
+
 -- how many names are counted among a query's acks, and among its responses
 abbrev pub default_responders : ℕ
 default_responders = 1024
@@ -25,6 +32,8 @@ default_config name = record {
   event_buffer = default_slots;
   query_buffer = default_slots;
   event_limit = default_event_limit;
+  query_limit = default_query_limit;
+  response_limit = default_response_limit;
   responders = default_responders;
   per_time = default_per_time;
   ignore_old = false;

@@ -9,11 +9,11 @@ use Rattle.serf_snap.specs.declared.kind.ClockKind.TheVariants as kinds
 use Rattle.serf_snap.specs.Device.{Device}
 use Rattle.serf_snap.specs.Notes.{Writing, Kept, Failed, MayReplace, compacted, noted, opened, written}
 use Rattle.serf_agent.specs.Calls.{MayNote}
-use Rattle.serf_agent.specs.Config.{is_sound, longest_texts}
+use Rattle.serf_agent.specs.Config.{greatest_packet_limit, is_sound, longest_texts}
 use Rattle.serf_agent.specs.declared.config.Config.{Config}
 use Rattle.serf_agent.specs.Events.{admission, event_entered, event_observed, texts_len}
 use Rattle.serf_agent.specs.Ideal.{IdealAgent, with_config, with_snapshot}
-use Rattle.serf_agent.specs.Queries.{longest_query, longest_response, query_admission, query_asked, query_entered, query_observed}
+use Rattle.serf_agent.specs.Queries.{query_admission, query_asked, query_entered, query_observed}
 use Rattle.serf_agent.specs.Restart.{IsInText, restarted, unopened}
 use Rattle.serf_agent.specs.Sound.{IsSound}
 use Rattle.serf_agent.specs.States.{joined}
@@ -21,10 +21,10 @@ use Rattle.serf_agent.specs.States.{joined}
 -- nothing of a packet that an agent sends is too long for its header
 pub record ShortPackets : Type 0 where
   pub event_fits : (t : ℕ) (name payload : List ℕ) (flag : Bool) → length name + length payload ≤ longest_texts → has_long (user_event_of t name payload flag) ≡ false
-  pub query_fits : (q : Query) → length (canonical (query q)) ≤ longest_query → has_long (query q) ≡ false
+  pub query_fits : (q : Query) → length (canonical (query q)) ≤ greatest_packet_limit → has_long (query q) ≡ false
   pub response_fits : (t id : ℕ) (from : List ℕ) (flags : ℕ) (payload : List ℕ) → length from ≤ longest_texts → length payload ≤ longest_texts → has_long (response_of t id from flags payload) ≡ false
   -- and a short answer has short texts
-  pub texts_short : (t id : ℕ) (from : List ℕ) (flags : ℕ) (payload : List ℕ) → length (canonical (response_of t id from flags payload)) ≤ longest_response → (length from ≤ longest_texts) × (length payload ≤ longest_texts)
+  pub texts_short : (t id : ℕ) (from : List ℕ) (flags : ℕ) (payload : List ℕ) → length (canonical (response_of t id from flags payload)) ≤ greatest_packet_limit → (length from ≤ longest_texts) × (length payload ≤ longest_texts)
 
 -- what an agent admits was never entered, and an event has short texts
 pub record AdmitsNew : Type 0 where

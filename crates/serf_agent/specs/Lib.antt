@@ -24,3 +24,9 @@ pub mod Defaults
 pub mod LentQueries
 pub mod Laws
 pub mod Snapshots
+pub mod Keeping
+pub mod KeptTexts
+pub mod KeptRestart
+pub mod KeptSteps
+pub mod KeptLines
+pub mod Unkept

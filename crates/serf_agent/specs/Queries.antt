@@ -10,6 +10,7 @@ use Rattle.serf_wire.specs.Message.{Query, QueryResponse, query, response_of}
 use Rattle.serf_wire.specs.Passes.{passes_of}
 use Rattle.serf_window.specs.Queries.{same_id}
 use Rattle.serf_snap.specs.declared.kind.ClockKind.TheVariants as kinds
+use Rattle.serf_agent.specs.declared.config.Config.{Config}
 use Rattle.serf_agent.specs.declared.open_query.OpenQuery.{OpenQuery}
 use Rattle.serf_agent.specs.declared.outcome.FiredQuery.{FiredQuery}
 use Rattle.serf_agent.specs.declared.outcome.QueryFault.{QueryFault}
@@ -56,9 +57,9 @@ abbrev pub deadline_of : ℕ → ℤ → ℕ
 deadline_of now (pos timeout) = min (now + timeout) (2 ^ 64 - 1)
 deadline_of now (negsuc timeout) = now
 
--- what a node hands out of a query
-abbrev pub handed_query : List ℕ → ℕ → Query → Handed
-handed_query node now q =
+-- what an agent of these settings hands out of a query
+abbrev pub handed_query : Config → ℕ → Query → Handed
+handed_query config now q =
     record {
       time = q.time;
       id = q.id;
@@ -69,7 +70,8 @@ handed_query node now q =
       port = q.port;
       relay_factor = q.relay_factor;
       deadline = deadline_of now q.timeout;
-      node = node;
+      response_limit = config.response_limit;
+      node = config.name;
     }
 
 -- a node's ack of a query
@@ -77,17 +79,13 @@ abbrev pub ack_packet : List ℕ → Query → List ℕ
 ack_packet node q = canonical (response_of q.time q.id node ack_flag [])
 
 -- what is handed out, and the ack that is sent, where the filters let the node pass
-abbrev pub handed_if_passed : Bool → List ℕ → ℕ → Query → Option Handed
-handed_if_passed tags node now q = if all_pass tags q.filters node then Some (handed_query node now q) else None
+abbrev pub handed_if_passed : Bool → Config → ℕ → Query → Option Handed
+handed_if_passed tags config now q = if all_pass tags q.filters config.name then Some (handed_query config now q) else None
 
 abbrev pub ack_if_passed : Bool → List ℕ → Query → Option (List ℕ)
 ack_if_passed tags node q = if all_pass tags q.filters node then (if has_flag ack_flag q.flags then Some (ack_packet node q) else None) else None
 
 -- Answering a query that was handed out
-
--- the most bytes of a packet that answers a query (`config.go`, `QueryResponseSizeLimit`)
-abbrev pub longest_response : ℕ
-longest_response = 1024
 
 -- the packet of a response, which has no flags
 abbrev pub response_packet : Handed → List ℕ → List ℕ
@@ -97,7 +95,7 @@ response_packet h payload = canonical (response_of h.time h.id h.node 0 payload)
 abbrev pub respond_fault : Handed → ℕ → List ℕ → Option RespondFault
 respond_fault h now payload =
     if nat_lt h.deadline now then Some responds.PastDeadline else
-    if nat_lt longest_response (length (response_packet h payload)) then Some responds.TooLarge else None
+    if nat_lt h.response_limit (length (response_packet h payload)) then Some responds.TooLarge else None
 
 -- A query that comes
 
@@ -117,7 +115,7 @@ query_received_as tags (Some reason) i now q = Ends record { agent = query_obser
 query_received_as tags None i now q =
     Notes kinds.Query q.time (record {
       agent = query_entered q.time q.id i;
-      answer = Ok (outcomes.Query (handed_if_passed tags i.config.name now q) (ack_if_passed tags i.config.name q) (not (has_flag no_broadcast_flag q.flags)));
+      answer = Ok (outcomes.Query (handed_if_passed tags i.config now q) (ack_if_passed tags i.config.name q) (not (has_flag no_broadcast_flag q.flags)));
     }) (Err SinkFault)
 
 abbrev pub receive_query : Bool → IdealAgent → ℕ → Query → Call (Result Outcome ReceiveFault)
@@ -151,19 +149,15 @@ abbrev pub is_no_timeout : ℤ → Bool
 is_no_timeout (pos timeout) = timeout == 0
 is_no_timeout (negsuc timeout) = true
 
--- the most bytes of a query's packet (`config.go`, `QuerySizeLimit`)
-abbrev pub longest_query : ℕ
-longest_query = 1024
-
 -- whether the packet of a query is too large to be fired
-abbrev pub is_too_large_query : List ℕ → ℕ → ℕ → List ℕ → List ℕ → QueryParams → Bool
-is_too_large_query node clock id name payload params = nat_lt longest_query (length (canonical (query (query_at (drawn clock) node id name payload params))))
+abbrev pub is_too_large_query : Config → ℕ → ℕ → List ℕ → List ℕ → QueryParams → Bool
+is_too_large_query config clock id name payload params = nat_lt config.query_limit (length (canonical (query (query_at (drawn clock) config.name id name payload params))))
 
 -- why a query isn't fired: the first that holds
 abbrev pub query_fault : IdealAgent → ℕ → List ℕ → List ℕ → QueryParams → Option QueryFault
 query_fault i id name payload params =
     if i.snapshot.stopped then Some faults.Stopped else
-    if is_too_large_query i.config.name i.queries.clock id name payload params then Some faults.TooLarge else
+    if is_too_large_query i.config i.queries.clock id name payload params then Some faults.TooLarge else
     if is_no_timeout params.timeout then Some faults.ZeroTimeout else
     if nat_le greatest_clock i.queries.clock then Some faults.Exhausted else None
 
@@ -176,14 +170,14 @@ abbrev pub query_asked : ℕ → Query → IdealAgent → IdealAgent
 query_asked now q i = with_asked (i.asked ++ (q.time, opened_query now q) ∷ []) (query_entered q.time q.id i)
 
 -- what a node answers that fires a query: of a query of its own its host says nothing
-abbrev pub fired_query : List ℕ → ℕ → Query → FiredQuery
-fired_query node now q = record { time = q.time; packet = canonical (query q); handed = handed_if_passed false node now q; ack = ack_if_passed false node q }
+abbrev pub fired_query : Config → ℕ → Query → FiredQuery
+fired_query config now q = record { time = q.time; packet = canonical (query q); handed = handed_if_passed false config now q; ack = ack_if_passed false config.name q }
 
 abbrev pub asks : IdealAgent → ℕ → Query → Call (Result FiredQuery QueryFault)
 asks i now q =
     Notes kinds.Query q.time (record {
       agent = query_asked now q i;
-      answer = Ok (fired_query i.config.name now q);
+      answer = Ok (fired_query i.config now q);
     }) (Err faults.SinkFault)
 
 abbrev pub query_fired_as : Option QueryFault → IdealAgent → ℕ → Query → Call (Result FiredQuery QueryFault)

@@ -14,6 +14,9 @@ pub const LONGEST_NAME: usize = 128;
 /// `UserEventSizeLimit`).
 pub const LONGEST_TEXTS: usize = 9216;
 
+/// The greatest limit of a fired query's packet, and of a response's, in bytes.
+pub const MAX_PACKET_LIMIT: u64 = 9216;
+
 /// The greatest number of names that are counted among the acks of a query, and among its responses.
 pub const MAX_RESPONDERS: u64 = 65536;
 
@@ -29,6 +32,10 @@ pub struct Config {
     pub query_buffer: u64,
     /// The greatest length of a fired event's packet, and of its texts together: at most 9,216. Serf has 512.
     pub event_limit: u64,
+    /// The greatest length of a fired query's packet, in bytes: at most 9,216. Serf has 1,024.
+    pub query_limit: u64,
+    /// The greatest length of the packet of a response, in bytes: at most 9,216. Serf has 1,024.
+    pub response_limit: u64,
     /// How many names are counted at most among the acks of a query, and among its responses: 1 to 65,536.
     pub responders: u64,
     /// How many events, or queries, of one time are taken at most: 1 to 65,536.
@@ -50,6 +57,8 @@ impl Config {
             && self.query_buffer >= 1
             && self.query_buffer <= MAX_SLOTS
             && self.event_limit <= LONGEST_TEXTS as u64
+            && self.query_limit <= MAX_PACKET_LIMIT
+            && self.response_limit <= MAX_PACKET_LIMIT
             && self.responders >= 1
             && self.responders <= MAX_RESPONDERS
             && self.per_time >= 1
@@ -65,6 +74,8 @@ impl Config {
             event_buffer: self.event_buffer,
             query_buffer: self.query_buffer,
             event_limit: self.event_limit,
+            query_limit: self.query_limit,
+            response_limit: self.response_limit,
             responders: self.responders,
             per_time: self.per_time,
             ignore_old: self.ignore_old,

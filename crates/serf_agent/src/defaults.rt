@@ -14,6 +14,12 @@ pub const DEFAULT_SLOTS: u64 = 512;
 /// The greatest size of a fired event, in bytes (`DefaultConfig`: `UserEventSizeLimit`).
 pub const DEFAULT_EVENT_LIMIT: u64 = 512;
 
+/// The greatest length of a fired query's packet, in bytes (`DefaultConfig`: `QuerySizeLimit`).
+pub const DEFAULT_QUERY_LIMIT: u64 = 1024;
+
+/// The greatest length of the packet of a response, in bytes (`DefaultConfig`: `QueryResponseSizeLimit`).
+pub const DEFAULT_RESPONSE_LIMIT: u64 = 1024;
+
 /// How many names are counted among a query's acks, and among its responses. This project's own.
 pub const DEFAULT_RESPONDERS: u64 = 1024;
 
@@ -37,6 +43,8 @@ impl Config {
             event_buffer: DEFAULT_SLOTS,
             query_buffer: DEFAULT_SLOTS,
             event_limit: DEFAULT_EVENT_LIMIT,
+            query_limit: DEFAULT_QUERY_LIMIT,
+            response_limit: DEFAULT_RESPONSE_LIMIT,
             responders: DEFAULT_RESPONDERS,
             per_time: DEFAULT_PER_TIME,
             ignore_old: false,

@@ -2,18 +2,16 @@
 
 ghost use Rattle.std.specs.Prelude.{◌≡◌, ◌≢◌, ◌≤◌, [], length, if◌then◌else◌, Some, None, IfOk, IfErr};
 ghost use Rattle.serf_wire.specs.Message.{query_response, query_with, response_of, response_said};
-ghost use Rattle.serf_agent.specs.Config.{longest_name};
-ghost use Rattle.serf_agent.specs.Queries.{ack_packet, deadline_of, handed_query, longest_response, respond_fault, response_packet};
+ghost use Rattle.serf_agent.specs.Config.{greatest_packet_limit, longest_name};
+ghost use Rattle.serf_agent.specs.Queries.{ack_packet, deadline_of, handed_query, respond_fault, response_packet};
 
+use crate::config::Config;
 use crate::flags::ACK;
 use crate::outcome::{Reply, RespondFault};
 use serf_lamport::Time;
 use serf_wire::{Bytes, EncodeFault, Query, QueryResponse, encode_response, response_len};
 use std::alloc::{AllocError, Global};
 use std::marker::Model;
-
-/// The greatest length of a packet that answers a query.
-const LONGEST_RESPONSE: u128 = 1024;
 
 /// A query that was handed out, which can be answered once: a response uses it up. It has no clone.
 ///
@@ -35,10 +33,13 @@ struct HandedParts {
     port: u16,
     relay_factor: u8,
     deadline: u64,
+    response_limit: u64,
     node: Bytes,
 }
 
 impl Model for HandedQuery {
+    ghost use Rattle.std.specs.Prelude.{◌≤◌};
+    ghost use Rattle.serf_agent.specs.Config.{greatest_packet_limit};
     ghost use Rattle.serf_agent.specs.Handed.{Handed};
 
     ghost Value = { Handed };
@@ -54,8 +55,11 @@ impl Model for HandedQuery {
           port = parts.port;
           relay_factor = parts.relay_factor;
           deadline = parts.deadline;
+          response_limit = parts.response_limit;
           node = parts.node;
         } };
+
+    ghost invariant = { λ q. q.parts.value.response_limit ≤ greatest_packet_limit };
 }
 
 /// The last moment at which a query of this timeout can be answered.
@@ -89,21 +93,22 @@ pub(crate) fn ack_of<F>(alloc: Global, query: &Query<F>, node: &[u8]) -> Result<
 }
 
 impl HandedQuery {
-    /// What a node hands out of a query.
+    /// What an agent of these settings hands out of a query.
     pub(crate) fn of<F>(
         alloc: Global,
         query: &Query<F>,
         now: u64,
-        node: &[u8],
+        config: &Config,
     ) -> Result<HandedQuery, AllocError>
+        requires { config.now.response_limit ≤ greatest_packet_limit }
         ensures { IfOk result (λ handed.
-            handed ≡ handed_query node.now now (query_with [] query.now)) }
+            handed ≡ handed_query config.now now (query_with [] query.now)) }
     {
         let name = Bytes::copy_of(alloc, query.name)?;
         let payload = Bytes::copy_of(alloc, query.payload)?;
         let source = Bytes::copy_of(alloc, query.source)?;
         let addr = Bytes::copy_of(alloc, query.addr)?;
-        let node = Bytes::copy_of(alloc, node)?;
+        let node = Bytes::copy_of(alloc, config.name.as_slice())?;
         let parts = HandedParts {
             time: query.time,
             id: query.id,
@@ -114,6 +119,7 @@ impl HandedQuery {
             port: query.port,
             relay_factor: query.relay_factor,
             deadline: deadline_of(now, query.timeout),
+            response_limit: config.response_limit,
             node,
         };
         Ok(HandedQuery {
@@ -207,7 +213,7 @@ impl HandedQuery {
 
     /// The packet of a response that fits.
     fn packet_of(&self, alloc: Global, payload: &[u8]) -> Result<Bytes, AllocError>
-        requires { length (response_packet self.now payload.now) ≤ longest_response }
+        requires { length (response_packet self.now payload.now) ≤ greatest_packet_limit }
         ensures { IfOk result (λ packet. packet ≡ response_packet self.now payload.now) }
     {
         match encode_response(alloc, &self.response(payload)) {
@@ -220,8 +226,8 @@ impl HandedQuery {
     /// Answers the query (Serf's `query.go`, `Respond`): the packet is to be sent to the address and the port. A success
     /// spends the query; a refusal hands it back as it was, and it can be answered later.
     ///
-    /// `PastDeadline` where the moment is after the deadline, `TooLarge` where the packet has more than 1,024 bytes, and
-    /// `OutOfMemory`; the first that holds.
+    /// `PastDeadline` where the moment is after the deadline, `TooLarge` where the packet is longer than the
+    /// `response_limit` of the agent that handed it out, and `OutOfMemory`; the first that holds.
     pub fn respond(
         self,
         alloc: Global,
@@ -244,7 +250,7 @@ impl HandedQuery {
         if self.parts.deadline < now {
             return Err((self, RespondFault::PastDeadline));
         }
-        if response_len(&self.response(payload)) > LONGEST_RESPONSE {
+        if response_len(&self.response(payload)) > self.parts.response_limit as u128 {
             return Err((self, RespondFault::TooLarge));
         }
         match self.packet_of(alloc, payload) {

@@ -45,13 +45,16 @@ mod track;
 
 pub use agent::Agent;
 pub use answer::{answer_in, is_ack};
-pub use config::{Config, LONGEST_NAME, LONGEST_TEXTS, MAX_RESPONDERS};
+pub use config::{Config, LONGEST_NAME, LONGEST_TEXTS, MAX_PACKET_LIMIT, MAX_RESPONDERS};
 pub use defaults::{
-    DEFAULT_EVENT_LIMIT, DEFAULT_PER_TIME, DEFAULT_RESPONDERS, DEFAULT_SLOTS,
-    DEFAULT_SNAPSHOT_LIMIT,
+    DEFAULT_EVENT_LIMIT, DEFAULT_PER_TIME, DEFAULT_QUERY_LIMIT, DEFAULT_RESPONDERS,
+    DEFAULT_RESPONSE_LIMIT, DEFAULT_SLOTS, DEFAULT_SNAPSHOT_LIMIT,
 };
 pub use handed::HandedQuery;
-pub use laws::{life_promises, short_packets, sound_steps};
+pub use laws::{
+    keeping_laws, kept_compaction_laws, kept_restart_laws, kept_step_laws, kept_text_laws,
+    life_promises, short_packets, sound_steps, unkept_laws,
+};
 pub use lent_queries::LentQueries;
 pub use lists::{BytesList, List, Response, Responses};
 pub use open_query::OpenQuery;

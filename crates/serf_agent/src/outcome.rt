@@ -191,7 +191,7 @@ pub struct FiredQuery {
 pub enum QueryFault {
     #[error("the agent is stopped")]
     Stopped,
-    /// The packet has more than 1,024 bytes.
+    /// The packet is longer than the query limit.
     #[error("the query is too large")]
     TooLarge,
     /// The timeout is 0 or below.
@@ -220,7 +220,7 @@ pub enum RespondFault {
     /// The moment is after the query's deadline.
     #[error("the query takes no more answers")]
     PastDeadline,
-    /// The packet has more than 1,024 bytes.
+    /// The packet is longer than the response limit of the agent that handed the query out.
     #[error("the response is too large")]
     TooLarge,
     #[error("out of memory")]

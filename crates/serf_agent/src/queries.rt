@@ -12,7 +12,7 @@ ghost use Rattle.serf_snap.specs.Notes.{Kept, Failed, noted, written};
 ghost use Rattle.serf_snap.specs.Clocks.{clock_line};
 ghost use Rattle.serf_agent.specs.Answers.{Counts};
 ghost use Rattle.serf_agent.specs.Calls.{AsksSink, MayNote};
-ghost use Rattle.serf_agent.specs.Config.{longest_name};
+ghost use Rattle.serf_agent.specs.Config.{is_sound};
 ghost use Rattle.serf_agent.specs.Devices.{FailsLine, device_noted};
 ghost use Rattle.serf_agent.specs.Ideal.{IdealAgent, with_snapshot};
 ghost use Rattle.serf_agent.specs.Queries.{ack_packet, all_pass, close_due, counted_as, handed_query, has_flag, is_ack, is_due, is_tag_filter, query_admission, query_entered, receive_query, receive_response};
@@ -23,6 +23,7 @@ ghost use Rattle.serf_agent.specs.View.{concrete_with, view_of};
 
 use crate::agent::Agent;
 use crate::answer::is_ack;
+use crate::config::Config;
 use crate::flags::{ACK, NO_BROADCAST, has_flag};
 use crate::handed::{HandedQuery, ack_of};
 use crate::laws::sound_snapshots;
@@ -82,14 +83,14 @@ pub(crate) fn pass<F>(
     alloc: Global,
     query: &Query<F>,
     now: u64,
-    node: &[u8],
+    config: &Config,
     passed: bool,
 ) -> Result<Passed, AllocError>
-    requires { length node.now ≤ longest_name }
+    requires { is_sound config.now ≡ true }
     ensures handed { IfOk result (λ p. p.handed
-        ≡ (if passed then Some (handed_query node.now now (query_with [] query.now)) else None)) }
+        ≡ (if passed then Some (handed_query config.now now (query_with [] query.now)) else None)) }
     ensures ack { IfOk result (λ p. p.ack ≡ (if passed then (if has_flag 1 query.now.flags
-        then Some (ack_packet node.now (query_with [] query.now)) else None) else None)) }
+        then Some (ack_packet config.now.name (query_with [] query.now)) else None) else None)) }
 {
     if !passed {
         return Ok(Passed {
@@ -97,14 +98,14 @@ pub(crate) fn pass<F>(
             ack: None,
         });
     }
-    let handed = HandedQuery::of(alloc, query, now, node)?;
+    let handed = HandedQuery::of(alloc, query, now, config)?;
     if !has_flag(ACK, query.flags) {
         return Ok(Passed {
             handed: Some(handed),
             ack: None,
         });
     }
-    let ack = ack_of(alloc, query, node)?;
+    let ack = ack_of(alloc, query, config.name.as_slice())?;
     Ok(Passed {
         handed: Some(handed),
         ack: Some(ack),
@@ -194,7 +195,7 @@ impl<S: Sink> Agent<S> {
             < self.old.concrete.config.per_time }
 
         ensures handed { IfOk result (λ p. p.handed ≡ (if passed then Some
-            (handed_query self.old.concrete.config.name now (query_said query.now)) else None)) }
+            (handed_query self.old.concrete.config now (query_said query.now)) else None)) }
         ensures ack { IfOk result (λ p. p.ack ≡ (if passed then (if has_flag 1 query.now.flags
             then Some (ack_packet self.old.concrete.config.name (query_said query.now)) else None)
             else None)) }
@@ -204,8 +205,7 @@ impl<S: Sink> Agent<S> {
             (query_entered query.now.time query.now.id i))) }
         ensures line { NotesLine kinds.Query query.now.time self.old self.new result }
     {
-        let node = self.config.name.as_slice();
-        let passes = pass(alloc, query, now, node, passed)?;
+        let passes = pass(alloc, query, now, &self.config, passed)?;
         self.enter_query(alloc, query.time, query.id)?;
         Ok(passes)
     }

@@ -1,6 +1,6 @@
 //! Queries of an agent's own: firing them.
 
-ghost use Rattle.std.specs.Prelude.{◌≡◌, ◌≢◌, ◌<◌, ◌≤◌, false, [], ◌∷◌, ◌++◌, Some, All, length, Err, OnOk, OnErr, IfOk, IsErrOf};
+ghost use Rattle.std.specs.Prelude.{◌≡◌, ◌≢◌, ◌<◌, ◌≤◌, false, true, [], ◌∷◌, ◌++◌, Some, All, length, Err, OnOk, OnErr, IfOk, IsErrOf};
 ghost use Rattle.serf_wire.specs.Canonical.{canonical};
 ghost use Rattle.serf_wire.specs.Message.{query, query_of};
 ghost use Rattle.serf_window.specs.Window.{count_in, time_in};
@@ -9,16 +9,17 @@ ghost use Rattle.serf_snap.specs.Device.{HasFailed};
 ghost use Rattle.serf_snap.specs.Notes.{Kept, Failed, MayWrite, noted, written};
 ghost use Rattle.serf_snap.specs.Clocks.{clock_line};
 ghost use Rattle.serf_agent.specs.Calls.{AsksSink, MayNote};
-ghost use Rattle.serf_agent.specs.Config.{longest_name};
+ghost use Rattle.serf_agent.specs.Config.{greatest_packet_limit, is_sound};
 ghost use Rattle.serf_agent.specs.Devices.{FailsLine, device_noted};
 ghost use Rattle.serf_agent.specs.Ideal.{IdealAgent, with_asked, with_snapshot};
-ghost use Rattle.serf_agent.specs.Queries.{all_pass, fire_query, fired_query, has_flag, is_no_timeout, is_too_large_query, longest_query, opened_query, query_asked, query_at, query_entered};
+ghost use Rattle.serf_agent.specs.Queries.{all_pass, fire_query, fired_query, has_flag, is_no_timeout, is_too_large_query, opened_query, query_asked, query_at, query_entered};
 ghost use Rattle.serf_agent.specs.Sound.{IsSound};
 ghost use Rattle.serf_agent.specs.Steps.{NotesLine, Steps};
 ghost use Rattle.serf_agent.specs.View.{concrete_with, view_of};
 
 use crate::agent::Agent;
 use crate::asked::Asked;
+use crate::config::Config;
 use crate::flags::{ACK, flags_of, has_flag};
 use crate::handed::deadline_of;
 use crate::laws::sound_snapshots;
@@ -31,9 +32,6 @@ use serf_snap::{ClockKind, NoteFault, Sink, Snapshot};
 use serf_wire::{Bytes, EncodeFault, Query, encode_query, passes, query_len};
 use std::alloc::{AllocError, Global};
 
-/// The greatest length of a query's packet.
-const LONGEST_QUERY: u128 = 1024;
-
 /// Whether every filter of a query that is fired lets a node pass; a tag filter lets none.
 fn filters_pass(filters: &[Bytes], node: &[u8]) -> bool
     ensures { result ≡ all_pass false filters.now node.now }
@@ -43,7 +41,7 @@ fn filters_pass(filters: &[Bytes], node: &[u8]) -> bool
 
 /// The packet of a query that is small enough to be fired.
 fn packet_of(alloc: Global, parts: &Query<&[Bytes]>) -> Result<Bytes, AllocError>
-    requires { length (canonical (query (query_of parts.now))) ≤ longest_query }
+    requires { length (canonical (query (query_of parts.now))) ≤ greatest_packet_limit }
     ensures { IfOk result (λ packet. packet ≡ canonical (query (query_of parts.now))) }
 {
     match encode_query(alloc, parts) {
@@ -58,15 +56,15 @@ fn fired_of(
     alloc: Global,
     parts: &Query<&[Bytes]>,
     now: u64,
-    node: &[u8],
+    config: &Config,
 ) -> Result<FiredQuery, AllocError>
-    requires node { length node.now ≤ longest_name }
-    requires short { length (canonical (query (query_of parts.now))) ≤ longest_query }
-    ensures { IfOk result (λ fired. fired ≡ fired_query node.now now (query_of parts.now)) }
+    requires sound { is_sound config.now ≡ true }
+    requires short { length (canonical (query (query_of parts.now))) ≤ greatest_packet_limit }
+    ensures { IfOk result (λ fired. fired ≡ fired_query config.now now (query_of parts.now)) }
 {
     let packet = packet_of(alloc, parts)?;
-    let passed = filters_pass(parts.filters, node);
-    let Passed { handed, ack } = pass(alloc, parts, now, node, passed)?;
+    let passed = filters_pass(parts.filters, config.name.as_slice());
+    let Passed { handed, ack } = pass(alloc, parts, now, config, passed)?;
     Ok(FiredQuery {
         time: parts.time,
         packet,
@@ -170,12 +168,12 @@ impl QueryParams {
 impl<S: Sink> Agent<S> {
     /// Whether the packet of a query is too large to be fired.
     fn query_is_too_large(&self, id: u32, name: &[u8], payload: &[u8], params: &QueryParams) -> bool
-        ensures { result ≡ is_too_large_query self.now.concrete.config.name
+        ensures { result ≡ is_too_large_query self.now.concrete.config
             self.now.concrete.queries.clock id name.now payload.now params.now }
     {
         let time = self.queries.measured();
         let query = params.parts(time, self.config.name.as_slice(), id, name, payload);
-        query_len(&query) > LONGEST_QUERY
+        query_len(&query) > self.config.query_limit as u128
     }
 
     /// Fires a query at the query clock's time (Serf's `serf.go`, `Query`): its clock line is durable, it enters the
@@ -250,9 +248,9 @@ impl<S: Sink> Agent<S> {
         requires not_full { count_in self.old.concrete.queries.slots time
             < self.old.concrete.config.per_time }
         requires short { length (canonical (query (query_at time self.old.concrete.config.name id
-            name.now payload.now params.now))) ≤ longest_query }
+            name.now payload.now params.now))) ≤ greatest_packet_limit }
 
-        ensures fired { IfOk result (λ f. f ≡ fired_query self.old.concrete.config.name now
+        ensures fired { IfOk result (λ f. f ≡ fired_query self.old.concrete.config now
             (query_at time self.old.concrete.config.name id name.now payload.now params.now)) }
         ensures entered { OnOk result ((i : IdealAgent) → self.old.concrete ≡ view_of i
             → self.new.concrete
@@ -260,9 +258,9 @@ impl<S: Sink> Agent<S> {
             (query_at time self.old.concrete.config.name id name.now payload.now params.now) i))) }
         ensures line { NotesLine kinds.Query time self.old self.new result }
     {
-        let node = self.config.name.as_slice();
-        let query = params.parts(time, node, id, name, payload);
-        let fired = fired_of(alloc, &query, now, node)?;
+        let config = &self.config;
+        let query = params.parts(time, config.name.as_slice(), id, name, payload);
+        let fired = fired_of(alloc, &query, now, config)?;
         let open = opened(alloc, &query, now);
         self.enter_asked(alloc, time, open)?;
         Ok(fired)

@@ -255,6 +255,7 @@ impl<S: Sink> Agent<S> {
     {
         match *slot {
             SlotView::Empty => Ok(()),
+            SlotView::Single(time, event) => self.receive_one(alloc, time, &event, out),
             SlotView::Held(time, events) => self.receive_events(alloc, time, events, out),
         }
     }

@@ -1,9 +1,10 @@
 -- What a session is once it is opened.
-use Rattle.std.specs.Prelude.{◌≡◌, ◌⊎◌, ℕ, List, [], length, true, false, Option, Some, None}
+use Rattle.std.specs.Prelude.{◌≡◌, ◌⊎◌, ◌==◌, if◌then◌else◌, ℕ, List, [], length, true, false, Option, Some, None}
 use Rattle.serf_snap.specs.Device.{fresh_device}
 use Rattle.serf_snap.specs.Notes.{opened, opened_device}
 use Rattle.serf_agent.specs.declared.config.Config.{Config}
 use Rattle.serf_agent.specs.Config.{is_sound}
+use Rattle.serf_agent.specs.Defaults.{default_query_limit, default_response_limit}
 use Rattle.serf_agent.specs.Ideal.{IdealAgent, with_config}
 use Rattle.serf_agent.specs.Restart.{IsInText, restarted, unopened}
 use Rattle.serf_agent.specs.Sound.{IsSound}
@@ -14,9 +15,13 @@ use Rattle.serf_agent_c.specs.declared.heads.Settings.{Settings}
 use Rattle.serf_agent_c.specs.declared.session.Session.{Session}
 use Rattle.serf_agent_c.specs.Codes.{number_of}
 
+-- A limit of packets, where 0 stands for Serf's own: a host in C that leaves the field out has 0 there.
+abbrev pub limit_or : ℕ → ℕ → ℕ
+limit_or serfs limit = if limit == 0 then serfs else limit
+
 abbrev pub config_of : List ℕ → Settings → Config
 config_of name s =
-    record { name = name; event_buffer = s.event_buffer; query_buffer = s.query_buffer; event_limit = s.event_limit; responders = s.responders; per_time = s.per_time; ignore_old = s.ignore_old }
+    record { name = name; event_buffer = s.event_buffer; query_buffer = s.query_buffer; event_limit = s.event_limit; query_limit = limit_or default_query_limit s.query_limit; response_limit = limit_or default_response_limit s.response_limit; responders = s.responders; per_time = s.per_time; ignore_old = s.ignore_old }
 
 -- an agent in its next life, with these settings
 abbrev pub next_life : Config → List ℕ → IdealAgent → IdealAgent

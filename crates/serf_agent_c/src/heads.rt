@@ -7,6 +7,10 @@ pub struct Settings {
     pub event_buffer: u64,
     pub query_buffer: u64,
     pub event_limit: u64,
+    /// The greatest length of a fired query's packet, at most 9,216; 0 stands for 1,024.
+    pub query_limit: u64,
+    /// The greatest length of a response's packet, at most 9,216; 0 stands for 1,024.
+    pub response_limit: u64,
     pub responders: u64,
     pub per_time: u64,
     pub ignore_old: bool,

@@ -8,16 +8,25 @@ ghost use Rattle.serf_agent.specs.Ideal.{IdealAgent};
 ghost use Rattle.serf_agent.specs.Restart.{IsInText, restarted, unopened};
 ghost use Rattle.serf_agent.specs.Sound.{IsSound};
 ghost use Rattle.serf_agent.specs.View.{view_of};
-ghost use Rattle.serf_agent_c.specs.Opening.{GoesOn, IsFirst, IsFresh, config_of};
+ghost use Rattle.serf_agent_c.specs.Opening.{GoesOn, IsFirst, IsFresh, config_of, limit_or};
 
 use crate::gave::Gave;
 use crate::heads::Settings;
 use crate::session::Session;
-use serf_agent::{Agent, BytesList, Config, OpenFault};
+use serf_agent::{
+    Agent, BytesList, Config, DEFAULT_QUERY_LIMIT, DEFAULT_RESPONSE_LIMIT, OpenFault,
+};
 use serf_snap::MemSink;
 use serf_wire::Bytes;
 use std::alloc::{AllocError, Global};
 use std::collections::VecDeque;
+
+/// A limit of packets. 0 stands for Serf's own, since a host in C that leaves the field out has 0 there.
+fn limit_or(serfs: u64, limit: u64) -> u64
+    ensures { result ≡ limit_or serfs limit }
+{
+    if limit == 0 { serfs } else { limit }
+}
 
 /// An agent's settings.
 fn config_of(alloc: Global, name: &[u8], settings: &Settings) -> Result<Config, AllocError>
@@ -28,6 +37,8 @@ fn config_of(alloc: Global, name: &[u8], settings: &Settings) -> Result<Config, 
         event_buffer: settings.event_buffer,
         query_buffer: settings.query_buffer,
         event_limit: settings.event_limit,
+        query_limit: limit_or(DEFAULT_QUERY_LIMIT, settings.query_limit),
+        response_limit: limit_or(DEFAULT_RESPONSE_LIMIT, settings.response_limit),
         responders: settings.responders,
         per_time: settings.per_time,
         ignore_old: settings.ignore_old,

@@ -15,6 +15,8 @@ fn settings(alloc: Global) -> Result<Config, AllocError> {
         event_buffer: SLOTS,
         query_buffer: SLOTS,
         event_limit: 512,
+        query_limit: 1024,
+        response_limit: 1024,
         responders: 8,
         per_time: 1024,
         ignore_old: false,

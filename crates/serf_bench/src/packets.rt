@@ -60,9 +60,11 @@ fn count_events(events: EventViews) -> u64 {
 fn count_slots(slots: SlotViews) -> u64 {
     let mut bytes: u64 = 0;
     for slot in slots {
-        if let SlotView::Held(_, events) = slot {
-            bytes = bytes.wrapping_add(count_events(events));
-        }
+        bytes = bytes.wrapping_add(match slot {
+            SlotView::Empty => 0,
+            SlotView::Single(_, event) => event.payload.len() as u64,
+            SlotView::Held(_, events) => count_events(events),
+        });
     }
     bytes
 }

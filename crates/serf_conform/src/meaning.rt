@@ -24,6 +24,7 @@ fn put_held(out: &mut Vec<u8>, slot: &SlotView) -> Result<(), AllocError>
 {
     match slot {
         SlotView::Empty => Ok(()),
+        SlotView::Single(..) => put_slot(out, 0, slot),
         SlotView::Held(..) => put_slot(out, 0, slot),
     }
 }

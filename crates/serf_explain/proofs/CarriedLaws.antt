@@ -1,16 +1,19 @@
 -- What is told of events, one part of them after another.
-use Rattle.std.proofs.Common.{◌≡◌, ◌<◌, ℕ, codes, length, arith, List, [], ◌∷◌, ◌++◌, refl, sym, ap, subst, ◌∙◌, append_assoc, append-nil}
-use Rattle.std.proofs.lemmas.List.{map-append}
+use Rattle.std.proofs.Common.{◌≡◌, ◌<◌, ℕ, codes, decimal, length, length-append, arith, List, [], ◌∷◌, ◌++◌, Option, refl, sym, ap, subst, ◌∙◌, append_assoc, append-nil}
 use Rattle.serf_wire.specs.declared.texts.EventBody.{EventBody}
 use Rattle.serf_window.specs.Window.{TimedEntry}
 use Rattle.serf_agent.specs.Ideal.{IdealAgent}
 use Rattle.serf_agent.specs.States.{after_event}
 use Rattle.serf_explain.specs.declared.judge.Judge.{Judge}
-use Rattle.serf_explain.specs.declared.merges.Carried.{Carried}
 use Rattle.std.specs.List.{flat_map}
-use Rattle.serf_explain.specs.Because.{AddsSuch, because_line}
-use Rattle.serf_explain.specs.Carried.{AreCarried, AreMerged, TellsMerged, after_events}
-use Rattle.serf_explain.specs.Judging.{AddsLines, HasJudged, IsJudging, reasons_in}
+use Rattle.serf_agent.specs.declared.outcome.Reason.{Reason}
+use Rattle.serf_agent.specs.Events.{admission}
+use Rattle.serf_model.specs.declared.action.Action.{Action}
+use Rattle.serf_model.specs.Cluster.{Cluster}
+use Rattle.serf_explain.specs.Because.{AddsSuch, because_line, byte_text}
+use Rattle.serf_explain.specs.Carried.{AreCarried, AreMerged, TellsMerge, TellsMerged, after_events, carried_words}
+use Rattle.serf_explain.specs.Judging.{AddsCarried, AddsLines, HasJudged, IsJudging, TellsText}
+use Rattle.serf_explain.proofs.ReasonLaws.{lines-append}
 
 carried-append : (xs ys : List (TimedEntry EventBody)) (j : IdealAgent) (before behind : List (List ℕ)) → AreCarried xs j before → AreCarried ys (after_events xs j) behind → AreCarried (xs ++ ys) j (before ++ behind)
 carried-append [] ys j before behind h k = subst (λ (rs : List (List ℕ)). AreCarried ys j (rs ++ behind)) (sym h) k
@@ -21,37 +24,56 @@ after-append : (xs ys : List (TimedEntry EventBody)) (j : IdealAgent) → after_
 after-append [] ys j = refl
 after-append (x ∷ xs) ys j = after-append xs ys (after_event j x)
 
-pub judged-start : (i j : IdealAgent) (all : List (TimedEntry EventBody)) (lines : List Carried) (judge : Judge) → IsJudging i j judge → HasJudged i j all all lines lines judge
-judged-start i j all lines judge h = record {
+pub judged-start : (n : ℕ) (i j : IdealAgent) (all : List (TimedEntry EventBody)) (text : List ℕ) (judge : Judge) → IsJudging i j judge → HasJudged n i j all all text text judge
+judged-start n i j all text judge h = record {
   done = [];
   split = refl;
-  lines = record { added = []; new_is = sym (append-nil lines); carried = refl };
+  lines = record { added = []; new_is = sym (append-nil text); carried = refl };
   judging = h;
 }
 
-pub judged-more : (i j : IdealAgent) (all part left : List (TimedEntry EventBody)) (old mid new : List Carried) (judge next : Judge) (h : HasJudged i j all (part ++ left) old mid judge)
-    → AddsLines part (after_events h.done j) mid new → IsJudging i (after_events part (after_events h.done j)) next → HasJudged i j all left old new next
-judged-more i j all part left old mid new judge next h adds judging = record {
+-- a reason was made, and its line added
+pub adds-carried : (n slot time : ℕ) (what : EventBody) (verdict : Option Reason) (detail empty reason said old new : List ℕ) → empty ≡ [] → reason ≡ empty ++ carried_words slot time what verdict detail → said ≡ reason
+    → new ≡ old ++ because_line n said → AddsCarried n slot time what verdict old new
+adds-carried n slot time what verdict detail empty reason said old new none made same is = record {
+  detail = detail;
+  added = is ∙ ap (λ (t : List ℕ). old ++ because_line n t) (same ∙ made ∙ ap (λ (t : List ℕ). t ++ carried_words slot time what verdict detail) none);
+}
+
+-- a line tells of an event
+pub carried-line : (n slot : ℕ) (e : TimedEntry EventBody) (verdict : Option Reason) (i : IdealAgent) (old new : List ℕ) → AddsCarried n slot e.time e.key verdict old new → verdict ≡ admission i e.time e.key → AddsLines n (e ∷ []) i old new
+carried-line n slot e verdict i old new h is =
+    let reason : List ℕ = carried_words slot e.time e.key verdict h.detail in
+    record {
+      added = reason ∷ [];
+      new_is = h.added ∙ ap (λ t. old ++ t) (sym (append-nil (because_line n reason)));
+      carried = (reason, [], refl, record { slot = slot; detail = h.detail; words = ap (λ (v : Option Reason). carried_words slot e.time e.key v h.detail) is }, refl);
+    }
+
+-- all that there is was judged, one event
+pub judged-one : (n : ℕ) (i j : IdealAgent) (e : TimedEntry EventBody) (old new : List ℕ) (judge : Judge) → AddsLines n (e ∷ []) j old new → IsJudging i (after_event j e) judge → HasJudged n i j (e ∷ []) [] old new judge
+judged-one n i j e old new judge lines judging = record { done = e ∷ []; split = refl; lines = lines; judging = judging }
+
+pub judged-more : (n : ℕ) (i j : IdealAgent) (all part left : List (TimedEntry EventBody)) (old mid new : List ℕ) (judge next : Judge) (h : HasJudged n i j all (part ++ left) old mid judge)
+    → AddsLines n part (after_events h.done j) mid new → IsJudging i (after_events part (after_events h.done j)) next → HasJudged n i j all left old new next
+judged-more n i j all part left old mid new judge next h adds judging = record {
   done = h.done ++ part;
   split = append_assoc h.done part left ∙ h.split;
   lines = record {
     added = h.lines.added ++ adds.added;
-    new_is = adds.new_is ∙ ap (λ (ls : List Carried). ls ++ adds.added) h.lines.new_is ∙ append_assoc old h.lines.added adds.added;
-    carried = subst (λ (rs : List (List ℕ)). AreCarried (h.done ++ part) j rs) (sym (map-append (λ (l : Carried). l.reason.items) h.lines.added adds.added))
-        (carried-append h.done part j (reasons_in h.lines.added) (reasons_in adds.added) h.lines.carried adds.carried);
+    new_is = adds.new_is ∙ ap (λ (t : List ℕ). t ++ flat_map (because_line n) adds.added) h.lines.new_is
+        ∙ append_assoc old (flat_map (because_line n) h.lines.added) (flat_map (because_line n) adds.added)
+        ∙ ap (λ (t : List ℕ). old ++ t) (sym (lines-append n h.lines.added adds.added));
+    carried = carried-append h.done part j h.lines.added adds.added h.lines.carried adds.carried;
   };
   judging = subst (λ (k : IdealAgent). IsJudging i k next) (sym (after-append h.done part j)) judging;
 }
 
-pub judged-lines : (i j : IdealAgent) (all : List (TimedEntry EventBody)) (old new : List Carried) (judge : Judge) → HasJudged i j all [] old new judge → AddsLines all j old new
-judged-lines i j all old new judge h = subst (λ es. AddsLines es j old new) (sym (append-nil h.done) ∙ h.split) h.lines
+pub judged-lines : (n : ℕ) (i j : IdealAgent) (all : List (TimedEntry EventBody)) (old new : List ℕ) (judge : Judge) → HasJudged n i j all [] old new judge → AddsLines n all j old new
+judged-lines n i j all old new judge h = subst (λ es. AddsLines n es j old new) (sym (append-nil h.done) ∙ h.split) h.lines
 
-pub judged-agent : (i j : IdealAgent) (all : List (TimedEntry EventBody)) (old new : List Carried) (judge : Judge) → HasJudged i j all [] old new judge → IsJudging i (after_events all j) judge
-judged-agent i j all old new judge h = subst (λ es. IsJudging i (after_events es j) judge) (sym (append-nil h.done) ∙ h.split) h.judging
-
--- lines that stand behind none
-pub lines-only : (es : List (TimedEntry EventBody)) (j : IdealAgent) (lines : List Carried) → AddsLines es j [] lines → AreCarried es j (reasons_in lines)
-lines-only es j lines h = subst (λ (ls : List Carried). AreCarried es j (reasons_in ls)) (sym h.new_is) h.carried
+pub judged-agent : (n : ℕ) (i j : IdealAgent) (all : List (TimedEntry EventBody)) (old new : List ℕ) (judge : Judge) → HasJudged n i j all [] old new judge → IsJudging i (after_events all j) judge
+judged-agent n i j all old new judge h = subst (λ es. IsJudging i (after_events es j) judge) (sym (append-nil h.done) ∙ h.split) h.judging
 
 -- what is told of a merge, where this is told of its events
 abbrev pub merged_of : List (List ℕ) → List (List ℕ)
@@ -74,14 +96,28 @@ told-merged (r ∷ rs) = λ es i h. by es i h
     by [] i h = absurd (cc (h))
     by (e ∷ es) i h = h
 
+-- no line is empty
+some-line : (n : ℕ) (reason : List ℕ) → 0 < length (because_line n reason)
+unfolding because_line
+some-line n reason =
+    let whole = length-append (decimal n ++ codes " because " ++ flat_map byte_text reason) (codes "\n") in
+    omega (arith, whole)
+
 -- a text grew by what is told of a merge
 pub adds-merged : (n : ℕ) (carried : List (List ℕ)) (a b : List ℕ) → b ≡ a ++ flat_map (because_line n) (merged_of carried) → AddsSuch (TellsMerged carried) n a b
 adds-merged n carried a b is = record { reasons = merged_of carried; some = some-merged carried; added = is; such = told-merged carried }
 
-pub adds-no-event : (n : ℕ) (carried : List Carried) (a b : List ℕ) → length carried ≡ 0 → b ≡ a ++ because_line n (codes "the state carries no event") → AddsSuch (TellsMerged (reasons_in carried)) n a b
-adds-no-event n [] a b none is = adds-merged n [] a b (is ∙ ap (λ t. a ++ t) (sym (append-nil (because_line n (codes "the state carries no event")))))
-adds-no-event n (x ∷ xs) a b none is = absurd (omega (arith, none))
+pub adds-no-event : (n : ℕ) (carried : List (List ℕ)) (text a b : List ℕ) → text ≡ flat_map (because_line n) carried → length text ≡ 0 → b ≡ a ++ because_line n (codes "the state carries no event") → AddsSuch (TellsMerged carried) n a b
+adds-no-event n [] text a b lines none is = adds-merged n [] a b (is ∙ ap (λ t. a ++ t) (sym (append-nil (because_line n (codes "the state carries no event")))))
+adds-no-event n (r ∷ rs) text a b lines none is =
+    let long = ap (λ (t : List ℕ). length t) lines in
+    let sum = length-append (because_line n r) (flat_map (because_line n) rs) in
+    absurd (omega (arith, none, long, sum, some-line n r))
 
-pub adds-events : (n : ℕ) (carried : List Carried) (a b : List ℕ) → (length carried ≡ 0 → ⊥) → b ≡ a ++ flat_map (because_line n) (reasons_in carried) → AddsSuch (TellsMerged (reasons_in carried)) n a b
-adds-events n [] a b some is = absurd (some refl)
-adds-events n (x ∷ xs) a b some is = adds-merged n (reasons_in (x ∷ xs)) a b is
+pub adds-events : (n : ℕ) (carried : List (List ℕ)) (text a b : List ℕ) → text ≡ flat_map (because_line n) carried → (length text ≡ 0 → ⊥) → b ≡ a ++ text → AddsSuch (TellsMerged carried) n a b
+adds-events n [] text a b lines some is = absurd (some (ap (λ (t : List ℕ). length t) lines))
+adds-events n (r ∷ rs) text a b lines some is = adds-merged n (r ∷ rs) a b (is ∙ ap (λ (t : List ℕ). a ++ t) lines)
+
+-- where nothing is merged, nothing is told
+pub tells-none : (n : ℕ) (c : Cluster) (action : Action) (text : List ℕ) → text ≡ [] → TellsMerge c action [] → TellsText n c action text
+tells-none n c action text empty h = record { carried = []; text_is = empty; tells = h }

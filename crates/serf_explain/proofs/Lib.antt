@@ -2,9 +2,12 @@ pub mod ReasonLaws
 pub mod WorldLaws
 pub mod CarriedLaws
 pub mod SlotLaws
+pub mod StandingLaws
+pub mod MergeLaws
 pub mod JudgeLaws
 pub mod SeenLaws
 pub mod NoteLaws
 pub mod TextLaws
 pub mod KnownLaws
 pub mod TellLaws
+pub mod StreamLaws

@@ -4,7 +4,7 @@ use Rattle.std.specs.List.{flat_map}
 use Rattle.std.proofs.lemmas.List.{append-nil}
 use Rattle.serf_explain.specs.Because.{AddsReasons, AddsSome, because_line}
 
-lines-append : (n : ℕ) (xs ys : List (List ℕ)) → flat_map (because_line n) (xs ++ ys) ≡ flat_map (because_line n) xs ++ flat_map (because_line n) ys
+pub lines-append : (n : ℕ) (xs ys : List (List ℕ)) → flat_map (because_line n) (xs ++ ys) ≡ flat_map (because_line n) xs ++ flat_map (because_line n) ys
 lines-append n [] ys = refl
 lines-append n (x ∷ xs) ys =
     ap (λ t. because_line n x ++ t) (lines-append n xs ys)

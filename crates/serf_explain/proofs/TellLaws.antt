@@ -1,5 +1,5 @@
 -- The text of a run's turns with their reasons, as one action after another is done.
-use Rattle.std.proofs.Common.{◌≡◌, ℕ, ◌+◌, List, [], ◌∷◌, ◌++◌, Option, Some, None, true, false, refl, subst, sym, ap, ◌∙◌, length, length-append, append_assoc, arith}
+use Rattle.std.proofs.Common.{◌≡◌, ℕ, ◌+◌, List, [], ◌∷◌, ◌++◌, Bool, Option, Some, None, true, false, refl, subst, sym, ap, ◌∙◌, length, length-append, append_assoc, arith}
 use Rattle.std.specs.Prelude.{slice_get, map, if◌then◌else◌}
 use Rattle.std.specs.List.{flat_map, fold}
 use Rattle.std.proofs.lemmas.List.Sums.{fold-append}
@@ -29,7 +29,7 @@ use Rattle.serf_explain.proofs.NoteLaws.{lines-push, of-seen}
 use Rattle.serf_wire.specs.declared.texts.EventBody.{EventBody}
 use Rattle.serf_window.specs.Window.{TimedEntry}
 use Rattle.serf_explain.proofs.CarriedLaws.{merged_of, some-merged, told-merged}
-use Rattle.serf_explain.specs.Explained.{AddsTurn, Explained, HasTold, IsReasoned, IsTold, NameHandOuts, NamesHandOut, TellsAll, TellsRun, cluster_behind, clusters_before, clusters_from, turn_text, turns_text}
+use Rattle.serf_explain.specs.Explained.{AddsTurn, Explained, HasTold, IsReasoned, IsTold, NameHandOuts, NamesHandOut, TellsAll, TellsMore, TellsRun, cluster_behind, clusters_before, clusters_from, lines_text, turn_text, turns_text}
 
 turns-push : (range : Range) (sent : List (List ℕ)) (n : ℕ) (es : List Explained) (e : Explained)
     → turns_text range sent n (es ++ e ∷ []) ≡ turns_text range sent n es ++ turn_text range sent (n + length es) e.turn.action e.turn.line e.reasons
@@ -198,3 +198,13 @@ told-first range configs w past text settings unpoisoned view representable none
     told = λ more. sym empty;
   };
 }
+
+-- what an action adds may stand after any text
+pub turn-behind : (P : List (List ℕ) → Type 0) (is_shown : Bool) (sent : List (List ℕ)) (n : ℕ) (line : Line) (text old new : List ℕ) (h : AddsTurn P is_shown sent n line old new)
+    → AddsTurn P is_shown sent n line text (text ++ (if is_shown then lines_text sent n line h.reasons else []))
+turn-behind P is_shown sent n line text old new h = record { reasons = h.reasons; some = h.some; such = h.such; added = refl }
+
+-- and it stands after the text so far
+pub told-on : (range asked : Range) (configs : List Config) (done : List Action) (w : WorldState) (past : List Note) (old new : List ℕ) → range ≡ asked → TellsMore range configs done w past old old new → HasTold asked configs done w past new
+told-on range asked configs done w past old new is more =
+    subst (λ (text : List ℕ). HasTold asked configs done w past text) (sym more.new_is) (subst (λ (r : Range). HasTold r configs done w past (old ++ more.added)) is more.told)

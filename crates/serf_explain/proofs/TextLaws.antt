@@ -4,11 +4,11 @@ use Rattle.std.specs.List.{flat_map, list_all}
 use Rattle.serf_explain.specs.Because.{byte_text, is_printable}
 use Rattle.serf_explain.specs.Words.{is_plain, quoted_byte}
 
-and-left : (x y : Bool) → (x && y) ≡ true → x ≡ true
+pub and-left : (x y : Bool) → (x && y) ≡ true → x ≡ true
 and-left true y h = refl
 and-left false y h = h
 
-and-right : (x y : Bool) → (x && y) ≡ true → y ≡ true
+pub and-right : (x y : Bool) → (x && y) ≡ true → y ≡ true
 and-right true y h = h
 and-right false y h = absurd (cc (h))
 
@@ -40,3 +40,8 @@ plain-byte b h = rw (no-quote (is_printable b) (b == 34) (b == 92) h) (printable
 
 pub plain-text : (bytes : List ℕ) → list_all is_plain bytes ≡ true → flat_map quoted_byte bytes ≡ bytes
 plain-text bytes h = same-text quoted_byte is_plain plain-byte bytes h
+
+pub plain-is_printable : (bytes : List ℕ) → list_all is_plain bytes ≡ true → list_all is_printable bytes ≡ true
+plain-is_printable [] h = refl
+plain-is_printable (b ∷ bs) h =
+    rw (plain-printable (is_printable b) (b == 34) (b == 92) (and-left (is_plain b) (list_all is_plain bs) h), plain-is_printable bs (and-right (is_plain b) (list_all is_plain bs) h)) refl

@@ -5,7 +5,7 @@ use Rattle.std.specs.List.{AllByRecursion}
 use Rattle.std.specs.Option.{option_map}
 use Rattle.std.proofs.lemmas.Option.{slice_get-map}
 use Rattle.serf_agent.specs.Sound.{IsSound}
-use Rattle.serf_agent.specs.View.{view_of}
+use Rattle.serf_agent.specs.View.{ConcreteState, view_of}
 use Rattle.serf_model.specs.Cluster.{Cluster, IdealNode}
 use Rattle.serf_model.specs.Ready.{AreRepresentable, IsRepresentable}
 use Rattle.serf_world.specs.View.{IsViewed, NodeState, WorldState, agent_at, node_of}
@@ -30,3 +30,15 @@ at-index (x ∷ xs) (suc a) m h at = at-index xs a m h.1 at
 
 pub agent-sound : (c : Cluster) (a : ℕ) (m : IdealNode) → AreRepresentable c → slice_get c.nodes a ≡ Some m → IsSound m.agent
 agent-sound c a m h at = at-index c.nodes a m h at
+
+-- an agent that a world stores is one of the cluster
+pub node-of : (c : Cluster) (w : WorldState) (a : ℕ) (s : ConcreteState) → IsViewed c w → agent_at w a ≡ Some s → (m : IdealNode) × (slice_get c.nodes a ≡ Some m) × (s ≡ view_of m.agent)
+node-of c w a s h at = by (slice_get c.nodes a) refl
+  where
+    by : (o : Option IdealNode) → slice_get c.nodes a ≡ o → (m : IdealNode) × (slice_get c.nodes a ≡ Some m) × (s ≡ view_of m.agent)
+    by None is =
+        let none : Some s ≡ None = sym at ∙ agent-viewed c w a h ∙ ap (λ (o : Option IdealNode). option_map (λ m. view_of m.agent) o) is in
+        absurd (cc none)
+    by (Some m) is =
+        let some : Some s ≡ Some (view_of m.agent) = sym at ∙ agent-viewed c w a h ∙ ap (λ (o : Option IdealNode). option_map (λ m. view_of m.agent) o) is in
+        (m, is, cc some)

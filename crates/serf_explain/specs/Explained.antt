@@ -120,3 +120,9 @@ pub record AddsTurn (P : List (List ℕ) → Type 0) (is_shown : Bool) (sent : L
   pub some : 0 < length reasons
   pub such : P reasons
   pub added : new ≡ old ++ (if is_shown then lines_text sent n line reasons else [])
+
+-- One more action was done, and what is shown of it was added: after the text of the actions before it, the whole is told.
+pub record TellsMore (range : Range) (configs : List Config) (done : List Action) (w : WorldState) (notes : List Note) (text old new : List ℕ) : Type 0 where
+  pub added : List ℕ
+  pub new_is : new ≡ old ++ added
+  pub told : HasTold range configs done w notes (text ++ added)

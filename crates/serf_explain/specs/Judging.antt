@@ -1,5 +1,6 @@
 -- What is kept while the events of a merge are judged: private to the crate.
-use Rattle.std.specs.Prelude.{◌≡◌, ℕ, ◌<◌, ◌≤◌, ◌++◌, Bool, if◌then◌else◌, List, map, Option, Some, None, All}
+use Rattle.std.specs.Prelude.{◌≡◌, ℕ, ◌<◌, ◌≤◌, ◌++◌, Bool, if◌then◌else◌, List, map, Option, Some, None, All, codes, decimal}
+use Rattle.std.specs.List.{flat_map}
 use Rattle.serf_wire.specs.declared.texts.EventBody.{EventBody}
 use Rattle.serf_window.specs.declared.verdict.Verdict.{Verdict}
 use Rattle.serf_window.specs.declared.verdict.Verdict.TheVariants as verdicts
@@ -8,8 +9,10 @@ use Rattle.serf_agent.specs.declared.outcome.Reason.{Reason}
 use Rattle.serf_agent.specs.declared.outcome.Reason.TheVariants as reasons
 use Rattle.serf_agent.specs.Ideal.{IdealAgent, Past}
 use Rattle.serf_explain.specs.declared.judge.Judge.{Judge}
-use Rattle.serf_explain.specs.declared.merges.Carried.{Carried}
-use Rattle.serf_explain.specs.Carried.{AreCarried, after_events}
+use Rattle.serf_model.specs.declared.action.Action.{Action}
+use Rattle.serf_model.specs.Cluster.{Cluster}
+use Rattle.serf_explain.specs.Because.{because_line}
+use Rattle.serf_explain.specs.Carried.{AreCarried, TellsMerge, after_events, carried_words}
 
 abbrev pub past : ℕ → TimedEntry EventBody → Past EventBody
 past life e = record { life = life; entry = e }
@@ -28,22 +31,37 @@ pub record IsJudging (i j : IdealAgent) (judge : Judge) : Type 0 where
   pub clock_up : i.events.clock ≤ judge.clock
   pub minimum_up : i.events.minimum ≤ judge.minimum
 
--- the reasons that were made of these events
-abbrev pub reasons_in : List Carried → List (List ℕ)
-reasons_in lines = map (λ l. l.reason.items) lines
+-- a text grew by the lines of the action of this number that say what became of these events, as they come to an agent one
+-- after another
+pub record AddsLines (n : ℕ) (es : List (TimedEntry EventBody)) (i : IdealAgent) (old new : List ℕ) : Type 0 where
+  pub added : List (List ℕ)
+  pub new_is : new ≡ old ++ flat_map (because_line n) added
+  pub carried : AreCarried es i added
 
--- lines were made of these events, as they come to an agent one after another
-pub record AddsLines (es : List (TimedEntry EventBody)) (i : IdealAgent) (old new : List Carried) : Type 0 where
-  pub added : List Carried
-  pub new_is : new ≡ old ++ added
-  pub carried : AreCarried es i (reasons_in added)
-
--- lines were made of a part of these events, and these are left
-pub record HasJudged (i j : IdealAgent) (all left : List (TimedEntry EventBody)) (old new : List Carried) (judge : Judge) : Type 0 where
+-- it grew by those of a part of these events, and these are left
+pub record HasJudged (n : ℕ) (i j : IdealAgent) (all left : List (TimedEntry EventBody)) (old new : List ℕ) (judge : Judge) : Type 0 where
   pub done : List (TimedEntry EventBody)
   pub split : done ++ left ≡ all
-  pub lines : AddsLines done j old new
+  pub lines : AddsLines n done j old new
   pub judging : IsJudging i (after_events done j) judge
+
+-- a text is the lines of the reasons of what the action of this number merges in a cluster, if it merges something
+pub record TellsText (n : ℕ) (c : Cluster) (action : Action) (text : List ℕ) : Type 0 where
+  pub carried : List (List ℕ)
+  pub text_is : text ≡ flat_map (because_line n) carried
+  pub tells : TellsMerge c action carried
+
+-- a text grew by the line of an event of the action of this number
+pub record AddsCarried (n slot time : ℕ) (what : EventBody) (verdict : Option Reason) (old new : List ℕ) : Type 0 where
+  pub detail : List ℕ
+  pub added : new ≡ old ++ because_line n (carried_words slot time what verdict detail)
+
+-- the two halves of the line of an event that was seen: up to the event's words, and from there on
+unfoldable pub seen_front : List ℕ → ℕ → List ℕ → List ℕ
+seen_front front slot words = front ++ decimal slot ++ codes " brings " ++ words
+
+unfoldable pub seen_behind : List ℕ → List ℕ → ℕ → List ℕ
+seen_behind named words action = codes ": seen: " ++ named ++ words ++ codes " at action " ++ decimal action ++ codes "\n"
 
 -- a verdict from the agent's before the merge, that on what entered in it, and whether both together are too many
 abbrev pub both_verdicts : Option Reason → Verdict → Bool → Option Reason

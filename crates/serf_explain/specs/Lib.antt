@@ -7,3 +7,4 @@ pub mod HandOuts
 pub mod Judging
 pub mod Explained
 pub mod Noted
+pub mod Streamed

@@ -11,3 +11,7 @@ is_wanted (Some agent) actor = is_agent agent actor
 -- whether the action of this number is explained, and its lines are shown
 abbrev pub is_shown : Range → ℕ → Option ℕ → Bool
 is_shown range n actor = nat_le range.from n && nat_le n range.to && is_wanted range.agent actor
+
+-- all actions are explained
+abbrev pub all_actions : Range
+all_actions = record { agent = None; from = 1; to = 18446744073709551615 }

@@ -1,6 +1,6 @@
 -- Texts between quotes, and what is said of an event.
 use Rattle.std.specs.Prelude.{ℕ, ◌==◌, ◌++◌, ◌&&◌, ◌||◌, Bool, nat_le, not, if◌then◌else◌, List, [], ◌∷◌, codes, decimal, length, take}
-use Rattle.std.specs.List.{flat_map}
+use Rattle.std.specs.List.{flat_map, list_all}
 use Rattle.serf_text.specs.TextParts.{hex_text}
 use Rattle.serf_wire.specs.declared.texts.EventBody.{EventBody}
 use Rattle.serf_explain.specs.Because.{byte_text, is_printable}
@@ -23,6 +23,14 @@ front_quoted text = codes "\"" ++ flat_map quoted_byte (take 32 text) ++ codes "
 abbrev pub quoted : List ℕ → List ℕ
 quoted text = if nat_le (length text) 64 then whole_quoted text else front_quoted text
 
+-- whether a quoted text is the text itself
+abbrev pub stands : List ℕ → Bool
+stands text = nat_le (length text) 64 && list_all is_plain text
+
 -- an event: its time, its name and its payload
 unfoldable pub event_words : ℕ → EventBody → List ℕ
 event_words time what = codes "event " ++ decimal time ++ codes " " ++ quoted what.name ++ codes " " ++ quoted what.payload
+
+-- both texts of an event, where they stand as they are
+unfoldable pub standing_texts : List ℕ → List ℕ → List ℕ
+standing_texts name payload = codes " \"" ++ name ++ codes "\" \"" ++ payload ++ codes "\""

@@ -89,6 +89,13 @@ impl HandOut {
     }
 }
 
+/// Where a hand-out stands, and the action that did it.
+#[derive(Clone, Copy)]
+pub(crate) struct Found {
+    pub(crate) place: usize,
+    pub(crate) action: u64,
+}
+
 /// All of them, in their order.
 #[derive(Drop)]
 pub(crate) struct HandOuts {
@@ -176,9 +183,9 @@ impl HandOuts {
     }
 
     /// The last action that handed this event to this agent, found by its time.
-    pub(crate) fn last_of(&self, agent: u64, event: &Event) -> Option<u64>
-        ensures { IfSome result (λ n. NotedAt (notes_in self.now.outs.items) n agent event.now.time
-            (event_of event.now.name.now event.now.payload.now)) }
+    fn last_of(&self, agent: u64, event: &Event) -> Option<Found>
+        ensures { IfSome result (λ found. NotedAt (notes_in self.now.outs.items) found.action agent
+            event.now.time (event_of event.now.name.now event.now.payload.now)) }
     {
         let moment = Moment {
             agent,
@@ -188,12 +195,25 @@ impl HandOuts {
         for _one in 0..self.outs.len() {
             let here = place?;
             match self.action_at(here, agent, event) {
-                Some(action) => return Some(action),
+                Some(action) => {
+                    return Some(Found {
+                        place: here,
+                        action,
+                    });
+                }
                 None => {}
             }
             place = self.outs.get(here)?.before;
         }
         None
+    }
+
+    /// The hand-out of this event to this agent: the one at this place, if it is that, or else the last one.
+    pub(crate) fn found_near(&self, place: usize, agent: u64, event: &Event) -> Option<Found> {
+        match self.action_at(place, agent, event) {
+            Some(action) => Some(Found { place, action }),
+            None => self.last_of(agent, event),
+        }
     }
 
     /// The first action that handed this event to this agent, found in the list of all.
@@ -219,7 +239,7 @@ impl HandOuts {
             (event_of event.now.name.now event.now.payload.now) }
     {
         match self.last_of(agent, event) {
-            Some(action) => action,
+            Some(found) => found.action,
             None => match self.first_of(agent, event) {
                 Some(action) => action,
                 None => unreachable!(),

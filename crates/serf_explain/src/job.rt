@@ -4,15 +4,18 @@ ghost use Rattle.std.specs.Prelude.{◌≡◌, ◌<◌, ◌≤◌, ◌+◌, ◌+
 ghost use Rattle.std.specs.Io.KnownBytes.{Appends, Consumes};
 ghost use Rattle.serf_agent.specs.declared.config.Config.{Config};
 ghost use Rattle.serf_model.specs.declared.action.Action.{Action};
-ghost use Rattle.serf_explain.specs.Judging.{reasons_in};
+ghost use Rattle.std.specs.List.{flat_map};
+ghost use Rattle.serf_explain.specs.Because.{because_line};
 ghost use Rattle.serf_text.specs.Io.{AppendsFront};
 ghost use Rattle.serf_schedule.specs.Output.{output_of};
-ghost use Rattle.serf_explain.specs.Explained.{AddsTurn, Explains, HasTold, TellsAll, TellsRun};
+ghost use Rattle.serf_explain.specs.Explained.{AddsTurn, Explains, HasTold, TellsAll, TellsMore, TellsRun};
 ghost use Rattle.serf_explain.specs.HandOuts.{KnowsSeen, notes_in};
 
 use crate::history::History;
+use crate::merges::MergeLines;
 use crate::range::Range;
 use crate::reasons::{lines_before, put_reasons};
+use crate::telling::Telling;
 use crate::told::Told;
 use serf_model::{Action, run_promises};
 use serf_schedule::{
@@ -27,8 +30,9 @@ use std::io::{Read, Write};
 fn put_shown(alloc: Global, out: &mut Vec<u8>, told: &Told) -> Result<(), AllocError>
     requires { KnowsSeen (notes_in told.now.past.now.outs.items)
         told.now.world.now.sent told.now.action.now told.now.line.now }
-    ensures { OnOk result (AddsTurn
-        (TellsAll true (reasons_in told.now.carried.now) (notes_in told.now.past.now.outs.items)
+    ensures { (carried : List (List ℕ))
+        → told.now.carried.now ≡ flat_map (because_line told.now.number) carried
+        → OnOk result (AddsTurn (TellsAll true carried (notes_in told.now.past.now.outs.items)
         told.now.world.now told.now.action.now told.now.line.now) true told.now.world.now.sent
         told.now.number told.now.line.now out.old.items out.new.items) }
 {
@@ -38,8 +42,8 @@ fn put_shown(alloc: Global, out: &mut Vec<u8>, told: &Told) -> Result<(), AllocE
 
 /// Appends nothing.
 fn put_nothing(out: &mut Vec<u8>, told: &Told)
-    ensures { AddsTurn
-        (TellsAll false (reasons_in told.now.carried.now) (notes_in told.now.past.now.outs.items)
+    ensures { (carried : List (List ℕ)) → AddsTurn
+        (TellsAll false carried (notes_in told.now.past.now.outs.items)
         told.now.world.now told.now.action.now told.now.line.now) false told.now.world.now.sent
         told.now.number told.now.line.now out.old.items out.new.items }
 {}
@@ -48,8 +52,9 @@ fn put_nothing(out: &mut Vec<u8>, told: &Told)
 fn put_turn(alloc: Global, out: &mut Vec<u8>, is_shown: bool, told: &Told) -> Result<(), AllocError>
     requires { KnowsSeen (notes_in told.now.past.now.outs.items)
         told.now.world.now.sent told.now.action.now told.now.line.now }
-    ensures { OnOk result (AddsTurn
-        (TellsAll is_shown (reasons_in told.now.carried.now) (notes_in told.now.past.now.outs.items)
+    ensures { (carried : List (List ℕ))
+        → told.now.carried.now ≡ flat_map (because_line told.now.number) carried
+        → OnOk result (AddsTurn (TellsAll is_shown carried (notes_in told.now.past.now.outs.items)
         told.now.world.now told.now.action.now told.now.line.now) is_shown told.now.world.now.sent
         told.now.number told.now.line.now out.old.items out.new.items) }
 {
@@ -63,27 +68,29 @@ fn put_turn(alloc: Global, out: &mut Vec<u8>, is_shown: bool, told: &Told) -> Re
 }
 
 /// Does an action, and adds what is shown of it.
-fn add_turn(
+pub(crate) fn add_turn(
     alloc: Global,
     world: &mut World,
     history: &mut History,
+    lines: &mut MergeLines,
     out: &mut Vec<u8>,
     range: &Range,
     number: u64,
     action: &Action,
 ) -> Result<(), AllocError>
-    requires { (configs : List Config) × (done : List Action)
+    requires unpoisoned { world.old.poisoned ≡ false }
+    requires stands { ∥ ((configs : List Config) × (done : List Action) × (text : List ℕ)
         × HasTold range.now configs done world.old
-        (notes_in history.old.hand_outs.outs.items) out.old.items }
-    ensures { (configs : List Config) (done : List Action) → HasTold range.now configs done
-        world.old (notes_in history.old.hand_outs.outs.items) out.old.items
+        (notes_in history.old.hand_outs.outs.items) text) ∥₁ }
+    ensures { (configs : List Config) (done : List Action) (text : List ℕ)
+        → HasTold range.now configs done world.old (notes_in history.old.hand_outs.outs.items) text
         → number ≡ length done + 1
-        → OnOk result (HasTold range.now configs (done ++ action.now ∷ []) world.new
-        (notes_in history.new.hand_outs.outs.items) out.new.items) }
+        → OnOk result (TellsMore range.now configs (done ++ action.now ∷ []) world.new
+        (notes_in history.new.hand_outs.outs.items) text out.old.items out.new.items) }
 {
     lines_stay();
     run_promises();
-    let carried = lines_before(alloc, world, history, number, action)?;
+    lines_before(alloc, world, history, number, action, lines)?;
     let line = match world.step(alloc, action) {
         Ok(line) => line,
         Err(StepFault::OutOfMemory) => return Err(AllocError),
@@ -96,32 +103,10 @@ fn add_turn(
         past: &history.hand_outs,
         action,
         line: &line,
-        carried: &carried,
+        carried: &lines.text,
     };
     put_turn(alloc, out, range.shows(number, action.actor()), &told)?;
     history.note(alloc, world, number, action, &line)
-}
-
-/// Does an action, adds what is shown of it, and drops it.
-fn take_turn(
-    alloc: Global,
-    world: &mut World,
-    history: &mut History,
-    out: &mut Vec<u8>,
-    range: &Range,
-    number: u64,
-    action: Action,
-) -> Result<(), AllocError>
-    requires { (configs : List Config) × (done : List Action)
-        × HasTold range.now configs done world.old
-        (notes_in history.old.hand_outs.outs.items) out.old.items }
-    ensures { (configs : List Config) (done : List Action) → HasTold range.now configs done
-        world.old (notes_in history.old.hand_outs.outs.items) out.old.items
-        → number ≡ length done + 1
-        → OnOk result (HasTold range.now configs (done ++ action ∷ []) world.new
-        (notes_in history.new.hand_outs.outs.items) out.new.items) }
-{
-    add_turn(alloc, world, history, out, range, number, &action)
 }
 
 /// What is shown of the run of a schedule, of which nothing is left then.
@@ -135,24 +120,12 @@ fn run_text<T: Watch>(
         TellsRun range.now schedule.agents schedule.actions.items text.items) }
 {
     let Schedule { agents, actions } = schedule;
-    let count = agents.as_slice().len();
-    let mut world = World::new(alloc, agents)?;
-    let mut history = History::new(alloc, &world, count)?;
-    let mut out = Vec::new(alloc);
     let all = actions.len() as u64;
-    let mut number: u64 = 0;
+    let mut telling = Telling::new(alloc, agents, *range)?;
+    let mut out = Vec::new(alloc);
     for action in actions {
-        number += 1;
-        take_turn(
-            alloc,
-            &mut world,
-            &mut history,
-            &mut out,
-            range,
-            number,
-            action,
-        )?;
-        watch.acted(number, all);
+        telling = telling.take(alloc, action, &mut out)?;
+        watch.acted(telling.turns, all);
     }
     Ok(out)
 }

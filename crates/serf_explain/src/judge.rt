@@ -50,26 +50,6 @@ fn count_of(slots: LentEventSlots, time: u64) -> usize
     }
 }
 
-/// The verdict on an event of a merge, made of three: that by what entered before the merge, that by what entered in it,
-/// and whether both together are as many of its time as are taken.
-fn both(before: Option<Reason>, entered: Verdict, full: bool) -> Option<Reason>
-    ensures { result ≡ both_verdicts before entered full }
-{
-    match entered {
-        Verdict::BelowMinimum => Some(Reason::BelowMinimum),
-        Verdict::TooOld => Some(Reason::TooOld),
-        Verdict::Seen => Some(Reason::Seen),
-        Verdict::TimeFull => match before {
-            Some(Reason::Seen) => before,
-            _ => Some(Reason::TimeFull),
-        },
-        Verdict::New => match before {
-            None => { if full { Some(Reason::TimeFull) } else { None } }
-            Some(_) => before,
-        },
-    }
-}
-
 /// The least time that a state asks for: its event clock, where who joins ignores old events.
 fn least(is_join: bool, ignore_old: bool, clock: u64) -> u64
     ensures { result ≡ if is_join && ignore_old then clock else 0 }
@@ -112,6 +92,40 @@ impl Judge {
         left <= count_of(self.entered.slots(), time) as u64
     }
 
+    /// The verdict on an event of this time, made of three: that by what entered before the merge, that by what entered in
+    /// it, and whether both together are as many of its time as are taken.
+    fn both(
+        &self,
+        agent: &Agent<MemSink>,
+        time: u64,
+        before: Option<Reason>,
+        entered: Verdict,
+    ) -> Option<Reason>
+        ensures { result ≡ both_verdicts before entered (nat_le
+            (agent.now.concrete.config.per_time - count_in agent.now.concrete.events.slots time)
+            (count_in self.now.entered.slots time)) }
+    {
+        match entered {
+            Verdict::BelowMinimum => Some(Reason::BelowMinimum),
+            Verdict::TooOld => Some(Reason::TooOld),
+            Verdict::Seen => Some(Reason::Seen),
+            Verdict::TimeFull => match before {
+                Some(Reason::Seen) => before,
+                _ => Some(Reason::TimeFull),
+            },
+            Verdict::New => match before {
+                None => {
+                    if self.is_full(agent, time) {
+                        Some(Reason::TimeFull)
+                    } else {
+                        None
+                    }
+                }
+                Some(_) => before,
+            },
+        }
+    }
+
     /// Why the next event of the merge is ignored; `None` where it is new.
     fn reason(&self, agent: &Agent<MemSink>, time: Time, event: &EventView) -> Option<Reason>
         ensures reason { (i j : IdealAgent) → IsSound i → agent.now.concrete ≡ view_of i
@@ -128,7 +142,7 @@ impl Judge {
         let before = agent.judge_event(time, event.name, event.payload);
         let clock = self.clock.max(time.get() + 1);
         let entered = self.entered.offer(clock, self.minimum, time, event);
-        both(before, entered, self.is_full(agent, time.get()))
+        self.both(agent, time.get(), before, entered)
     }
 
     /// Judges the next event of the merge, and takes it in where it is new.

@@ -12,12 +12,16 @@ mod judge;
 mod marks;
 mod memory;
 mod merges;
+mod phrases;
 mod quoted;
 mod range;
 mod reasons;
 mod refusals;
 mod seen;
+mod streaming;
+mod telling;
 mod told;
 
 pub use job::explain;
 pub use range::Range;
+pub use streaming::explain_lines;

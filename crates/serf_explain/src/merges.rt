@@ -1,22 +1,26 @@
 //! What becomes of each event that a state carries, said before the state is merged.
 
-ghost use Rattle.std.specs.Prelude.{◌≡◌, ◌++◌, ◌∷◌, [], OnOk, IfOk};
+ghost use Rattle.std.specs.Prelude.{◌≡◌, ◌++◌, ◌∷◌, [], true, OnOk};
 ghost use Rattle.serf_wire.specs.Lists.{event_of_view, events_left, slot_of_view, slots_left};
 ghost use Rattle.serf_wire.specs.Message.{PushPull};
+ghost use Rattle.serf_window.specs.Texts.{event_of};
 ghost use Rattle.serf_agent.specs.Events.{admission};
 ghost use Rattle.serf_agent.specs.Ideal.{IdealAgent};
 ghost use Rattle.serf_agent.specs.Sound.{IsSound};
 ghost use Rattle.serf_agent.specs.States.{after_event, at_time, events_of, events_of_slot, joined};
 ghost use Rattle.serf_agent.specs.View.{view_of};
-ghost use Rattle.serf_explain.specs.Carried.{AreCarried, carried_words, slot_words, verdict_words};
-ghost use Rattle.serf_explain.specs.Judging.{AddsLines, HasJudged, IsJudging, reasons_in};
+ghost use Rattle.serf_explain.specs.Carried.{carried_words, slot_words, verdict_words};
+ghost use Rattle.serf_explain.specs.Judging.{AddsCarried, AddsLines, HasJudged, IsJudging, seen_behind, seen_front};
+ghost use Rattle.serf_explain.specs.Words.{stands};
 
+use crate::because::put_because;
 use crate::hand_outs::Event;
 use crate::history::History;
 use crate::ignored::{put_full, put_oversize, put_seen_at, put_too_old};
 use crate::judge::Judge;
 use crate::marks::Marks;
-use crate::quoted::{Part, put_event, put_parts};
+use crate::phrases::Phrases;
+use crate::quoted::{Part, put_event, put_parts, put_standing_event, stands};
 use serf_agent::{Agent, Reason};
 use serf_lamport::Time;
 use serf_snap::MemSink;
@@ -24,21 +28,47 @@ use serf_text::put_number;
 use serf_wire::{EventView, EventViews, SlotView, SlotViews};
 use std::alloc::{AllocError, Global};
 
-/// A merge that is to be done: the action's number, the agent and its number, and what is remembered of the actions before.
+/// A merge that is to be done: the agent and its number, what is remembered of the actions before, and the words of its
+/// lines.
 #[derive(Clone, Copy)]
 pub(crate) struct Merging<'a> {
-    pub(crate) number: u64,
     pub(crate) agent_number: u64,
     pub(crate) agent: &'a Agent<MemSink>,
     pub(crate) before: Option<&'a Marks>,
     pub(crate) history: &'a History,
+    pub(crate) phrases: &'a Phrases,
 }
 
-/// What is said of an event, and whether it is new.
+/// The hand-out that was named last, and where the next one is looked for first.
+#[derive(Clone, Copy)]
+struct Near {
+    named: usize,
+    next: usize,
+}
+
+/// The lines of what is said of the events of a merge, and room for what one of them says.
 #[derive(Drop)]
-pub(crate) struct Carried {
-    pub(crate) reason: Vec<u8>,
-    pub(crate) is_new: bool,
+pub(crate) struct MergeLines {
+    pub(crate) text: Vec<u8>,
+    /// An event's words.
+    words: Vec<u8>,
+    /// What is said of a verdict beside its first words.
+    detail: Vec<u8>,
+    reason: Vec<u8>,
+    near: Near,
+}
+
+impl MergeLines {
+    /// No line. Takes no memory.
+    pub(crate) fn new(alloc: Global) -> MergeLines {
+        MergeLines {
+            text: Vec::new(alloc),
+            words: Vec::new(alloc),
+            detail: Vec::new(alloc),
+            reason: Vec::new(alloc),
+            near: Near { named: 0, next: 0 },
+        }
+    }
 }
 
 fn verdict_word(verdict: Option<Reason>) -> &'static [u8]
@@ -69,16 +99,16 @@ fn put_slot_words(out: &mut Vec<u8>, slot: u64) -> Result<(), AllocError>
 fn put_carried(
     out: &mut Vec<u8>,
     slot: u64,
-    time: u64,
-    event: &EventView,
+    event: &Event,
     verdict: Option<Reason>,
     detail: &[u8],
 ) -> Result<(), AllocError>
     ensures { OnOk result (out.new.items ≡ out.old.items
-        ++ carried_words slot time (event_of_view event.now) verdict detail.now) }
+        ++ carried_words slot event.now.time
+        (event_of event.now.name.now event.now.payload.now) verdict detail.now) }
 {
     put_slot_words(out, slot)?;
-    put_event(out, time, event.name, event.payload)?;
+    put_event(out, event.time, event.name, event.payload)?;
     out.extend_from_slice(b": ")?;
     out.extend_from_slice(verdict_word(verdict))?;
     out.extend_from_slice(detail)
@@ -88,17 +118,25 @@ fn put_carried(
 fn put_least(out: &mut Vec<u8>, merging: &Merging, minimum: u64) -> Result<(), AllocError> {
     let since = match merging.before {
         Some(before) if before.event_minimum.value == minimum => before.event_minimum.since,
-        _ => merging.number,
+        _ => merging.phrases.number,
     };
     put_parts(out, &[Part::Number(minimum), Part::Since(since)])
 }
 
-/// The last action that handed an event to the agent: one before, or else this one.
-fn handed_at(merging: &Merging, event: &Event) -> u64 {
+/// The action that handed an event to the agent: one before, or else this one.
+fn handed_at(merging: &Merging, near: &mut Near, event: &Event) -> u64 {
     let hand_outs = &merging.history.hand_outs;
-    match hand_outs.last_of(merging.agent_number, event) {
-        Some(action) => action,
-        None => merging.number,
+    match hand_outs.found_near(near.next, merging.agent_number, event) {
+        Some(found) => {
+            // the events of a state were mostly handed out one after another
+            let step = found.place.saturating_sub(near.named);
+            *near = Near {
+                named: found.place,
+                next: found.place.saturating_add(step),
+            };
+            found.action
+        }
+        None => merging.phrases.number,
     }
 }
 
@@ -117,62 +155,169 @@ fn put_detail(
         Some(Reason::TooOld) => {
             put_too_old(out, event.time, config.event_buffer, b"event", judge.clock)
         }
-        Some(Reason::Seen) => put_seen_at(out, merging.agent, event, handed_at(merging, event)),
         Some(Reason::TimeFull) => put_full(out, config.per_time, event.time),
         _ => Ok(()),
     }
 }
 
-/// What is said of a verdict beside its first words.
-fn detail_of(
-    alloc: Global,
-    merging: &Merging,
-    judge: &Judge,
+/// Adds the line of an event, of which all but the detail is to be said.
+fn add_carried(
+    lines: &mut MergeLines,
+    number: u64,
+    slot: u64,
     event: &Event,
     verdict: Option<Reason>,
-) -> Result<Vec<u8>, AllocError> {
-    let mut out = Vec::new(alloc);
-    put_detail(&mut out, merging, judge, event, verdict)?;
-    Ok(out)
+) -> Result<(), AllocError>
+    ensures { OnOk result (AddsCarried number slot event.now.time
+        (event_of event.now.name.now event.now.payload.now) verdict
+        lines.old.text.items lines.new.text.items) }
+{
+    lines.reason.clear();
+    put_carried(&mut lines.reason, slot, event, verdict, &lines.detail)?;
+    put_because(&mut lines.text, number, &lines.reason)
 }
 
-/// Adds what is said of an event.
-fn add_carried(
-    alloc: Global,
-    lines: &mut Vec<Carried>,
+/// Adds the line of an event that has another verdict than that it was seen.
+fn add_other(
+    merging: &Merging,
+    judge: &Judge,
+    lines: &mut MergeLines,
+    slot: u64,
+    event: &Event,
+    verdict: Option<Reason>,
+) -> Result<(), AllocError>
+    ensures { OnOk result (AddsCarried merging.now.phrases.now.number slot event.now.time
+        (event_of event.now.name.now event.now.payload.now) verdict
+        lines.old.text.items lines.new.text.items) }
+{
+    lines.detail.clear();
+    put_detail(&mut lines.detail, merging, judge, event, verdict)?;
+    add_carried(lines, merging.phrases.number, slot, event, verdict)
+}
+
+/// Appends the line of an event that was seen, up to its words.
+#[tactic(auto, unfolding(crate::specs::Judging::seen_front))]
+fn put_seen_front(
+    out: &mut Vec<u8>,
+    front: &[u8],
+    slot: u64,
+    words: &[u8],
+) -> Result<(), AllocError>
+    ensures { OnOk result
+        (out.new.items ≡ out.old.items ++ seen_front front.now slot words.now) }
+{
+    out.extend_from_slice(front)?;
+    put_number(out, slot)?;
+    out.extend_from_slice(b" brings ")?;
+    out.extend_from_slice(words)
+}
+
+/// Appends the rest of that line.
+#[tactic(auto, unfolding(crate::specs::Judging::seen_behind))]
+fn put_seen_behind(
+    out: &mut Vec<u8>,
+    named: &[u8],
+    words: &[u8],
+    action: u64,
+) -> Result<(), AllocError>
+    ensures { OnOk result
+        (out.new.items ≡ out.old.items ++ seen_behind named.now words.now action) }
+{
+    out.extend_from_slice(b": seen: ")?;
+    out.extend_from_slice(named)?;
+    out.extend_from_slice(words)?;
+    out.extend_from_slice(b" at action ")?;
+    put_number(out, action)?;
+    out.extend_from_slice(b"\n")
+}
+
+/// Adds the line of an event that was seen, and whose texts stand as they are: each byte is looked at once.
+fn add_standing(
+    lines: &mut MergeLines,
+    phrases: &Phrases,
     slot: u64,
     time: u64,
-    event: &EventView,
+    name: &[u8],
+    payload: &[u8],
     verdict: Option<Reason>,
-    detail: &[u8],
+    action: u64,
 ) -> Result<(), AllocError>
-    ensures { (e : IdealAgent) → verdict ≡ admission e time (event_of_view event.now)
-        → OnOk result (AddsLines (record { time = time; key = event_of_view event.now } ∷ []) e
-        lines.old.items lines.new.items) }
+    requires name { stands name.now ≡ true }
+    requires payload { stands payload.now ≡ true }
+    requires seen { verdict ≡ Some Reason.Seen }
+    ensures { OnOk result (AddsCarried phrases.now.number slot time
+        (event_of name.now payload.now) verdict
+        lines.old.text.items lines.new.text.items) }
 {
-    let mut reason = Vec::with_capacity(alloc, 96)?;
-    put_carried(&mut reason, slot, time, event, verdict, detail)?;
-    lines.push(Carried {
-        reason,
-        is_new: verdict.is_none(),
-    })?;
-    Ok(())
+    lines.words.clear();
+    put_standing_event(&mut lines.words, time, name, payload)?;
+    let front = phrases.front.as_slice();
+    let named = phrases.named.as_slice();
+    let words = lines.words.as_slice();
+    put_seen_front(&mut lines.text, front, slot, words)?;
+    put_seen_behind(&mut lines.text, named, words, action)
 }
 
-/// Adds what is said of the next event.
+/// Adds the line of an event that was seen.
+fn add_seen(
+    merging: &Merging,
+    lines: &mut MergeLines,
+    slot: u64,
+    event: &Event,
+    verdict: Option<Reason>,
+) -> Result<(), AllocError>
+    requires { verdict ≡ Some Reason.Seen }
+    ensures { OnOk result (AddsCarried merging.now.phrases.now.number slot event.now.time
+        (event_of event.now.name.now event.now.payload.now) verdict
+        lines.old.text.items lines.new.text.items) }
+{
+    let action = handed_at(merging, &mut lines.near, event);
+    let phrases = merging.phrases;
+    let (name, payload) = (event.name, event.payload);
+    if phrases.named.len() != 0 && stands(name) && stands(payload) {
+        return add_standing(
+            lines, phrases, slot, event.time, name, payload, verdict, action,
+        );
+    }
+    lines.detail.clear();
+    put_seen_at(&mut lines.detail, merging.agent, event, action)?;
+    add_carried(lines, phrases.number, slot, event, verdict)
+}
+
+/// Adds the line of an event on which this is the verdict.
+fn add_line(
+    merging: &Merging,
+    judge: &Judge,
+    lines: &mut MergeLines,
+    slot: u64,
+    event: &Event,
+    verdict: Option<Reason>,
+) -> Result<(), AllocError>
+    ensures { OnOk result (AddsCarried merging.now.phrases.now.number slot event.now.time
+        (event_of event.now.name.now event.now.payload.now) verdict
+        lines.old.text.items lines.new.text.items) }
+{
+    match verdict {
+        Some(Reason::Seen) => add_seen(merging, lines, slot, event, verdict),
+        _ => add_other(merging, judge, lines, slot, event, verdict),
+    }
+}
+
+/// Adds the line of the next event.
 fn add_event(
     alloc: Global,
     merging: &Merging,
     judge: &mut Judge,
-    lines: &mut Vec<Carried>,
+    lines: &mut MergeLines,
     slot: u64,
     time: Time,
     event: &EventView,
 ) -> Result<(), AllocError>
     ensures lines { (i j : IdealAgent) → IsSound i → merging.now.agent.now.concrete ≡ view_of i
         → IsJudging i j judge.old
-        → OnOk result (AddsLines (record { time = time; key = event_of_view event.now } ∷ []) j
-        lines.old.items lines.new.items) }
+        → OnOk result (AddsLines merging.now.phrases.now.number
+        (record { time = time; key = event_of_view event.now } ∷ []) j
+        lines.old.text.items lines.new.text.items) }
     ensures judging { (i j : IdealAgent) → IsSound i → merging.now.agent.now.concrete ≡ view_of i
         → IsJudging i j judge.old
         → OnOk result (IsJudging i
@@ -184,24 +329,24 @@ fn add_event(
         name: event.name,
         payload: event.payload,
     };
-    let detail = detail_of(alloc, merging, judge, &lying, verdict)?;
-    add_carried(alloc, lines, slot, time.get(), event, verdict, &detail)
+    add_line(merging, judge, lines, slot, &lying, verdict)
 }
 
-/// Adds what is said of each event of a slot.
+/// Adds a line for each event of a slot.
 fn add_events(
     alloc: Global,
     merging: &Merging,
     judge: &mut Judge,
-    lines: &mut Vec<Carried>,
+    lines: &mut MergeLines,
     slot: u64,
     time: Time,
     events: EventViews,
 ) -> Result<(), AllocError>
     ensures { (i j : IdealAgent) → IsSound i → merging.now.agent.now.concrete ≡ view_of i
         → IsJudging i j judge.old
-        → OnOk result (HasJudged i j (at_time time (events_left events.entry))
-        [] lines.old.items lines.new.items judge.new) }
+        → OnOk result (HasJudged merging.now.phrases.now.number i j
+        (at_time time (events_left events.entry)) []
+        lines.old.text.items lines.new.text.items judge.new) }
 {
     for event in events {
         add_event(alloc, merging, judge, lines, slot, time, &event)?;
@@ -209,40 +354,46 @@ fn add_events(
     Ok(())
 }
 
-/// Adds what is said of each event of a slot, if it has any.
+/// Adds a line for each event of a slot, if it has any.
 fn add_slot(
     alloc: Global,
     merging: &Merging,
     judge: &mut Judge,
-    lines: &mut Vec<Carried>,
+    lines: &mut MergeLines,
     slot: u64,
     content: &SlotView,
 ) -> Result<(), AllocError>
     ensures { (i j : IdealAgent) → IsSound i → merging.now.agent.now.concrete ≡ view_of i
         → IsJudging i j judge.old
-        → OnOk result (HasJudged i j (events_of_slot (slot_of_view content.now))
-        [] lines.old.items lines.new.items judge.new) }
+        → OnOk result (HasJudged merging.now.phrases.now.number i j
+        (events_of_slot (slot_of_view content.now)) []
+        lines.old.text.items lines.new.text.items judge.new) }
 {
     match *content {
         SlotView::Held(time, events) => {
             add_events(alloc, merging, judge, lines, slot, time, events)
         }
+        SlotView::Single(time, event) => {
+            add_event(alloc, merging, judge, lines, slot, time, &event)?;
+            Ok(())
+        }
         SlotView::Empty => Ok(()),
     }
 }
 
-/// Adds what is said of each event of these slots.
+/// Adds a line for each event of these slots.
 fn add_slots(
     alloc: Global,
     merging: &Merging,
     judge: &mut Judge,
-    lines: &mut Vec<Carried>,
+    lines: &mut MergeLines,
     slots: SlotViews,
 ) -> Result<(), AllocError>
     ensures { (i j : IdealAgent) → IsSound i → merging.now.agent.now.concrete ≡ view_of i
         → IsJudging i j judge.old
-        → OnOk result (HasJudged i j (events_of (slots_left slots.entry))
-        [] lines.old.items lines.new.items judge.new) }
+        → OnOk result (HasJudged merging.now.phrases.now.number i j
+        (events_of (slots_left slots.entry)) []
+        lines.old.text.items lines.new.text.items judge.new) }
 {
     let mut slot: u64 = 0;
     for content in slots {
@@ -252,21 +403,21 @@ fn add_slots(
     Ok(())
 }
 
-/// What is said of each event that a state carries, in its order, where it is merged on a disk that works.
-pub(crate) fn carried_lines(
+/// Adds a line for each event that a state carries, in its order, where it is merged on a disk that works.
+pub(crate) fn add_carried_lines(
     alloc: Global,
     merging: &Merging,
     event_clock: u64,
     slots: SlotViews,
     is_join: bool,
-) -> Result<Vec<Carried>, AllocError>
-    ensures { IfOk result (λ lines. (i : IdealAgent) (m : PushPull) → IsSound i
+    lines: &mut MergeLines,
+) -> Result<(), AllocError>
+    ensures { (i : IdealAgent) (m : PushPull) → IsSound i
         → merging.now.agent.now.concrete ≡ view_of i → m.event_clock ≡ event_clock
         → m.slots ≡ slots_left slots.entry
-        → AreCarried (events_of m.slots) (joined m is_join i) (reasons_in lines.items)) }
+        → OnOk result (AddsLines merging.now.phrases.now.number (events_of m.slots)
+        (joined m is_join i) lines.old.text.items lines.new.text.items) }
 {
     let mut judge = Judge::new(alloc, merging.agent, event_clock, is_join)?;
-    let mut lines = Vec::new(alloc);
-    add_slots(alloc, merging, &mut judge, &mut lines, slots)?;
-    Ok(lines)
+    add_slots(alloc, merging, &mut judge, lines, slots)
 }

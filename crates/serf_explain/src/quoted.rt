@@ -1,9 +1,9 @@
 //! Texts between quotes, and what is said of events and queries.
 
-ghost use Rattle.std.specs.Prelude.{◌≡◌, ◌<◌, ◌++◌, length, OnOk};
+ghost use Rattle.std.specs.Prelude.{◌≡◌, ◌<◌, ◌++◌, codes, decimal, length, true, OnOk};
 ghost use Rattle.std.specs.List.{flat_map, list_all};
 ghost use Rattle.serf_window.specs.Texts.{event_of};
-ghost use Rattle.serf_explain.specs.Words.{event_words, front_quoted, is_plain, quoted, quoted_byte, whole_quoted};
+ghost use Rattle.serf_explain.specs.Words.{event_words, front_quoted, is_plain, quoted, quoted_byte, standing_texts, stands, whole_quoted};
 
 use crate::because::{is_printable, put_byte};
 use crate::hand_outs::Event;
@@ -112,6 +112,47 @@ pub(crate) fn put_event(
     put_quoted(out, name)?;
     out.extend_from_slice(b" ")?;
     put_quoted(out, payload)
+}
+
+/// Whether a quoted text is the text itself.
+pub(crate) fn stands(text: &[u8]) -> bool
+    ensures { result ≡ stands text.now }
+{
+    text.len() <= WHOLE && are_plain(text)
+}
+
+#[tactic(auto, unfolding(crate::specs::Words::standing_texts))]
+fn put_standing_texts(out: &mut Vec<u8>, name: &[u8], payload: &[u8]) -> Result<(), AllocError>
+    ensures { OnOk result (out.new.items ≡ out.old.items ++ standing_texts name.now payload.now) }
+{
+    out.extend_from_slice(b" \"")?;
+    out.extend_from_slice(name)?;
+    out.extend_from_slice(b"\" \"")?;
+    out.extend_from_slice(payload)?;
+    out.extend_from_slice(b"\"")
+}
+
+fn put_time(out: &mut Vec<u8>, time: u64) -> Result<(), AllocError>
+    ensures { OnOk result (out.new.items ≡ out.old.items ++ (codes "event " ++ decimal time)) }
+{
+    out.extend_from_slice(b"event ")?;
+    put_number(out, time)
+}
+
+/// Appends `event 3 "deploy" "v2"`, where both texts stand as they are.
+pub(crate) fn put_standing_event(
+    out: &mut Vec<u8>,
+    time: u64,
+    name: &[u8],
+    payload: &[u8],
+) -> Result<(), AllocError>
+    requires name { stands name.now ≡ true }
+    requires payload { stands payload.now ≡ true }
+    ensures { OnOk result (out.new.items ≡ out.old.items
+        ++ event_words time (event_of name.now payload.now)) }
+{
+    put_time(out, time)?;
+    put_standing_texts(out, name, payload)
 }
 
 /// A part of what is said.

@@ -1,8 +1,7 @@
 //! The reasons of an action.
 
-ghost use Rattle.std.specs.Prelude.{◌≡◌, ◌++◌, true, Ok, OnOk, IfOk};
+ghost use Rattle.std.specs.Prelude.{◌≡◌, ◌++◌, [], true, Ok, OnOk, List, ℕ};
 ghost use Rattle.std.specs.List.{flat_map};
-ghost use Rattle.std.specs.Option.{option_map};
 ghost use Rattle.serf_wire.specs.Decoded.{decoded};
 ghost use Rattle.serf_wire.specs.Message.{PushPull, message_of, push_pull};
 ghost use Rattle.serf_agent.specs.Sound.{IsSound};
@@ -11,94 +10,120 @@ ghost use Rattle.serf_agent.specs.View.{view_of};
 ghost use Rattle.serf_agent.specs.Ideal.{IdealAgent};
 ghost use Rattle.serf_model.specs.Cluster.{Cluster};
 ghost use Rattle.serf_model.specs.Ready.{AreRepresentable};
-ghost use Rattle.serf_world.specs.View.{IsViewed, agent_at};
+ghost use Rattle.serf_world.specs.View.{IsViewed};
 ghost use Rattle.serf_explain.specs.Because.{AddsReasons, AddsSome, AddsSuch, because_line};
-ghost use Rattle.serf_explain.specs.Carried.{AreCarried, TellsMerge, TellsMerged};
+ghost use Rattle.serf_explain.specs.Carried.{TellsMerged};
 ghost use Rattle.serf_explain.specs.Explained.{TellsAll};
 ghost use Rattle.serf_explain.specs.HandOuts.{KnowsSeen, notes_in};
-ghost use Rattle.serf_explain.specs.Judging.{reasons_in};
+ghost use Rattle.serf_explain.specs.Judging.{AddsLines, TellsText};
 
 use crate::answers::put_reason;
 use crate::because::put_because;
 use crate::history::History;
-use crate::merges::{Carried, Merging, carried_lines};
+use crate::merges::{MergeLines, Merging, add_carried_lines};
+use crate::phrases::Phrases;
 use crate::refusals::put_sink_fault;
 use crate::seen::put_seen;
 use crate::told::{Actor, Told, actor_at};
-use serf_agent::Reason;
+use serf_agent::{Agent, Reason};
 use serf_model::{Act, Action, Answer, Refusal, packet_at};
-use serf_wire::{Bytes, Message, decode};
+use serf_snap::MemSink;
+use serf_text::cut;
+use serf_wire::{Message, decode};
 use serf_world::World;
 use std::alloc::{AllocError, Global};
 
 /// How many bytes most reasons have, at most.
 pub(crate) const USUAL_BYTES: usize = 160;
 
-/// How many bytes the words for a new event have: `new, and handed out`.
-const NEW_WORDS: usize = 19;
+/// The words for a new event, with which its reason ends, and no other.
+const NEW_WORDS: &[u8] = b"new, and handed out";
 
-/// What is said of the events of a message that is to be merged.
-fn message_lines(
+/// Adds a line for each event of a message that is to be merged.
+fn add_message(
     alloc: Global,
     merging: &Merging,
     message: &Message,
     is_join: bool,
-) -> Result<Vec<Carried>, AllocError>
-    ensures { IfOk result (λ lines. (i : IdealAgent) (p : PushPull) → IsSound i
+    lines: &mut MergeLines,
+) -> Result<(), AllocError>
+    ensures merged { (i : IdealAgent) (p : PushPull) → IsSound i
         → merging.now.agent.now.concrete ≡ view_of i → message_of message.now ≡ push_pull p
-        → AreCarried (events_of p.slots) (joined p is_join i) (reasons_in lines.items)) }
+        → OnOk result (AddsLines merging.now.phrases.now.number (events_of p.slots)
+        (joined p is_join i) lines.old.text.items lines.new.text.items) }
+    ensures other { ((p : PushPull) → message_of message.now ≡ push_pull p → ⊥)
+        → OnOk result (lines.new.text.items ≡ lines.old.text.items) }
 {
     match message {
         Message::PushPull(state) => {
-            carried_lines(alloc, merging, state.event_clock, state.slots, is_join)
+            add_carried_lines(
+                alloc,
+                merging,
+                state.event_clock,
+                state.slots,
+                is_join,
+                lines,
+            )
         }
         Message::UserEvent(_)
         | Message::Query(_)
         | Message::QueryResponse(_)
-        | Message::Foreign(_) => Ok(Vec::new(alloc)),
+        | Message::Foreign(_) => Ok(()),
     }
 }
 
-/// What is said of the events of a packet that is to be merged.
-fn packet_lines(
+/// Adds a line for each event of a packet that is to be merged.
+fn add_packet(
     alloc: Global,
     merging: &Merging,
     packet: &[u8],
     is_join: bool,
-) -> Result<Vec<Carried>, AllocError>
-    ensures { IfOk result (λ lines. (i : IdealAgent) (p : PushPull) → IsSound i
+    lines: &mut MergeLines,
+) -> Result<(), AllocError>
+    ensures merged { (i : IdealAgent) (p : PushPull) → IsSound i
         → merging.now.agent.now.concrete ≡ view_of i → decoded packet.now ≡ Ok (push_pull p)
-        → AreCarried (events_of p.slots) (joined p is_join i) (reasons_in lines.items)) }
+        → OnOk result (AddsLines merging.now.phrases.now.number (events_of p.slots)
+        (joined p is_join i) lines.old.text.items lines.new.text.items) }
+    ensures other { ((p : PushPull) → decoded packet.now ≡ Ok (push_pull p) → ⊥)
+        → OnOk result (lines.new.text.items ≡ lines.old.text.items) }
 {
     match decode(packet) {
-        Ok(message) => message_lines(alloc, merging, &message, is_join),
-        Err(_) => Ok(Vec::new(alloc)),
+        Ok(message) => add_message(alloc, merging, &message, is_join, lines),
+        Err(_) => Ok(()),
     }
 }
 
-/// The agent that is to merge a state.
-fn merging_at<'a>(
-    world: &'a World,
-    history: &'a History,
+/// Adds a line for each event of a packet that this agent, which has this number, is to merge.
+fn add_merge(
+    alloc: Global,
+    history: &History,
     number: u64,
-    to: u64,
-) -> Option<Merging<'a>>
-    ensures { option_map (λ m. m.agent.now.concrete) result ≡ agent_at world.now to }
+    agent_number: u64,
+    agent: &Agent<MemSink>,
+    packet: &[u8],
+    is_join: bool,
+    lines: &mut MergeLines,
+) -> Result<(), AllocError>
+    ensures merged { (i : IdealAgent) (p : PushPull) → IsSound i → agent.now.concrete ≡ view_of i
+        → decoded packet.now ≡ Ok (push_pull p)
+        → OnOk result (AddsLines number (events_of p.slots)
+        (joined p is_join i) lines.old.text.items lines.new.text.items) }
+    ensures other { ((p : PushPull) → decoded packet.now ≡ Ok (push_pull p) → ⊥)
+        → OnOk result (lines.new.text.items ≡ lines.old.text.items) }
 {
-    match world.agent(to) {
-        Some(agent) => Some(Merging {
-            number,
-            agent_number: to,
-            agent,
-            before: history.memory.marks(to),
-            history,
-        }),
-        None => None,
-    }
+    let phrases = Phrases::new(alloc, number, agent)?;
+    let merging = Merging {
+        agent_number,
+        agent,
+        before: history.memory.marks(agent_number),
+        history,
+        phrases: &phrases,
+    };
+    add_packet(alloc, &merging, packet, is_join, lines)
 }
 
-/// What is said of each event of the state in a packet that an agent is to merge.
-fn merge_lines(
+/// Adds a line for each event of the state in a packet that an agent is to merge.
+fn add_merge_at(
     alloc: Global,
     world: &World,
     history: &History,
@@ -106,37 +131,40 @@ fn merge_lines(
     agent: u64,
     packet: u64,
     join: bool,
-) -> Result<Vec<Carried>, AllocError>
-    ensures { (c : Cluster) → IsViewed c world.now → AreRepresentable c
-        → IfOk result (λ lines. TellsMerge c (Action.Of agent (Act.Merge packet join))
-        (reasons_in lines.items)) }
+    lines: &mut MergeLines,
+) -> Result<(), AllocError>
+    ensures { (c : Cluster) → IsViewed c world.now → AreRepresentable c → lines.old.text.items ≡ []
+        → OnOk result (TellsText number c (Action.Of agent (Act.Merge packet join))
+        lines.new.text.items) }
 {
-    match merging_at(world, history, number, agent) {
-        Some(merging) => match packet_at(world.sent(), packet) {
-            Some(bytes) => packet_lines(alloc, &merging, bytes, join),
-            None => Ok(Vec::new(alloc)),
+    match world.agent(agent) {
+        Some(at) => match packet_at(world.sent(), packet) {
+            Some(bytes) => add_merge(alloc, history, number, agent, at, bytes, join, lines),
+            None => Ok(()),
         },
-        None => Ok(Vec::new(alloc)),
+        None => Ok(()),
     }
 }
 
-/// What is said of each event of a state that is to be merged; nothing of any other action.
+/// Makes the lines of what is said of each event of a state that is to be merged; none of any other action.
 pub(crate) fn lines_before(
     alloc: Global,
     world: &World,
     history: &History,
     number: u64,
     action: &Action,
-) -> Result<Vec<Carried>, AllocError>
+    lines: &mut MergeLines,
+) -> Result<(), AllocError>
     ensures { (c : Cluster) → IsViewed c world.now → AreRepresentable c
-        → IfOk result (λ lines. TellsMerge c action.now (reasons_in lines.items)) }
+        → OnOk result (TellsText number c action.now lines.new.text.items) }
 {
+    lines.text.clear();
     match action {
         Action::Of {
             agent,
             act: Act::Merge { packet, join },
-        } => merge_lines(alloc, world, history, number, *agent, *packet, *join),
-        _ => Ok(Vec::new(alloc)),
+        } => add_merge_at(alloc, world, history, number, *agent, *packet, *join, lines),
+        _ => Ok(()),
     }
 }
 
@@ -149,33 +177,50 @@ pub(crate) fn put_lone(alloc: Global, out: &mut Vec<u8>, told: &Told) -> Result<
     put_because(out, told.number, reason.as_slice())
 }
 
-/// Appends the lines of what is said of events.
-fn put_lines(out: &mut Vec<u8>, number: u64, carried: &[Carried]) -> Result<(), AllocError>
-    ensures { OnOk result (out.new.items ≡ out.old.items
-        ++ flat_map (because_line number) (reasons_in carried.now)) }
+fn put_text(out: &mut Vec<u8>, text: &[u8]) -> Result<(), AllocError>
+    ensures { OnOk result (out.new.items ≡ out.old.items ++ text.now) }
 {
-    for line in carried {
-        put_because(out, number, &line.reason)?;
-    }
-    Ok(())
+    out.extend_from_slice(text)
 }
 
-/// Appends a line for each event that a merged state carries; a line that says so where it carries none.
-fn put_merged(out: &mut Vec<u8>, number: u64, carried: &[Carried]) -> Result<(), AllocError>
-    ensures { OnOk result
-        (AddsSuch (TellsMerged (reasons_in carried.now)) number out.old.items out.new.items) }
+/// Appends the lines of what is said of the events that a merged state carries; a line that says so where it carries none.
+fn put_merged(out: &mut Vec<u8>, number: u64, lines: &[u8]) -> Result<(), AllocError>
+    ensures { (carried : List (List ℕ)) → lines.now ≡ flat_map (because_line number) carried
+        → OnOk result (AddsSuch (TellsMerged carried) number out.old.items out.new.items) }
 {
-    if carried.len() == 0 {
+    if lines.len() == 0 {
         return put_because(out, number, b"the state carries no event");
     }
-    put_lines(out, number, carried)
+    put_text(out, lines)
+}
+
+/// The reason that a line says: what stands behind its number and `because`.
+fn reason_in(line: &[u8]) -> &[u8] {
+    let (_number, rest) = cut(line, b' ');
+    match rest {
+        Some(said) => match said.strip_prefix(b"because ") {
+            Some(reason) => reason,
+            None => said,
+        },
+        None => line,
+    }
+}
+
+/// Appends the line of a reason once more; nothing where there is none, as behind the last line.
+fn put_again(out: &mut Vec<u8>, number: u64, reason: &[u8]) -> Result<(), AllocError>
+    ensures { OnOk result (AddsReasons number out.old.items out.new.items) }
+{
+    if reason.len() == 0 {
+        return Ok(());
+    }
+    put_because(out, number, reason)
 }
 
 /// What is said of the event at which the disk failed.
-fn failed_reason(alloc: Global, actor: &Actor, line: &Carried) -> Result<Vec<u8>, AllocError> {
+fn failed_reason(alloc: Global, actor: &Actor, new: &[u8]) -> Result<Vec<u8>, AllocError> {
     let mut reason = Vec::new(alloc);
-    reason.extend_from_slice(&line.reason)?;
-    reason.truncate(line.reason.len().saturating_sub(NEW_WORDS));
+    reason.extend_from_slice(new)?;
+    reason.truncate(new.len().saturating_sub(NEW_WORDS.len()));
     reason.extend_from_slice(b"new, but ")?;
     put_sink_fault(&mut reason, actor)?;
     Ok(reason)
@@ -191,15 +236,16 @@ fn put_failed_merge(
     ensures { OnOk result (AddsSome told.now.number out.old.items out.new.items) }
 {
     let mut handed = told.line.events.as_slice().len();
-    for line in told.carried {
-        if line.is_new {
+    for line in told.carried.split(|byte| *byte == b'\n') {
+        let reason = reason_in(line);
+        if reason.ends_with(NEW_WORDS) {
             if handed == 0 {
-                let reason = failed_reason(alloc, actor, line)?;
+                let reason = failed_reason(alloc, actor, reason)?;
                 return put_because(out, told.number, &reason);
             }
             handed -= 1;
         }
-        put_because(out, told.number, &line.reason)?;
+        put_again(out, told.number, reason)?;
     }
     put_lone(alloc, out, told)
 }
@@ -229,8 +275,9 @@ fn put_unmerged(alloc: Global, out: &mut Vec<u8>, told: &Told) -> Result<(), All
 pub(crate) fn put_reasons(alloc: Global, out: &mut Vec<u8>, told: &Told) -> Result<(), AllocError>
     requires { KnowsSeen (notes_in told.now.past.now.outs.items)
         told.now.world.now.sent told.now.action.now told.now.line.now }
-    ensures { OnOk result (AddsSuch
-        (TellsAll true (reasons_in told.now.carried.now) (notes_in told.now.past.now.outs.items)
+    ensures { (carried : List (List ℕ))
+        → told.now.carried.now ≡ flat_map (because_line told.now.number) carried
+        → OnOk result (AddsSuch (TellsAll true carried (notes_in told.now.past.now.outs.items)
         told.now.world.now told.now.action.now told.now.line.now)
         told.now.number out.old.items out.new.items) }
 {

@@ -159,12 +159,13 @@ fn put_responders(out: &mut Vec<u8>, told: &Told, actor: &Actor) -> Result<(), A
     }
 }
 
-/// Appends that a packet would be longer than 1024 bytes: what it is, and how many bytes its texts have.
+/// Appends that a packet would be longer than the agent's limit: what it is, and how many bytes its texts have.
 fn put_longer<'a>(
     out: &mut Vec<u8>,
     what: &'a [u8],
     bytes: u64,
     behind: &'a [u8],
+    limit: u64,
 ) -> Result<(), AllocError> {
     put_parts(
         out,
@@ -172,13 +173,16 @@ fn put_longer<'a>(
             Part::Text(what),
             Part::Number(bytes),
             Part::Text(behind),
-            Part::Text(b" is longer than 1024 bytes"),
+            Part::Text(b" is longer than "),
+            Part::Number(limit),
+            Part::Text(b" bytes"),
         ],
     )
 }
 
 /// Appends why an event or a query isn't fired, or a query isn't answered, for its size.
 fn put_too_large(out: &mut Vec<u8>, actor: &Actor) -> Result<(), AllocError> {
+    let config = actor.agent.config();
     match actor.act {
         Act::Fire {
             name,
@@ -190,16 +194,12 @@ fn put_too_large(out: &mut Vec<u8>, actor: &Actor) -> Result<(), AllocError> {
             let name = query.name.as_slice().len() as u64;
             let texts = name.saturating_add(query.payload.as_slice().len() as u64);
             let what = b"the query's packet, whose name and payload have ";
-            put_longer(out, what, texts, b" bytes together,")
+            put_longer(out, what, texts, b" bytes together,", config.query_limit)
         }
         Act::Respond { payload, .. } => {
             let bytes = payload.as_slice().len() as u64;
-            put_longer(
-                out,
-                b"the answer's packet, whose payload has ",
-                bytes,
-                b" bytes,",
-            )
+            let what = b"the answer's packet, whose payload has ";
+            put_longer(out, what, bytes, b" bytes,", config.response_limit)
         }
         _ => out.extend_from_slice(b"the packet is too long"),
     }

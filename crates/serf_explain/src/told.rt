@@ -3,7 +3,6 @@
 use crate::hand_outs::HandOuts;
 use crate::marks::Marks;
 use crate::memory::Memory;
-use crate::merges::Carried;
 use crate::quoted::Part;
 use serf_agent::Agent;
 use serf_model::{Act, Action, Line};
@@ -22,8 +21,8 @@ pub(crate) struct Told<'a> {
     pub(crate) past: &'a HandOuts,
     pub(crate) action: &'a Action,
     pub(crate) line: &'a Line,
-    /// What is said of each event, where a state is merged on a disk that works.
-    pub(crate) carried: &'a [Carried],
+    /// A line of what is said of each event, where a state is merged on a disk that works.
+    pub(crate) carried: &'a [u8],
 }
 
 /// The name of an agent between quotes.

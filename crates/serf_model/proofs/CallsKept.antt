@@ -100,12 +100,24 @@ representable-received lower i t what coalesce None g runs small is =
     let new = lower.admits.event_new i t what is in
     representable-notes lower i kinds.Event t (record { agent = event_entered t what i; answer = Ok (Event (event_out t what coalesce)) }) (Err receives.SinkFault) g (representable-event_entered lower i t what g runs small new.0 new.1)
 
-pub limit-short : (c : Config) → is_sound c ≡ true → c.event_limit ≤ 9216
-limit-short c ok =
+-- the bounds of the limits
+limits : (c : Config) → is_sound c ≡ true → (nat_le c.event_limit 9216 ≡ true) × (nat_le c.query_limit 9216 ≡ true) × (nat_le c.response_limit 9216 ≡ true)
+limits c ok =
     let per_time = and_parts _ _ ok in
     let responders = and_parts _ _ per_time.0 in
-    let limit = and_parts _ _ responders.0 in
-    leb-true c.event_limit 9216 limit.1
+    let response = and_parts _ _ responders.0 in
+    let query = and_parts _ _ response.0 in
+    let event = and_parts _ _ query.0 in
+    (event.1, query.1, response.1)
+
+pub limit-short : (c : Config) → is_sound c ≡ true → c.event_limit ≤ 9216
+limit-short c ok = leb-true c.event_limit 9216 (limits c ok).0
+
+pub query_limit-short : (c : Config) → is_sound c ≡ true → c.query_limit ≤ 9216
+query_limit-short c ok = leb-true c.query_limit 9216 (limits c ok).1
+
+pub response_limit-short : (c : Config) → is_sound c ≡ true → c.response_limit ≤ 9216
+response_limit-short c ok = leb-true c.response_limit 9216 (limits c ok).2
 
 -- what isn't refused
 pub record MayFire (i : IdealAgent) (what : EventBody) : Type 0 where
@@ -142,7 +154,7 @@ representable-query_received lower i now q (Some reason) g runs small is =
     record { consistent = record { sound = lower.sound.observes_query q.time i g.consistent.sound; observable = g.consistent.observable }; events = g.events; queries = omega (arith, g.queries) }
 representable-query_received lower i now q None g runs small is =
     representable-notes lower i kinds.Query q.time
-    (record { agent = query_entered q.time q.id i; answer = Ok (outcomes.Query (handed_if_passed false i.config.name now q) (ack_if_passed false i.config.name q) (not (has_flag no_broadcast_flag q.flags))) }) (Err receives.SinkFault) g
+    (record { agent = query_entered q.time q.id i; answer = Ok (outcomes.Query (handed_if_passed false i.config now q) (ack_if_passed false i.config.name q) (not (has_flag no_broadcast_flag q.flags))) }) (Err receives.SinkFault) g
     (λ observable. record {
       consistent = record { sound = lower.sound.enters_query q.time q.id i g.consistent.sound runs small (lower.admits.query_new i q.time q.id is); observable = observable };
       events = g.events;
@@ -156,7 +168,7 @@ pub record MayAsk (i : IdealAgent) : Type 0 where
 pub may-ask : (i : IdealAgent) (id : ℕ) (name payload : List ℕ) (params : QueryParams) → query_fault i id name payload params ≡ None → MayAsk i
 may-ask i id name payload params is =
     let runs = none-if i.snapshot.stopped asks.Stopped _ is in
-    let large = none-if (is_too_large_query i.config.name i.queries.clock id name payload params) asks.TooLarge _ runs.1 in
+    let large = none-if (is_too_large_query i.config i.queries.clock id name payload params) asks.TooLarge _ runs.1 in
     let timeout = none-if (is_no_timeout params.timeout) asks.ZeroTimeout _ large.1 in
     let clock = none-if (nat_le (2 ^ 64 - 1) i.queries.clock) asks.Exhausted None timeout.1 in
     record { runs = runs.0; clock = leb-false _ _ clock.0 }
@@ -165,7 +177,7 @@ pub representable-query_fired : Below → (i : IdealAgent) (now : ℕ) (q : Quer
 representable-query_fired lower i now q (Some fault) g at may = g
 representable-query_fired lower i now q None g at may =
     let m = may refl in
-    representable-notes lower i kinds.Query q.time (record { agent = query_asked now q i; answer = Ok record { time = q.time; packet = canonical (query q); handed = handed_if_passed false i.config.name now q; ack = ack_if_passed false i.config.name q } }) (Err asks.SinkFault) g
+    representable-notes lower i kinds.Query q.time (record { agent = query_asked now q i; answer = Ok record { time = q.time; packet = canonical (query q); handed = handed_if_passed false i.config now q; ack = ack_if_passed false i.config.name q } }) (Err asks.SinkFault) g
     (λ observable. record {
       consistent = record { sound = lower.sound.asks_query now q i g.consistent.sound m.runs at (omega (arith, m.clock)); observable = observable };
       events = g.events;

@@ -12,13 +12,15 @@ use Rattle.serf_model.specs.declared.line.HandedLine.{HandedLine}
 use Rattle.serf_model.specs.declared.line.Refusal.TheVariants.{NoAgent}
 use Rattle.serf_model.specs.Cluster.{Applied, Cluster, IdealNode, Run, after, applied, apply, event_line, handed_line, injects, line_only, run_of, start, step}
 use Rattle.serf_model.specs.HandOuts.{HandsOutEntered, HandsOutGiven, IsHandedOf, MessagesFired, NewIsHanded, OnlyToActor, events_given, message_entered, message_fired, messages_fired, new_in, query_message, says_new, message_at}
+use Rattle.serf_model.specs.Runs.{HasShortQueries}
 use Rattle.serf_model.specs.Sizes.{HasSizes}
 use Rattle.serf_model.specs.Trace.{Turn, actor_of, event_in, events_brought, events_in_packet, fired_by, injected_in, injects_of, packet_given, queried_in, query_packets, given_by}
 use Rattle.serf_model.proofs.Effects.{Effect, IsIdle, asks, counts, effect, fires, hears, is_asked, passes_on, as_message}
-use Rattle.serf_model.proofs.PerAgent.{Each, each-start, each-step}
+use Rattle.serf_model.proofs.PerAgent.{Each}
 use Rattle.serf_model.proofs.PerTimeBound.{out_in}
 use Rattle.serf_model.proofs.QueriesEntered.{own-decoded}
 use Rattle.serf_model.proofs.QueryOrigins.{IsAsked, WasAsked, asked-start, asked-step}
+use Rattle.serf_model.proofs.SettingsKept.{HasSettings, settings-start, settings-step, short-at}
 use Rattle.serf_model.proofs.StepCases.{step-cases}
 use Rattle.serf_model.proofs.TurnLaws.{at_each_nil, at_each_push, flat_map-push, fold_keeps}
 
@@ -105,30 +107,12 @@ new-out lower before c action =
     step-cases (λ s. NewAt before s.turn) c action (λ bytes is. absurd (cc is)) (λ b act at is. absurd (cc is))
     (λ b act m of at is. let h = new-effect m (Of b act) (given_by c.sent act) (apply m c.sent act) (effect lower m c.sent b act) is in (h.0, lines-in b (apply m c.sent act).done.events ∙ h.1, h.2))
 
--- ---- settings
-
-settings-kept : (m : IdealNode) (action : Action) (given : Option (List ℕ)) (o : Applied) → Effect m action given o → o.node.agent.config ≡ m.agent.config
-settings-kept m action given _ (hears j outs answer h idle) = h.config
-settings-kept m action given _ _ = refl
-
--- each agent has its settings
-abbrev HasSettings : List Config → ℕ → List Turn → IdealNode → Type 0
-HasSettings configs a turns m = slice_get configs a ≡ Some m.agent.config
-
-settings-step : Below → (configs : List Config) (r : Run) (action : Action) → Each (HasSettings configs) r.cluster r.turns → Each (HasSettings configs) (after r action).cluster (after r action).turns
-settings-step lower configs r action all =
-    each-step (HasSettings configs) r action all
-    (λ b act m of at is. is ∙ ap (λ (c : Config). Some c) (sym (settings-kept m (Of b act) (given_by r.cluster.sent act) (apply m r.cluster.sent act) (effect lower m r.cluster.sent b act))))
-
-settings-start : (configs : List Config) → Each (HasSettings configs) (start configs).cluster []
-settings-start configs = each-start (HasSettings configs) configs (λ a config is. is)
-
 -- ---- which queries
 
-pub passed-on : (node : List ℕ) (now : ℕ) (q : Query) (h : Handed) → handed_if_passed false node now q ≡ Some h → handed_query node now q ≡ h
-passed-on node now q h e = by (all_pass false q.filters node) e
+pub passed-on : (config : Config) (now : ℕ) (q : Query) (h : Handed) → handed_if_passed false config now q ≡ Some h → handed_query config now q ≡ h
+passed-on config now q h e = by (all_pass false q.filters config.name) e
   where
-    by : (b : Bool) → cond b (Some (handed_query node now q)) None ≡ Some h → handed_query node now q ≡ h
+    by : (b : Bool) → cond b (Some (handed_query config now q)) None ≡ Some h → handed_query config now q ≡ h
     by true e = cc e
     by false e = absurd (cc e)
 
@@ -137,17 +121,17 @@ abbrev HandsEntered : List Config → Action → Option (List ℕ) → Applied �
 HandsEntered configs action given o = (a n : ℕ) (h : Handed) → o.done.handed ≡ Some h
     → (q : Query) × (message_entered configs (record { action = action; line = record { answer = o.done.answer; sent = []; events = []; handed = None }; given = given; packets = [] }) ≡ q ∷ []) × IsHandedOf (handed_line a n h) q
 
-handed-of : (a n : ℕ) (node : List ℕ) (now : ℕ) (q : Query) (h : Handed) → handed_query node now q ≡ h → IsHandedOf (handed_line a n h) q
-handed-of a n node now q h same = record { time = ap (λ (x : Handed). x.time) (sym same); id = ap (λ (x : Handed). x.id) (sym same); name = ap (λ (x : Handed). x.name) (sym same); payload = ap (λ (x : Handed). x.payload) (sym same) }
+handed-of : (a n : ℕ) (config : Config) (now : ℕ) (q : Query) (h : Handed) → handed_query config now q ≡ h → IsHandedOf (handed_line a n h) q
+handed-of a n config now q h same = record { time = ap (λ (x : Handed). x.time) (sym same); id = ap (λ (x : Handed). x.id) (sym same); name = ap (λ (x : Handed). x.name) (sym same); payload = ap (λ (x : Handed). x.payload) (sym same) }
 
 hands-effect : (configs : List Config) (m : IdealNode) (action : Action) (given : Option (List ℕ)) (o : Applied) (b : ℕ) → actor_of action ≡ Some b → slice_get configs b ≡ Some m.agent.config → Effect m action given o → HandsEntered configs action given o
 hands-effect configs m _ given _ b actor settings (asks agent q is) = λ a n h e.
     let me : agent ≡ b = cc actor in (
       as_message m q,
       ap (λ (c : Option Config). map (λ c. query_at m.agent.queries.clock c.name q.id q.name q.payload q.params) (option_to_list c)) (ap (slice_get configs) me ∙ settings),
-      handed-of a n m.agent.config.name q.moment (as_message m q) h (passed-on m.agent.config.name q.moment (as_message m q) h e),
+      handed-of a n m.agent.config q.moment (as_message m q) h (passed-on m.agent.config q.moment (as_message m q) h e),
     )
-hands-effect configs m action _ _ b actor settings (is_asked to number packet now q is new) = λ a n h e. (q, ap query_message is, handed-of a n m.agent.config.name now q h (passed-on m.agent.config.name now q h e))
+hands-effect configs m action _ _ b actor settings (is_asked to number packet now q is new) = λ a n h e. (q, ap query_message is, handed-of a n m.agent.config now q h (passed-on m.agent.config now q h e))
 hands-effect configs m action given _ b actor settings _ = λ a n h e. absurd (cc e)
 
 abbrev EnteredAt : List Config → List Turn → Turn → Type 0
@@ -183,29 +167,29 @@ abbrev SpeaksOwn : List Config → Action → Option (List ℕ) → Applied → 
 SpeaksOwn configs action given o =
     All (Speaks (message_fired configs (record { action = action; line = record { answer = o.done.answer; sent = []; events = []; handed = None }; given = given; packets = [] }))) (query_packets o.done.answer o.done.packets)
 
-speaks-effect : Below → (configs : List Config) (m : IdealNode) (action : Action) (given : Option (List ℕ)) (o : Applied) (b : ℕ) → HasSizes action → actor_of action ≡ Some b → slice_get configs b ≡ Some m.agent.config → Effect m action given o → SpeaksOwn configs action given o
-speaks-effect lower configs m action given _ b sized actor settings (hears j outs answer h idle) =
+speaks-effect : Below → (configs : List Config) (m : IdealNode) (action : Action) (given : Option (List ℕ)) (o : Applied) (b : ℕ) → HasShortQueries m.agent.config → HasSizes action → actor_of action ≡ Some b → slice_get configs b ≡ Some m.agent.config → Effect m action given o → SpeaksOwn configs action given o
+speaks-effect lower configs m action given _ b short sized actor settings (hears j outs answer h idle) =
     let own : List Query = message_fired configs (record { action = action; line = record { answer = answer; sent = []; events = []; handed = None }; given = given; packets = [] }) in
     subst (All (Speaks own)) (sym (speaks-nothing m.agent given answer [] idle)) (All-nil (Speaks own))
-speaks-effect lower configs m _ given _ b sized actor settings (asks agent q is) =
+speaks-effect lower configs m _ given _ b short sized actor settings (asks agent q is) =
     let me : agent ≡ b = cc actor in
     let own : List Query = message_at configs m.agent.queries.clock (Of agent (acts.Query q)) in
     let fired : own ≡ as_message m q ∷ [] =
     ap (λ (c : Option Config). map (λ c. query_at m.agent.queries.clock c.name q.id q.name q.payload q.params) (option_to_list c)) (ap (slice_get configs) me ∙ settings) in
     All-cons (Speaks own) (canonical (query (as_message m q))) []
-    (subst (All (Contains own)) (sym (ap query_message (own-decoded lower m.agent q.id q.name q.payload q.params sized is))) (subst (λ l. All (Contains l) (as_message m q ∷ [])) (sym fired) (All-contains_itself (as_message m q ∷ []))))
+    (subst (All (Contains own)) (sym (ap query_message (own-decoded lower m.agent q.id q.name q.payload q.params short sized is))) (subst (λ l. All (Contains l) (as_message m q ∷ [])) (sym fired) (All-contains_itself (as_message m q ∷ []))))
     (All-nil (Speaks own))
-speaks-effect lower configs m action _ _ b sized actor settings (counts to number now packet r q true is at none kind) = All-nil (Speaks [])
-speaks-effect lower configs m action _ _ b sized actor settings (counts to number now packet r q false is at none kind) = All-nil (Speaks [])
-speaks-effect lower configs m action given _ b sized actor settings _ = All-nil (Speaks [])
+speaks-effect lower configs m action _ _ b short sized actor settings (counts to number now packet r q true is at none kind) = All-nil (Speaks [])
+speaks-effect lower configs m action _ _ b short sized actor settings (counts to number now packet r q false is at none kind) = All-nil (Speaks [])
+speaks-effect lower configs m action given _ b short sized actor settings _ = All-nil (Speaks [])
 
 abbrev SpeaksAt : List Config → Turn → Type 0
 SpeaksAt configs turn = All (Speaks (message_fired configs turn)) (query_packets turn.line.answer turn.packets)
 
-speaks-turn : Below → (configs : List Config) (c : Cluster) (action : Action) (turns : List Turn) → HasSizes action → Each (HasSettings configs) c turns → SpeaksAt configs (step c action).turn
-speaks-turn lower configs c action turns sized all =
+speaks-turn : Below → (configs : List Config) (c : Cluster) (action : Action) (turns : List Turn) → All HasShortQueries configs → HasSizes action → Each (HasSettings configs) c turns → SpeaksAt configs (step c action).turn
+speaks-turn lower configs c action turns short sized all =
     step-cases (λ s. SpeaksAt configs s.turn) c action (λ bytes. All-nil (Speaks [])) (λ b act at. All-nil (Speaks []))
-    (λ b act m is at. speaks-effect lower configs m (Of b act) (given_by c.sent act) (apply m c.sent act) b (subst HasSizes is sized) refl (all b m at) (effect lower m c.sent b act))
+    (λ b act m is at. speaks-effect lower configs m (Of b act) (given_by c.sent act) (apply m c.sent act) b (short-at configs b m.agent.config short (all b m at)) (subst HasSizes is sized) refl (all b m at) (effect lower m c.sent b act))
 
 -- ---- a run
 
@@ -255,26 +239,26 @@ message-of : (configs : List Config) (turns : List Turn) (packet : List ℕ) →
 message-of configs turns packet own (inl h) = inl (All-contains (Speaks (messages_fired configs turns)) (queried_in turns) packet own h)
 message-of configs turns packet own (inr h) = inr h
 
-messaging-step : Below → (configs : List Config) (r : Run) (action : Action) → HasSizes action → IsMessaging configs r → IsMessaging configs (after r action)
-messaging-step lower configs r action sized h =
+messaging-step : Below → (configs : List Config) (r : Run) (action : Action) → All HasShortQueries configs → HasSizes action → IsMessaging configs r → IsMessaging configs (after r action)
+messaging-step lower configs r action short sized h =
     let turn : Turn = (step r.cluster action).turn in
     let asked = asked-step lower r action h.asked in
     record {
       entering = entering-step lower configs r action h.entering;
       asked = asked;
-      own = own-more configs r.turns turn h.own (speaks-turn lower configs r.cluster action r.turns sized h.entering.settings);
+      own = own-more configs r.turns turn h.own (speaks-turn lower configs r.cluster action r.turns short sized h.entering.settings);
       fired = at_each_push (MessageAt configs) r.turns turn h.fired (λ packet says given. message-of configs r.turns packet h.own (asked.fired r.turns turn [] refl packet says given));
     }
 
 messaging-start : (configs : List Config) → IsMessaging configs (start configs)
 messaging-start configs = record { entering = entering-start configs; asked = asked-start configs; own = All-nil (Speaks []); fired = at_each_nil (MessageAt configs) }
 
-pub messaging-run : Below → (configs : List Config) (actions : List Action) → All HasSizes actions → IsMessaging configs (run_of configs actions)
-messaging-run lower configs actions sized = by (start configs) actions sized (messaging-start configs)
+pub messaging-run : Below → (configs : List Config) (actions : List Action) → All HasShortQueries configs → All HasSizes actions → IsMessaging configs (run_of configs actions)
+messaging-run lower configs actions short sized = by (start configs) actions sized (messaging-start configs)
   where
     by : (r : Run) (actions : List Action) → All HasSizes actions → IsMessaging configs r → IsMessaging configs (fold after r actions)
     by r [] sized h = h
-    by r (action ∷ actions) sized h = by (after r action) actions (All-tail HasSizes action actions sized) (messaging-step lower configs r action (All-head HasSizes action actions sized) h)
+    by r (action ∷ actions) sized h = by (after r action) actions (All-tail HasSizes action actions sized) (messaging-step lower configs r action short (All-head HasSizes action actions sized) h)
 
 -- what needs nothing of the settings, and nothing of the numbers
 pub record IsHandingOut (turns : List Turn) : Type 0 where

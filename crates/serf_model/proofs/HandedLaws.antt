@@ -1,5 +1,5 @@
 -- A query is handed to an agent once, where it enters.
-use Rattle.serf_model.proofs.Names.{zero, suc, ◌≡◌, ◌≢◌, ℕ, ◌<◌, ◌==◌, ◌+◌, ◌⊎◌, inl, inr, Bool, true, false, cond, List, [], ◌∷◌, ◌++◌, Option, Some, None, refl, sym, ap, subst, ◌∙◌, arith, map, length, get_or, All, AllPairs, Contains, filter, flat_map, option_map, option_to_list, append-nil, map-append, All-nil, All-push, All-weaker, Contains-append_left, Contains-push, filter-append, all_pairs_push, Query, TimedEntry, Handed, query_at, handed_query, handed_if_passed, all_pass}
+use Rattle.serf_model.proofs.Names.{zero, suc, ◌≡◌, ◌≢◌, ℕ, ◌<◌, ◌==◌, ◌+◌, ◌⊎◌, inl, inr, Bool, true, false, cond, List, [], ◌∷◌, ◌++◌, Option, Some, None, refl, sym, ap, subst, ◌∙◌, arith, map, length, get_or, All, AllPairs, Contains, filter, flat_map, option_map, option_to_list, append-nil, map-append, All-nil, All-push, All-weaker, Contains-append_left, Contains-push, filter-append, all_pairs_push, Query, TimedEntry, Config, Handed, query_at, handed_query, handed_if_passed, all_pass}
 use Rattle.serf_model.specs.Below.{Below}
 use Rattle.serf_model.specs.declared.action.Action.{Action}
 use Rattle.serf_model.specs.declared.action.Act.{Act}
@@ -20,16 +20,16 @@ only_query t id = record { time = t; key = id } ∷ []
 abbrev pub Hands : Action → Option (List ℕ) → Done → Type 0
 Hands action given done = (q : Handed) → done.handed ≡ Some q → entered_by action given done.answer ≡ only_query q.time q.id
 
-passed : (node : List ℕ) (now : ℕ) (q : Query) (h : Handed) → handed_if_passed false node now q ≡ Some h → only_query q.time q.id ≡ only_query h.time h.id
-passed node now q h e = by (all_pass false q.filters node) e
+passed : (config : Config) (now : ℕ) (q : Query) (h : Handed) → handed_if_passed false config now q ≡ Some h → only_query q.time q.id ≡ only_query h.time h.id
+passed config now q h e = by (all_pass false q.filters config.name) e
   where
-    by : (b : Bool) → cond b (Some (handed_query node now q)) None ≡ Some h → only_query q.time q.id ≡ only_query h.time h.id
-    by true e = let same : handed_query node now q ≡ h = cc e in ap (λ (x : Handed). only_query x.time x.id) same
+    by : (b : Bool) → cond b (Some (handed_query config now q)) None ≡ Some h → only_query q.time q.id ≡ only_query h.time h.id
+    by true e = let same : handed_query config now q ≡ h = cc e in ap (λ (x : Handed). only_query x.time x.id) same
     by false e = absurd (cc e)
 
 hands-effect : (m : IdealNode) (action : Action) (given : Option (List ℕ)) (o : Applied) → Effect m action given o → Hands action given o.done
-hands-effect m action given o (asks agent q may) = λ h e. passed m.agent.config.name q.moment (as_message m q) h e
-hands-effect m action given o (is_asked to number packet now q is new) = λ h e. ap query_brought is ∙ passed m.agent.config.name now q h e
+hands-effect m action given o (asks agent q may) = λ h e. passed m.agent.config q.moment (as_message m q) h e
+hands-effect m action given o (is_asked to number packet now q is new) = λ h e. ap query_brought is ∙ passed m.agent.config now q h e
 hands-effect m action given o _ = λ h e. absurd (cc e)
 
 pub hands-apply : Below → (m : IdealNode) (sent : List (List ℕ)) (a : ℕ) (act : Act) → Hands (Of a act) (given_by sent act) (apply m sent act).done

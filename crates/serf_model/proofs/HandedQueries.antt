@@ -88,9 +88,9 @@ shown-more a ts t number h on s = record {
 deadline-effect : (m : IdealNode) (action : Action) (given : Option (List ℕ)) (o : Applied) → Effect m action given o → (h : Handed) → o.done.handed ≡ Some h
     → reply_deadline (record { action = action; line = record { answer = o.done.answer; sent = []; events = []; handed = None }; given = given; packets = [] }) ≡ h.deadline ∷ []
 deadline-effect m action given o (asks agent q may) h is =
-    ap (λ (x : Handed). x.deadline ∷ []) (passed-on m.agent.config.name q.moment (as_message m q) h is)
+    ap (λ (x : Handed). x.deadline ∷ []) (passed-on m.agent.config q.moment (as_message m q) h is)
 deadline-effect m action given o (is_asked to number packet now q reads new) h is =
-    ap (λ r. map (λ (q : Query). deadline_of now q.timeout) (query_message r)) reads ∙ ap (λ (x : Handed). x.deadline ∷ []) (passed-on m.agent.config.name now q h is)
+    ap (λ r. map (λ (q : Query). deadline_of now q.timeout) (query_message r)) reads ∙ ap (λ (x : Handed). x.deadline ∷ []) (passed-on m.agent.config now q h is)
 deadline-effect m action given o _ h is = absurd (cc is)
 
 -- the queries that an agent acked
@@ -120,17 +120,17 @@ adds lower m sent a act (makes_ack h handed packets) = inr (record { time = h.ti
 adds lower m sent a act (makes_reply agent number now payload h respond at replied packets in_time) = inl (ap (λ l. map query_answered (filter is_ack l)) packets)
 
 -- what can be answered after a turn
-record Slots (a : ℕ) (name : List ℕ) (ts : List Turn) (handed : List (Option Handed)) : Type 0 where
-  each : (number : ℕ) (h : Handed) → slice_get handed number ≡ Some (Some h) → IsHandable name h × IsShown a ts number h
+record Slots (a : ℕ) (config : Config) (ts : List Turn) (handed : List (Option Handed)) : Type 0 where
+  each : (number : ℕ) (h : Handed) → slice_get handed number ≡ Some (Some h) → IsHandable config h × IsShown a ts number h
 
 slots-more : Below → (c : Cluster) (configs : List Config) (ts : List Turn) (b : ℕ) (act : Act) (m : IdealNode) → HasHanded configs b ts m → Sends m (Of b act) (apply m c.sent act).done
-    → (let o = apply m c.sent act in Slots b m.agent.config.name (ts ++ (applied c b act o).turn ∷ []) (with_handed o.done.handed o.node).handed)
+    → (let o = apply m c.sent act in Slots b m.agent.config (ts ++ (applied c b act o).turn ∷ []) (with_handed o.done.handed o.node).handed)
 slots-more lower c configs ts b act m hands sends = by (apply m c.sent act).done.handed refl
   where
     turn : Turn
     turn = (applied c b act (apply m c.sent act)).turn
 
-    old : (number : ℕ) (h : Handed) → slice_get (apply m c.sent act).node.handed number ≡ Some (Some h) → IsHandable m.agent.config.name h × IsShown b (ts ++ (applied c b act (apply m c.sent act)).turn ∷ []) number h
+    old : (number : ℕ) (h : Handed) → slice_get (apply m c.sent act).node.handed number ≡ Some (Some h) → IsHandable m.agent.config h × IsShown b (ts ++ (applied c b act (apply m c.sent act)).turn ∷ []) number h
     old number h is =
         let s = stood m (Of b act) (given_by c.sent act) (apply m c.sent act) (effect lower m c.sent b act) number h is in
         (hands.handable number h s.at, shown-more b ts (applied c b act (apply m c.sent act)).turn number h s.on (hands.shown number h s.at))
@@ -149,16 +149,16 @@ slots-more lower c configs ts b act m hands sends = by (apply m c.sent act).done
           query = refl;
         }
 
-    by : (d : Option Handed) → (apply m c.sent act).done.handed ≡ d → Slots b m.agent.config.name (ts ++ (applied c b act (apply m c.sent act)).turn ∷ []) ((apply m c.sent act).node.handed ++ map (λ q. Some q) (option_to_list d))
+    by : (d : Option Handed) → (apply m c.sent act).done.handed ≡ d → Slots b m.agent.config (ts ++ (applied c b act (apply m c.sent act)).turn ∷ []) ((apply m c.sent act).node.handed ++ map (λ q. Some q) (option_to_list d))
     by None none = record { each = λ number h is. old number h (ap (λ l. slice_get l number) (sym (append-nil (apply m c.sent act).node.handed)) ∙ is) }
     by (Some q) some = record { each = λ number h is. one number h (pushed-at (apply m c.sent act).node.handed (Some q) number (Some h) is) }
       where
         one : (number : ℕ) (h : Handed) → (slice_get (apply m c.sent act).node.handed number ≡ Some (Some h)) ⊎ ((length (apply m c.sent act).node.handed ≡ number) × (Some q ≡ Some h))
-            → IsHandable m.agent.config.name h × IsShown b (ts ++ (applied c b act (apply m c.sent act)).turn ∷ []) number h
+            → IsHandable m.agent.config h × IsShown b (ts ++ (applied c b act (apply m c.sent act)).turn ∷ []) number h
         one number h (inl before) = old number h before
         one number h (inr here) =
             let same : q ≡ h = cc here.1 in
-            subst (λ (h : Handed). IsHandable m.agent.config.name h × IsShown b (ts ++ (applied c b act (apply m c.sent act)).turn ∷ []) number h) same
+            subst (λ (h : Handed). IsHandable m.agent.config h × IsShown b (ts ++ (applied c b act (apply m c.sent act)).turn ∷ []) number h) same
             (sends.hands q some, subst (λ (n : ℕ). IsShown b (ts ++ (applied c b act (apply m c.sent act)).turn ∷ []) n q) here.0 (new q some))
 
 pub has-handed-more : Below → (c : Cluster) (configs : List Config) (ts : List Turn) (b : ℕ) (act : Act) (m : IdealNode) → HasHanded configs b ts m → Sends m (Of b act) (apply m c.sent act).done → (apply m c.sent act).node.agent.config ≡ m.agent.config
@@ -167,12 +167,11 @@ pub has-handed-more : Below → (c : Cluster) (configs : List Config) (ts : List
 has-handed-more lower c configs ts b act m hands sends config once =
     let turn : Turn = (applied c b act (apply m c.sent act)).turn in
     let slots = slots-more lower c configs ts b act m hands sends in
-    let name : (apply m c.sent act).node.agent.config.name ≡ m.agent.config.name = ap (λ (c : Config). c.name) config in
     let queries : queries_in (ts ++ (applied c b act (apply m c.sent act)).turn ∷ []) ≡ queries_in ts ++ entered_by (Of b act) (given_by c.sent act) (apply m c.sent act).done.answer =
     flat_map-push (λ t. entered_by t.action t.given t.line.answer) ts (applied c b act (apply m c.sent act)).turn in
     record {
       settings = hands.settings ∙ ap Some (sym config);
-      handable = λ number h is. subst (λ (n : List ℕ). IsHandable n h) (sym name) (slots.each number h is).0;
+      handable = λ number h is. subst (λ (c : Config). IsHandable c h) (sym config) (slots.each number h is).0;
       shown = λ number h is. (slots.each number h is).1;
       acked = subst (λ l. IsWithin l (acked_in (ts ++ (applied c b act (apply m c.sent act)).turn ∷ []))) (sym queries)
           (subst (IsWithin (queries_in ts ++ entered_by (Of b act) (given_by c.sent act) (apply m c.sent act).done.answer)) (sym (acked-push ts (applied c b act (apply m c.sent act)).turn))

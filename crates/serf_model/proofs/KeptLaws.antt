@@ -14,12 +14,14 @@ use Rattle.serf_model.proofs.CountingPromises.{counted-once, counting-start, ope
 use Rattle.serf_model.proofs.HandOutLaws.{entering-run, handing-out, messaging-run}
 use Rattle.serf_model.proofs.PromiseLaws.{promised, query-fired}
 use Rattle.serf_model.proofs.QueriesEntered.{query-only-fired}
+use Rattle.serf_model.proofs.SettingsKept.{all-short}
 use Rattle.serf_model.proofs.SentPromises.{open-sent}
 use Rattle.serf_model.proofs.TurnLaws.{at_each_nil}
 
 pub kept : Below → SlotLaws EventBody → SlotLaws ℕ → (configs : List Config) (actions : List Action) → AreConfigs configs → All HasSizes actions → KeepsPromises configs (run_of configs actions)
 kept lower event_laws query_laws configs actions ok sized =
     let r : Run = run_of configs actions in
+    let short = all-short configs ok in
     let going = promised lower configs actions ok in
     let out = handing-out lower configs actions in
     let counting = counting-run lower configs actions ok in
@@ -33,12 +35,12 @@ kept lower event_laws query_laws configs actions ok sized =
       query_later = going.query_later;
       query_handed = going.query_handed;
       query_fired = query-fired lower configs actions;
-      query_only_fired = query-only-fired lower configs actions sized;
+      query_only_fired = query-only-fired lower configs actions short sized;
       only_to_actor = out.to_actor;
       hands_out_given = out.given;
       new_is_handed = out.new;
       hands_out_entered = (entering-run lower configs actions).entered;
-      messages_fired = (messaging-run lower configs actions sized).fired;
+      messages_fired = (messaging-run lower configs actions short sized).fired;
       counted_once = counted-once r.cluster r.turns counting;
       counted_in_time = counting.in_time;
       counted_sent = counting.sent;

@@ -21,6 +21,7 @@ pub mod PromiseLaws
 pub mod BoundLaws
 pub mod QueriesEntered
 pub mod PerAgent
+pub mod SettingsKept
 pub mod PresentLife
 pub mod OpenQueryContents
 pub mod CountingPromises

@@ -8,6 +8,7 @@ use Rattle.serf_model.specs.declared.action.Action.TheVariants.{Of}
 use Rattle.serf_model.specs.declared.line.Answer.{Answer}
 use Rattle.serf_model.specs.declared.line.Answer.TheVariants as answers
 use Rattle.serf_model.specs.Cluster.{Applied, Cluster, Done, IdealNode, Run, apply, after, run_of, start, step}
+use Rattle.serf_model.specs.Runs.{HasShortQueries}
 use Rattle.serf_model.specs.Sizes.{HasSizes, IsSized}
 use Rattle.serf_model.specs.Queried.{QueryOnlyFired, WasQueried, queried_by, queries_fired, queries_injected}
 use Rattle.serf_model.specs.Trace.{Turn, entered_by, injected_in, injects_of, packet_given, queried_in, query_brought, query_packets, given_by}
@@ -16,6 +17,8 @@ use Rattle.serf_model.proofs.FiredLaws.{all-parts}
 use Rattle.serf_model.proofs.CallsKept.{may-ask}
 use Rattle.serf_model.proofs.PerTimeBound.{none-if}
 use Rattle.serf_model.proofs.Effects.{Effect, asks, counts, effect, hears, as_message}
+use Rattle.serf_model.proofs.PerAgent.{Each}
+use Rattle.serf_model.proofs.SettingsKept.{HasSettings, settings-start, settings-step, short-at}
 use Rattle.serf_model.proofs.StepCases.{step-cases}
 use Rattle.serf_model.proofs.TurnLaws.{at_each_nil, at_each_push, flat_map-push}
 
@@ -35,26 +38,27 @@ flags-fit false true = omega arith
 flags-fit false false = omega arith
 
 -- what isn't refused is short
-asked-short : (i : IdealAgent) (id : ℕ) (name payload : List ℕ) (params : QueryParams) → query_fault i id name payload params ≡ None → length (canonical (query (query_at i.queries.clock i.config.name id name payload params))) ≤ 1024
-asked-short i id name payload params is =
+asked-short : (i : IdealAgent) (id : ℕ) (name payload : List ℕ) (params : QueryParams) → HasShortQueries i.config → query_fault i id name payload params ≡ None → length (canonical (query (query_at i.queries.clock i.config.name id name payload params))) ≤ 9216
+asked-short i id name payload params limit is =
     let may = may-ask i id name payload params is in
     let runs = none-if i.snapshot.stopped asks.Stopped _ is in
-    let large = none-if (is_too_large_query i.config.name i.queries.clock id name payload params) asks.TooLarge _ runs.1 in
+    let large = none-if (is_too_large_query i.config i.queries.clock id name payload params) asks.TooLarge _ runs.1 in
     let same : drawn i.queries.clock ≡ i.queries.clock = omega (arith, may.clock) in
-    subst (λ (t : ℕ). length (canonical (query (query_at t i.config.name id name payload params))) ≤ 1024) same (ltb-false 1024 _ large.0)
+    let short : length (canonical (query (query_at (drawn i.queries.clock) i.config.name id name payload params))) ≤ i.config.query_limit = ltb-false _ _ large.0 in
+    subst (λ (t : ℕ). length (canonical (query (query_at t i.config.name id name payload params))) ≤ 9216) same (omega arith)
 
 -- the packet of a fired query spells it
-pub own-decoded : Below → (i : IdealAgent) (id : ℕ) (name payload : List ℕ) (params : QueryParams) → IsSized id params.port params.relay_factor params.timeout → query_fault i id name payload params ≡ None
+pub own-decoded : Below → (i : IdealAgent) (id : ℕ) (name payload : List ℕ) (params : QueryParams) → HasShortQueries i.config → IsSized id params.port params.relay_factor params.timeout → query_fault i id name payload params ≡ None
     → (let q = query_at i.queries.clock i.config.name id name payload params in decoded (canonical (query q)) ≡ Ok (query q))
-own-decoded lower i id name payload params sized is =
+own-decoded lower i id name payload params short sized is =
     let may = may-ask i id name payload params is in
     let q : Query = query_at i.queries.clock i.config.name id name payload params in
     let ranged : IsRangedQuery q = record { time = omega (arith, may.clock); id = sized.id_fits; port = sized.port_fits; flags = flags-fit params.want_ack params.no_broadcast; relay_factor = sized.relay_factor_fits; timeout = sized.timeout_fits } in
-    lower.spelled (canonical (query q)) (query q) (lower.canonical (query q) ranged (lower.short.query_fits q (asked-short i id name payload params is)))
+    lower.spelled (canonical (query q)) (query q) (lower.canonical (query q) ranged (lower.short.query_fits q (asked-short i id name payload params short is)))
 
-brings-own : Below → (i : IdealAgent) (id : ℕ) (name payload : List ℕ) (params : QueryParams) → IsSized id params.port params.relay_factor params.timeout → query_fault i id name payload params ≡ None
+brings-own : Below → (i : IdealAgent) (id : ℕ) (name payload : List ℕ) (params : QueryParams) → HasShortQueries i.config → IsSized id params.port params.relay_factor params.timeout → query_fault i id name payload params ≡ None
     → query_brought (decoded (canonical (query (query_at i.queries.clock i.config.name id name payload params)))) ≡ only_query i.queries.clock id
-brings-own lower i id name payload params sized is = ap query_brought (own-decoded lower i id name payload params sized is)
+brings-own lower i id name payload params short sized is = ap query_brought (own-decoded lower i id name payload params short sized is)
 
 -- ---- what an action sends as a fired query's own
 
@@ -66,24 +70,24 @@ own-nothing : (P : List ℕ → Type 0) (answer : Answer) → All P (query_packe
 own-nothing P (answers.Queried t) = All-nil P
 own-nothing P _ = All-nil P
 
-own-effect : Below → (m : IdealNode) (action : Action) (given : Option (List ℕ)) (o : Applied) → Effect m action given o → HasSizes action → BringsOwn action o.done
-own-effect lower m action given o (hears j outs answer heard idle) sized = own-nothing (Brings (Contains (queried_by action answer))) answer
-own-effect lower m action given o (asks agent q may) sized =
+own-effect : Below → (m : IdealNode) (action : Action) (given : Option (List ℕ)) (o : Applied) → Effect m action given o → HasShortQueries m.agent.config → HasSizes action → BringsOwn action o.done
+own-effect lower m action given o (hears j outs answer heard idle) short sized = own-nothing (Brings (Contains (queried_by action answer))) answer
+own-effect lower m action given o (asks agent q may) short sized =
     let own : List (TimedEntry ℕ) = only_query m.agent.queries.clock q.id in
-    All-cons (Brings (Contains own)) (canonical (query (as_message m q))) [] (subst (All (Contains own)) (sym (brings-own lower m.agent q.id q.name q.payload q.params sized may)) (All-contains_itself own)) (All-nil (Brings (Contains own)))
-own-effect lower m action given o (counts to number now packet r q true is at none kind) sized = All-nil (Brings (Contains []))
-own-effect lower m action given o _ sized = All-nil (Brings (Contains []))
+    All-cons (Brings (Contains own)) (canonical (query (as_message m q))) [] (subst (All (Contains own)) (sym (brings-own lower m.agent q.id q.name q.payload q.params short sized may)) (All-contains_itself own)) (All-nil (Brings (Contains own)))
+own-effect lower m action given o (counts to number now packet r q true is at none kind) short sized = All-nil (Brings (Contains []))
+own-effect lower m action given o _ short sized = All-nil (Brings (Contains []))
 
-own-apply : Below → (m : IdealNode) (sent : List (List ℕ)) (a : ℕ) (act : Act) → HasSizes (Of a act) → BringsOwn (Of a act) (apply m sent act).done
-own-apply lower m sent a act sized = own-effect lower m (Of a act) (given_by sent act) (apply m sent act) (effect lower m sent a act) sized
+own-apply : Below → (m : IdealNode) (sent : List (List ℕ)) (a : ℕ) (act : Act) → HasShortQueries m.agent.config → HasSizes (Of a act) → BringsOwn (Of a act) (apply m sent act).done
+own-apply lower m sent a act short sized = own-effect lower m (Of a act) (given_by sent act) (apply m sent act) (effect lower m sent a act) short sized
 
 -- ---- a turn
 
 abbrev OwnTurn : Turn → Type 0
 OwnTurn turn = All (Brings (Contains (queried_by turn.action turn.line.answer))) (query_packets turn.line.answer turn.packets)
 
-own-step : Below → (c : Cluster) (action : Action) → HasSizes action → OwnTurn (step c action).turn
-own-step lower c action sized = step-cases (λ s. OwnTurn s.turn) c action (λ bytes. All-nil (Brings (Contains []))) (λ b act at. All-nil (Brings (Contains []))) (λ b act m is at. own-apply lower m c.sent b act (subst HasSizes is sized))
+own-step : Below → (configs : List Config) (c : Cluster) (turns : List Turn) (action : Action) → All HasShortQueries configs → Each (HasSettings configs) c turns → HasSizes action → OwnTurn (step c action).turn
+own-step lower configs c turns action short h sized = step-cases (λ s. OwnTurn s.turn) c action (λ bytes. All-nil (Brings (Contains []))) (λ b act at. All-nil (Brings (Contains []))) (λ b act m is at. own-apply lower m c.sent b act (short-at configs b m.agent.config short (h b m at)) (subst HasSizes is sized))
 
 -- what enters is what was fired, or what the given packet brings
 entered-from : (P : TimedEntry ℕ → Type 0) (action : Action) (given : Option (List ℕ)) (answer : Answer) → All P (queried_by action answer) → ((packet : List ℕ) → answer ≡ answers.Query → given ≡ Some packet → Brings P packet)
@@ -144,7 +148,8 @@ was-queried-more turns turn q (inr h) = inr (injected-before turns turn q h)
 abbrev OnlyAt : List Turn → Turn → Type 0
 OnlyAt before turn = All (WasQueried (before ++ turn ∷ [])) (entered_by turn.action turn.given turn.line.answer)
 
-record IsQueried (r : Run) : Type 0 where
+record IsQueried (configs : List Config) (r : Run) : Type 0 where
+  settings : Each (HasSettings configs) r.cluster r.turns
   asked : IsAsked r.cluster r.turns
   own : OwnPackets r.turns
   only : QueryOnlyFired r.turns
@@ -157,19 +162,20 @@ only-now turns turn own asked =
     (All-weaker (Contains fired) W (λ q h. inl (fired-now turns turn q h)) fired (All-contains_itself fired))
     (λ packet says given. All-weaker (WasQueried turns) W (was-queried-more turns turn) (query_brought (decoded packet)) (asked-brings turns packet own (asked packet says given)))
 
-queried-step : Below → (r : Run) (action : Action) → HasSizes action → IsQueried r → IsQueried (after r action)
-queried-step lower r action sized h =
+queried-step : Below → (configs : List Config) (r : Run) (action : Action) → All HasShortQueries configs → HasSizes action → IsQueried configs r → IsQueried configs (after r action)
+queried-step lower configs r action short sized h =
     let turn : Turn = (step r.cluster action).turn in
     let asked = asked-step lower r action h.asked in
     record {
+      settings = settings-step lower configs r action h.settings;
       asked = asked;
-      own = own-push r.turns turn h.own (own-step lower r.cluster action sized);
+      own = own-push r.turns turn h.own (own-step lower configs r.cluster r.turns action short h.settings sized);
       only = at_each_push OnlyAt r.turns turn h.only (only-now r.turns turn h.own (asked.fired r.turns turn [] refl));
     }
 
-queried-fold : Below → (r : Run) (actions : List Action) → All HasSizes actions → IsQueried r → IsQueried (fold after r actions)
-queried-fold lower r [] sized h = h
-queried-fold lower r (action ∷ actions) sized h = queried-fold lower (after r action) actions (All-tail HasSizes action actions sized) (queried-step lower r action (All-head HasSizes action actions sized) h)
+queried-fold : Below → (configs : List Config) (r : Run) (actions : List Action) → All HasShortQueries configs → All HasSizes actions → IsQueried configs r → IsQueried configs (fold after r actions)
+queried-fold lower configs r [] short sized h = h
+queried-fold lower configs r (action ∷ actions) short sized h = queried-fold lower configs (after r action) actions short (All-tail HasSizes action actions sized) (queried-step lower configs r action short (All-head HasSizes action actions sized) h)
 
-pub query-only-fired : Below → (configs : List Config) (actions : List Action) → All HasSizes actions → QueryOnlyFired (run_of configs actions).turns
-query-only-fired lower configs actions sized = (queried-fold lower (start configs) actions sized (record { asked = asked-start configs; own = All-nil (Brings (Contains [])); only = at_each_nil OnlyAt })).only
+pub query-only-fired : Below → (configs : List Config) (actions : List Action) → All HasShortQueries configs → All HasSizes actions → QueryOnlyFired (run_of configs actions).turns
+query-only-fired lower configs actions short sized = (queried-fold lower configs (start configs) actions short sized (record { settings = settings-start configs; asked = asked-start configs; own = All-nil (Brings (Contains [])); only = at_each_nil OnlyAt })).only

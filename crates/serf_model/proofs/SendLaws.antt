@@ -1,5 +1,5 @@
 -- Which acks and responses each action of an agent sends.
-use Rattle.serf_model.proofs.Names.{◌≡◌, ℕ, ◌-◌, ◌^◌, ◌<◌, ◌≤◌, nat_lt, Bool, true, false, cond, List, [], ◌∷◌, ◌++◌, length, Option, Some, None, Result, Ok, refl, sym, ap, subst, ◌∙◌, arith, slice_get, not, option_to_list, and_parts, leb-true, ltb-false, flat_map-append, whole_at, WireFault, EventBody, canonical, decoded, Message, PushPull, Query, QueryResponse, query, query_response, push_pull, IsRangedResponse, event_of, event_packet, Handed, ack_flag, ack_packet, all_pass, handed_query, has_flag, no_broadcast_flag, query_at, response_packet, state_of, view_of}
+use Rattle.serf_model.proofs.Names.{◌≡◌, ℕ, ◌-◌, ◌^◌, ◌<◌, ◌≤◌, nat_lt, Bool, true, false, cond, List, [], ◌∷◌, ◌++◌, length, Option, Some, None, Result, Ok, refl, sym, ap, subst, ◌∙◌, arith, slice_get, not, option_to_list, and_parts, leb-true, ltb-false, flat_map-append, whole_at, WireFault, EventBody, canonical, decoded, Message, PushPull, Query, QueryResponse, query, query_response, push_pull, IsRangedResponse, event_of, event_packet, Config, Handed, ack_flag, ack_packet, all_pass, handed_query, has_flag, no_broadcast_flag, query_at, response_packet, state_of, view_of}
 use Rattle.serf_wire.specs.declared.layout.MessageType.TheVariants as types
 use Rattle.serf_model.proofs.ReadCases.{read_has}
 use Rattle.serf_agent.specs.declared.outcome.RespondFault.TheVariants as responding
@@ -16,7 +16,7 @@ use Rattle.serf_model.specs.Ready.{IsRepresentable}
 use Rattle.serf_model.specs.Sizes.{HasSizes}
 use Rattle.serf_model.specs.Trace.{packet_given, given_by}
 use Rattle.serf_model.proofs.Effects.{Effect, asks, effect, fires, hears, is_asked, passes_on, replies, tells, as_message}
-use Rattle.serf_model.proofs.CallsKept.{may-ask}
+use Rattle.serf_model.proofs.CallsKept.{may-ask, response_limit-short}
 use Rattle.serf_model.proofs.PerTimeBound.{none-if}
 
 -- ---- what packets of each kind bring
@@ -61,9 +61,10 @@ ack_of node h = record { time = h.time; id = h.id; from = node; flags = ack_flag
 abbrev pub reply_of : Handed → List ℕ → QueryResponse
 reply_of h payload = record { time = h.time; id = h.id; from = h.node; flags = 0; payload = payload }
 
--- what is handed to a node
-pub record IsHandable (node : List ℕ) (h : Handed) : Type 0 where
-  pub node_is : h.node ≡ node
+-- what is handed to a node of these settings
+pub record IsHandable (config : Config) (h : Handed) : Type 0 where
+  pub node_is : h.node ≡ config.name
+  pub limit_is : h.response_limit ≡ config.response_limit
   pub time : h.time < 2 ^ 64 - 1
   pub id : h.id < 2 ^ 32
 
@@ -76,15 +77,17 @@ pub data Makes (m : IdealNode) (action : Action) (done : Done) : Type 0 where
 
 pub record Sends (m : IdealNode) (action : Action) (done : Done) : Type 0 where
   pub makes : Makes m action done
-  pub hands : (h : Handed) → done.handed ≡ Some h → IsHandable m.agent.config.name h
+  pub hands : (h : Handed) → done.handed ≡ Some h → IsHandable m.agent.config h
 
 -- the node's name fits a packet
 name-short : (m : IdealNode) → IsRepresentable m.agent → length m.agent.config.name ≤ 128
 name-short m representable =
     let per_time = and_parts _ _ representable.consistent.sound.config in
     let responders = and_parts _ _ per_time.0 in
-    let limit = and_parts _ _ responders.0 in
-    let queries = and_parts _ _ limit.0 in
+    let responses = and_parts _ _ responders.0 in
+    let asked = and_parts _ _ responses.0 in
+    let fired = and_parts _ _ asked.0 in
+    let queries = and_parts _ _ fired.0 in
     let events = and_parts _ _ queries.0 in
     let name = and_parts _ _ events.0 in
     leb-true (length m.agent.config.name) 128 name.1
@@ -101,29 +104,29 @@ sends-entered : Below → (m : IdealNode) (action : Action) (answer : Answer) (n
       answer = answer;
       packets = front ++ option_to_list (cond passes (cond wants (Some (ack_packet m.agent.config.name q)) None) None);
       events = [];
-      handed = cond passes (Some (handed_query m.agent.config.name now q)) None;
+      handed = cond passes (Some (handed_query m.agent.config now q)) None;
     })
 sends-entered lower m action answer now q front false wants representable brings time id = hands-nothing m action _ refl (flat_map-append (λ p. answer_brought (decoded p)) front [] ∙ ap (λ l. l ++ []) brings)
 sends-entered lower m action answer now q front true wants representable brings time id = record { makes = by wants; hands = handable }
   where
     h : Handed
-    h = handed_query m.agent.config.name now q
+    h = handed_query m.agent.config now q
 
-    handable : (h : Handed) → Some (handed_query m.agent.config.name now q) ≡ Some h → IsHandable m.agent.config.name h
-    handable h e = let same : handed_query m.agent.config.name now q ≡ h = cc e in subst (IsHandable m.agent.config.name) same (record { node_is = refl; time = time; id = id })
+    handable : (h : Handed) → Some (handed_query m.agent.config now q) ≡ Some h → IsHandable m.agent.config h
+    handable h e = let same : handed_query m.agent.config now q ≡ h = cc e in subst (IsHandable m.agent.config) same (record { node_is = refl; limit_is = refl; time = time; id = id })
 
-    by : (b : Bool) → Makes m action (record { answer = answer; packets = front ++ option_to_list (cond b (Some (ack_packet m.agent.config.name q)) None); events = []; handed = Some (handed_query m.agent.config.name now q) })
+    by : (b : Bool) → Makes m action (record { answer = answer; packets = front ++ option_to_list (cond b (Some (ack_packet m.agent.config.name q)) None); events = []; handed = Some (handed_query m.agent.config now q) })
     by false = makes_none (flat_map-append (λ p. answer_brought (decoded p)) front [] ∙ ap (λ l. l ++ []) brings)
     by true =
         let short = name-short m representable in
-        makes_ack (handed_query m.agent.config.name now q) refl
+        makes_ack (handed_query m.agent.config now q) refl
         (flat_map-append (λ p. answer_brought (decoded p)) front (ack_packet m.agent.config.name q ∷ [])
         ∙ ap (λ l. l ++ answers_in (ack_packet m.agent.config.name q ∷ [])) brings
-        ∙ one-in-answer lower (ack_of m.agent.config.name (handed_query m.agent.config.name now q)) (record { time = omega arith; id = id; flags = omega arith }) (omega arith) (omega arith))
+        ∙ one-in-answer lower (ack_of m.agent.config.name (handed_query m.agent.config now q)) (record { time = omega arith; id = id; flags = omega arith }) (omega arith) (omega arith))
 
 -- the queries that can be answered
 abbrev pub AreHandable : IdealNode → Type 0
-AreHandable m = (number : ℕ) (h : Handed) → slice_get m.handed number ≡ Some (Some h) → IsHandable m.agent.config.name h
+AreHandable m = (number : ℕ) (h : Handed) → slice_get m.handed number ≡ Some (Some h) → IsHandable m.agent.config h
 
 sends-effect : Below → (m : IdealNode) (action : Action) (given : Option (List ℕ)) (o : Applied) → Effect m action given o → IsRepresentable m.agent → AreHandable m → HasSizes action → Sends m action o.done
 sends-effect lower m action given o (hears j outs answer heard idle) representable slots ranged = sends-nothing m action _ refl refl
@@ -142,9 +145,11 @@ sends-effect lower m action given o (is_asked to number packet now q is new) rep
 sends-effect lower m action given o (tells fits) representable slots ranged = hands-nothing m action _ refl (none-in-state (state_of (view_of m.agent) [] []))
 sends-effect lower m action given o (replies agent number now payload h at may) representable slots ranged =
     let late = none-if (nat_lt h.deadline now) responding.PastDeadline _ may in
-    let large = none-if (nat_lt 1024 (length (response_packet h payload))) responding.TooLarge None late.1 in
-    let short = lower.short.texts_short h.time h.id h.node 0 payload (ltb-false 1024 (length (response_packet h payload)) large.0) in
+    let large = none-if (nat_lt h.response_limit (length (response_packet h payload))) responding.TooLarge None late.1 in
     let s = slots number h at in
+    let limit = response_limit-short m.agent.config representable.consistent.sound.config in
+    let fits : length (response_packet h payload) ≤ h.response_limit = ltb-false _ _ large.0 in
+    let short = lower.short.texts_short h.time h.id h.node 0 payload (omega (arith, fits, s.limit_is, limit)) in
     let time : h.time < 2 ^ 64 - 1 = s.time in
     record {
       makes = makes_reply agent number now payload h refl at refl (one-in-answer lower (reply_of h payload) (record { time = omega arith; id = s.id; flags = omega arith }) short.0 short.1) (ltb-false h.deadline now late.0);

@@ -1,5 +1,5 @@
 -- What a run answers.
-use Rattle.std.specs.Prelude.{◌≡◌, ◌<◌, ◌⊎◌, ℕ, ◌++◌, Bool, true, if◌then◌else◌, not, List, [], ◌∷◌, length, take, position, Option, Some, None, Result, Ok, Err}
+use Rattle.std.specs.Prelude.{◌≡◌, ◌<◌, ◌≤◌, ◌⊎◌, ℕ, ◌++◌, Bool, true, if◌then◌else◌, not, List, [], ◌∷◌, length, take, position, Option, Some, None, Result, Ok, Err}
 use Rattle.std.specs.List.{AllByRecursion, list_any}
 use Rattle.std.specs.Str.{bytes_eq}
 use Rattle.serf_agent.specs.declared.config.Config.{Config}
@@ -34,6 +34,10 @@ first_bad configs = position (λ c. not (is_sound c)) configs
 pub record AreConfigs (configs : List Config) : Type 0 where
   pub names : first_twice configs ≡ None
   pub sound : first_bad configs ≡ None
+
+-- whose queries are no longer than a packet can be
+abbrev pub HasShortQueries : Config → Type 0
+HasShortQueries c = c.query_limit ≤ 9216
 
 -- settings of which none is bad are sound, each of them
 abbrev pub NoneBadIsSound : Type 0

@@ -20,7 +20,7 @@ ghost use Rattle.serf_model.specs.Merging.{MergesRepresentable};
 ghost use Rattle.serf_model.specs.Promises.{Held, Later, Once, OnlyFired, QueryFired, QueryHandedOnce, QueryLater, QueryOnce};
 ghost use Rattle.serf_model.specs.Queried.{QueryOnlyFired};
 ghost use Rattle.serf_model.specs.Ready.{AreRepresentable, IsRepresentable};
-ghost use Rattle.serf_model.specs.Runs.{AreConfigs, NoneBadIsSound};
+ghost use Rattle.serf_model.specs.Runs.{AreConfigs, HasShortQueries, NoneBadIsSound};
 ghost use Rattle.serf_model.specs.Sizes.{HasSizes};
 ghost use Rattle.serf_model.specs.Trace.{turns_by, turns_of};
 
@@ -70,7 +70,8 @@ pub fn run_promises()
     ensures query_fired { (configs : List Config) (actions : List Action)
         → QueryFired (run_of configs actions).turns }
     ensures query_only_fired { (configs : List Config) (actions : List Action)
-        → All HasSizes actions → QueryOnlyFired (run_of configs actions).turns }
+        → All HasShortQueries configs → All HasSizes actions
+        → QueryOnlyFired (run_of configs actions).turns }
 
     // What they keep of what is handed out, and of queries as messages.
     ensures only_to_actor { (configs : List Config) (actions : List Action)
@@ -81,7 +82,8 @@ pub fn run_promises()
         → NewIsHanded (run_of configs actions).turns }
     ensures hands_out_entered { (configs : List Config) (actions : List Action)
         → HandsOutEntered configs (run_of configs actions).turns }
-    ensures messages_fired { (configs : List Config) (actions : List Action) → All HasSizes actions
+    ensures messages_fired { (configs : List Config) (actions : List Action)
+        → All HasShortQueries configs → All HasSizes actions
         → MessagesFired configs (run_of configs actions).turns }
 
     // What they keep of acks and responses.

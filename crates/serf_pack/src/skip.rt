@@ -42,7 +42,7 @@ fn skip_short(bytes: &[u8]) -> Option<&[u8]>
 /// first fault. Up to `depth_left` arrays and maps may stand inside one another.
 #[cycle(skip)]
 #[inline(always)]
-pub fn skip(depth_left: u8, total: usize, bytes: &[u8]) -> Result<&[u8], PackFault>
+pub fn skip(depth_left: u64, total: usize, bytes: &[u8]) -> Result<&[u8], PackFault>
     requires { length bytes.now ≤ total }
     ensures rest { Gives (λ x. x.now) result (rest_of (value_at depth_left total bytes.now)) }
     ensures within { IfOk result (λ x. length x.now ≤ length bytes.now) }
@@ -55,7 +55,7 @@ pub fn skip(depth_left: u8, total: usize, bytes: &[u8]) -> Result<&[u8], PackFau
 
 /// `skip`, for a value of any format.
 #[cycle(skip)]
-fn skip_any(depth_left: u8, total: usize, bytes: &[u8]) -> Result<&[u8], PackFault>
+fn skip_any(depth_left: u64, total: usize, bytes: &[u8]) -> Result<&[u8], PackFault>
     requires { length bytes.now ≤ total }
     ensures rest { Gives (λ x. x.now) result (rest_of (value_at depth_left total bytes.now)) }
     ensures within { IfOk result (λ x. length x.now ≤ length bytes.now) }
@@ -89,7 +89,7 @@ fn skip_any(depth_left: u8, total: usize, bytes: &[u8]) -> Result<&[u8], PackFau
 
 /// What follows so many values, or the first fault.
 #[cycle(skip)]
-fn skip_items(depth_left: u8, total: usize, count: u64, bytes: &[u8]) -> Result<&[u8], PackFault>
+fn skip_items(depth_left: u64, total: usize, count: u64, bytes: &[u8]) -> Result<&[u8], PackFault>
     requires { length bytes.now ≤ total }
     ensures rest { Gives (λ x. x.now) result
         (rest_of (items_at (value_at depth_left total) count bytes.now)) }
@@ -104,7 +104,7 @@ fn skip_items(depth_left: u8, total: usize, count: u64, bytes: &[u8]) -> Result<
 
 /// What follows so many pairs, or the first fault.
 #[cycle(skip)]
-fn skip_pairs(depth_left: u8, total: usize, count: u64, bytes: &[u8]) -> Result<&[u8], PackFault>
+fn skip_pairs(depth_left: u64, total: usize, count: u64, bytes: &[u8]) -> Result<&[u8], PackFault>
     requires { length bytes.now ≤ total }
     ensures rest { Gives (λ x. x.now) result
         (rest_of (pairs_at (value_at depth_left total) count bytes.now)) }

@@ -31,7 +31,7 @@ pub struct View<'a> {
     // The length of the whole input, of which `bytes` are the last.
     pub(crate) total: usize,
     // How many containers may stand inside one another here.
-    pub(crate) depth_left: u8,
+    pub(crate) depth_left: u64,
     pub ghost within: { length bytes.now ≤ total },
     pub ghost small: { total < 2 ^ 63 },
     pub ghost checked: { is_ok (value_at depth_left total bytes.now) ≡ true },

@@ -15,7 +15,7 @@ pub struct Items<'a> {
     // The length of the whole input, of which `rest` are the last.
     pub(crate) total: usize,
     // How many arrays and maps may stand inside one another in an item.
-    pub(crate) depth_left: u8,
+    pub(crate) depth_left: u64,
     // How many items are still to come.
     pub(crate) left: u64,
     pub ghost within: { length rest.now ≤ total },
@@ -33,7 +33,7 @@ pub struct Pairs<'a> {
     // The length of the whole input, of which `rest` are the last.
     pub(crate) total: usize,
     // How many arrays and maps may stand inside one another in a key or a value.
-    pub(crate) depth_left: u8,
+    pub(crate) depth_left: u64,
     // How many pairs are still to come.
     pub(crate) left: u64,
     pub ghost within: { length rest.now ≤ total },
@@ -60,7 +60,7 @@ impl<'a> Items<'a> {
     /// So many items from the start of the bytes on, which were checked.
     #[tactic(auto, unfolding(crate::specs::Walk::items_left))]
     #[inline]
-    pub(crate) fn new(rest: &'a [u8], total: usize, depth_left: u8, left: u64) -> Items<'a>
+    pub(crate) fn new(rest: &'a [u8], total: usize, depth_left: u64, left: u64) -> Items<'a>
         requires within { length rest.now ≤ total }
         requires small { total < 2 ^ 63 }
         requires checked { is_ok (items_at (value_at depth_left total) left rest.now) ≡ true }
@@ -74,6 +74,15 @@ impl<'a> Items<'a> {
             depth_left,
             left,
         }
+    }
+
+    /// No items. Takes no memory.
+    #[tactic(auto, unfolding(crate::specs::Reading::items_at))]
+    #[inline(always)]
+    pub fn none() -> Items<'a>
+        ensures { items_left result ≡ [] }
+    {
+        Items::new(b"", 0, 0, 0)
     }
 
     /// The input from the next item on. Takes no memory.
@@ -128,7 +137,7 @@ impl<'a> Pairs<'a> {
     /// So many pairs from the start of the bytes on, which were checked.
     #[tactic(auto, unfolding(crate::specs::Walk::pairs_left))]
     #[inline]
-    pub(crate) fn new(rest: &'a [u8], total: usize, depth_left: u8, left: u64) -> Pairs<'a>
+    pub(crate) fn new(rest: &'a [u8], total: usize, depth_left: u64, left: u64) -> Pairs<'a>
         requires within { length rest.now ≤ total }
         requires small { total < 2 ^ 63 }
         requires checked { is_ok (pairs_at (value_at depth_left total) left rest.now) ≡ true }

@@ -13,7 +13,7 @@ use crate::skip::skip;
 use crate::view::View;
 
 /// How many arrays and maps may stand inside one another.
-const MAX_NESTING: u8 = 8;
+const MAX_NESTING: u64 = 8;
 
 /// A view of the value, or the first fault, as reading from left to right finds it.
 #[tactic(auto, unfolding(crate::specs::Reading::whole_at))]

@@ -7,7 +7,7 @@ use crate::ask::{Ask, MAX_AGENTS, MAX_ROUNDS_AGENTS};
 use crate::dice::Dice;
 use crate::draft::add_agent;
 use crate::kind::Kind;
-use serf_agent::Config;
+use serf_agent::{Config, DEFAULT_QUERY_LIMIT, DEFAULT_RESPONSE_LIMIT};
 use serf_text::put_number;
 use serf_wire::Bytes;
 use serf_world::Roster;
@@ -63,6 +63,8 @@ fn rounds_config(alloc: Global, number: u64) -> Result<Config, AllocError> {
         event_buffer: 64,
         query_buffer: 64,
         event_limit: 512,
+        query_limit: DEFAULT_QUERY_LIMIT,
+        response_limit: DEFAULT_RESPONSE_LIMIT,
         responders: 1_024,
         per_time: 1_024,
         ignore_old: false,
@@ -78,6 +80,8 @@ fn config(alloc: Global, dice: &mut Dice, kind: Kind, number: u64) -> Result<Con
         event_buffer: slots(dice, kind),
         query_buffer: slots(dice, kind),
         event_limit: event_limit(dice, kind),
+        query_limit: DEFAULT_QUERY_LIMIT,
+        response_limit: DEFAULT_RESPONSE_LIMIT,
         responders: responders(dice),
         per_time: per_time(dice, kind),
         ignore_old: dice.one_in(3),

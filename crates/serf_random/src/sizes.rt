@@ -3,13 +3,10 @@
 use crate::dice::Dice;
 use crate::player::Player;
 use crate::times::near;
-use serf_agent::QueryParams;
+use serf_agent::{DEFAULT_QUERY_LIMIT, DEFAULT_RESPONSE_LIMIT, QueryParams};
 use serf_lamport::Time;
 use serf_wire::{Query, QueryResponse, UserEvent, query_len, response_len, user_event_len};
 use std::alloc::{AllocError, Global};
-
-/// The greatest sizes of packets of queries and of responses, in bytes.
-const MAX_QUERY: u64 = 1_024;
 
 /// A text with which a packet, of so many bytes where the text is empty, has as many as its limit, one less or one more.
 fn filling(alloc: Global, dice: &mut Dice, empty: u128, limit: u64) -> Result<Vec<u8>, AllocError> {
@@ -56,40 +53,42 @@ pub(crate) fn query_filling(
     name: &[u8],
     params: &QueryParams,
 ) -> Result<Vec<u8>, AllocError> {
-    let empty = match player.world.agent(agent) {
-        Some(one) => match Time::new(one.query_time()) {
-            Some(time) => query_len(&Query {
-                time,
-                id,
-                addr: params.addr.as_slice(),
-                port: params.port,
-                source: one.config().name.as_slice(),
-                filters: params.filters.as_slice(),
-                flags: 0,
-                relay_factor: params.relay_factor,
-                timeout: params.timeout,
-                name,
-                payload: b"",
-            }),
-            None => 0,
-        },
+    let Some(one) = player.world.agent(agent) else {
+        return filling(alloc, &mut player.dice, 0, DEFAULT_QUERY_LIMIT);
+    };
+    let limit = one.config().query_limit;
+    let empty = match Time::new(one.query_time()) {
+        Some(time) => query_len(&Query {
+            time,
+            id,
+            addr: params.addr.as_slice(),
+            port: params.port,
+            source: one.config().name.as_slice(),
+            filters: params.filters.as_slice(),
+            flags: 0,
+            relay_factor: params.relay_factor,
+            timeout: params.timeout,
+            name,
+            payload: b"",
+        }),
         None => 0,
     };
-    filling(alloc, &mut player.dice, empty, MAX_QUERY)
+    filling(alloc, &mut player.dice, empty, limit)
 }
 
 /// A payload that fills the packet of the response to the query that was handed out last.
 pub(crate) fn response_filling(alloc: Global, player: &mut Player) -> Result<Vec<u8>, AllocError> {
     let last = player.last_handed;
-    let empty = match player.world.agent(last.agent) {
-        Some(one) => response_len(&QueryResponse {
-            time: last.time,
-            id: last.id,
-            from: one.config().name.as_slice(),
-            flags: 0,
-            payload: b"",
-        }),
-        None => 0,
+    let Some(one) = player.world.agent(last.agent) else {
+        return filling(alloc, &mut player.dice, 0, DEFAULT_RESPONSE_LIMIT);
     };
-    filling(alloc, &mut player.dice, empty, MAX_QUERY)
+    let limit = one.config().response_limit;
+    let empty = response_len(&QueryResponse {
+        time: last.time,
+        id: last.id,
+        from: one.config().name.as_slice(),
+        flags: 0,
+        payload: b"",
+    });
+    filling(alloc, &mut player.dice, empty, limit)
 }

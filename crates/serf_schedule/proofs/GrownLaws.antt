@@ -1,5 +1,5 @@
 -- What a line adds to the schedule before it.
-use Rattle.std.proofs.Common.{◌≡◌, ◌<◌, ◌==◌, ◌||◌, inl, inr, ℕ, Bool, true, false, cond, nat_lt, not, List, [], ◌∷◌, Option, Some, None, Result, Ok, Err, refl, sym, ap, arith, length, append-nil}
+use Rattle.std.proofs.Common.{◌≡◌, ◌<◌, ◌==◌, inl, inr, ℕ, Bool, true, false, cond, nat_lt, not, List, [], ◌∷◌, Option, Some, None, Result, Ok, Err, refl, sym, ap, arith, length, append-nil}
 use Rattle.std.specs.Prelude.{IfOk, take, drop}
 use Rattle.std.proofs.lemmas.Bool.Decides.{nat_tests}
 use Rattle.serf_agent.specs.declared.config.Config.{Config}
@@ -13,7 +13,7 @@ use Rattle.serf_schedule.specs.declared.command.Command.TheVariants.{Agent, Inje
 use Rattle.serf_schedule.specs.Command.{command_of, count_of}
 use Rattle.serf_text.specs.Gives.{◌>>=◌}
 use Rattle.serf_text.specs.Words.{word_at, words_of}
-use Rattle.serf_schedule.specs.Line.{Parsed, act_of, add_action, add_agent, after_line, agent_of, by_agent, command_line, injection_of, is_skipped, query_of, said_by}
+use Rattle.serf_schedule.specs.Line.{Parsed, act_of, add_action, add_agent, after_line, agent_of, by_agent, command_line, injection_of, is_agent_count, is_skipped, query_of, said_by}
 use Rattle.serf_schedule.specs.Grown.{AddsSame, Grows, with_turn}
 use Rattle.serf_schedule.specs.Laws.{LateLinesAddSame, LinesGrow}
 
@@ -49,10 +49,10 @@ grown-command : (c : Option Command) (before : Parsed) (words : List (List ℕ))
 grown-command None before words = tt
 grown-command (Some Agent) before words = by (nat_lt 0 (length before.actions)) refl
   where
-    by : (b : Bool) → nat_lt 0 (length before.actions) ≡ b → IfOk (cond b (Err LateAgent) (cond (not ((length words == 7) || (length words == 8))) (Err WordCount) (agent_of words >>= add_agent before))) (Grows before)
+    by : (b : Bool) → nat_lt 0 (length before.actions) ≡ b → IfOk (cond b (Err LateAgent) (cond (not (is_agent_count (length words))) (Err WordCount) (agent_of words >>= add_agent before))) (Grows before)
     by true is = tt
     by false is =
-        if-ok (Grows before) (not ((length words == 7) || (length words == 8))) WordCount (agent_of words >>= add_agent before)
+        if-ok (Grows before) (not (is_agent_count (length words))) WordCount (agent_of words >>= add_agent before)
         (next-ok (Grows before) (agent_of words) (add_agent before) (λ config. grown-agent before config (no-actions before.actions is)))
 grown-command (Some Query) before words =
     let first : List (List ℕ) = take 8 words in

@@ -1,5 +1,5 @@
 -- The text of a schedule, read back.
-use Rattle.serf_schedule.proofs.TextNames.{◌≡◌, ◌+◌, ◌<◌, ◌^◌, ◌∙◌, ℕ, List, [], ◌∷◌, ◌++◌, length, Bool, true, false, Option, Some, None, Ok, refl, sym, ap, subst, arith, codes, append_assoc, cond, ◌==◌, slice_index, signed_decimal, AllByRecursion, flat_map, slice_split, common_steps, append-nil, recursion_from_All, IsBytes, Config, QueryParams, is_sound, Action, Deed, SinkCall, Append, Flush, ReplaceOld, ReplaceNew, AreConfigs, has_name, twice_after, command_of, Parsed, after_line, agent_of, per_time_in, said_by, with_action, after_lines, schedule_of, flag_text, bytes_in, choice_in, choice_of, number_in}
+use Rattle.serf_schedule.proofs.TextNames.{◌≡◌, ◌+◌, ◌<◌, ◌^◌, ◌∙◌, ℕ, List, [], ◌∷◌, ◌++◌, length, decimal, Bool, true, false, Option, Some, None, Ok, refl, sym, ap, subst, arith, codes, append_assoc, cond, ◌==◌, ◌&&◌, slice_index, signed_decimal, AllByRecursion, flat_map, slice_split, common_steps, append-nil, recursion_from_All, IsBytes, Config, QueryParams, default_query_limit, default_response_limit, is_sound, Action, Deed, SinkCall, Append, Flush, ReplaceOld, ReplaceNew, AreConfigs, has_name, twice_after, command_of, Parsed, after_line, agent_of, is_agent_count, limit_in, per_time_in, said_by, with_action, after_lines, schedule_of, flag_text, hex_text, bytes_in, choice_in, choice_of, number_in}
 use Rattle.std.specs.List.{All}
 use Rattle.serf_model.specs.declared.action.Act.TheVariants as acts
 use Rattle.serf_model.specs.declared.action.Action.TheVariants.{Inject, Of}
@@ -25,6 +25,8 @@ record AreNumbers (c : Config) : Type 0 where
   pub limit : c.event_limit < 2 ^ 64
   pub responders : c.responders < 2 ^ 64
   pub per_time : c.per_time < 2 ^ 64
+  pub query_limit : c.query_limit < 2 ^ 64
+  pub response_limit : c.response_limit < 2 ^ 64
 
 numbers-fit : (c : Config) → is_sound c ≡ true → AreNumbers c
 numbers-fit c h = record {
@@ -33,12 +35,39 @@ numbers-fit c h = record {
   limit = grind (arith, common_steps);
   responders = grind (arith, common_steps);
   per_time = grind (arith, common_steps);
+  query_limit = grind (arith, common_steps);
+  response_limit = grind (arith, common_steps);
 }
 
-agent-back : (c : Config) → AreNumbers c → IsBytes c.name → agent_of (agent_words c) ≡ Ok c
+-- whether both limits of packets are the default
+abbrev has_defaults : Config → Bool
+has_defaults c = (c.query_limit == default_query_limit) && (c.response_limit == default_response_limit)
+
+-- an agent's words without its limits, or with them
+abbrev words_by : Config → Bool → List (List ℕ)
+words_by c plain = codes "agent" ∷ hex_text c.name ∷ decimal c.event_buffer ∷ decimal c.query_buffer ∷ decimal c.event_limit
+    ∷ decimal c.responders ∷ mode_word c.ignore_old ∷ decimal c.per_time ∷ cond plain [] (decimal c.query_limit ∷ decimal c.response_limit ∷ [])
+
+counted : (c : Config) (plain : Bool) → (is_agent_count (length (words_by c plain)) ≡ true) × ((length (words_by c plain) == 7) ≡ false)
+counted c true = (refl, refl)
+counted c false = (refl, refl)
+
+query-limit-back : (c : Config) (plain : Bool) → has_defaults c ≡ plain → AreNumbers c → limit_in 9 default_query_limit (words_by c plain) ≡ Ok c.query_limit
+unfolding limit_in number_in
+query-limit-back c true is n = let e : c.query_limit ≡ default_query_limit = grind (arith, common_steps) in ap Ok (sym e)
+query-limit-back c false is n = rw (number-back c.query_limit n.query_limit) refl
+
+response-limit-back : (c : Config) (plain : Bool) → has_defaults c ≡ plain → AreNumbers c → limit_in 10 default_response_limit (words_by c plain) ≡ Ok c.response_limit
+unfolding limit_in number_in
+response-limit-back c true is n = let e : c.response_limit ≡ default_response_limit = grind (arith, common_steps) in ap Ok (sym e)
+response-limit-back c false is n = rw (number-back c.response_limit n.response_limit) refl
+
+agent-back : (c : Config) (plain : Bool) → has_defaults c ≡ plain → AreNumbers c → IsBytes c.name → agent_of (words_by c plain) ≡ Ok c
 unfolding agent_of per_time_in number_in bytes_in choice_in
-agent-back c n h =
+agent-back c plain is n h =
+    let count = counted c plain in
     rw (
+      count.1,
       bytes-back c.name h,
       number-back c.event_buffer n.events,
       number-back c.query_buffer n.queries,
@@ -46,12 +75,16 @@ agent-back c n h =
       number-back c.responders n.responders,
       mode-back c.ignore_old,
       number-back c.per_time n.per_time,
+      query-limit-back c plain is n,
+      response-limit-back c plain is n,
     ) refl
 
 agent-said : (before : List Config) (c : Config) → is_sound c ≡ true → IsBytes c.name → has_name before c.name ≡ false
     → said_by (record { configs = before; actions = [] }) (agent_words c) ≡ Ok (record { configs = before ++ c ∷ []; actions = [] })
 unfolding command_of
-agent-said before c sound bytes free = rw (agent-back c (numbers-fit c sound) bytes, sound, free) refl
+agent-said before c sound bytes free =
+    let count = counted c (has_defaults c) in
+    rw (count.0, agent-back c (has_defaults c) refl (numbers-fit c sound) bytes, sound, free) refl
 
 -- Words that are written stand in a line as they are
 
@@ -73,6 +106,10 @@ call-plain Flush = record { some = omega arith; plain = refl }
 call-plain ReplaceOld = record { some = omega arith; plain = refl }
 call-plain ReplaceNew = record { some = omega arith; plain = refl }
 
+limits-plain : (c : Config) (plain : Bool) → AreNumbers c → AllByRecursion IsWord (cond plain [] (decimal c.query_limit ∷ decimal c.response_limit ∷ []))
+limits-plain c true n = tt
+limits-plain c false n = (number-word c.query_limit n.query_limit, (number-word c.response_limit n.response_limit, tt))
+
 agent-plain : (c : Config) → AreNumbers c → IsBytes c.name → AllByRecursion IsWord (agent_words c)
 agent-plain c n h = (
   record { some = omega arith; plain = refl },
@@ -84,7 +121,7 @@ agent-plain c n h = (
         number-word c.query_buffer n.queries,
         (
           number-word c.event_limit n.limit,
-          (number-word c.responders n.responders, (mode-plain c.ignore_old, (number-word c.per_time n.per_time, tt))),
+          (number-word c.responders n.responders, (mode-plain c.ignore_old, (number-word c.per_time n.per_time, limits-plain c (has_defaults c) n))),
         ),
       ),
     ),

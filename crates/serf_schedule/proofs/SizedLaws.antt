@@ -1,5 +1,5 @@
 -- The numbers of the actions of a schedule's text have their types' sizes.
-use Rattle.serf_schedule.proofs.Names.{◌≡◌, ◌≤◌, ◌+◌, ◌==◌, ◌&&◌, ◌||◌, ℕ, Bool, true, false, cond, nat_lt, nat_le, not, List, [], ◌∷◌, Option, Some, None, Result, Ok, Err, refl, subst, arith, length, pos, slice_split, and_parts, All-nil, All-push, nat_tests, fits, Config, QueryParams, is_sound, Action, has_name, HasSizes}
+use Rattle.serf_schedule.proofs.Names.{◌≡◌, ◌≤◌, ◌+◌, ◌==◌, ◌&&◌, ℕ, Bool, true, false, cond, nat_lt, nat_le, not, List, [], ◌∷◌, Option, Some, None, Result, Ok, Err, refl, subst, arith, length, pos, slice_split, and_parts, All-nil, All-push, nat_tests, fits, Config, QueryParams, is_sound, Action, has_name, HasSizes}
 use Rattle.std.specs.Prelude.{All, codes, take, drop}
 use Rattle.serf_model.specs.declared.action.Act.{Act as Deed}
 use Rattle.serf_model.specs.declared.action.Action.TheVariants as actions
@@ -13,7 +13,7 @@ use Rattle.serf_schedule.specs.Command.{command_of, count_of}
 use Rattle.serf_text.specs.Gives.{◌>>=◌, at_line}
 use Rattle.serf_text.specs.Words.{between, bytes_in, choice_in, number_between, number_in, number_of, or_bad, word_at, words_of}
 use Rattle.serf_schedule.specs.Sinks.{sink_call_in}
-use Rattle.serf_schedule.specs.Line.{Parsed, act_of, add_action, add_agent, after_line, agent_of, answer_of, break_of, by_agent, closing_of, command_line, delivery_of, filters_from, firing_of, injection_of, is_skipped, merging_of, params_of, query_of, restart_of, said_by}
+use Rattle.serf_schedule.specs.Line.{Parsed, act_of, add_action, add_agent, after_line, agent_of, answer_of, break_of, by_agent, closing_of, command_line, delivery_of, filters_from, firing_of, injection_of, is_agent_count, is_skipped, merging_of, params_of, query_of, restart_of, said_by}
 use Rattle.serf_schedule.specs.Schedule.{after_lines, schedule_of}
 
 -- ---- steps that may fail
@@ -111,8 +111,8 @@ sized-agent before config all = if-ok AreSized (not (is_sound config)) BadConfig
 sized-command : (c : Option Command) (before : Parsed) (words : List (List ℕ)) → AreSized before → AllOk AreSized (command_line c before words)
 sized-command None before words all = tt
 sized-command (Some Agent) before words all =
-    if-ok AreSized (nat_lt 0 (length before.actions)) LateAgent (cond (not ((length words == 7) || (length words == 8))) (Err WordCount) (agent_of words >>= add_agent before))
-    (if-ok AreSized (not ((length words == 7) || (length words == 8))) WordCount (agent_of words >>= add_agent before) (next-ok AreSized (agent_of words) (add_agent before) (λ config. sized-agent before config all)))
+    if-ok AreSized (nat_lt 0 (length before.actions)) LateAgent (cond (not (is_agent_count (length words))) (Err WordCount) (agent_of words >>= add_agent before))
+    (if-ok AreSized (not (is_agent_count (length words))) WordCount (agent_of words >>= add_agent before) (next-ok AreSized (agent_of words) (add_agent before) (λ config. sized-agent before config all)))
 sized-command (Some Query) before words all =
     let first : List (List ℕ) = take 8 words in
     let rest : List (List ℕ) = drop 8 words in

@@ -17,6 +17,7 @@ pub use Rattle.hex.proofs.HexLemmas.{decode_of-encode_lower, length-encode_with}
 pub use Rattle.hex.specs.Hex.{IsBytes, encode_lower, lower_digits}
 unfoldable pub use Rattle.hex.specs.Hex.{encode_with}
 pub use Rattle.serf_agent.specs.Config.{is_sound}
+pub use Rattle.serf_agent.specs.Defaults.{default_query_limit, default_response_limit}
 pub use Rattle.serf_agent.specs.declared.config.Config.{Config}
 pub use Rattle.serf_agent.specs.declared.outcome.QueryParams.{QueryParams}
 pub use Rattle.serf_model.specs.Runs.{AreConfigs, has_name, twice_after}
@@ -26,8 +27,8 @@ pub use Rattle.serf_model.specs.declared.action.SinkCall.{SinkCall}
 pub use Rattle.serf_model.specs.declared.action.SinkCall.TheVariants.{Append, Flush, ReplaceNew, ReplaceOld}
 pub use Rattle.serf_model.specs.declared.query.NewQuery.{NewQuery}
 unfoldable pub use Rattle.serf_schedule.specs.Command.{command_of}
-pub use Rattle.serf_schedule.specs.Line.{Parsed, filters_from, said_by, with_action}
-unfoldable pub use Rattle.serf_schedule.specs.Line.{after_line, agent_of, answer_of, break_of, closing_of, delivery_of, firing_of, injection_of, merging_of, params_of, per_time_in, query_of, restart_of}
+pub use Rattle.serf_schedule.specs.Line.{Parsed, filters_from, is_agent_count, said_by, with_action}
+unfoldable pub use Rattle.serf_schedule.specs.Line.{after_line, agent_of, answer_of, break_of, closing_of, delivery_of, firing_of, injection_of, limit_in, merging_of, params_of, per_time_in, query_of, restart_of}
 pub use Rattle.serf_schedule.specs.Schedule.{after_lines, parsed_of, schedule_of}
 pub use Rattle.serf_text.specs.TextParts.{flag_text}
 unfoldable pub use Rattle.serf_text.specs.TextParts.{hex_text}

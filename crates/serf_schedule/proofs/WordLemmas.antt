@@ -26,7 +26,7 @@ back-of xs ys n l = rw (← l) (grind (arith, common_steps))
 -- the first eight words are the whole line
 whole-said : (c : Option Command) (p : Parsed) (ws : List (List ℕ)) → length ws ≤ 8 → parts_said c p ws [] ≡ command_line c p ws
 whole-said None p ws few = refl
-whole-said (Some Agent) p ws few = refl
+whole-said (Some Agent) p ws few = ap (command_line (Some Agent) p) (append-nil ws)
 whole-said (Some Query) p ws few =
     let all : take 8 ws ≡ ws = grind (arith, common_steps) in
     let none : drop 8 ws ≡ [] = grind (arith, common_steps) in
@@ -38,12 +38,7 @@ whole-said (Some (Act v)) p ws few = refl
 more-said : (c : Option Command) (p : Parsed) (ws : List (List ℕ)) (b : ℕ) (bs : List ℕ) → length ws ≡ 8 → 0 < length (words_of (b ∷ bs))
     → parts_said c p ws (b ∷ bs) ≡ command_line c p (ws ++ words_of (b ∷ bs))
 more-said None p ws b bs eight some = refl
-more-said (Some Agent) p ws b bs eight some =
-    let total = length-append ws (words_of (b ∷ bs)) in
-    let seven = apart (length (ws ++ words_of (b ∷ bs))) 7 (omega (arith, total)) in
-    let eighth = apart (length (ws ++ words_of (b ∷ bs))) 8 (omega (arith, total)) in
-    let whole = apart (length (b ∷ bs)) 0 (omega arith) in
-    rw (whole, seven, eighth) refl
+more-said (Some Agent) p ws b bs eight some = refl
 more-said (Some Query) p ws b bs eight some =
     let r : List (List ℕ) = words_of (b ∷ bs) in
     sym (ap (λ (x : List (List ℕ)). query_said p x (drop 8 (ws ++ r))) (front-of ws r 8 eight) ∙ ap (query_said p ws) (back-of ws r 8 eight))

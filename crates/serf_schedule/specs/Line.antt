@@ -3,7 +3,7 @@ use Rattle.std.specs.Prelude.{◌^◌, ◌-◌, ℕ, pos, ◌==◌, ◌+◌, ◌
 use Rattle.serf_agent.specs.declared.config.Config.{Config}
 use Rattle.serf_agent.specs.declared.outcome.QueryParams.{QueryParams}
 use Rattle.serf_agent.specs.Config.{is_sound}
-use Rattle.serf_agent.specs.Defaults.{default_per_time}
+use Rattle.serf_agent.specs.Defaults.{default_per_time, default_query_limit, default_response_limit}
 use Rattle.serf_model.specs.declared.action.Act.{Act as Deed}
 use Rattle.serf_model.specs.declared.action.Act.TheVariants as acts
 use Rattle.serf_model.specs.declared.action.Action.{Action}
@@ -29,9 +29,17 @@ pub record Parsed : Type 0 where
 
 -- how many events of one time an agent takes: the number of the eighth word, or the default where there is none
 unfoldable pub per_time_in : List (List ℕ) → Result ℕ Cause
-per_time_in words = if length words == 8 then number_in 8 words else Ok default_per_time
+per_time_in words = if length words == 7 then Ok default_per_time else number_in 8 words
 
--- the agent that seven or eight words describe
+-- how many words an agent's line may have: all ten, or eight without the two limits of packets, or seven without PERTIME too
+abbrev pub is_agent_count : ℕ → Bool
+is_agent_count count = (count == 7) || (count == 8) || (count == 10)
+
+-- a limit of packets: the number at its place of ten words, or the default where there are fewer
+unfoldable pub limit_in : ℕ → ℕ → List (List ℕ) → Result ℕ Cause
+limit_in place default words = if length words == 10 then number_in place words else Ok default
+
+-- the agent that so many words describe
 unfoldable pub agent_of : List (List ℕ) → Result Config Cause
 agent_of words = do
   name ← bytes_in 2 words
@@ -41,7 +49,9 @@ agent_of words = do
   responders ← number_in 6 words
   ignores ← choice_in (codes "keep") (codes "ignore") 7 words
   per_time ← per_time_in words
-  Ok (record { name = name; event_buffer = events; query_buffer = queries; event_limit = limit; responders = responders; per_time = per_time; ignore_old = ignores })
+  query_limit ← limit_in 9 default_query_limit words
+  response_limit ← limit_in 10 default_response_limit words
+  Ok (record { name = name; event_buffer = events; query_buffer = queries; event_limit = limit; query_limit = query_limit; response_limit = response_limit; responders = responders; per_time = per_time; ignore_old = ignores })
 
 abbrev pub add_agent : Parsed → Config → Result Parsed Cause
 add_agent before config =
@@ -52,7 +62,7 @@ add_agent before config =
 abbrev pub agent_line : Parsed → List (List ℕ) → Result Parsed Cause
 agent_line before words =
     if nat_lt 0 (length before.actions) then Err LateAgent
-    else if not ((length words == 7) || (length words == 8)) then Err WordCount
+    else if not (is_agent_count (length words)) then Err WordCount
     else agent_of words >>= add_agent before
 
 -- Actions

@@ -3,7 +3,6 @@ use Rattle.std.specs.Prelude.{◌≡◌, ℕ, ◌==◌, ◌+◌, List, [], ◌�
 use Rattle.std.specs.List.{slice_split}
 use Rattle.serf_schedule.specs.Line.{Parsed, after_line}
 use Rattle.serf_text.specs.Gives.{BadLine, at_line}
-use Rattle.serf_text.specs.declared.cause.Cause.{Cause}
 use Rattle.serf_schedule.specs.declared.schedule.Schedule.{Schedule}
 use Rattle.serf_text.specs.declared.cause.LineFault.{LineFault}
 use Rattle.serf_text.specs.declared.cause.LineFault.TheVariants.{Bad, OutOfMemory}

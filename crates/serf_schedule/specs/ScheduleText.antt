@@ -1,9 +1,10 @@
 -- The text of a schedule: a line for each agent, and then one for each action.
-use Rattle.std.specs.Prelude.{ℕ, ◌+◌, ◌++◌, Bool, if◌then◌else◌, List, [], ◌∷◌, Option, Some, None, codes, decimal, map}
+use Rattle.std.specs.Prelude.{ℕ, ◌==◌, ◌&&◌, ◌+◌, ◌++◌, Bool, if◌then◌else◌, List, [], ◌∷◌, Option, Some, None, codes, decimal, map}
 use Rattle.std.specs.Fmt.{signed_decimal}
 use Rattle.std.specs.List.{flat_map}
 use Rattle.serf_agent.specs.declared.config.Config.{Config}
 use Rattle.serf_agent.specs.declared.outcome.QueryParams.{QueryParams}
+use Rattle.serf_agent.specs.Defaults.{default_query_limit, default_response_limit}
 use Rattle.serf_model.specs.declared.action.Act.{Act}
 use Rattle.serf_model.specs.declared.action.Act.TheVariants as acts
 use Rattle.serf_model.specs.declared.action.Action.{Action}
@@ -33,8 +34,14 @@ flags_of params = (if params.want_ack then 1 else 0) + (if params.no_broadcast t
 
 -- The words of an agent's settings, and of what it does. A query says nothing of where answers go.
 
+-- the limits of packets are left out where both are the default
+abbrev pub limit_words : Config → List (List ℕ)
+limit_words c =
+    if (c.query_limit == default_query_limit) && (c.response_limit == default_response_limit) then []
+    else decimal c.query_limit ∷ decimal c.response_limit ∷ []
+
 abbrev pub config_words : Config → List (List ℕ)
-config_words c = hex_text c.name ∷ decimal c.event_buffer ∷ decimal c.query_buffer ∷ decimal c.event_limit ∷ decimal c.responders ∷ mode_word c.ignore_old ∷ decimal c.per_time ∷ []
+config_words c = hex_text c.name ∷ decimal c.event_buffer ∷ decimal c.query_buffer ∷ decimal c.event_limit ∷ decimal c.responders ∷ mode_word c.ignore_old ∷ decimal c.per_time ∷ limit_words c
 
 abbrev pub verb_word : Act → List ℕ
 verb_word (acts.Fire name payload coalesce) = codes "fire"

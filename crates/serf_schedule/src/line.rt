@@ -1,14 +1,16 @@
 //! What one line says, once it is cut into words.
 
-ghost use Rattle.std.specs.Prelude.{◌≡◌, ◌⊎◌, [], length, map};
+ghost use Rattle.std.specs.Prelude.{◌≡◌, [], length, map};
 ghost use Rattle.serf_text.specs.Words.{words_of, bytes_of, or_bad};
 ghost use Rattle.serf_schedule.specs.Command.{count_of};
-ghost use Rattle.serf_schedule.specs.Line.{agent_of, per_time_in, firing_of, delivery_of, merging_of, answer_of, restart_of, break_of, injection_of, closing_of, act_of, by_agent, filters_from, params_of, query_of};
+ghost use Rattle.serf_schedule.specs.Line.{agent_of, per_time_in, limit_in, firing_of, delivery_of, merging_of, answer_of, restart_of, break_of, injection_of, closing_of, act_of, by_agent, filters_from, params_of, query_of};
 ghost use Rattle.serf_text.specs.Gives.{Gives};
 
 use crate::command::Verb;
 use crate::sinks::sink_call_at;
-use serf_agent::{BytesList, Config, DEFAULT_PER_TIME, QueryParams};
+use serf_agent::{
+    BytesList, Config, DEFAULT_PER_TIME, DEFAULT_QUERY_LIMIT, DEFAULT_RESPONSE_LIMIT, QueryParams,
+};
 use serf_model::{Act, Action, Boxed, NewQuery};
 use serf_text::{
     Cause, FIXED_WORDS, LineFault, bytes_at, choice_at, cut, hex_bytes, number_at, number_from_to,
@@ -27,17 +29,28 @@ const MAX_FLAGS: u64 = 3;
 fn per_time(words: &[&[u8]]) -> Result<u64, LineFault>
     ensures { Gives (λ n. n) result (per_time_in (map (λ w. w.now) words.now)) }
 {
-    if words.len() == 8 {
-        number_at(words, 8)
-    } else {
+    if words.len() == 7 {
         Ok(DEFAULT_PER_TIME)
+    } else {
+        number_at(words, 8)
+    }
+}
+
+/// A limit of packets: the number at its place of ten words, or the default where there are fewer.
+#[tactic(auto, unfolding(crate::specs::Line::limit_in))]
+fn limit(words: &[&[u8]], place: usize, default: u64) -> Result<u64, LineFault>
+    ensures { Gives (λ n. n) result (limit_in place default (map (λ w. w.now) words.now)) }
+{
+    if words.len() == 10 {
+        number_at(words, place)
+    } else {
+        Ok(default)
     }
 }
 
 /// The agent of an agent line.
 #[tactic(auto, unfolding(crate::specs::Line::agent_of))]
 pub(crate) fn agent(alloc: Global, words: &[&[u8]]) -> Result<Config, LineFault>
-    requires { (length words.now ≡ 7) ⊎ (length words.now ≡ 8) }
     ensures { Gives (λ c. c) result (agent_of (map (λ w. w.now) words.now)) }
 {
     let name = bytes_at(alloc, words, 2)?;
@@ -47,11 +60,15 @@ pub(crate) fn agent(alloc: Global, words: &[&[u8]]) -> Result<Config, LineFault>
     let responders = number_at(words, 6)?;
     let ignore_old = choice_at(words, 7, b"keep", b"ignore")?;
     let per_time = per_time(words)?;
+    let query_limit = limit(words, 9, DEFAULT_QUERY_LIMIT)?;
+    let response_limit = limit(words, 10, DEFAULT_RESPONSE_LIMIT)?;
     Ok(Config {
         name,
         event_buffer,
         query_buffer,
         event_limit,
+        query_limit,
+        response_limit,
         responders,
         per_time,
         ignore_old,

@@ -1,12 +1,12 @@
 //! A whole schedule.
 
-ghost use Rattle.std.specs.Prelude.{◌≡◌, ◌<◌, ◌≤◌, ◌==◌, slice_index, length, map, All, IfOk, Ok, Err};
+ghost use Rattle.std.specs.Prelude.{◌≡◌, ◌<◌, ◌≤◌, ◌==◌, ◌++◌, slice_index, length, map, All, IfOk, Ok, Err};
 ghost use Rattle.serf_model.specs.Runs.{AreConfigs};
 ghost use Rattle.serf_model.specs.Sizes.{HasSizes};
 ghost use Rattle.serf_schedule.specs.Command.{command_of};
 ghost use Rattle.serf_text.specs.Words.{words_of, word_at};
-ghost use Rattle.serf_schedule.specs.Line.{act_line, after_line, injection_line, query_said, with_action};
-ghost use Rattle.serf_schedule.specs.Parts.{agent_said, parts_said};
+ghost use Rattle.serf_schedule.specs.Line.{act_line, after_line, agent_line, injection_line, is_agent_count, query_said, with_action};
+ghost use Rattle.serf_schedule.specs.Parts.{agent_words_in, parts_said};
 ghost use Rattle.serf_schedule.specs.Schedule.{parsed_of, schedule_fault, schedule_of, Reads};
 ghost use Rattle.serf_text.specs.Gives.{Gives};
 
@@ -39,22 +39,49 @@ pub fn fault_at(line: u64, fault: LineFault) -> ScheduleFault
     }
 }
 
+/// Whether an agent's line may have so many words.
+fn is_agent_count(count: usize) -> bool
+    ensures { result ≡ is_agent_count count }
+{
+    count == 7 || count == 8 || count == 10
+}
+
+/// The words of an agent line: those that were cut, and those of what is left. `WordCount` where no agent has so many.
+fn agent_words<'a>(
+    alloc: Global,
+    words: &[&'a [u8]],
+    rest: &'a [u8],
+) -> Result<Vec<&'a [u8]>, LineFault>
+    requires { 0 < length rest.now → length words.now ≡ 8 }
+    ensures { Gives (λ all. map (λ w. w.now) all.items) result
+        (agent_words_in (map (λ w. w.now) words.now ++ words_of rest.now)) }
+{
+    let mut all = Vec::from_slice(alloc, words)?;
+    let mut more = Vec::new(alloc);
+    let left = take_words(rest, &mut more)?;
+    all.append(&mut more)?;
+    if left.is_empty() && is_agent_count(all.len()) {
+        Ok(all)
+    } else {
+        Err(LineFault::Bad(Cause::WordCount))
+    }
+}
+
 fn read_agent(
     alloc: Global,
     parsed: &mut Schedule,
     words: &[&[u8]],
-    is_whole: bool,
+    rest: &[u8],
 ) -> Result<(), LineFault>
+    requires { 0 < length rest.now → length words.now ≡ 8 }
     ensures { Gives (λ _. parsed_of parsed.new) result
-        (agent_said (parsed_of parsed.old) is_whole (map (λ w. w.now) words.now)) }
+        (agent_line (parsed_of parsed.old) (map (λ w. w.now) words.now ++ words_of rest.now)) }
 {
     if !parsed.actions.is_empty() {
         return Err(LineFault::Bad(Cause::LateAgent));
     }
-    if !is_whole || (words.len() != 7 && words.len() != 8) {
-        return Err(LineFault::Bad(Cause::WordCount));
-    }
-    let config = agent(alloc, words)?;
+    let words = agent_words(alloc, words, rest)?;
+    let config = agent(alloc, &words)?;
     match parsed.agents.add(alloc, config) {
         Ok(()) => Ok(()),
         Err(RosterFault::BadConfig) => Err(LineFault::Bad(Cause::BadConfig)),
@@ -125,13 +152,15 @@ fn read_words(
     words: &[&[u8]],
     rest: &[u8],
 ) -> Result<(), LineFault>
-    requires { (0 < length words.now) × (length words.now ≤ 8) }
+    requires some { 0 < length words.now }
+    requires few { length words.now ≤ 8 }
+    requires full { 0 < length rest.now → length words.now ≡ 8 }
     ensures { Gives (λ _. parsed_of parsed.new) result
         (parts_said (command_of (word_at 1 (map (λ w. w.now) words.now))) (parsed_of parsed.old)
         (map (λ w. w.now) words.now) rest.now) }
 {
     match command_in(words[0]) {
-        Some(Command::Agent) => read_agent(alloc, parsed, words, rest.is_empty()),
+        Some(Command::Agent) => read_agent(alloc, parsed, words, rest),
         Some(Command::Inject) => read_injection(alloc, parsed, words),
         Some(Command::Query) => read_query(alloc, parsed, words, rest),
         Some(Command::Act(verb)) => read_action(alloc, verb, parsed, words),

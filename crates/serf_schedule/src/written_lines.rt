@@ -2,19 +2,35 @@
 
 ghost use Rattle.std.specs.Prelude.{◌≡◌, ◌++◌, OnOk};
 ghost use Rattle.std.specs.Option.{option_copied};
-ghost use Rattle.serf_schedule.specs.ScheduleText.{act_words, action_text, agent_text, config_words, packet_word, spaced, verb_word};
+ghost use Rattle.serf_schedule.specs.ScheduleText.{act_words, action_text, agent_text, config_words, limit_words, packet_word, spaced, verb_word};
 ghost use Rattle.serf_schedule.specs.Words.{word_text};
 
 use crate::written_words::Word::{Hex, Number, Plain, Signed};
 use crate::written_words::{
     Word, flags, join, mode, put_hex_words, put_line, put_words, sink_call,
 };
-use serf_agent::Config;
+use serf_agent::{Config, DEFAULT_QUERY_LIMIT, DEFAULT_RESPONSE_LIMIT};
 use serf_model::{Act, Action, NewQuery};
 use serf_text::flag;
 use std::alloc::AllocError;
 
-/// Appends an agent's settings, with a space before each word. Where memory runs out, a part of them may stand there.
+/// Appends the limits of packets, where one of them is not the default.
+fn put_limit_words(out: &mut Vec<u8>, config: &Config) -> Result<(), AllocError>
+    ensures { OnOk result (out.new.items ≡ out.old.items ++ spaced (limit_words config.now)) }
+{
+    if config.query_limit == DEFAULT_QUERY_LIMIT
+        && config.response_limit == DEFAULT_RESPONSE_LIMIT
+    {
+        return Ok(());
+    }
+    put_words(
+        out,
+        &[Number(config.query_limit), Number(config.response_limit)],
+    )
+}
+
+/// Appends an agent's settings, with a space before each word. The limits of packets are left out where both are the
+/// default. Where memory runs out, a part of the words may stand there.
 pub fn put_config_words(out: &mut Vec<u8>, config: &Config) -> Result<(), AllocError>
     ensures { OnOk result (out.new.items ≡ out.old.items ++ spaced (config_words config.now)) }
 {
@@ -27,7 +43,8 @@ pub fn put_config_words(out: &mut Vec<u8>, config: &Config) -> Result<(), AllocE
         Plain(mode(config.ignore_old)),
         Number(config.per_time),
     ];
-    put_words(out, &words)
+    put_words(out, &words)?;
+    put_limit_words(out, config)
 }
 
 /// Appends the line of an agent. Where memory runs out, a part of the line may stand there.

@@ -19,7 +19,7 @@ onto_front b [] ms = (onto_line b ms, refl)
 onto_front b (l ∷ ls) ms = (ms, refl)
 
 -- the lines of a text stay, whatever follows it
-front_lines : (a b : List ℕ) → (rest : List (List ℕ)) × (lines_of (a ++ b) ≡ lines_of a ++ rest)
+pub front_lines : (a b : List ℕ) → (rest : List (List ℕ)) × (lines_of (a ++ b) ≡ lines_of a ++ rest)
 front_lines [] b = (lines_of b, refl)
 front_lines (x ∷ a) b = step (eqb x 10) (front_lines a b)
   where
@@ -59,16 +59,16 @@ lines_of-append (x ∷ y ∷ a) b h = step (eqb x 10) (lines_of-append (y ∷ a)
     step true ih some = ap (λ (l : List (List ℕ)). [] ∷ l) ih
     step false ih some = ap (onto_line x) ih ∙ onto (lines_of (y ∷ a)) (lines_of b) some
 
-lines_of-one : (line : List ℕ) → has_no_newline line ≡ true → lines_of (line ++ 10 ∷ []) ≡ line ∷ []
+pub lines_of-one : (line : List ℕ) → has_no_newline line ≡ true → lines_of (line ++ 10 ∷ []) ≡ line ∷ []
 lines_of-one [] h = refl
 lines_of-one (b ∷ bs) h =
     let p = and_parts (not (eqb b 10)) (has_no_newline bs) h in
     cond-false (eqb b 10) _ _ (grind (arith, p.0)) ∙ ap (onto_line b) (lines_of-one bs p.1)
 
-own : IsNumeralModel (λ ds. all_ascii_digits ds ≡ true) (read_on 0)
+pub own : IsNumeralModel (λ ds. all_ascii_digits ds ≡ true) (read_on 0)
 own = numerals_by_fold _ (search rules) read_on (search rules)
 
-digits_no_newline : (ds : List ℕ) → all_ascii_digits ds ≡ true → has_no_newline ds ≡ true
+pub digits_no_newline : (ds : List ℕ) → all_ascii_digits ds ≡ true → has_no_newline ds ≡ true
 digits_no_newline [] h = refl
 digits_no_newline (d ∷ ds) h =
     let p = and_parts (is_ascii_digit d) (all_ascii_digits ds) h in
@@ -76,12 +76,12 @@ digits_no_newline (d ∷ ds) h =
     let far : d ≢ 10 = omega (arith, leb-true 48 d range.0) in
     and_from (not (eqb d 10)) (has_no_newline ds) (ap not (ne_eqb d 10 far)) (digits_no_newline ds p.1)
 
-prefix_no_newline : (k : ClockKind) (ds : List ℕ) → has_no_newline ds ≡ true → has_no_newline (prefix_of k ++ ds) ≡ true
+pub prefix_no_newline : (k : ClockKind) (ds : List ℕ) → has_no_newline ds ≡ true → has_no_newline (prefix_of k ++ ds) ≡ true
 prefix_no_newline Member ds h = h
 prefix_no_newline Event ds h = h
 prefix_no_newline Query ds h = h
 
-decimal_is_time : (n : ℕ) → n < 2 ^ 64 - 1 → is_time_text (decimal n) ≡ true
+pub decimal_is_time : (n : ℕ) → n < 2 ^ 64 - 1 → is_time_text (decimal n) ≡ true
 decimal_is_time n h =
     let small : n < 2 ^ 64 = omega arith in
     let value = digits_value-decimal own n small in
@@ -92,7 +92,7 @@ decimal_is_time n h =
     not_empty [] l = absurd (omega arith)
     not_empty (d ∷ ds) l = refl
 
-time_text_value-decimal : (n : ℕ) → n < 2 ^ 64 - 1 → time_text_value (Some (decimal n)) ≡ n
+pub time_text_value-decimal : (n : ℕ) → n < 2 ^ 64 - 1 → time_text_value (Some (decimal n)) ≡ n
 time_text_value-decimal n h = cond-true _ _ _ (decimal_is_time n h) ∙ digits_value-decimal own n (omega arith)
 
 -- the value of a written line, as a line of its kind and of another
@@ -143,7 +143,7 @@ is_whole-sealed text = step (is_whole text) refl
     step false e = ap is_whole (sym (append_assoc text (35 ∷ []) (10 ∷ []))) ∙ is_whole-push (text ++ 35 ∷ [])
 
 -- the seal ends a line that is no clock line
-torn_line : (text : List ℕ) → is_whole text ≡ false → (u : List ℕ) × (lines_of (text ++ 35 ∷ 10 ∷ []) ≡ lines_of text ++ (u ++ 35 ∷ []) ∷ [])
+pub torn_line : (text : List ℕ) → is_whole text ≡ false → (u : List ℕ) × (lines_of (text ++ 35 ∷ 10 ∷ []) ≡ lines_of text ++ (u ++ 35 ∷ []) ∷ [])
 torn_line [] h = absurd (cc h)
 torn_line (x ∷ []) h = (x ∷ [], cond-false (eqb x 10) _ _ h ∙ sym (ap (λ (l : List (List ℕ)). l ++ (x ∷ 35 ∷ []) ∷ []) (cond-false (eqb x 10) _ _ h)))
 torn_line (x ∷ y ∷ text) h = step (eqb x 10) (torn_line (y ∷ text) h)
@@ -157,7 +157,7 @@ torn_line (x ∷ y ∷ text) h = step (eqb x 10) (torn_line (y ∷ text) h)
     step true ih = (ih.0, ap (λ (l : List (List ℕ)). [] ∷ l) ih.1)
     step false ih = let f = onto (lines_of (y ∷ text)) ih.0 in (f.0, ap (onto_line x) ih.1 ∙ f.1)
 
-digits_end : (v : List ℕ) → all_ascii_digits (v ++ 35 ∷ []) ≡ false
+pub digits_end : (v : List ℕ) → all_ascii_digits (v ++ 35 ∷ []) ≡ false
 digits_end [] = refl
 digits_end (d ∷ v) = and_right (is_ascii_digit d) _ (digits_end v)
 
@@ -286,7 +286,7 @@ reads-byte k text from i best r within other =
 pub reads-end : (k : ClockKind) (text : List ℕ) (from i best : ℕ) → Reads k text from i best → length text ≤ i → i ≤ length text → best ≡ last_clock k text
 reads-end k text from i best r past within = sym (last_clock-end k text from i best (omega arith) r.none) ∙ r.read
 
-value-below : (r : Option (List ℕ)) → time_text_value r < 2 ^ 64 - 1
+pub value-below : (r : Option (List ℕ)) → time_text_value r < 2 ^ 64 - 1
 value-below None = omega arith
 value-below (Some ds) = by (is_time_text ds) refl
   where
@@ -305,7 +305,7 @@ pub last_clock-below : (k : ClockKind) (text : List ℕ) → last_clock k text <
 last_clock-below k text = greatest-below k (lines_of text)
 
 -- a line above zero behind a whole text, as a compaction writes it
-last_clock-above_zero : (k kind : ClockKind) (text : List ℕ) (t : ℕ) → is_whole text ≡ true → t < 2 ^ 64 - 1 → last_clock k (text ++ line_above_zero kind t) ≡ max (last_clock k text) (once_set k kind t 0)
+pub last_clock-above_zero : (k kind : ClockKind) (text : List ℕ) (t : ℕ) → is_whole text ≡ true → t < 2 ^ 64 - 1 → last_clock k (text ++ line_above_zero kind t) ≡ max (last_clock k text) (once_set k kind t 0)
 last_clock-above_zero k kind text t whole small = by (t == 0) refl
   where
     value : (a b : ClockKind) → last_clock a (text ++ clock_line b t) ≡ max (last_clock a text) (once_set a b t 0)
@@ -338,7 +338,7 @@ last_clock-above_zero k kind text t whole small = by (t == 0) refl
         ap (last_clock k) none ∙ omega (arith, z)
     by false more = value k kind
 
-is_whole-above_zero : (kind : ClockKind) (text : List ℕ) (t : ℕ) → is_whole text ≡ true → is_whole (text ++ line_above_zero kind t) ≡ true
+pub is_whole-above_zero : (kind : ClockKind) (text : List ℕ) (t : ℕ) → is_whole text ≡ true → is_whole (text ++ line_above_zero kind t) ≡ true
 is_whole-above_zero kind text t whole = by (t == 0)
   where
     by : (b : Bool) → is_whole (text ++ cond b [] (clock_line kind t)) ≡ true

@@ -4,3 +4,8 @@ pub mod NoteLaws
 pub mod PlanLaws
 pub mod Names
 pub mod LengthLaws
+pub mod PartLemmas
+pub mod SayLaws
+pub mod EventLineLaws
+pub mod LeastTimeLaws
+pub mod KeptNoteLaws

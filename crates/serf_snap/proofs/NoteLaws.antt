@@ -7,16 +7,16 @@ use Rattle.serf_snap.specs.Device.{Device, Observable, FailurePlan}
 use Rattle.serf_snap.specs.Notes.{SnapshotView, Kept, Failed, noted, written, last_line, KeepsPart, KeepsEither, opened, compacted, compaction_of, IsKept, IsSnapshotSound, with_sink}
 use Rattle.serf_snap.proofs.ClockLaws.{last_clock_grows, last_clock-line, last_clock-other_line, is_whole-line, is_whole-sealed, last_clock-sealed, last_clock-below, last_clock-compacted, is_whole-compacted}
 
-some-same : {X : Type 0} (x y : X) → Some x ≡ Some y → x ≡ y
+pub some-same : {X : Type 0} (x y : X) → Some x ≡ Some y → x ≡ y
 some-same x y h = cc
 
 -- the last line of a kind, after a line of one
-last_line-written : (kind : ClockKind) (t : ℕ) (s : SnapshotView) → last_line kind (written kind t s Kept) ≡ t
+pub last_line-written : (kind : ClockKind) (t : ℕ) (s : SnapshotView) → last_line kind (written kind t s Kept) ≡ t
 last_line-written Member t s = refl
 last_line-written Event t s = refl
 last_line-written Query t s = refl
 
-last_line-other : (at kind : ClockKind) (t : ℕ) (s : SnapshotView) → at ≢ kind → last_line at (written kind t s Kept) ≡ last_line at s
+pub last_line-other : (at kind : ClockKind) (t : ℕ) (s : SnapshotView) → at ≢ kind → last_line at (written kind t s Kept) ≡ last_line at s
 last_line-other Member Member t s h = absurd (h refl)
 last_line-other Member Event t s h = refl
 last_line-other Member Query t s h = refl
@@ -28,7 +28,7 @@ last_line-other Query Event t s h = refl
 last_line-other Query Query t s h = absurd (h refl)
 
 -- two kinds are one or not
-same_kind : (at kind : ClockKind) → (at ≡ kind) ⊎ (at ≢ kind)
+pub same_kind : (at kind : ClockKind) → (at ≡ kind) ⊎ (at ≢ kind)
 same_kind Member Member = inl refl
 same_kind Member Event = inr (λ q. cc)
 same_kind Member Query = inr (λ q. cc)
@@ -72,7 +72,7 @@ sound-noted kind s t sound runs small = elim (cases_Bool (nat_le t (last_line ki
         subst (IsKept (written kind t s Kept)) same (kept-line kind s t old runs above small (sound old is))
 
 -- a stopped snapshot is sound where what is durable has no lower clock than before
-stopped-kept : (s n : SnapshotView) (old new : List ℕ) → IsKept s old → ((kind : ClockKind) → last_line kind n ≡ last_line kind s) → ((kind : ClockKind) → last_clock kind old ≤ last_clock kind new) → n.stopped ≡ true → IsKept n new
+pub stopped-kept : (s n : SnapshotView) (old new : List ℕ) → IsKept s old → ((kind : ClockKind) → last_line kind n ≡ last_line kind s) → ((kind : ClockKind) → last_clock kind old ≤ last_clock kind new) → n.stopped ≡ true → IsKept n new
 stopped-kept s n old new h lines grown stopped =
     record {
       at_least = λ at. let l : last_line at n ≡ last_line at s = lines at in let a : last_line at s ≤ last_clock at old = h.at_least at in let g : last_clock at old ≤ last_clock at new = grown at in omega arith;

@@ -19,7 +19,7 @@ pub struct Clocks {
     pub query_clock: u64,
 }
 
-fn is_all_digits(text: &[u8]) -> bool
+pub(crate) fn is_all_digits(text: &[u8]) -> bool
     ensures { result ≡ all_ascii_digits text.now }
 {
     for b in text {
@@ -31,7 +31,7 @@ fn is_all_digits(text: &[u8]) -> bool
 }
 
 /// The number that digits write, or the greatest where it is above that.
-fn number_of(digits: &[u8]) -> u64
+pub(crate) fn number_of(digits: &[u8]) -> u64
     ensures { result ≡ min (read_on 0 digits.now) (2 ^ 64 - 1) }
 {
     let mut n: u64 = 0;
@@ -44,7 +44,7 @@ fn number_of(digits: &[u8]) -> u64
 }
 
 /// The value of what follows a prefix, 0 where it is no time.
-fn time_of(digits: &[u8]) -> u64
+pub(crate) fn time_of(digits: &[u8]) -> u64
     ensures { result ≡ time_text_value (Some digits.now) }
 {
     if digits.is_empty() || !is_all_digits(digits) {

@@ -1,11 +1,18 @@
-//! The laws of snapshot texts and of snapshots, as clauses of functions that do nothing.
+//! The laws of snapshot texts, of snapshots, and of the lines of an agent that keeps its events, as clauses of functions
+//! that do nothing.
 
-ghost use Rattle.std.specs.Prelude.{◌≡◌, ◌≢◌, ◌↔◌, ◌<◌, ◌≤◌, ◌++◌, ℕ, List, Option, IsSome, false, true, max};
+ghost use Rattle.std.specs.Prelude.{◌≡◌, ◌≢◌, ◌↔◌, ◌<◌, ◌≤◌, ◌++◌, ℕ, List, Option, IsSome, false, true, max, [], ◌+◌, ◌*◌, ◌^◌, ◌∷◌, Some, length, take};
 ghost use Rattle.serf_lamport.specs.Clock.{greatest_clock};
 ghost use Rattle.serf_snap.specs.declared.kind.ClockKind.{ClockKind};
-ghost use Rattle.serf_snap.specs.Clocks.{clock_line, compacted_text, is_whole, last_clock, of_kind, sealed};
+ghost use Rattle.serf_snap.specs.Clocks.{clock_line, compacted_text, is_whole, last_clock, lines_of, of_kind, sealed};
 ghost use Rattle.serf_snap.specs.Device.{Device, FailurePlan};
-ghost use Rattle.serf_snap.specs.Notes.{Failed, IsSnapshotSound, IsObservable, Kept, KeepsEither, KeepsPart, MayReplace, MayWrite, SnapshotView, Writing, compacted, compaction_of, noted, opened, will_replace, will_write, with_sink, written};
+ghost use Rattle.serf_snap.specs.Notes.{Failed, IsObservable, IsSnapshotSound, KeepsEither, KeepsPart, Kept, MayReplace, MayWrite, SnapshotView, Writing, compacted, compaction_of, noted, opened, will_replace, will_write, with_sink, written};
+ghost use Rattle.hex.specs.Hex.{IsBytes};
+ghost use Rattle.serf_snap.specs.declared.kept.KeptQuery.{KeptQuery};
+ghost use Rattle.serf_snap.specs.declared.kept.Wanted.{Wanted};
+ghost use Rattle.serf_snap.specs.EventLines.{event_line, events_in, if_event_wanted, if_query_wanted, kept_clock_line, kept_query, least_in, least_line, queries_in, query_line};
+ghost use Rattle.serf_snap.specs.KeptNotes.{SaysNoClock, kept_compaction_of, kept_noted, text_replaced};
+ghost use Rattle.serf_snap.specs.TimedEvent.{TimedEvent, timed_event};
 
 /// What becomes of the clocks of a text: no bytes after it lower them, a line raises its own kind to its time
 /// and no other, and neither a seal nor a compaction changes one.
@@ -60,4 +67,98 @@ pub fn plan_laws()
         → IsObservable s → IsObservable (with_sink s.durable change s) }
     ensures compacted_observable { (s : SnapshotView) (w : Writing) → IsObservable s
         → MayReplace s w → IsObservable (compacted s w) }
+{}
+
+/// What the lines of events say: a line that was written reads back as what was written, and no front of it says
+/// anything. No bytes behind a text take an event from it, and a seal changes none. And a line that begins with `#`
+/// changes no clock, wherever it stands.
+pub fn event_line_laws()
+    ensures written { (w : Wanted) (text : List ℕ) (t : ℕ) (name payload : List ℕ)
+        → is_whole text ≡ true → 0 < t → t < greatest_clock → IsBytes name → IsBytes payload
+        → events_in w (text ++ event_line t name payload)
+        ≡ events_in w text ++ if_event_wanted w (Some (timed_event t name payload)) }
+    ensures torn { (w : Wanted) (text : List ℕ) (t : ℕ) (name payload : List ℕ) (n : ℕ)
+        → is_whole text ≡ true → t < greatest_clock → n < length (event_line t name payload)
+        → events_in w (text ++ take n (event_line t name payload)) ≡ events_in w text }
+    ensures grow { (w : Wanted) (front tail : List ℕ)
+        → (more : List TimedEvent) × (events_in w (front ++ tail) ≡ events_in w front ++ more) }
+    ensures sealed { (w : Wanted) (text : List ℕ) → events_in w (sealed text) ≡ events_in w text }
+    ensures length { (t : ℕ) (name payload : List ℕ) → t < greatest_clock
+        → length (event_line t name payload) ≤ 2 * (length name + length payload) + 30 }
+    ensures skipped { (k : ClockKind) (front line back : List ℕ) → is_whole front ≡ true
+        → lines_of (line ++ 10 ∷ []) ≡ line ∷ []
+        → last_clock k (front ++ (35 ∷ line ++ 10 ∷ back)) ≡ last_clock k (front ++ back) }
+{}
+
+/// What the lines of queries say, as of events.
+pub fn query_line_laws()
+    ensures written { (w : Wanted) (text : List ℕ) (t id : ℕ) → is_whole text ≡ true → 0 < t
+        → t < greatest_clock → id < 2 ^ 32 → queries_in w (text ++ query_line t id)
+        ≡ queries_in w text ++ if_query_wanted w (Some (kept_query t id)) }
+    ensures torn { (w : Wanted) (text : List ℕ) (t id n : ℕ) → is_whole text ≡ true
+        → t < greatest_clock → id < 2 ^ 32 → n < length (query_line t id)
+        → queries_in w (text ++ take n (query_line t id)) ≡ queries_in w text }
+    ensures grow { (w : Wanted) (front tail : List ℕ)
+        → (more : List KeptQuery) × (queries_in w (front ++ tail) ≡ queries_in w front ++ more) }
+    ensures sealed { (w : Wanted) (text : List ℕ) → queries_in w (sealed text) ≡ queries_in w text }
+    ensures length { (t id : ℕ) → t < greatest_clock → id < 2 ^ 32
+        → length (query_line t id) ≤ 39 }
+{}
+
+/// What becomes of the least times of a text: no bytes behind it lower them. The line of a least time raises its
+/// own kind's to it, and a clock line to one above its time, unless it has a zero in front of its number. Neither
+/// lines of events and of queries nor a seal change one. A zero in front changes no clock.
+pub fn least_time_laws()
+    ensures grows { (k : ClockKind) (front tail : List ℕ)
+        → least_in k front ≤ least_in k (front ++ tail) }
+    ensures sealed { (k : ClockKind) (text : List ℕ) → least_in k (sealed text) ≡ least_in k text }
+    ensures own_line { (k : ClockKind) (text : List ℕ) (t : ℕ) → is_whole text ≡ true
+        → t ≤ greatest_clock → least_in k (text ++ least_line k t) ≡ max (least_in k text) t }
+    ensures other_line { (k j : ClockKind) (text : List ℕ) (t : ℕ) → is_whole text ≡ true
+        → t ≤ greatest_clock → k ≢ j → least_in k (text ++ least_line j t) ≡ least_in k text }
+    ensures event { (k : ClockKind) (text : List ℕ) (t : ℕ) (name payload : List ℕ)
+        → is_whole text ≡ true → t < greatest_clock
+        → least_in k (text ++ event_line t name payload) ≡ least_in k text }
+    ensures query { (k : ClockKind) (text : List ℕ) (t id : ℕ) → is_whole text ≡ true
+        → t < greatest_clock → id < 2 ^ 32
+        → least_in k (text ++ query_line t id) ≡ least_in k text }
+    ensures clock_line { (k : ClockKind) (text : List ℕ) (t : ℕ) → is_whole text ≡ true → 0 < t
+        → t < greatest_clock → least_in k (text ++ clock_line k t) ≡ max (least_in k text) (t + 1) }
+    ensures kept_clock_line { (k j : ClockKind) (text : List ℕ) (t : ℕ) → is_whole text ≡ true
+        → t < greatest_clock → least_in k (text ++ kept_clock_line j t) ≡ least_in k text }
+    ensures same_clock { (k : ClockKind) (text : List ℕ) (t : ℕ) → is_whole text ≡ true
+        → t < greatest_clock
+        → last_clock k (text ++ kept_clock_line k t) ≡ max (last_clock k text) t }
+    ensures other_clock { (k j : ClockKind) (text : List ℕ) (t : ℕ) → is_whole text ≡ true
+        → t < greatest_clock → k ≢ j
+        → last_clock k (text ++ kept_clock_line j t) ≡ last_clock k text }
+{}
+
+/// What a snapshot says of its last lines is what its sink keeps, after each note of an agent that keeps its events and
+/// after each of its compactions too, those that fail as well: where the lines that it writes beside its clock lines are
+/// whole and say no clock, as each line of an event, of a query and of a least time.
+pub fn kept_note_laws()
+    ensures noted { (k : ClockKind) (s : SnapshotView) (t : ℕ) (line : List ℕ) → IsSnapshotSound s
+        → s.stopped ≡ false → t < greatest_clock → SaysNoClock line
+        → IsSnapshotSound (kept_noted k t line s Kept) }
+    ensures note_failed { (k : ClockKind) (s : SnapshotView) (t : ℕ) (line bytes : List ℕ)
+        (durable : Option (List ℕ)) → IsSnapshotSound s → KeepsPart s.durable bytes durable
+        → IsSnapshotSound (kept_noted k t line s (Failed durable)) }
+    ensures compacted { (s : SnapshotView) (lines : List ℕ) → IsSnapshotSound s
+        → SaysNoClock lines
+        → IsSnapshotSound (text_replaced (kept_compaction_of lines s) s Kept) }
+    ensures compaction_failed { (s : SnapshotView) (lines : List ℕ) (durable : Option (List ℕ))
+        → IsSnapshotSound s → SaysNoClock lines
+        → KeepsEither s.durable (kept_compaction_of lines s) durable
+        → IsSnapshotSound (text_replaced (kept_compaction_of lines s) s (Failed durable)) }
+    ensures event { (t : ℕ) (name payload : List ℕ) → t < greatest_clock
+        → SaysNoClock (event_line t name payload) }
+    ensures query { (t id : ℕ) → t < greatest_clock → id < 2 ^ 32
+        → SaysNoClock (query_line t id) }
+    ensures least { (k : ClockKind) (t : ℕ) → t ≤ greatest_clock → SaysNoClock (least_line k t) }
+    ensures both { (a b : List ℕ) → SaysNoClock a → SaysNoClock b → SaysNoClock (a ++ b) }
+    ensures clock_line_whole { (k : ClockKind) (text : List ℕ) (t : ℕ)
+        → is_whole (text ++ kept_clock_line k t) ≡ true }
+    ensures whole { (text line : List ℕ) → is_whole text ≡ true → is_whole line ≡ true
+        → is_whole (text ++ line) ≡ true }
 {}

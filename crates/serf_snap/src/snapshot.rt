@@ -1,19 +1,20 @@
 //! The clock lines of an agent, on a sink (`snapshot.go`).
 
-ghost use Rattle.std.specs.Prelude.{◌≡◌, ◌↔◌, ◌⊎◌, ◌<◌, ◌≤◌, ◌-◌, ◌^◌, ◌++◌, ◌+◌, true, if◌then◌else◌, false, not, is_ok, length, IsTrue, IfOk, IfErr, IsOk, OnOk, OnErr, IfSome, IsErrOf};
+ghost use Rattle.std.specs.Prelude.{◌≡◌, ◌≢◌, ◌↔◌, ◌⊎◌, ◌<◌, ◌≤◌, ◌-◌, ◌^◌, ◌++◌, ◌+◌, true, if◌then◌else◌, false, not, is_ok, length, IsTrue, IfOk, IfErr, IsOk, OnOk, OnErr, IfSome, IsErrOf};
 ghost use Rattle.std.specs.Option.{option_map};
-ghost use Rattle.std.specs.Vec.{vec_len};
-ghost use Rattle.serf_snap.specs.Clocks.{clock_line, compacted_text, is_whole, line_above_zero, seal_line, sealed};
+ghost use Rattle.serf_lamport.specs.Clock.{greatest_clock};
+ghost use Rattle.serf_snap.specs.Clocks.{clock_line, is_whole, seal_line, sealed};
 ghost use Rattle.serf_snap.specs.Compaction.{is_worth_compacting};
 ghost use Rattle.serf_snap.specs.Device.{Observable, Fails, FailsReplace, HasFailed, HasText, IsClean, append_failing, appended, flush_failing, flushed, durable_of, replace_called, replace_decremented, replace_failing, replaced, unreplaced};
+ghost use Rattle.serf_snap.specs.KeptNotes.{MayReplaceBy, bytes_written, text_replaced};
 ghost use Rattle.serf_snap.specs.Notes.{AreTimes, Failed, HasTriedNote, Kept, MayReplace, MayWrite, compacted, compaction_of, last_line, note_fails, note_decremented, noted, opened, opened_device, with_new_plan, written};
 
+use crate::clock_lines::{LONGEST_LINE, line_of, text_of};
 use crate::clocks::{Clocks, ends_whole, read_clocks};
 use crate::kind::ClockKind;
 use crate::lengths::{is_worth_compacting, sealed_length};
 use crate::memory::MemSink;
 use crate::sink::{ReplaceFault, ReplaceSink, Sink, SinkFault};
-use itoa::Buffer;
 use serf_lamport::Time;
 use std::alloc::{AllocError, Global};
 use std::marker::Model;
@@ -115,52 +116,6 @@ impl<S: Sink> Model for Snapshot<S> {
         × (a.last.member_clock < greatest_clock) × (a.last.event_clock < greatest_clock)
         × (a.last.query_clock < greatest_clock)
         × (a.stopped ≡ false → IsLengthOf (durable_of (S.device a.sink)) a.kept) };
-}
-
-/// The bytes that the longest clock line has: a prefix of 13, 20 digits and a newline.
-const LONGEST_LINE: usize = 34;
-
-/// Appends the clock line of a time. On want of memory the text may have a part of it.
-fn put_line(text: &mut Vec<u8>, kind: ClockKind, time: u64) -> Result<(), AllocError>
-    ensures bytes { OnOk result (text.new.items ≡ text.old.items ++ clock_line kind time) }
-    ensures short { OnOk result (vec_len text.new ≤ vec_len text.old + 34) }
-{
-    let mut buffer = Buffer::new();
-    text.extend_from_slice(kind.prefix())?;
-    text.extend_from_slice(buffer.format(time).as_bytes())?;
-    text.extend_from_slice(b"\n")
-}
-
-/// The clock line of a time.
-fn line_of(alloc: Global, kind: ClockKind, time: u64) -> Result<Vec<u8>, AllocError>
-    ensures bytes { IfOk result (λ line. line.items ≡ clock_line kind time) }
-    ensures short { IfOk result (λ line. vec_len line ≤ 34) }
-{
-    let mut line = Vec::with_capacity(alloc, LONGEST_LINE)?;
-    put_line(&mut line, kind, time)?;
-    Ok(line)
-}
-
-/// Appends the clock line of a time, and nothing at 0.
-fn put_line_above_zero(text: &mut Vec<u8>, kind: ClockKind, time: u64) -> Result<(), AllocError>
-    ensures { OnOk result (text.new.items ≡ text.old.items ++ line_above_zero kind time) }
-{
-    if time == 0 {
-        return Ok(());
-    }
-    put_line(text, kind, time)
-}
-
-/// The text of these last lines.
-fn text_of(alloc: Global, last: Clocks) -> Result<Vec<u8>, AllocError>
-    ensures { IfOk result (λ text. text.items
-        ≡ compacted_text last.member_clock last.event_clock last.query_clock) }
-{
-    let mut text = Vec::new(alloc);
-    put_line_above_zero(&mut text, ClockKind::Member, last.member_clock)?;
-    put_line_above_zero(&mut text, ClockKind::Event, last.event_clock)?;
-    put_line_above_zero(&mut text, ClockKind::Query, last.query_clock)?;
-    Ok(text)
 }
 
 /// One append and one flush.
@@ -297,11 +252,46 @@ impl<S: Sink> Snapshot<S> {
             return Ok(());
         }
         let line = line_of(alloc, kind, value)?;
-        self.sink.reserve(alloc, LONGEST_LINE)?;
-        match keep(&mut self.sink, line.as_slice()) {
+        self.write(alloc, kind, value, line.as_slice())
+    }
+
+    /// Writes bytes with which the last line of a kind becomes this value: one append and one flush. Memory is taken
+    /// before the sink is touched.
+    pub(crate) fn write(
+        &mut self,
+        alloc: Global,
+        kind: ClockKind,
+        value: u64,
+        bytes: &[u8],
+    ) -> Result<(), NoteFault>
+        requires time { value < greatest_clock }
+        requires runs { self.old.snapshot.stopped ≡ false }
+        ensures runs { result ≢ Err NoteFault.Stopped }
+        ensures ok { OnOk result (self.new.snapshot
+            ≡ bytes_written kind value bytes.now self.old.snapshot Kept) }
+        ensures ok_allowed { OnOk result (MayWrite self.old.snapshot bytes.now Kept) }
+        ensures ok_device { OnOk result (self.new.device
+            ≡ flushed (appended bytes.now self.old.device)) }
+        ensures fault { IsErrOf result NoteFault.SinkFault → self.new.snapshot
+            ≡ bytes_written kind value bytes.now self.old.snapshot
+            (Failed self.new.snapshot.durable) }
+        ensures fault_allowed { IsErrOf result NoteFault.SinkFault
+            → MayWrite self.old.snapshot bytes.now (Failed self.new.snapshot.durable) }
+        ensures fault_device { IsErrOf result NoteFault.SinkFault
+            → Fails self.old.device self.new.device bytes.now }
+        ensures fault_called { IsErrOf result NoteFault.SinkFault
+            → HasTriedNote self.old.device.calls self.new.device.calls }
+        ensures fault_decremented { IsErrOf result NoteFault.SinkFault
+            → self.new.device.plan ≡ option_map note_decremented self.old.device.plan }
+        ensures memory { IsErrOf result NoteFault.OutOfMemory → self.new ≡ self.old }
+        ensures clean { OnOk result (IsClean self.new.device) }
+        ensures calm { OnOk result (self.new.device.failures ≡ self.old.device.failures) }
+    {
+        self.sink.reserve(alloc, bytes.len().max(LONGEST_LINE))?;
+        match keep(&mut self.sink, bytes) {
             Ok(()) => {
                 self.last = self.last.with(kind, value);
-                self.kept = self.kept.saturating_add(line.len() as u64);
+                self.kept = self.kept.saturating_add(bytes.len() as u64);
                 Ok(())
             }
             Err(SinkFault) => {
@@ -395,7 +385,35 @@ impl<S: ReplaceSink> Snapshot<S> {
             return Err(NoteFault::Stopped);
         }
         let text = text_of(alloc, self.last)?;
-        match self.sink.replace(alloc, text.as_slice()) {
+        self.replace_text(alloc, text.as_slice())
+    }
+
+    /// Replaces what the sink keeps by this text, which has the same last lines: one replace.
+    pub(crate) fn replace_text(&mut self, alloc: Global, text: &[u8]) -> Result<(), NoteFault>
+        requires runs { self.old.snapshot.stopped ≡ false }
+        ensures runs { result ≢ Err NoteFault.Stopped }
+        ensures ok { OnOk result (self.new.snapshot
+            ≡ text_replaced text.now self.old.snapshot Kept) }
+        ensures ok_allowed { OnOk result (MayReplaceBy text.now self.old.snapshot Kept) }
+        ensures ok_device { OnOk result (self.new.device ≡ replaced text.now self.old.device) }
+        ensures fault { IsErrOf result NoteFault.SinkFault → self.new.snapshot
+            ≡ text_replaced text.now self.old.snapshot (Failed self.new.snapshot.durable) }
+        ensures fault_allowed { IsErrOf result NoteFault.SinkFault
+            → MayReplaceBy text.now self.old.snapshot (Failed self.new.snapshot.durable) }
+        ensures fault_device { IsErrOf result NoteFault.SinkFault
+            → FailsReplace self.old.device self.new.device text.now }
+        ensures fault_called { IsErrOf result NoteFault.SinkFault
+            → self.new.device.calls ≡ replace_called self.old.device.calls }
+        ensures fault_decremented { IsErrOf result NoteFault.SinkFault
+            → self.new.device.plan ≡ option_map replace_decremented self.old.device.plan }
+        ensures memory { IsErrOf result NoteFault.OutOfMemory
+            → self.new.snapshot ≡ self.old.snapshot }
+        ensures memory_device { IsErrOf result NoteFault.OutOfMemory
+            → self.new.device ≡ unreplaced self.old.device }
+        ensures clean { OnOk result (IsClean self.new.device) }
+        ensures calm { OnOk result (self.new.device.failures ≡ self.old.device.failures) }
+    {
+        match self.sink.replace(alloc, text) {
             Ok(()) => {
                 self.kept = text.len() as u64;
                 Ok(())

@@ -1,5 +1,5 @@
 -- What was written, after a write.
-use Rattle.std.proofs.Common.{◌≡◌, ℕ, ◌+◌, ◌++◌, ◌∙◌, List, [], ◌∷◌, refl, sym, ap, subst, append_assoc, append-nil, length, take, arith}
+use Rattle.std.proofs.Common.{◌≡◌, inl, inr, zero, suc, ℕ, ◌+◌, ◌++◌, ◌∙◌, List, [], ◌∷◌, refl, sym, ap, subst, append-nil, length, take, arith}
 use Rattle.std.specs.Prelude.{Option, Result, Ok, Err, OnOk, OnErr, IfErr}
 use Rattle.std.specs.Io.KnownBytes.{Appends}
 use Rattle.std.proofs.KnownBytes.{Appends-trans}
@@ -7,18 +7,17 @@ use Rattle.std.proofs.lemmas.Grind.{common_steps}
 use Rattle.serf_text.specs.Io.{AppendsFront}
 use Rattle.serf_text.specs.declared.stream_fault.StreamFault.{StreamFault}
 use Rattle.serf_text.specs.declared.stream_fault.StreamFault.TheVariants.{ReadFault, BadLine, LineTooLong, OutOfMemory, WriteFault}
-use Rattle.serf_text.specs.Lines.{lines_of, text_behind}
-use Rattle.serf_text.specs.Streams.{HasRead, IsDone, IsLineFault, IsStopped, Reached, WaitsFor}
+use Rattle.serf_text.specs.Lines.{lines_of}
+use Rattle.serf_text.specs.Streams.{HasRead, IsDone, IsHoldFault, IsLeft, IsLineFault, IsStopped, Reached, StopsAt, TellsAll, WaitsFor, answers_fault, answers_told}
 
 -- the answers that waited were written
-pub reached-written : {J F : Type 0} (follows : J → List (List ℕ) → Type 0) (answer : List (List ℕ) → List ℕ → Result (List ℕ) F) (job : J) (number : ℕ) (waiting after : List ℕ) (lines : List (List ℕ)) (first now new : Option (List ℕ))
-    → Reached follows answer job number waiting lines first now → Appends now new waiting → after ≡ [] → Reached follows answer job number after lines first new
-reached-written follows answer job number waiting after lines first now new h w none = record {
-  done = h.done;
+pub reached-written : {J : Type 0} (told : J → List (List ℕ) → List ℕ → Type 0) (job : J) (number : ℕ) (waiting after : List ℕ) (lines : List (List ℕ)) (first now new : Option (List ℕ))
+    → Reached told job number waiting lines first now → Appends now new waiting → after ≡ [] → Reached told job number after lines first new
+reached-written told job number waiting after lines first now new h w none = record {
   numbered = h.numbered;
   text = h.text ++ waiting;
   appended = Appends-trans first now new h.text waiting h.appended w;
-  answered = h.answered ∙ ap (λ (t : List ℕ). Ok t) (sym (append-nil (h.text ++ waiting)) ∙ ap (λ k. (h.text ++ waiting) ++ k) (sym none));
+  tells = subst (told job lines) (sym (append-nil (h.text ++ waiting)) ∙ ap (λ k. (h.text ++ waiting) ++ k) (sym none)) h.tells;
 }
 
 -- a front of them was
@@ -32,62 +31,100 @@ pub front-written : (first now new : Option (List ℕ)) (text waiting : List ℕ
 front-written first now new text waiting h f = (length text + f.0, rw (front-behind text waiting f.0) (Appends-trans first now new text (take f.0 waiting) h f.1))
 
 -- the lines that were done, and those that were not
-pub stopped-at-write : {J F : Type 0} (follows : J → List (List ℕ) → Type 0) (answer : List (List ℕ) → List ℕ → Result (List ℕ) F) (job : J) (number : ℕ) (waiting : List ℕ) (all lines left : List (List ℕ)) (first now new : Option (List ℕ))
-    → all ≡ lines ++ left → Reached follows answer job number waiting lines first now → AppendsFront now new waiting → IsStopped answer WriteFault all first new
-stopped-at-write follows answer job number waiting all lines left first now new cut h f = record {
+pub stopped-at-write : {J F : Type 0} (told : J → List (List ℕ) → List ℕ → Type 0) (refuses : List (List ℕ) → List ℕ → F → Type 0) (job : J) (number : ℕ) (waiting : List ℕ) (all lines left : List (List ℕ)) (first now new : Option (List ℕ))
+    → all ≡ lines ++ left → Reached told job number waiting lines first now → AppendsFront now new waiting → StopsAt told refuses WriteFault all first new
+stopped-at-write told refuses job number waiting all lines left first now new cut h f = record {
   lines = lines;
   left = left;
   cut = cut;
+  job = job;
   text = h.text ++ waiting;
-  answered = h.answered;
+  tells = h.tells;
   written = front-written first now new h.text waiting h.appended f;
   cause = tt;
 }
 
-pub waits-at-write : {F : Type 0} (answer : List (List ℕ) → List ℕ → Result (List ℕ) F) (fault : StreamFault F) (all : List (List ℕ)) (waiting : List ℕ) (first now new : Option (List ℕ))
-    → WaitsFor answer fault all waiting first now → AppendsFront now new waiting → IsStopped answer WriteFault all first new
-waits-at-write answer fault all waiting first now new h f = record {
+pub waits-at-write : {J F : Type 0} (told : J → List (List ℕ) → List ℕ → Type 0) (refuses : List (List ℕ) → List ℕ → F → Type 0) (fault : StreamFault F) (all : List (List ℕ)) (waiting : List ℕ) (first now new : Option (List ℕ))
+    → WaitsFor told refuses fault all waiting first now → AppendsFront now new waiting → StopsAt told refuses WriteFault all first new
+waits-at-write told refuses fault all waiting first now new h f = record {
   lines = h.lines;
   left = h.line ∷ h.more;
   cut = h.cut;
+  job = h.job;
   text = h.text ++ waiting;
-  answered = h.answered;
+  tells = h.tells;
   written = front-written first now new h.text waiting h.appended f;
   cause = tt;
 }
 
 -- a line's fault, once the answers before it were written
-pub stopped-at-line : {F : Type 0} (answer : List (List ℕ) → List ℕ → Result (List ℕ) F) (fault : StreamFault F) (all : List (List ℕ)) (waiting : List ℕ) (first now new : Option (List ℕ))
-    → WaitsFor answer fault all waiting first now → Appends now new waiting → IsStopped answer fault all first new
-stopped-at-line answer ReadFault all waiting first now new h w = absurd h.fault_is
-stopped-at-line answer WriteFault all waiting first now new h w = absurd h.fault_is
-stopped-at-line answer (BadLine number fault) all waiting first now new h w = record {
+pub stopped-at-line : {J F : Type 0} (told : J → List (List ℕ) → List ℕ → Type 0) (refuses : List (List ℕ) → List ℕ → F → Type 0) (fault : StreamFault F) (all : List (List ℕ)) (waiting : List ℕ) (first now new : Option (List ℕ))
+    → WaitsFor told refuses fault all waiting first now → Appends now new waiting → StopsAt told refuses fault all first new
+stopped-at-line told refuses ReadFault all waiting first now new h w = absurd h.fault_is
+stopped-at-line told refuses WriteFault all waiting first now new h w = absurd h.fault_is
+stopped-at-line told refuses (BadLine number fault) all waiting first now new h w = record {
   lines = h.lines;
   left = h.line ∷ h.more;
   cut = h.cut;
+  job = h.job;
   text = h.text ++ waiting;
-  answered = h.answered;
+  tells = h.tells;
   written = Appends-trans first now new h.text waiting h.appended w;
   cause = (h.line, h.more, refl, h.fault_is.0, h.fault_is.1);
 }
-stopped-at-line answer (LineTooLong number) all waiting first now new h w = record {
+stopped-at-line told refuses (LineTooLong number) all waiting first now new h w = record {
   lines = h.lines;
   left = h.line ∷ h.more;
   cut = h.cut;
+  job = h.job;
   text = h.text ++ waiting;
-  answered = h.answered;
+  tells = h.tells;
   written = Appends-trans first now new h.text waiting h.appended w;
   cause = (h.line, h.more, refl, h.fault_is.0, h.fault_is.1);
 }
-stopped-at-line answer OutOfMemory all waiting first now new h w = record {
+stopped-at-line told refuses OutOfMemory all waiting first now new h w = record {
   lines = h.lines;
   left = h.line ∷ h.more;
   cut = h.cut;
+  job = h.job;
   text = h.text ++ waiting;
-  answered = h.answered;
+  tells = h.tells;
   written = Appends-trans first now new h.text waiting h.appended w;
   cause = tt;
 }
+
+-- nothing more was written after a write that failed
+still-stopped : {J F : Type 0} (told : J → List (List ℕ) → List ℕ → Type 0) (refuses : List (List ℕ) → List ℕ → F → Type 0) (all : List (List ℕ)) (first now new : Option (List ℕ))
+    → StopsAt told refuses WriteFault all first now → Appends now new [] → StopsAt told refuses WriteFault all first new
+still-stopped told refuses all first now new s none = record {
+  lines = s.lines;
+  left = s.left;
+  cut = s.cut;
+  job = s.job;
+  text = s.text;
+  tells = s.tells;
+  written = (s.written.0, subst (Appends first new) (append-nil (take s.written.0 s.text)) (Appends-trans first now new (take s.written.0 s.text) [] s.written.1 none));
+  cause = tt;
+}
+
+take-none : (n : ℕ) → take {A = ℕ} n [] ≡ []
+take-none zero = refl
+take-none (suc n) = refl
+
+front-of-nothing : (now new : Option (List ℕ)) (waiting : List ℕ) → waiting ≡ [] → AppendsFront now new waiting → Appends now new []
+front-of-nothing now new waiting none f = subst (Appends now new) (take-none f.0) (subst (λ (w : List ℕ). Appends now new (take f.0 w)) none f.1)
+
+-- what waited was written, or a front of it
+pub left-at-line : {J F : Type 0} (told : J → List (List ℕ) → List ℕ → Type 0) (refuses : List (List ℕ) → List ℕ → F → Type 0) (fault : StreamFault F) (all : List (List ℕ)) (waiting : List ℕ) (first now new : Option (List ℕ))
+    → IsLeft told refuses fault all waiting first now → Appends now new waiting → StopsAt told refuses fault all first new
+left-at-line told refuses fault all waiting first now new (inl w) a = stopped-at-line told refuses fault all waiting first now new w a
+left-at-line {F = F} told refuses fault all waiting first now new (inr s) a =
+    subst (λ (f : StreamFault F). StopsAt told refuses f all first new) (sym s.0) (still-stopped told refuses all first now new s.2 (subst (Appends now new) s.1 a))
+
+pub left-at-write : {J F : Type 0} (told : J → List (List ℕ) → List ℕ → Type 0) (refuses : List (List ℕ) → List ℕ → F → Type 0) (fault : StreamFault F) (all : List (List ℕ)) (waiting : List ℕ) (first now new : Option (List ℕ))
+    → IsLeft told refuses fault all waiting first now → AppendsFront now new waiting → StopsAt told refuses WriteFault all first new
+left-at-write told refuses fault all waiting first now new (inl w) f = waits-at-write told refuses fault all waiting first now new w f
+left-at-write told refuses fault all waiting first now new (inr s) f = still-stopped told refuses all first now new s.2 (front-of-nothing now new waiting s.1 f)
 
 -- a result that says one thing or the other
 pub either : {T E A C : Type 0} (B : E → Type 0) (r : Result T E) → OnOk r A → IfErr r B → (A → C) → ((e : E) → B e → C) → C
@@ -95,29 +132,37 @@ either B (Ok x) a b f k = f a
 either B (Err e) a b f k = k e b
 
 -- the last line was done
-pub done-at-end : {J F : Type 0} (follows : J → List (List ℕ) → Type 0) (answer : List (List ℕ) → List ℕ → Result (List ℕ) F) (job : J) (number : ℕ) (waiting : List ℕ) (all lines : List (List ℕ)) (held : List ℕ) (first now new : Option (List ℕ))
-    → all ≡ lines ++ held ∷ [] → Reached follows answer job number waiting (lines ++ (held ++ []) ∷ []) first now → Appends now new waiting → IsDone follows answer job all first new
-done-at-end follows answer job number waiting all lines held first now new cut h w =
+pub done-at-end : {J : Type 0} (told : J → List (List ℕ) → List ℕ → Type 0) (job : J) (number : ℕ) (waiting : List ℕ) (all lines : List (List ℕ)) (held : List ℕ) (first now new : Option (List ℕ))
+    → all ≡ lines ++ held ∷ [] → Reached told job number waiting (lines ++ (held ++ []) ∷ []) first now → Appends now new waiting → TellsAll told job all first new
+done-at-end told job number waiting all lines held first now new cut h w =
     let same : lines ++ (held ++ []) ∷ [] ≡ all = ap (λ l. lines ++ l ∷ []) (append-nil held) ∙ sym cut in record {
-      done = subst (follows job) same h.done;
       text = h.text ++ waiting;
-      answered = ap (text_behind answer []) (sym same) ∙ h.answered;
+      tells = subst (λ (ls : List (List ℕ)). told job ls (h.text ++ waiting)) same h.tells;
       written = Appends-trans first now new h.text waiting h.appended w;
     }
 
 -- the last line has a fault
-pub waits-at-end : {J F : Type 0} (follows : J → List (List ℕ) → Type 0) (answer : List (List ℕ) → List ℕ → Result (List ℕ) F) (job : J) (fault : StreamFault F) (number : ℕ) (waiting after : List ℕ) (all lines : List (List ℕ)) (held : List ℕ) (first now : Option (List ℕ))
-    → all ≡ lines ++ held ∷ [] → Reached follows answer job number waiting lines first now → after ≡ waiting → IsLineFault answer fault lines (held ++ []) → WaitsFor answer fault all after first now
-waits-at-end follows answer job fault number waiting after all lines held first now cut h same is = record {
+pub waits-at-end : {J F : Type 0} (told : J → List (List ℕ) → List ℕ → Type 0) (refuses : List (List ℕ) → List ℕ → F → Type 0) (job : J) (fault : StreamFault F) (number : ℕ) (waiting after : List ℕ) (all lines : List (List ℕ)) (held : List ℕ) (first now : Option (List ℕ))
+    → all ≡ lines ++ held ∷ [] → Reached told job number waiting lines first now → after ≡ waiting → IsLineFault refuses fault lines (held ++ []) → WaitsFor told refuses fault all after first now
+waits-at-end told refuses job fault number waiting after all lines held first now cut h same is = record {
   lines = lines;
   line = held ++ [];
   more = [];
   cut = cut ∙ ap (λ l. lines ++ l ∷ []) (sym (append-nil held));
+  job = job;
   text = h.text;
   appended = h.appended;
-  answered = h.answered ∙ ap (λ (w : List ℕ). Ok (h.text ++ w)) (sym same);
+  tells = subst (λ (w : List ℕ). told job lines (h.text ++ w)) (sym same) h.tells;
   fault_is = is;
 }
+
+-- a line that can't be held has a fault
+pub not-held : {F : Type 0} (refuses : List (List ℕ) → List ℕ → F → Type 0) (fault : StreamFault F) (lines : List (List ℕ)) (line : List ℕ) → IsHoldFault fault lines line → IsLineFault refuses fault lines line
+not-held refuses ReadFault lines line h = absurd h
+not-held refuses (BadLine number fault) lines line h = absurd h
+not-held refuses (LineTooLong number) lines line h = h
+not-held refuses OutOfMemory lines line h = tt
+not-held refuses WriteFault lines line h = absurd h
 
 -- two facts of a fault
 pub both-err : {T E : Type 0} (A : Type 0) (B : E → Type 0) (r : Result T E) → OnErr r A → IfErr r B → IfErr r (λ e. A × B e)
@@ -125,14 +170,15 @@ both-err A B (Ok x) a b = tt
 both-err A B (Err e) a b = (a, b)
 
 -- all lines that are over were done when a read failed
-pub stopped-at-read : {J F : Type 0} (follows : J → List (List ℕ) → Type 0) (answer : List (List ℕ) → List ℕ → Result (List ℕ) F) (job : J) (held : List ℕ) (number : ℕ) (waiting bytes : List ℕ) (first now : Option (List ℕ))
-    → HasRead follows answer job held number waiting bytes first now → waiting ≡ [] → IsStopped answer ReadFault (lines_of bytes) first now
-stopped-at-read follows answer job held number waiting bytes first now h none = record {
+pub stopped-at-read : {J F : Type 0} (told : J → List (List ℕ) → List ℕ → Type 0) (refuses : List (List ℕ) → List ℕ → F → Type 0) (job : J) (held : List ℕ) (number : ℕ) (waiting bytes : List ℕ) (first now : Option (List ℕ))
+    → HasRead told job held number waiting bytes first now → waiting ≡ [] → StopsAt told refuses ReadFault (lines_of bytes) first now
+stopped-at-read told refuses job held number waiting bytes first now h none = record {
   lines = h.lines;
   left = held ∷ [];
   cut = h.cut;
+  job = job;
   text = h.reached.text;
-  answered = h.reached.answered ∙ ap (λ (t : List ℕ). Ok t) (ap (λ w. h.reached.text ++ w) none ∙ append-nil h.reached.text);
+  tells = subst (told job h.lines) (ap (λ w. h.reached.text ++ w) none ∙ append-nil h.reached.text) h.reached.tells;
   written = h.reached.appended;
   cause = refl;
 }
@@ -140,3 +186,13 @@ stopped-at-read follows answer job held number waiting bytes first now h none = 
 -- a read that gave nothing
 pub no-more : (bytes buf : List ℕ) (n : ℕ) → n ≡ 0 → bytes ++ take n buf ≡ bytes
 no-more bytes buf n none = let zero : take n buf ≡ [] = grind (arith, common_steps) in ap (λ t. bytes ++ t) zero ∙ append-nil bytes
+
+-- ---- answers are told
+
+pub answered-whole : {J F : Type 0} (follows : J → List (List ℕ) → Type 0) (answer : List (List ℕ) → List ℕ → Result (List ℕ) F) (job : J) (all : List (List ℕ)) (first now : Option (List ℕ))
+    → TellsAll (answers_told follows answer) job all first now → IsDone follows answer job all first now
+answered-whole follows answer job all first now h = record { done = h.tells.0; text = h.text; answered = h.tells.1; written = h.written }
+
+pub answered-front : {J F : Type 0} (follows : J → List (List ℕ) → Type 0) (answer : List (List ℕ) → List ℕ → Result (List ℕ) F) (fault : StreamFault F) (all : List (List ℕ)) (first now : Option (List ℕ))
+    → StopsAt (answers_told follows answer) (answers_fault answer) fault all first now → IsStopped answer fault all first now
+answered-front follows answer fault all first now h = record { lines = h.lines; left = h.left; cut = h.cut; text = h.text; answered = h.tells.1; written = h.written; cause = h.cause }

@@ -1,21 +1,30 @@
 -- How far a stream of lines is answered.
-use Rattle.std.specs.Prelude.{◌≡◌, ℕ, ◌++◌, ◌<◌, List, [], ◌∷◌, length, Option, Result, Ok, Err}
+use Rattle.std.specs.Prelude.{◌≡◌, ◌⊎◌, ℕ, ◌++◌, ◌<◌, List, [], ◌∷◌, length, Option, Result, Ok, Err}
 use Rattle.std.specs.Io.KnownBytes.{Appends}
 use Rattle.serf_text.specs.Io.{AppendsFront}
 use Rattle.serf_text.specs.declared.stream_fault.StreamFault.{StreamFault}
 use Rattle.serf_text.specs.declared.stream_fault.StreamFault.TheVariants.{ReadFault, BadLine, LineTooLong, OutOfMemory, WriteFault}
+use Rattle.serf_text.specs.declared.stream_fault.StreamLineFault.{StreamLineFault}
+use Rattle.serf_text.specs.declared.stream_fault.StreamLineFault.TheVariants as line_faults
 use Rattle.serf_text.specs.Lines.{lines_of, longest_line, number_behind, text_behind}
 
--- What the lines that were done, and those that were not, have to do with a fault.
-abbrev pub IsCause : {F : Type 0} → (List (List ℕ) → List ℕ → Result (List ℕ) F) → StreamFault F → List (List ℕ) → List (List ℕ) → Type 0
+-- What the lines that were done, and those that were not, have to do with a fault, where this says what refuses a line.
+abbrev pub IsCauseBy : {F : Type 0} → (List (List ℕ) → List ℕ → F → Type 0) → StreamFault F → List (List ℕ) → List (List ℕ) → Type 0
 -- each line that is over was done
-IsCause answer ReadFault lines left = length left ≡ 1
-IsCause answer (BadLine number fault) lines left =
-    (line : List ℕ) × (more : List (List ℕ)) × (left ≡ line ∷ more) × (number ≡ number_behind lines) × (answer lines line ≡ Err fault)
-IsCause answer (LineTooLong number) lines left =
+IsCauseBy refuses ReadFault lines left = length left ≡ 1
+IsCauseBy refuses (BadLine number fault) lines left =
+    (line : List ℕ) × (more : List (List ℕ)) × (left ≡ line ∷ more) × (number ≡ number_behind lines) × refuses lines line fault
+IsCauseBy refuses (LineTooLong number) lines left =
     (line : List ℕ) × (more : List (List ℕ)) × (left ≡ line ∷ more) × (number ≡ number_behind lines) × (longest_line < length line)
-IsCause answer OutOfMemory lines left = Unit {0}
-IsCause answer WriteFault lines left = Unit {0}
+IsCauseBy refuses OutOfMemory lines left = Unit {0}
+IsCauseBy refuses WriteFault lines left = Unit {0}
+
+-- a line is refused by the fault that it is answered
+abbrev pub answers_fault : {F : Type 0} → (List (List ℕ) → List ℕ → Result (List ℕ) F) → List (List ℕ) → List ℕ → F → Type 0
+answers_fault answer lines line fault = answer lines line ≡ Err fault
+
+abbrev pub IsCause : {F : Type 0} → (List (List ℕ) → List ℕ → Result (List ℕ) F) → StreamFault F → List (List ℕ) → List (List ℕ) → Type 0
+IsCause answer fault lines left = IsCauseBy (answers_fault answer) fault lines left
 
 -- a write that failed leaves a prefix of the text
 abbrev pub WritesUpTo : {F : Type 0} → StreamFault F → Option (List ℕ) → Option (List ℕ) → List ℕ → Type 0
@@ -42,37 +51,73 @@ pub record IsDone {J F : Type 0} (follows : J → List (List ℕ) → Type 0) (a
   pub answered : text_behind answer [] all ≡ Ok text
   pub written : Appends first now text
 
+-- Of all the lines that were read, of which the last may not be over, some were done by a job; and what was written is what it told of them.
+pub record StopsAt {J F : Type 0} (told : J → List (List ℕ) → List ℕ → Type 0) (refuses : List (List ℕ) → List ℕ → F → Type 0) (fault : StreamFault F) (all : List (List ℕ)) (first now : Option (List ℕ)) : Type 0 where
+  pub lines : List (List ℕ)
+  pub left : List (List ℕ)
+  pub cut : all ≡ lines ++ left
+  pub job : J
+  pub text : List ℕ
+  pub tells : told job lines text
+  pub written : WritesUpTo fault first now text
+  pub cause : IsCauseBy refuses fault lines left
+
+-- All lines were done, and just what was told of them was written.
+pub record TellsAll {J : Type 0} (told : J → List (List ℕ) → List ℕ → Type 0) (job : J) (all : List (List ℕ)) (first now : Option (List ℕ)) : Type 0 where
+  pub text : List ℕ
+  pub tells : told job all text
+  pub written : Appends first now text
+
+-- a job that answers lines tells of them what it answers
+abbrev pub answers_told : {J F : Type 0} → (J → List (List ℕ) → Type 0) → (List (List ℕ) → List ℕ → Result (List ℕ) F) → J → List (List ℕ) → List ℕ → Type 0
+answers_told follows answer job lines text = follows job lines × (text_behind answer [] lines ≡ Ok text)
+
+-- a line is refused by this fault, unless memory ran out
+abbrev pub IsRefused : {F : Type 0} → (List (List ℕ) → List ℕ → F → Type 0) → List (List ℕ) → List ℕ → StreamLineFault F → Type 0
+IsRefused refuses lines line (line_faults.Bad fault) = refuses lines line fault
+IsRefused refuses lines line line_faults.OutOfMemory = Unit {0}
+
 -- Steps of the stream: private to the crate.
 
--- These lines were done, and what was written and the answers that wait are their text.
-pub record Reached {J F : Type 0} (follows : J → List (List ℕ) → Type 0) (answer : List (List ℕ) → List ℕ → Result (List ℕ) F) (job : J) (number : ℕ) (waiting : List ℕ) (lines : List (List ℕ)) (first now : Option (List ℕ)) : Type 0 where
-  pub done : follows job lines
+-- These lines were done, and what was written and what waits are told of them.
+pub record Reached {J : Type 0} (told : J → List (List ℕ) → List ℕ → Type 0) (job : J) (number : ℕ) (waiting : List ℕ) (lines : List (List ℕ)) (first now : Option (List ℕ)) : Type 0 where
   pub numbered : number ≡ number_behind lines
   pub text : List ℕ
   pub appended : Appends first now text
-  pub answered : text_behind answer [] lines ≡ Ok (text ++ waiting)
+  pub tells : told job lines (text ++ waiting)
 
 -- what is wrong with a line that is over, after these
-abbrev pub IsLineFault : {F : Type 0} → (List (List ℕ) → List ℕ → Result (List ℕ) F) → StreamFault F → List (List ℕ) → List ℕ → Type 0
-IsLineFault answer ReadFault lines line = ⊥
-IsLineFault answer (BadLine number fault) lines line = (number ≡ number_behind lines) × (answer lines line ≡ Err fault)
-IsLineFault answer (LineTooLong number) lines line = (number ≡ number_behind lines) × (longest_line < length line)
-IsLineFault answer OutOfMemory lines line = Unit {0}
-IsLineFault answer WriteFault lines line = ⊥
+abbrev pub IsLineFault : {F : Type 0} → (List (List ℕ) → List ℕ → F → Type 0) → StreamFault F → List (List ℕ) → List ℕ → Type 0
+IsLineFault refuses ReadFault lines line = ⊥
+IsLineFault refuses (BadLine number fault) lines line = (number ≡ number_behind lines) × refuses lines line fault
+IsLineFault refuses (LineTooLong number) lines line = (number ≡ number_behind lines) × (longest_line < length line)
+IsLineFault refuses OutOfMemory lines line = Unit {0}
+IsLineFault refuses WriteFault lines line = ⊥
+
+-- why a line that is not over can't be held
+abbrev pub IsHoldFault : {F : Type 0} → StreamFault F → List (List ℕ) → List ℕ → Type 0
+IsHoldFault (LineTooLong number) lines line = (number ≡ number_behind lines) × (longest_line < length line)
+IsHoldFault OutOfMemory lines line = Unit {0}
+IsHoldFault _ lines line = ⊥
 
 -- These bytes were read: the lines in them that are over were done, and what is after the last of them is held.
-pub record HasRead {J F : Type 0} (follows : J → List (List ℕ) → Type 0) (answer : List (List ℕ) → List ℕ → Result (List ℕ) F) (job : J) (held : List ℕ) (number : ℕ) (waiting bytes : List ℕ) (first now : Option (List ℕ)) : Type 0 where
+pub record HasRead {J : Type 0} (told : J → List (List ℕ) → List ℕ → Type 0) (job : J) (held : List ℕ) (number : ℕ) (waiting bytes : List ℕ) (first now : Option (List ℕ)) : Type 0 where
   pub lines : List (List ℕ)
   pub cut : lines_of bytes ≡ lines ++ held ∷ []
-  pub reached : Reached follows answer job number waiting lines first now
+  pub reached : Reached told job number waiting lines first now
 
--- Some of the lines were done, whose text was written or waits, and the next has this fault.
-pub record WaitsFor {F : Type 0} (answer : List (List ℕ) → List ℕ → Result (List ℕ) F) (fault : StreamFault F) (all : List (List ℕ)) (waiting : List ℕ) (first now : Option (List ℕ)) : Type 0 where
+-- Some of the lines were done, what was told of them was written or waits, and the next has this fault.
+pub record WaitsFor {J F : Type 0} (told : J → List (List ℕ) → List ℕ → Type 0) (refuses : List (List ℕ) → List ℕ → F → Type 0) (fault : StreamFault F) (all : List (List ℕ)) (waiting : List ℕ) (first now : Option (List ℕ)) : Type 0 where
   pub lines : List (List ℕ)
   pub line : List ℕ
   pub more : List (List ℕ)
   pub cut : all ≡ lines ++ line ∷ more
+  pub job : J
   pub text : List ℕ
   pub appended : Appends first now text
-  pub answered : text_behind answer [] lines ≡ Ok (text ++ waiting)
-  pub fault_is : IsLineFault answer fault lines line
+  pub tells : told job lines (text ++ waiting)
+  pub fault_is : IsLineFault refuses fault lines line
+
+-- A line stopped it so. Or a write failed, and nothing waits any more.
+abbrev pub IsLeft : {J F : Type 0} → (J → List (List ℕ) → List ℕ → Type 0) → (List (List ℕ) → List ℕ → F → Type 0) → StreamFault F → List (List ℕ) → List ℕ → Option (List ℕ) → Option (List ℕ) → Type 0
+IsLeft told refuses fault all waiting first now = WaitsFor told refuses fault all waiting first now ⊎ ((fault ≡ WriteFault) × (waiting ≡ []) × StopsAt told refuses WriteFault all first now)

@@ -1,10 +1,10 @@
 //! What is kept of a stream between two reads, and a line that is over.
 
 ghost use Rattle.std.specs.Prelude.{◌≡◌, ◌++◌, ◌∷◌, ◌≤◌, [], List, ℕ, Option, Result, Ok, length, IfErr, OnErr, OnOk};
-ghost use Rattle.serf_text.specs.Lines.{IsSaid, number_behind};
-ghost use Rattle.serf_text.specs.Streams.{IsLineFault, Reached};
+ghost use Rattle.serf_text.specs.Lines.{number_behind};
+ghost use Rattle.serf_text.specs.Streams.{IsHoldFault, IsLineFault, IsRefused, Reached};
 
-use crate::line_job::LineJob;
+use crate::line_job::LineTeller;
 use crate::stream_fault::{StreamFault, StreamLineFault};
 use std::alloc::Global;
 
@@ -25,23 +25,22 @@ pub(crate) struct Kept {
 }
 
 /// Puts the answer to a line after those that wait.
-fn read_one<J: LineJob>(
+fn read_one<J: LineTeller>(
     alloc: Global,
     job: &mut J,
     line: &[u8],
     text: &mut Vec<u8>,
     waiting: &mut Vec<u8>,
 ) -> Result<(), StreamLineFault<J::Fault>>
-    ensures done { (lines : List (List ℕ)) → J.follows job.old lines
-        → OnOk result ((answered : List ℕ) × (J.answer lines line.now ≡ Ok answered)
-        × (waiting.new.items ≡ waiting.old.items ++ answered)
-        × J.follows job.new (lines ++ line.now ∷ [])) }
-    ensures refused { (lines : List (List ℕ)) → J.follows job.old lines
-        → IfErr result (IsSaid (J.answer lines line.now)) }
+    ensures done { (lines : List (List ℕ)) (before : List ℕ) → J.told job.old lines before
+        → OnOk result ((told : List ℕ) × (waiting.new.items ≡ waiting.old.items ++ told)
+        × J.told job.new (lines ++ line.now ∷ []) (before ++ told)) }
+    ensures refused { (lines : List (List ℕ)) (before : List ℕ) → J.told job.old lines before
+        → IfErr result (IsRefused J.refuses lines line.now) }
     ensures same { OnErr result (waiting.new.items ≡ waiting.old.items) }
 {
     text.clear();
-    match job.read_line(alloc, line, text) {
+    match job.tell_line(alloc, line, text) {
         Ok(()) => match waiting.extend_from_slice(text) {
             Ok(()) => Ok(()),
             Err(_) => Err(StreamLineFault::OutOfMemory),
@@ -51,7 +50,7 @@ fn read_one<J: LineJob>(
 }
 
 /// Answers a line that is over, and counts it.
-fn answer_line<J: LineJob>(
+fn answer_line<J: LineTeller>(
     alloc: Global,
     job: &mut J,
     line: &[u8],
@@ -60,12 +59,12 @@ fn answer_line<J: LineJob>(
     waiting: &mut Vec<u8>,
 ) -> Result<(), StreamFault<J::Fault>>
     ensures done { (lines : List (List ℕ)) (first now : Option (List ℕ))
-        → Reached J.follows J.answer job.old number.old waiting.old.items lines first now
-        → OnOk result (Reached J.follows J.answer job.new number.new waiting.new.items
+        → Reached J.told job.old number.old waiting.old.items lines first now
+        → OnOk result (Reached J.told job.new number.new waiting.new.items
         (lines ++ line.now ∷ []) first now) }
     ensures stopped { (lines : List (List ℕ)) (first now : Option (List ℕ))
-        → Reached J.follows J.answer job.old number.old waiting.old.items lines first now
-        → IfErr result (λ fault. IsLineFault J.answer fault lines line.now) }
+        → Reached J.told job.old number.old waiting.old.items lines first now
+        → IfErr result (λ fault. IsLineFault J.refuses fault lines line.now) }
     ensures same { OnErr result (waiting.new.items ≡ waiting.old.items) }
 {
     if line.len() > MAX_LINE_BYTES {
@@ -87,9 +86,9 @@ fn answer_line<J: LineJob>(
 /// Puts a piece after the beginning of the line that is not over.
 pub(crate) fn hold<F>(number: u64, held: &mut Vec<u8>, piece: &[u8]) -> Result<(), StreamFault<F>>
     ensures done { OnOk result (held.new.items ≡ held.old.items ++ piece.now) }
-    ensures stopped { (answer : List (List ℕ) → List ℕ → Result (List ℕ) F) (lines : List (List ℕ))
+    ensures stopped { (lines : List (List ℕ))
         → number ≡ number_behind lines
-        → IfErr result (λ fault. IsLineFault answer fault lines (held.old.items ++ piece.now)) }
+        → IfErr result (λ fault. IsHoldFault fault lines (held.old.items ++ piece.now)) }
 {
     if held.len() > MAX_LINE_BYTES || piece.len() > MAX_LINE_BYTES - held.len() {
         return Err(StreamFault::LineTooLong { line: number });
@@ -117,21 +116,21 @@ impl Kept {
 }
 
 /// Answers the line that ends with this piece.
-pub(crate) fn end_line<J: LineJob>(
+pub(crate) fn end_line<J: LineTeller>(
     alloc: Global,
     job: &mut J,
     kept: &mut Kept,
     piece: &[u8],
 ) -> Result<(), StreamFault<J::Fault>>
     ensures done { (lines : List (List ℕ)) (first now : Option (List ℕ))
-        → Reached J.follows J.answer job.old kept.old.number kept.old.waiting.items lines first now
-        → OnOk result (Reached J.follows J.answer job.new kept.new.number kept.new.waiting.items
+        → Reached J.told job.old kept.old.number kept.old.waiting.items lines first now
+        → OnOk result (Reached J.told job.new kept.new.number kept.new.waiting.items
         (lines ++ (kept.old.held.items ++ piece.now) ∷ []) first now) }
     ensures empty { OnOk result (kept.new.held.items ≡ []) }
     ensures stopped { (lines : List (List ℕ)) (first now : Option (List ℕ))
-        → Reached J.follows J.answer job.old kept.old.number kept.old.waiting.items lines first now
+        → Reached J.told job.old kept.old.number kept.old.waiting.items lines first now
         → IfErr result (λ fault.
-        IsLineFault J.answer fault lines (kept.old.held.items ++ piece.now)) }
+        IsLineFault J.refuses fault lines (kept.old.held.items ++ piece.now)) }
     ensures same { OnErr result (kept.new.waiting.items ≡ kept.old.waiting.items) }
 {
     if kept.held.is_empty() {

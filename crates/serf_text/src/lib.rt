@@ -21,13 +21,13 @@ pub use cause::{Cause, LineFault};
 pub use clock_lines::clocks_text;
 pub use input::{InputFault, MAX_SCHEDULE_BYTES, read_input};
 pub use kept::MAX_LINE_BYTES;
-pub use line_job::LineJob;
+pub use line_job::{LineJob, LineTeller};
 pub use message_lines::{DecodeTextFault, decode_text, put_members, put_message, put_slot};
 pub use output::{WriteFault, write_output};
 pub use put::{
     flag, put_hex, put_number, put_number_line, put_signed, put_with_hex, put_with_number,
 };
-pub use stream::answer_lines;
+pub use stream::{answer_lines, tell_lines};
 pub use stream_fault::{StreamFault, StreamLineFault};
 pub use wire_words::{WireWords, put_wire_fault};
 pub use words::{

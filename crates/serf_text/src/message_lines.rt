@@ -169,6 +169,11 @@ pub fn put_slot(out: &mut Vec<u8>, number: u64, slot: &SlotView) -> Result<(), A
             put_with_number(out, b"slot", number)?;
             out.extend_from_slice(b" nil\n")
         }
+        SlotView::Single(time, event) => {
+            put_with_numbers(out, b"slot", number, time.get())?;
+            out.extend_from_slice(b"\n")?;
+            put_event_line(out, *event)
+        }
         SlotView::Held(time, events) => {
             put_with_numbers(out, b"slot", number, time.get())?;
             out.extend_from_slice(b"\n")?;

@@ -1,13 +1,13 @@
 //! A whole stream of lines.
 
-ghost use Rattle.std.specs.Prelude.{◌≡◌, ◌++◌, [], List, ℕ, Option, Ok, IfErr, OnErr, OnOk};
+ghost use Rattle.std.specs.Prelude.{◌≡◌, ◌++◌, ◌∷◌, [], List, ℕ, Option, Ok, IfErr, OnErr, OnOk};
 ghost use Rattle.std.specs.Io.KnownBytes.{Appends, Consumes, IsAtEnd};
 ghost use Rattle.serf_text.specs.Io.{AppendsFront};
 ghost use Rattle.serf_text.specs.Lines.{lines_of, text_behind};
-ghost use Rattle.serf_text.specs.Streams.{HasRead, IsDone, IsStopped, WaitsFor};
+ghost use Rattle.serf_text.specs.Streams.{HasRead, IsDone, IsLeft, IsStopped, Reached, StopsAt, TellsAll};
 
 use crate::kept::{Kept, end_line, hold};
-use crate::line_job::LineJob;
+use crate::line_job::{LineJob, LineTeller};
 use crate::output::write_output;
 use crate::stream_fault::StreamFault;
 use crate::words::cut;
@@ -17,34 +17,8 @@ use std::io::{Read, Write};
 /// How many bytes are asked of the reader at once.
 const CHUNK: usize = 8192;
 
-/// Answers the lines that end within these bytes, and holds what is after the last of them.
-fn take_bytes<J: LineJob>(
-    alloc: Global,
-    job: &mut J,
-    kept: &mut Kept,
-    bytes: &[u8],
-) -> Result<(), StreamFault<J::Fault>>
-    ensures done { (before : List ℕ) (first now : Option (List ℕ)) → HasRead J.follows J.answer
-        job.old kept.old.held.items kept.old.number kept.old.waiting.items before first now
-        → OnOk result (HasRead J.follows J.answer job.new kept.new.held.items kept.new.number
-        kept.new.waiting.items (before ++ bytes.now) first now) }
-    ensures stopped { (before : List ℕ) (first now : Option (List ℕ)) → HasRead J.follows J.answer
-        job.old kept.old.held.items kept.old.number kept.old.waiting.items before first now
-        → IfErr result (λ fault.
-        WaitsFor J.answer fault (lines_of (before ++ bytes.now)) kept.new.waiting.items first now) }
-{
-    let mut rest = bytes;
-    'lines: loop {
-        let (line, more) = cut(rest, b'\n');
-        match more {
-            Some(next) => match end_line(alloc, job, kept, line) {
-                Ok(()) => rest = next,
-                Err(fault) => return Err(fault),
-            },
-            None => return hold(kept.number, &mut kept.held, line),
-        }
-    }
-}
+/// How many bytes that wait are written at once, before the rest of what was read is answered.
+const ENOUGH: usize = 65536;
 
 /// Writes the answers that wait.
 fn write_waiting<W: Write, F>(writer: &mut W, waiting: &mut Vec<u8>) -> Result<(), StreamFault<F>>
@@ -63,8 +37,69 @@ fn write_waiting<W: Write, F>(writer: &mut W, waiting: &mut Vec<u8>) -> Result<(
     }
 }
 
+/// Answers a line that is over, and writes the answers that wait once there are many.
+fn do_line<W: Write, J: LineTeller>(
+    alloc: Global,
+    job: &mut J,
+    kept: &mut Kept,
+    line: &[u8],
+    writer: &mut W,
+) -> Result<(), StreamFault<J::Fault>>
+    ensures done { (lines : List (List ℕ)) (first : Option (List ℕ)) → Reached J.told
+        job.old kept.old.number kept.old.waiting.items lines first (W.contents writer.old)
+        → OnOk result (Reached J.told job.new kept.new.number kept.new.waiting.items
+        (lines ++ (kept.old.held.items ++ line.now) ∷ []) first (W.contents writer.new)) }
+    ensures empty { OnOk result (kept.new.held.items ≡ []) }
+    ensures stopped { (all lines more : List (List ℕ)) (first : Option (List ℕ))
+        → all ≡ lines ++ (kept.old.held.items ++ line.now) ∷ more → Reached J.told
+        job.old kept.old.number kept.old.waiting.items lines first (W.contents writer.old)
+        → IfErr result (λ fault. IsLeft J.told J.refuses fault all kept.new.waiting.items first
+        (W.contents writer.new)) }
+{
+    match end_line(alloc, job, kept, line) {
+        Ok(()) => {}
+        Err(fault) => return Err(fault),
+    }
+    if kept.waiting.len() < ENOUGH {
+        return Ok(());
+    }
+    write_waiting(writer, &mut kept.waiting)
+}
+
+/// Answers the lines that end within these bytes, and holds what is after the last of them.
+fn take_bytes<W: Write, J: LineTeller>(
+    alloc: Global,
+    job: &mut J,
+    kept: &mut Kept,
+    bytes: &[u8],
+    writer: &mut W,
+) -> Result<(), StreamFault<J::Fault>>
+    ensures done { (before : List ℕ) (first : Option (List ℕ)) → HasRead J.told job.old
+        kept.old.held.items kept.old.number kept.old.waiting.items before first
+        (W.contents writer.old)
+        → OnOk result (HasRead J.told job.new kept.new.held.items kept.new.number
+        kept.new.waiting.items (before ++ bytes.now) first (W.contents writer.new)) }
+    ensures stopped { (before : List ℕ) (first : Option (List ℕ)) → HasRead J.told job.old
+        kept.old.held.items kept.old.number kept.old.waiting.items before first
+        (W.contents writer.old)
+        → IfErr result (λ fault. IsLeft J.told J.refuses fault (lines_of (before ++ bytes.now))
+        kept.new.waiting.items first (W.contents writer.new)) }
+{
+    let mut rest = bytes;
+    'lines: loop {
+        let (line, more) = cut(rest, b'\n');
+        match more {
+            Some(next) => match do_line(alloc, job, kept, line, writer) {
+                Ok(()) => rest = next,
+                Err(fault) => return Err(fault),
+            },
+            None => return hold(kept.number, &mut kept.held, line),
+        }
+    }
+}
+
 /// Takes what was read, and writes the answers.
-fn step<W: Write, J: LineJob>(
+fn step<W: Write, J: LineTeller>(
     alloc: Global,
     job: &mut J,
     kept: &mut Kept,
@@ -72,18 +107,19 @@ fn step<W: Write, J: LineJob>(
     writer: &mut W,
 ) -> Result<(), StreamFault<J::Fault>>
     ensures done { (before : List ℕ) (first : Option (List ℕ))
-        → HasRead J.follows J.answer job.old kept.old.held.items kept.old.number
+        → HasRead J.told job.old kept.old.held.items kept.old.number
         kept.old.waiting.items before first (W.contents writer.old)
-        → OnOk result (HasRead J.follows J.answer job.new kept.new.held.items kept.new.number
+        → OnOk result (HasRead J.told job.new kept.new.held.items kept.new.number
         kept.new.waiting.items (before ++ bytes.now) first (W.contents writer.new)) }
     ensures empty { kept.new.waiting.items ≡ [] }
     ensures stopped { (before : List ℕ) (first : Option (List ℕ))
-        → HasRead J.follows J.answer job.old kept.old.held.items kept.old.number
+        → HasRead J.told job.old kept.old.held.items kept.old.number
         kept.old.waiting.items before first (W.contents writer.old)
         → IfErr result (λ fault.
-        IsStopped J.answer fault (lines_of (before ++ bytes.now)) first (W.contents writer.new)) }
+        StopsAt J.told J.refuses fault (lines_of (before ++ bytes.now)) first
+        (W.contents writer.new)) }
 {
-    let taken = take_bytes(alloc, job, kept, bytes);
+    let taken = take_bytes(alloc, job, kept, bytes, writer);
     match write_waiting(writer, &mut kept.waiting) {
         Ok(()) => taken,
         Err(fault) => Err(fault),
@@ -91,22 +127,22 @@ fn step<W: Write, J: LineJob>(
 }
 
 /// Answers the line that the end of the stream ends, and writes its answer.
-fn finish<W: Write, J: LineJob>(
+fn finish<W: Write, J: LineTeller>(
     alloc: Global,
     job: &mut J,
     kept: &mut Kept,
     writer: &mut W,
 ) -> Result<(), StreamFault<J::Fault>>
     ensures done { (before : List ℕ) (first : Option (List ℕ))
-        → HasRead J.follows J.answer job.old kept.old.held.items kept.old.number
+        → HasRead J.told job.old kept.old.held.items kept.old.number
         kept.old.waiting.items before first (W.contents writer.old)
-        → OnOk result (IsDone J.follows J.answer job.new (lines_of before) first
+        → OnOk result (TellsAll J.told job.new (lines_of before) first
         (W.contents writer.new)) }
     ensures stopped { (before : List ℕ) (first : Option (List ℕ))
-        → HasRead J.follows J.answer job.old kept.old.held.items kept.old.number
+        → HasRead J.told job.old kept.old.held.items kept.old.number
         kept.old.waiting.items before first (W.contents writer.old)
         → IfErr result (λ fault.
-        IsStopped J.answer fault (lines_of before) first (W.contents writer.new)) }
+        StopsAt J.told J.refuses fault (lines_of before) first (W.contents writer.new)) }
 {
     let ended = end_line(alloc, job, kept, &[]);
     match write_waiting(writer, &mut kept.waiting) {
@@ -115,12 +151,48 @@ fn finish<W: Write, J: LineJob>(
     }
 }
 
-/// Answers the lines of a reader, one after another, until its end.
+/// Does the lines of a reader, one after another, until its end, and writes what is told of them.
 ///
 /// The lines are what stands between newlines; the last one has none, and may be empty. A line is dropped as soon as it
-/// is answered, and the answers to the lines that are over are written before more is read: a read that fails shows
-/// how it stands there. So the memory that is taken is bounded by the longest line, by the answers to a few thousand
-/// bytes and by what the job keeps. A line may have 16,777,216 bytes.
+/// is done, and what is told of the lines that are over is written before more is read: a read that fails shows
+/// how it stands there. So the memory that is taken is bounded by the longest line, by what is told of one line and
+/// 65,536 bytes beside that, and by what the job keeps. A line may have 16,777,216 bytes.
+pub fn tell_lines<R: Read, W: Write, J: LineTeller>(
+    alloc: Global,
+    reader: &mut R,
+    writer: &mut W,
+    job: &mut J,
+) -> Result<(), StreamFault<J::Fault>>
+    // Just what was told of all lines was written.
+    ensures done { J.told job.old [] []
+        → OnOk result ((bytes : List ℕ)
+        × Consumes (R.remaining reader.old) (R.remaining reader.new) bytes
+        × IsAtEnd (R.remaining reader.new)
+        × TellsAll J.told job.new (lines_of bytes) (W.contents writer.old)
+        (W.contents writer.new)) }
+    // Of the lines that were read some were done; what else is said of them depends on the fault.
+    ensures stopped { J.told job.old [] []
+        → IfErr result (λ fault. (bytes : List ℕ)
+        × Consumes (R.remaining reader.old) (R.remaining reader.new) bytes
+        × StopsAt J.told J.refuses fault (lines_of bytes) (W.contents writer.old)
+        (W.contents writer.new)) }
+{
+    let mut kept = Kept::new(alloc);
+    let mut chunk = [0u8; CHUNK];
+    for _turn in 0..u64::MAX {
+        match reader.read(&mut chunk) {
+            Err(_) => return Err(StreamFault::ReadFault),
+            Ok(0) => return finish(alloc, job, &mut kept, writer),
+            Ok(n) => match step(alloc, job, &mut kept, &chunk[..n], writer) {
+                Ok(()) => {}
+                Err(fault) => return Err(fault),
+            },
+        }
+    }
+    Err(StreamFault::ReadFault)
+}
+
+/// Answers the lines of a reader, one after another, until its end, as [`tell_lines`] does them.
 pub fn answer_lines<R: Read, W: Write, J: LineJob>(
     alloc: Global,
     reader: &mut R,
@@ -141,17 +213,5 @@ pub fn answer_lines<R: Read, W: Write, J: LineJob>(
         × IsStopped J.answer fault (lines_of bytes) (W.contents writer.old)
         (W.contents writer.new)) }
 {
-    let mut kept = Kept::new(alloc);
-    let mut chunk = [0u8; CHUNK];
-    for _turn in 0..u64::MAX {
-        match reader.read(&mut chunk) {
-            Err(_) => return Err(StreamFault::ReadFault),
-            Ok(0) => return finish(alloc, job, &mut kept, writer),
-            Ok(n) => match step(alloc, job, &mut kept, &chunk[..n], writer) {
-                Ok(()) => {}
-                Err(fault) => return Err(fault),
-            },
-        }
-    }
-    Err(StreamFault::ReadFault)
+    tell_lines(alloc, reader, writer, job)
 }

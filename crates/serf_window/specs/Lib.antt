@@ -4,3 +4,4 @@ pub mod Texts
 pub mod Slots
 pub mod OneSlot
 pub mod Queries
+pub mod Recall

@@ -51,12 +51,11 @@ one_item_more limit meaning n bytes mid rest a s = one_part_more (λ (t : Item l
 abbrev pub part_of : {A : Type 0} → (limit : ℕ) → (meaning : Tree → Option A) → Item limit meaning → Part
 part_of limit meaning t = record { bytes = t.front; tree = t.tree }
 
-pub list_spans : Below → {A : Type 0} (limit : ℕ) (meaning : Tree → Option A) (n : ℕ) (bytes items rest : List ℕ) → limit ≤ 8 → head_at 0 bytes ≡ Ok (heads.Array n, items) → AreItems (limit + 1) meaning n items rest → Spans limit (list meaning) bytes rest
-list_spans below limit meaning n bytes items rest small e a =
-    let h = (below.reading.head 0 bytes items (heads.Array n)).0 e in
-    let all = all_true a.parts in record {
-      value = map (λ t. t.value) a.parts;
-      reads = record {
+module _ (below : Below) {A : Type 0} (limit : ℕ) (meaning : Tree → Option A) (bytes items rest : List ℕ) (small : limit ≤ 8) where
+  pub list_reads : (n : ℕ) → head_at 0 bytes ≡ Ok (heads.Array n, items) → (a : AreItems (limit + 1) meaning n items rest) → ReadsIn limit (list meaning) (map (λ t. t.value) a.parts) bytes rest
+  list_reads n e a =
+      let h = (below.reading.head 0 bytes items (heads.Array n)).0 e in
+      let all = all_true a.parts in record {
         front = h.head ++ flat_map (λ t. t.front) a.parts;
         tree = λ p. array p (items_from (part_of (limit + 1) meaning) (p + length h.head) a.parts);
         bytes_are = h.bytes_are ∙ ap (λ t. h.head ++ t) a.bytes_are ∙ sym (append_assoc h.head (flat_map (λ t. t.front) a.parts) rest);
@@ -70,8 +69,14 @@ list_spans below limit meaning n bytes items rest small e a =
           items_pack (d + 1) (part_of (limit + 1) meaning) (λ t. Unit {0}) (λ t u q. t.packs (d + 1) q (omega arith)) a.parts all (p + length h.head),
         );
         means = λ p. all_read meaning (part_of (limit + 1) meaning) (λ t. t.value) (λ t. Unit {0}) (λ t u q. t.means q) a.parts all (p + length h.head);
-      };
-    }
+      }
+
+  pub list_spans : (n : ℕ) → head_at 0 bytes ≡ Ok (heads.Array n, items) → AreItems (limit + 1) meaning n items rest → Spans limit (list meaning) bytes rest
+  list_spans n e a = record { value = map (λ t. t.value) a.parts; reads = list_reads n e a }
+
+  -- a list of one
+  pub only_reads : (x : A) → head_at 0 bytes ≡ Ok (heads.Array 1, items) → ReadsIn (limit + 1) meaning x items rest → ReadsIn limit (list meaning) (x ∷ []) bytes rest
+  only_reads x e r = list_reads 1 e (record { parts = item_of (limit + 1) meaning x items rest r ∷ []; bytes_are = r.bytes_are ∙ ap (λ t. t ++ rest) (sym (append-nil r.front)); count = refl })
 
 -- ---- a view of it
 

@@ -1,5 +1,5 @@
 -- Lists that are walked where they lie: what is still to come.
-use Rattle.std.specs.Prelude.{ℕ, List, [], map, Option, Some, None}
+use Rattle.std.specs.Prelude.{ℕ, List, [], ◌∷◌, map, Option, Some, None}
 use Rattle.serf_pack.specs.declared.walk.Items.{Items}
 use Rattle.serf_pack.specs.declared.walk.Pairs.{Pairs}
 use Rattle.serf_pack.specs.Walk.{items_left, pairs_left}
@@ -10,8 +10,10 @@ use Rattle.serf_wire.specs.declared.lists.StatusTimes.{StatusTimes}
 use Rattle.serf_wire.specs.declared.lists.EventView.{EventView}
 use Rattle.serf_wire.specs.declared.lists.EventViews.{EventViews}
 use Rattle.serf_wire.specs.declared.lists.SlotView.{SlotView}
-use Rattle.serf_wire.specs.declared.lists.SlotView.TheVariants.{Empty, Held}
+use Rattle.serf_wire.specs.declared.lists.SlotView.TheVariants.{Empty, Single, Held}
 use Rattle.serf_wire.specs.declared.lists.SlotViews.{SlotViews}
+use Rattle.serf_wire.specs.declared.fast.slots.FoundEvents.{FoundEvents}
+use Rattle.serf_wire.specs.declared.fast.slots.FoundEvents.TheVariants.{One, Many}
 use Rattle.serf_wire.specs.Slots.{SlotContent, empty, held}
 use Rattle.serf_wire.specs.Lookups.{text_in, status_time_in, event_body_in, slot_in}
 
@@ -34,25 +36,23 @@ status_left status = status_walk status.pairs
 abbrev pub status_of : StatusTime → List ℕ × ℕ
 status_of s = (s.name.now, s.time)
 
-abbrev pub events_walk : Option Items → List EventBody
-events_walk None = []
-events_walk (Some walk) = map event_body_in (items_left walk)
-
 -- the events that are still to come
 abbrev pub events_left : EventViews → List EventBody
-events_left events = events_walk events.items
+events_left events = map event_body_in (items_left events.items)
 
 abbrev pub event_of_view : EventView → EventBody
 event_of_view e = record { name = e.name.now; payload = e.payload.now }
 
-abbrev pub slots_walk : Option Items → List SlotContent
-slots_walk None = []
-slots_walk (Some walk) = map slot_in (items_left walk)
-
 -- the slots that are still to come
 abbrev pub slots_left : SlotViews → List SlotContent
-slots_left slots = slots_walk slots.items
+slots_left slots = map slot_in (items_left slots.items)
 
 abbrev pub slot_of_view : SlotView → SlotContent
 slot_of_view Empty = empty
+slot_of_view (Single time event) = held time (event_of_view event ∷ [])
 slot_of_view (Held time events) = held time (events_left events)
+
+-- the events of a compact list: its only one, or those that are still to come
+abbrev pub events_found : FoundEvents → List EventBody
+events_found (One event) = event_of_view event ∷ []
+events_found (Many events) = events_left events

@@ -39,20 +39,22 @@ pub struct EventView<'a> {
 /// The events of a slot that are still to come.
 #[derive(Clone, Copy)]
 pub struct EventViews<'a> {
-    items: Option<Items<'a>>,
+    items: Items<'a>,
 }
 
 /// A slot of an event buffer: nothing, or a time and its events.
 #[derive(Clone, Copy)]
 pub enum SlotView<'a> {
     Empty,
+    /// A time and the only event of it. A slot of one event may also be `Held`.
+    Single(Time, EventView<'a>),
     Held(Time, EventViews<'a>),
 }
 
 /// The slots that are still to come.
 #[derive(Clone, Copy)]
 pub struct SlotViews<'a> {
-    items: Option<Items<'a>>,
+    items: Items<'a>,
 }
 
 impl<'a> Texts<'a> {
@@ -112,9 +114,11 @@ impl<'a> EventViews<'a> {
             ≡ list_in event_body_in (tree_or_nil (option_map tree_of list.entry)) }
     {
         match list {
-            None => EventViews { items: None },
+            None => EventViews {
+                items: Items::none(),
+            },
             Some(list) => EventViews {
-                items: Some(list.items()),
+                items: list.items(),
             },
         }
     }
@@ -134,9 +138,11 @@ impl<'a> SlotViews<'a> {
             ≡ list_in slot_in (tree_or_nil (option_map tree_of list.entry)) }
     {
         match list {
-            None => SlotViews { items: None },
+            None => SlotViews {
+                items: Items::none(),
+            },
             Some(list) => SlotViews {
-                items: Some(list.items()),
+                items: list.items(),
             },
         }
     }
@@ -239,13 +245,10 @@ impl<'a> Iterator for EventViews<'a> {
     ghost remaining = { item_count events_left };
 
     fn next(&mut self) -> Option<EventView<'a>> {
-        let items = self.items?;
-        let Some((event, behind)) = next_event(&items) else {
+        let Some((event, behind)) = next_event(&self.items) else {
             return None;
         };
-        *self = EventViews {
-            items: Some(behind),
-        };
+        *self = EventViews { items: behind };
         Some(event)
     }
 }
@@ -261,13 +264,10 @@ impl<'a> Iterator for SlotViews<'a> {
     ghost remaining = { item_count slots_left };
 
     fn next(&mut self) -> Option<SlotView<'a>> {
-        let items = self.items?;
-        let Some((slot, behind)) = next_slot(&items) else {
+        let Some((slot, behind)) = next_slot(&self.items) else {
             return None;
         };
-        *self = SlotViews {
-            items: Some(behind),
-        };
+        *self = SlotViews { items: behind };
         Some(slot)
     }
 }

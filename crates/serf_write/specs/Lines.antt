@@ -29,6 +29,8 @@ set_number place config key (Some n) =
     if bytes_eq key (codes "events") then Ok (record config { event_buffer = n })
     else if bytes_eq key (codes "queries") then Ok (record config { query_buffer = n })
     else if bytes_eq key (codes "limit") then Ok (record config { event_limit = n })
+    else if bytes_eq key (codes "querylimit") then Ok (record config { query_limit = n })
+    else if bytes_eq key (codes "responselimit") then Ok (record config { response_limit = n })
     else if bytes_eq key (codes "responders") then Ok (record config { responders = n })
     else if bytes_eq key (codes "pertime") then Ok (record config { per_time = n })
     else wrong place wanted.Setting

@@ -18,9 +18,9 @@ pub enum Wanted {
     AgentsFirst,
     #[error("here stands the agent's name, which no agent above has")]
     NewName,
-    #[error("here may stand events=N, queries=N, limit=N, responders=N, pertime=N, keep or ignore")]
+    #[error("here may stand events=N, queries=N, limit=N, querylimit=N, responselimit=N, responders=N, pertime=N, keep or ignore")]
     Setting,
-    #[error("a name has 1 to 128 bytes, limit is at most 9216, and the other numbers of an agent are 1 to 65536")]
+    #[error("a name has 1 to 128 bytes, each limit is at most 9216, and the other numbers of an agent are 1 to 65536")]
     Bounds,
     #[error("here stands the name of an agent above, or an agent's number")]
     Agent,

@@ -12,7 +12,8 @@ use crate::fault::{LineFault, Wanted, bad};
 use crate::piece::Piece;
 use crate::values::{halves, nth};
 use serf_agent::{
-    Config, DEFAULT_EVENT_LIMIT, DEFAULT_PER_TIME, DEFAULT_RESPONDERS, DEFAULT_SLOTS,
+    Config, DEFAULT_EVENT_LIMIT, DEFAULT_PER_TIME, DEFAULT_QUERY_LIMIT, DEFAULT_RESPONDERS,
+    DEFAULT_RESPONSE_LIMIT, DEFAULT_SLOTS,
 };
 use serf_text::{is_word, number};
 use serf_wire::Bytes;
@@ -28,6 +29,8 @@ fn plain(name: Bytes) -> Config
         event_buffer: DEFAULT_SLOTS,
         query_buffer: DEFAULT_SLOTS,
         event_limit: DEFAULT_EVENT_LIMIT,
+        query_limit: DEFAULT_QUERY_LIMIT,
+        response_limit: DEFAULT_RESPONSE_LIMIT,
         responders: DEFAULT_RESPONDERS,
         per_time: DEFAULT_PER_TIME,
         ignore_old: false,
@@ -44,6 +47,10 @@ fn set(config: &mut Config, place: usize, key: &[u8], value: u64) -> Result<(), 
         config.query_buffer = value;
     } else if is_word(key, b"limit") {
         config.event_limit = value;
+    } else if is_word(key, b"querylimit") {
+        config.query_limit = value;
+    } else if is_word(key, b"responselimit") {
+        config.response_limit = value;
     } else if is_word(key, b"responders") {
         config.responders = value;
     } else if is_word(key, b"pertime") {

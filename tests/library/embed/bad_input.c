@@ -1,24 +1,13 @@
 /* Calls on handles that are empty, in use or full of unwritten bytes, with wrong numbers, no bytes and any bytes.
  *
  * Prints a line `FAILED ..` for each answer that isn't as include/serf_agent.h says, and at the end `N passed, M failed`. */
+#include "counts.h"
 #include "serf_agent.h"
 
-#include <stdio.h>
 #include <stdlib.h>
 #include <string.h>
 
-static int passed, failed;
-
-static void is(const char *what, uint32_t code, uint32_t wanted) {
-    if (code == wanted) {
-        passed++;
-    } else {
-        failed++;
-        printf("FAILED %s: %u, and %u was wanted\n", what, code, wanted);
-    }
-}
-
-static const struct serf_agent_settings settings = {8, 8, 512, 8, 8, false};
+static const struct serf_agent_settings settings = {8, 8, 512, 1024, 1024, 8, 8, false};
 static uint8_t room[65536];
 
 /* What the library has for the file is written: here to nowhere. */
@@ -144,6 +133,14 @@ static void openings(void) {
     is("no slots", serf_agent_open(&agent, (const uint8_t *)"a", 1, &bad, NULL, 0), SERF_AGENT_BAD_CONFIG);
     bad.event_buffer = 65537;
     is("too many slots", serf_agent_open(&agent, (const uint8_t *)"a", 1, &bad, NULL, 0), SERF_AGENT_BAD_CONFIG);
+    for (uint64_t limit = 9217; limit != 0; limit = limit == 9217 ? UINT64_MAX : 0) {
+        bad = settings;
+        bad.query_limit = limit;
+        is("too long queries", serf_agent_open(&agent, (const uint8_t *)"a", 1, &bad, NULL, 0), SERF_AGENT_BAD_CONFIG);
+        bad = settings;
+        bad.response_limit = limit;
+        is("too long responses", serf_agent_open(&agent, (const uint8_t *)"a", 1, &bad, NULL, 0), SERF_AGENT_BAD_CONFIG);
+    }
     is("a handle that wasn't opened is empty", serf_agent_close(&agent), SERF_AGENT_EMPTY);
     is("open", opened(&agent, "a", "event-clock: 5\n"), SERF_AGENT_OK);
     is("open twice", opened(&agent, "b", "event-clock: 50\n"), SERF_AGENT_IN_USE);

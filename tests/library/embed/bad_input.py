@@ -41,6 +41,9 @@ def path(name):
 def openings():
     refused("no name", Code.BAD_CONFIG, Agent, b"", path("a"))
     refused("no slots", Code.BAD_CONFIG, Agent, b"a", path("a"), Settings(event_buffer=0))
+    for limit in (9217, (1 << 64) - 1):
+        refused(f"a limit of queries of {limit}", Code.BAD_CONFIG, Agent, b"a", path("a"), Settings(query_limit=limit))
+        refused(f"a limit of responses of {limit}", Code.BAD_CONFIG, Agent, b"a", path("a"), Settings(response_limit=limit))
     refused("a folder", NotAFile, Agent, b"a", FOLDER)
     refused("no folder", MissingFolder, Agent, b"a", path("none/a"))
     with Agent(b"a", path("a")) as agent:
@@ -192,7 +195,41 @@ def bursts():
         refused("an agent that was closed", Code.EMPTY, closed_meanwhile)
 
 
-for part in (openings, events, queries, compactions, faults, bursts):
+def longest(name, start, call):
+    """The packet of the longest payload that is taken: each that is longer is refused as too large."""
+    for length in range(start, -1, -1):
+        try:
+            return len(call(b"x" * length))
+        except AgentError as error:
+            if error.code is not Code.TOO_LARGE:
+                check(f"{name} of {length}", False, error)
+                return None
+    return 0
+
+
+def limits():
+    check("the limits that are left out", (Settings().query_limit, Settings().response_limit) == (1024, 1024))
+    for given, wanted in (
+        ({}, (1024, 1024)),
+        ({"query_limit": 0, "response_limit": 0}, (1024, 1024)),
+        ({"query_limit": 300}, (300, 1024)),
+        ({"response_limit": 300}, (1024, 300)),
+        ({"query_limit": 200, "response_limit": 9216}, (200, 9216)),
+        ({"query_limit": 9216, "response_limit": 200}, (9216, 200)),
+    ):
+        with Agent(b"a", path("limits"), Settings(**given)) as agent:
+            asked = []
+
+            def ask(payload):
+                asked.append(agent.query(1, 7, b"q", payload, timeout=1000))
+                return asked[-1].packet
+
+            query = longest(f"a query with {given}", wanted[0] + 1, ask)
+            response = longest(f"a response with {given}", wanted[1] + 1, lambda payload: agent.respond(2, asked[-1].query.number, payload))
+            check(f"packets with {given}", (query, response) == wanted, (query, response))
+
+
+for part in (openings, events, queries, limits, compactions, faults, bursts):
     part()
 print(f"{passed} passed, {failed} failed")
 sys.exit(1 if failed else 0)

@@ -44,7 +44,7 @@ static void holds(const char *what, long number, bool is) {
     }
 }
 
-static const struct serf_agent_settings settings = {8, 8, 512, 8, 8, false};
+static const struct serf_agent_settings settings = {8, 8, 512, 1024, 1024, 8, 8, false};
 static uint8_t deploy[256], ask[256], state[2048], more[2048];
 static size_t deploy_len, ask_len, state_len, more_len;
 

@@ -46,7 +46,7 @@ def out_of(bits):
 
 
 def settings():
-    for field in ("event_buffer", "query_buffer", "event_limit", "responders", "per_time"):
+    for field in ("event_buffer", "query_buffer", "event_limit", "query_limit", "response_limit", "responders", "per_time"):
         for value in out_of(64):
             refused(f"{field} of {value}", OverflowError, Agent, b"a", path("a"), Settings(**{field: value}))
         refused(f"{field} of 1.0", TypeError, Agent, b"a", path("a"), Settings(**{field: 1.0}))

@@ -82,7 +82,7 @@ static void end(void) {
 }
 
 static enum serf_agent_store_fault open_agent(const char *path) {
-    static const struct serf_agent_settings settings = {512, 512, 512, 1024, 1024, false};
+    static const struct serf_agent_settings settings = {512, 512, 512, 1024, 1024, 1024, 1024, false};
     uint8_t *text;
     size_t len;
     end();

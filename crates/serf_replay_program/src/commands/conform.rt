@@ -58,7 +58,7 @@ fn with_going_on<'a>(
     alloc: Global,
     command: Result<Command<'a>, AllocError>,
 ) -> Result<Command<'a>, AllocError> {
-    let go_on = "With --random: goes on behind a disagreement, until so many were told";
+    let go_on = "With --random: goes on after a disagreement, until so many are reported";
     let go_on = number_of(alloc, "go-on", "N", go_on);
     with(
         command,

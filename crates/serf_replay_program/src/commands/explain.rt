@@ -1,9 +1,11 @@
-//! `explain`: a schedule's trace with its reasons.
+//! `explain`: a schedule's trace with its reasons; or the same line by line.
+
+mod streaming;
 
 use crate::agents::agents_of;
 use crate::ending::{DONE, replay_failed};
 use crate::input::{input_of, opened};
-use crate::options::{bare_command, number_of, option_of, place, with};
+use crate::options::{bad_words, bare_command, flag, number_of, option_of, place, with};
 use crate::progress::Progress;
 use crate::standard_output::StandardOutput;
 use clap::{ArgMatches, Command};
@@ -23,7 +25,9 @@ pub(crate) fn command<'a>(alloc: Global) -> Result<Command<'a>, AllocError> {
     let from = "The first action that is explained, counted from 1";
     let to = "The last action that is explained";
     let bare = Ok(bare_command(alloc, "explain", about, example));
+    let stream = "Does, explains and writes line by line: a schedule of any length, and all of it";
     let command = with(bare, place(alloc, "FILE", file));
+    let command = with(command, flag(alloc, "stream", stream));
     let command = with(command, option_of(alloc, "agent", "AGENT", agent));
     let command = with(command, number_of(alloc, "from", "ACTION", from));
     with(command, number_of(alloc, "to", "ACTION", to))
@@ -87,13 +91,30 @@ fn explain_agent<F: Files, R: Clock + Input + Print + Eprint + AllocGlobal>(
     Ok(explain_from(rt, is_terminal, file, &range, &mut reader))
 }
 
-/// Writes the trace of the schedule in a file, or on standard input, with its reasons.
+/// Whether the words ask for a part of the actions.
+fn asks_for_part(matches: &ArgMatches) -> bool {
+    matches.get_str("agent").is_some()
+        || matches.get_one::<u64>("from").is_some()
+        || matches.get_one::<u64>("to").is_some()
+}
+
+/// Writes the trace of the schedule in a file, or on standard input, with its reasons, line by line where that is asked
+/// for.
 pub(crate) fn run<F: Files, R: Clock + Input + Print + Eprint + AllocGlobal>(
     files: &F,
     rt: &R,
     is_terminal: bool,
     matches: &ArgMatches,
 ) -> u8 {
+    if matches.get_flag("stream") {
+        if asks_for_part(matches) {
+            return bad_words(
+                rt,
+                "--stream explains all actions: leave out --agent, --from and --to",
+            );
+        }
+        return streaming::run(files, rt, is_terminal, matches.get_str("FILE"));
+    }
     if let Some(word) = matches.get_str("agent") {
         return explain_agent(files, rt, is_terminal, matches, word).unwrap_or_else(|status| status);
     }

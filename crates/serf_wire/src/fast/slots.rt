@@ -1,17 +1,24 @@
 //! The slots of an event buffer: each nil or a map of just a time and its events, and each event a map of just a
 //! name and a payload.
 
-ghost use Rattle.std.specs.Prelude.{◌≡◌, ◌∷◌, codes, None, IfSome};
+ghost use Rattle.std.specs.Prelude.{◌≡◌, ◌∷◌, [], codes, None, IfNone, IfSome};
 ghost use Rattle.std.specs.Option.{option_map};
 ghost use Rattle.serf_wire.specs.Fields.{text, time, list, event_body, slot};
 ghost use Rattle.serf_wire.specs.Fast.{ReadsIn, ReadsPair, Spans, AreItems};
-ghost use Rattle.serf_wire.specs.Lists.{event_of_view, events_left, slot_of_view, slots_left};
+ghost use Rattle.serf_wire.specs.Lists.{event_of_view, events_found, events_left, slot_of_view, slots_left};
 ghost use Rattle.serf_wire.specs.Slots.{held};
 
 use crate::compact::{read_array_head, read_number, read_text, skip_nil, view_before};
 use crate::laws::laws_below;
 use crate::lists::{EventView, EventViews, SlotView, SlotViews};
 use serf_lamport::Time;
+
+/// The events of a compact list: the only one, which was read, or those that are still to be read.
+#[derive(Clone, Copy)]
+pub enum FoundEvents<'a> {
+    One(EventView<'a>),
+    Many(EventViews<'a>),
+}
 
 /// The name at the start, after its key, and what follows it.
 #[inline(always)]
@@ -73,9 +80,23 @@ fn skip_event_list(bytes: &[u8]) -> Option<&[u8]>
     skip_events(count, items)
 }
 
-/// The list of events at the start, and what follows it.
+/// The list of just one event at the start, and what follows it.
 #[inline(always)]
-fn read_event_list(bytes: &[u8]) -> Option<(EventViews<'_>, &[u8])>
+fn read_only_event(bytes: &[u8]) -> Option<(EventView<'_>, &[u8])>
+    ensures { IfSome result (λ x.
+        ReadsIn 7 (list event_body) (event_of_view x.0 ∷ []) bytes.now x.1.now) }
+{
+    laws_below();
+    let [0x91, event @ ..] = bytes else {
+        return None;
+    };
+    read_event(event)
+}
+
+/// The list of any number of events at the start, and what follows it. It stands apart, so that the reading of a
+/// slot of one event is small enough to stand where it is called.
+#[inline(never)]
+fn read_many_events(bytes: &[u8]) -> Option<(EventViews<'_>, &[u8])>
     ensures { IfSome result (λ x. ReadsIn 7 (list event_body) (events_left x.0) bytes.now x.1.now) }
 {
     let rest = skip_event_list(bytes)?;
@@ -83,11 +104,26 @@ fn read_event_list(bytes: &[u8]) -> Option<(EventViews<'_>, &[u8])>
     Some((EventViews::of(Some(list)), rest))
 }
 
+/// The list of events at the start, and what follows it.
+#[inline(always)]
+fn read_event_list(bytes: &[u8]) -> Option<(FoundEvents<'_>, &[u8])>
+    ensures { IfSome result (λ x.
+        ReadsIn 7 (list event_body) (events_found x.0) bytes.now x.1.now) }
+{
+    match read_only_event(bytes) {
+        Some((event, rest)) => Some((FoundEvents::One(event), rest)),
+        None => match read_many_events(bytes) {
+            Some((events, rest)) => Some((FoundEvents::Many(events), rest)),
+            None => None,
+        },
+    }
+}
+
 /// The list of events at the start, after its key, and what follows it.
 #[inline(always)]
-fn read_events(bytes: &[u8]) -> Option<(EventViews<'_>, &[u8])>
+fn read_events(bytes: &[u8]) -> Option<(FoundEvents<'_>, &[u8])>
     ensures { IfSome result (λ x.
-        ReadsPair 7 (list event_body) (codes "Events") (events_left x.0) bytes.now x.1.now) }
+        ReadsPair 7 (list event_body) (codes "Events") (events_found x.0) bytes.now x.1.now) }
 {
     let [0xa6, b'E', b'v', b'e', b'n', b't', b's', value @ ..] = bytes else {
         return None;
@@ -110,33 +146,35 @@ fn read_time(bytes: &[u8]) -> Option<(u64, &[u8])>
     Some((number, rest))
 }
 
-/// The slot at the start, a map whose time stands first, and what follows it. So our encoder writes it.
+/// The time at the start, after its key, where it stands there, and what follows it.
 #[inline(always)]
-fn read_time_first(fields: &[u8]) -> Option<(u64, EventViews<'_>, &[u8])>
-    ensures { IfSome result (λ x.
-        ReadsIn 6 slot (held x.0 (events_left x.1)) (0x82 ∷ fields.now) x.2.now) }
+fn read_early_time(fields: &[u8]) -> (Option<u64>, &[u8])
+    ensures early { IfSome result.0 (λ t.
+        ReadsPair 7 time (codes "LTime") t fields.now result.1.now) }
+    ensures later { IfNone result.0 (result.1.now ≡ fields.now) }
 {
-    laws_below();
     match read_time(fields) {
-        Some((time, next)) => match read_events(next) {
-            Some((events, rest)) => Some((time, events, rest)),
-            None => None,
-        },
-        None => None,
+        Some((time, next)) => (Some(time), next),
+        None => (None, fields),
     }
 }
 
-/// The slot at the start, a map whose events stand first, and what follows it. So Serf writes it.
+/// The slot at the start, a map of just a time and its events, and what follows it. Our encoder writes the time
+/// first, and Serf the events.
 #[inline(always)]
-fn read_events_first(fields: &[u8]) -> Option<(u64, EventViews<'_>, &[u8])>
+fn read_fields(fields: &[u8]) -> Option<(u64, FoundEvents<'_>, &[u8])>
     ensures { IfSome result (λ x.
-        ReadsIn 6 slot (held x.0 (events_left x.1)) (0x82 ∷ fields.now) x.2.now) }
+        ReadsIn 6 slot (held x.0 (events_found x.1)) (0x82 ∷ fields.now) x.2.now) }
 {
     laws_below();
-    match read_events(fields) {
-        Some((events, next)) => match read_time(next) {
-            Some((time, rest)) => Some((time, events, rest)),
-            None => None,
+    let (early, next) = read_early_time(fields);
+    match read_events(next) {
+        Some((events, rest)) => match early {
+            Some(time) => Some((time, events, rest)),
+            None => match read_time(rest) {
+                Some((time, behind)) => Some((time, events, behind)),
+                None => None,
+            },
         },
         None => None,
     }
@@ -144,15 +182,23 @@ fn read_events_first(fields: &[u8]) -> Option<(u64, EventViews<'_>, &[u8])>
 
 /// The slot at the start that holds a time, and what follows it.
 #[inline(always)]
-fn read_held(bytes: &[u8]) -> Option<(u64, EventViews<'_>, &[u8])>
-    ensures { IfSome result (λ x. ReadsIn 6 slot (held x.0 (events_left x.1)) bytes.now x.2.now) }
+fn read_held(bytes: &[u8]) -> Option<(u64, FoundEvents<'_>, &[u8])>
+    ensures { IfSome result (λ x. ReadsIn 6 slot (held x.0 (events_found x.1)) bytes.now x.2.now) }
 {
     let [0x82, fields @ ..] = bytes else {
         return None;
     };
-    match read_time_first(fields) {
-        Some(found) => Some(found),
-        None => read_events_first(fields),
+    read_fields(fields)
+}
+
+/// The slot of a time and its events.
+#[inline(always)]
+fn slot_of<'a>(time: Time, events: FoundEvents<'a>) -> SlotView<'a>
+    ensures { slot_of_view result ≡ held time (events_found events.entry) }
+{
+    match events {
+        FoundEvents::One(event) => SlotView::Single(time, event),
+        FoundEvents::Many(events) => SlotView::Held(time, events),
     }
 }
 
@@ -165,7 +211,7 @@ pub fn read_slot(bytes: &[u8]) -> Option<(SlotView<'_>, &[u8])>
         Some(rest) => Some((SlotView::Empty, rest)),
         None => match read_held(bytes) {
             Some((number, events, rest)) => match Time::new(number) {
-                Some(time) => Some((SlotView::Held(time, events), rest)),
+                Some(time) => Some((slot_of(time, events), rest)),
                 None => None,
             },
             None => None,

@@ -1,43 +1,61 @@
-use Rattle.std.proofs.Common.{List, [], ◌∷◌, ◌++◌, ℕ, ap, sym, ◌∙◌, subst}
+use Rattle.std.proofs.Common.{◌≡◌, List, [], ◌∷◌, ◌++◌, ℕ, Bool, ap, ◌∙◌, subst}
+use Rattle.std.specs.Prelude.{if◌then◌else◌}
+use Rattle.std.proofs.Math.Bool.{Bool-set}
+use Rattle.std.proofs.Math.Logic.{∥∥₁_elim}
 use Rattle.std.proofs.lemmas.Result.{on_ok_weaker}
 use Rattle.serf_model.specs.declared.line.Line.{Line}
 use Rattle.serf_model.specs.Cluster.{Run, run_of}
 use Rattle.serf_model.specs.Promises.{SeenWasHanded}
-use Rattle.serf_explain.specs.declared.merges.Carried.{Carried}
-use Rattle.serf_explain.specs.Carried.{TellsMerge}
-use Rattle.serf_explain.specs.Explained.{AddsTurn, TellsAll, clusters_before}
+use Rattle.serf_model.specs.Trace.{actor_of}
+use Rattle.std.specs.List.{flat_map}
+use Rattle.serf_explain.specs.Because.{because_line}
+use Rattle.serf_explain.specs.Explained.{AddsTurn, TellsAll, clusters_before, lines_text}
 use Rattle.serf_explain.specs.HandOuts.{Note, notes_in}
-use Rattle.serf_explain.specs.Judging.{reasons_in}
+use Rattle.serf_explain.specs.Judging.{TellsText}
 use Rattle.serf_explain.specs.Range.{is_shown}
 use Rattle.serf_explain.proofs.KnownLaws.{knows-seen}
-use Rattle.serf_explain.proofs.TellLaws.{next-number, run-push, told-after, told-next}
+use Rattle.serf_explain.proofs.TellLaws.{next-number, run-push, told-after, told-next, turn-behind}
 use Rattle.serf_explain.proofs.job.add_turn.Goals as goal
 
 pub returns : goal.returns
-returns c = λ configs done has number.
+returns c = λ configs done text has number.
     let r : Run = run_of configs done in
     let h = has.told in
     let count = next-number configs done c.args.number number in
-    let carried : List (List ℕ) = reasons_in c.deref.result.now in
+    let tells : TellsText c.args.number r.cluster c.args.action.now c.lines_before.new.lines.text.items = c.in_ok-lines_before.ensures r.cluster h.view h.representable in
+    let carried : List (List ℕ) = tells.carried in
+    let lines_are : c.deref.result.now ≡ flat_map (because_line c.args.number) carried = c.deref.ensures.value ∙ tells.text_is in
     let past : List Note = notes_in c.args.history.now.hand_outs.outs.items in
+    let noted : List Note = notes_in c.note.new.self.hand_outs.outs.items in
+    let is_told : Bool = is_shown c.args.range.now c.args.number (actor_of c.args.action.now) in
     let shown = c.shows.ensures ∙ ap (λ o. is_shown c.args.range.now c.args.number o) c.actor.ensures in
     let line : Line = c.in-Ok.line in
+    let sent : List (List ℕ) = c.step.new.self.sent in
+    let adds : AddsTurn (TellsAll is_told carried past c.step.new.self c.args.action.now line) is_told sent c.args.number line c.args.out.now.items c.put_turn.new.out.items =
+    subst (λ b. AddsTurn (TellsAll b carried past c.step.new.self c.args.action.now line) b sent c.args.number line c.args.out.now.items c.put_turn.new.out.items) shown (c.in_ok-put_turn.ensures carried lines_are) in
+    let added : List ℕ = if is_told then lines_text sent c.args.number line adds.reasons else [] in
+    let behind = turn-behind (TellsAll is_told carried past c.step.new.self c.args.action.now line) is_told sent c.args.number line text c.args.out.now.items c.put_turn.new.out.items adds in
     on_ok_weaker c.note.result
-    (λ is. told-next c.args.range.now configs done c.args.action.now c.step.new.self (notes_in c.note.new.self.hand_outs.outs.items) c.put_turn.new.out.items has.settings c.in-Ok.ensures.ok
-    (told-after c.args.range.now r (clusters_before configs done) c.args.action.now c.args.world.now c.step.new.self line carried past (notes_in c.note.new.self.hand_outs.outs.items) c.args.out.now.items c.put_turn.new.out.items c.args.number
-    (c.lines_stay.ensures.sent r.cluster c.args.action.now) (λ more. c.lines_stay.ensures.lines r.cluster c.args.action.now c.args.number more)
-    h count (subst (λ (ls : List Carried). TellsMerge r.cluster c.args.action.now (reasons_in ls)) (sym c.deref.ensures.value) (c.in_ok-carried.ensures r.cluster h.view h.representable)) (c.in-Ok.ensures.step r.cluster h.view h.representable)
-    (subst (λ b. AddsTurn (TellsAll b carried past c.step.new.self c.args.action.now line) b c.step.new.self.sent c.args.number line c.args.out.now.items c.put_turn.new.out.items) shown c.in_ok-put_turn.ensures)
-    is))
+    (λ is. record {
+      added = added;
+      new_is = adds.added;
+      told = told-next c.args.range.now configs done c.args.action.now c.step.new.self noted (text ++ added) has.settings c.in-Ok.ensures.ok
+          (told-after c.args.range.now r (clusters_before configs done) c.args.action.now c.args.world.now c.step.new.self line carried past noted text (text ++ added) c.args.number
+          (c.lines_stay.ensures.sent r.cluster c.args.action.now) (λ more. c.lines_stay.ensures.lines r.cluster c.args.action.now c.args.number more)
+          h count tells.tells (c.in-Ok.ensures.step r.cluster h.view h.representable)
+          behind is);
+    })
     c.note.ensures
 
 pub put_turn-requires : goal.put_turn-requires
-put_turn-requires c =
-    let configs = c.requires.0 in
-    let done = c.requires.1 in
-    let has = c.requires.2 in
+put_turn-requires c = λ says a e delivered.
+    ∥∥₁_elim c.requires.stands (Bool-set _ _)
+    (λ stands.
+    let configs = stands.0 in
+    let done = stands.1 in
+    let has = stands.3 in
     let r : Run = run_of configs done in
     let takes = c.in-Ok.ensures.step r.cluster has.told.view has.told.representable in
     knows-seen r c.args.action.now c.step.new.self.sent c.in-Ok.line (notes_in c.args.history.now.hand_outs.outs.items)
     (subst (λ (q : Run). SeenWasHanded q.turns) (run-push configs done c.args.action.now) (c.run_promises.ensures.held configs (done ++ c.args.action.now ∷ []) has.settings).1)
-    (c.lines_stay.ensures.sent r.cluster c.args.action.now) takes.view.sent takes.line_is has.told.notes_are
+    (c.lines_stay.ensures.sent r.cluster c.args.action.now) takes.view.sent takes.line_is has.told.notes_are says a e delivered)

@@ -9,4 +9,4 @@ use Rattle.serf_explain.proofs.merges.add_events.Given as goal
 
 abbrev pub invariant-loop-event : goal.invariant-loop-event
 invariant-loop-event l = (i j : IdealAgent) → IsSound i → l.merging.agent.now.concrete ≡ view_of i → IsJudging i j l.initial.judge
-    → HasJudged i j (at_time l.time (events_left l.fn.events)) (at_time l.time (events_left l.event-iterator)) l.initial.lines.items l.lines.items l.judge
+    → HasJudged l.merging.phrases.now.number i j (at_time l.time (events_left l.fn.events)) (at_time l.time (events_left l.event-iterator)) l.initial.lines.text.items l.lines.text.items l.judge

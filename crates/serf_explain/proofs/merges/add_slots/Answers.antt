@@ -13,22 +13,22 @@ use Rattle.serf_explain.proofs.merges.add_slots.Goals as goal
 pub loop-content-init : goal.loop-content-init
 loop-content-init c = λ i j sound is h.
     let all = events_of (slots_left c.args.slots) in
-    let lines = c.args.lines.now.items in
-    subst (λ (it : SlotViews). HasJudged i j all (events_of (slots_left it)) lines lines c.args.judge.now) (sym c.into_iter-content-iterator.ensures.into_iter_gives) (judged-start i j all lines c.args.judge.now h)
+    let lines = c.args.lines.now.text.items in
+    subst (λ (it : SlotViews). HasJudged c.args.merging.now.phrases.now.number i j all (events_of (slots_left it)) lines lines c.args.judge.now) (sym c.into_iter-content-iterator.ensures.into_iter_gives) (judged-start c.args.merging.now.phrases.now.number i j all lines c.args.judge.now h)
 
 pub returns : goal.returns
 returns c = λ i j sound is h.
-    subst (λ (l : List SlotContent). HasJudged i j (events_of (slots_left c.args.slots)) (events_of l) c.args.lines.now.items c.loop-content.lines.items c.loop-content.judge) c.in-None.ensures.steps.0 (c.loop-content.invariant i j sound is h)
+    subst (λ (l : List SlotContent). HasJudged c.args.merging.now.phrases.now.number i j (events_of (slots_left c.args.slots)) (events_of l) c.args.lines.now.text.items c.loop-content.lines.text.items c.loop-content.judge) c.in-None.ensures.steps.0 (c.loop-content.invariant i j sound is h)
 
 pub loop-content-preserved : goal.loop-content-preserved
 loop-content-preserved c = λ i j sound is h.
     let all = events_of (slots_left c.args.slots) in
-    let before = c.args.lines.now.items in
-    let mid = c.loop-content.lines.items in
-    let new = c.add_slot.new.lines.items in
+    let before = c.args.lines.now.text.items in
+    let mid = c.loop-content.lines.text.items in
+    let new = c.add_slot.new.lines.text.items in
     let part : List (TimedEntry EventBody) = events_of_slot (slot_of_view c.in-Some.content) in
-    let has = subst (λ (l : List (TimedEntry EventBody)). HasJudged i j all l before mid c.loop-content.judge) (ap (λ (l : List SlotContent). events_of l) c.in-Some.ensures.steps) (c.loop-content.invariant i j sound is h) in
+    let has = subst (λ (l : List (TimedEntry EventBody)). HasJudged c.args.merging.now.phrases.now.number i j all l before mid c.loop-content.judge) (ap (λ (l : List SlotContent). events_of l) c.in-Some.ensures.steps) (c.loop-content.invariant i j sound is h) in
     let now = after_events has.done j in
     let told = c.in_ok-add_slot.ensures i now sound is has.judging in
-    judged-more i j all part (events_of (slots_left c.next.new.self)) before mid new c.loop-content.judge c.add_slot.new.judge has
-    (judged-lines i now part mid new c.add_slot.new.judge told) (judged-agent i now part mid new c.add_slot.new.judge told)
+    judged-more c.args.merging.now.phrases.now.number i j all part (events_of (slots_left c.next.new.self)) before mid new c.loop-content.judge c.add_slot.new.judge has
+    (judged-lines c.args.merging.now.phrases.now.number i now part mid new c.add_slot.new.judge told) (judged-agent c.args.merging.now.phrases.now.number i now part mid new c.add_slot.new.judge told)

@@ -9,4 +9,4 @@ use Rattle.serf_explain.proofs.merges.add_slots.Given as goal
 
 abbrev pub invariant-loop-content : goal.invariant-loop-content
 invariant-loop-content l = (i j : IdealAgent) → IsSound i → l.merging.agent.now.concrete ≡ view_of i → IsJudging i j l.initial.judge
-    → HasJudged i j (events_of (slots_left l.fn.slots)) (events_of (slots_left l.content-iterator)) l.initial.lines.items l.lines.items l.judge
+    → HasJudged l.merging.phrases.now.number i j (events_of (slots_left l.fn.slots)) (events_of (slots_left l.content-iterator)) l.initial.lines.text.items l.lines.text.items l.judge

@@ -55,7 +55,7 @@ pub returns-clause-hands_out_entered : goal.returns-clause-hands_out_entered
 returns-clause-hands_out_entered c = λ configs actions. ((entering-run c.laws_below.ensures) configs actions).entered
 
 pub returns-clause-messages_fired : goal.returns-clause-messages_fired
-returns-clause-messages_fired c = λ configs actions sized. ((messaging-run c.laws_below.ensures) configs actions sized).fired
+returns-clause-messages_fired c = λ configs actions short sized. ((messaging-run c.laws_below.ensures) configs actions short sized).fired
 
 pub returns-clause-counted_once : goal.returns-clause-counted_once
 returns-clause-counted_once c = λ configs actions ok. counted-once (run_of configs actions).cluster (run_of configs actions).turns ((counting-run c.laws_below.ensures) configs actions ok)

@@ -1,49 +1,43 @@
-use Rattle.std.proofs.Common.{◌++◌, ◌∷◌, ◌∙◌, [], ap, sym}
-use Rattle.std.specs.Prelude.{Ok}
+use Rattle.std.proofs.Common.{inl, ◌++◌, ◌∷◌, []}
 use Rattle.std.proofs.lemmas.Result.{IfErr-weaker}
 use Rattle.serf_text.specs.Lines.{lines_of}
 use Rattle.serf_text.proofs.LineLaws.{lines-more, next-line, this-line}
+use Rattle.serf_text.proofs.StreamLaws.{not-held}
 use Rattle.serf_text.proofs.stream.take_bytes.Goals as goal
 
 pub lines-init : goal.lines-init
-lines-init g c = λ before first now h. (h.lines, lines-more before c.args.bytes.now h.lines c.args.kept.now.held.items h.cut, h.reached)
+lines-init g c = λ before first h. (h.lines, lines-more before c.args.bytes.now h.lines c.args.kept.now.held.items h.cut, h.reached)
 
 pub returns-in-Err-clause-stopped : goal.returns-in-Err-clause-stopped
-returns-in-Err-clause-stopped g c = λ before first now h.
-    let i = c.lines.invariant before first now h in
-    let parts = rw c.in-Some.is at c.cut.ensures.parts in record {
-      lines = i.0;
-      line = c.lines.kept.held.items ++ c.cut.result.0.now;
-      more = lines_of c.in-Some.next.now;
-      cut = this-line (lines_of (before ++ c.args.bytes.now)) i.0 (lines_of c.in-Some.next.now) c.lines.kept.held.items c.cut.result.0.now c.lines.rest.now i.1 parts;
-      text = i.2.text;
-      appended = i.2.appended;
-      answered = i.2.answered ∙ ap (λ w. Ok (i.2.text ++ w)) (sym c.in-Err.ensures.same);
-      fault_is = c.in-Err.ensures.stopped i.0 first now i.2;
-    }
+returns-in-Err-clause-stopped g c = λ before first h.
+    let i = c.lines.invariant before first h in
+    let parts = rw c.in-Some.is at c.cut.ensures.parts in
+    let cut = this-line (lines_of (before ++ c.args.bytes.now)) i.0 (lines_of c.in-Some.next.now) c.lines.kept.held.items c.cut.result.0.now c.lines.rest.now i.1 parts in
+    c.in-Err.ensures.stopped (lines_of (before ++ c.args.bytes.now)) i.0 (lines_of c.in-Some.next.now) first cut i.2
 
 pub lines-preserved : goal.lines-preserved
-lines-preserved g c = λ before first now h.
-    let i = c.lines.invariant before first now h in
+lines-preserved g c = λ before first h.
+    let i = c.lines.invariant before first h in
     let parts = rw c.in-Some.is at c.cut.ensures.parts in (
       i.0 ++ (c.lines.kept.held.items ++ c.cut.result.0.now) ∷ [],
-      next-line (lines_of (before ++ c.args.bytes.now)) i.0 c.lines.kept.held.items c.cut.result.0.now c.lines.rest.now c.in-Some.next.now c.end_line.new.kept.held.items i.1 parts c.in-Ok.ensures.empty,
-      c.in-Ok.ensures.done i.0 first now i.2,
+      next-line (lines_of (before ++ c.args.bytes.now)) i.0 c.lines.kept.held.items c.cut.result.0.now c.lines.rest.now c.in-Some.next.now c.do_line.new.kept.held.items i.1 parts c.in-Ok.ensures.empty,
+      c.in-Ok.ensures.done i.0 first i.2,
     )
 
 pub returns-in-None-clause-stopped : goal.returns-in-None-clause-stopped
-returns-in-None-clause-stopped g c = λ before first now h.
-    let i = c.lines.invariant before first now h in
+returns-in-None-clause-stopped g c = λ before first h.
+    let i = c.lines.invariant before first h in
     let parts = rw c.in-None.is at c.cut.ensures.parts in
     IfErr-weaker c.hold.result _ _
-    (λ fault is. record {
+    (λ fault is. inl (record {
       lines = i.0;
       line = c.lines.kept.held.items ++ c.cut.result.0.now;
       more = [];
       cut = this-line (lines_of (before ++ c.args.bytes.now)) i.0 [] c.lines.kept.held.items c.cut.result.0.now c.lines.rest.now i.1 parts;
+      job = c.lines.job;
       text = i.2.text;
       appended = i.2.appended;
-      answered = i.2.answered;
-      fault_is = is;
-    })
-    (c.hold.ensures.stopped g.J.LineJob.answer i.0 i.2.numbered)
+      tells = i.2.tells;
+      fault_is = not-held g.J.LineTeller.refuses fault i.0 (c.lines.kept.held.items ++ c.cut.result.0.now) is;
+    }))
+    (c.hold.ensures.stopped i.0 i.2.numbered)

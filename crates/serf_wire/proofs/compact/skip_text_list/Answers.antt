@@ -5,4 +5,4 @@ use Rattle.serf_wire.proofs.FastLists.{list_spans}
 use Rattle.serf_wire.proofs.compact.skip_text_list.Goals as goal
 
 pub returns : goal.returns
-returns c = if_some c.skip_texts.result _ _ (λ rest a. list_spans c.laws_below.ensures 8 text c.in_ok-count.count c.args.bytes.now c.in_ok-count.items.now rest.now (omega arith) c.in_ok-count.ensures a) c.skip_texts.ensures
+returns c = if_some c.skip_texts.result _ _ (λ rest a. list_spans c.laws_below.ensures 8 text c.args.bytes.now c.in_ok-count.items.now rest.now (omega arith) c.in_ok-count.count c.in_ok-count.ensures a) c.skip_texts.ensures

@@ -1,5 +1,5 @@
 use Rattle.std.proofs.lemmas.Result.{err_from_is_err_and}
-use Rattle.serf_agent.proofs.Names.{◌≡◌, ◌<◌, ◌-◌, ◌^◌, ℕ, false, ap, sym, subst, refl, ◌∙◌, Ok, Err, NoteFault, clock_line, Kept, Failed, noted, written}
+use Rattle.serf_agent.proofs.Names.{◌≡◌, ◌<◌, ◌-◌, ◌^◌, ℕ, false, ap, sym, subst, ◌∙◌, Ok, Err, NoteFault, clock_line, Kept, Failed, noted, written}
 use Rattle.serf_snap.specs.declared.kind.ClockKind.TheVariants as kinds
 use Rattle.serf_agent.specs.Calls.{MayNote}
 use Rattle.serf_agent.specs.Devices.{FailsLine, device_noted}
@@ -21,18 +21,18 @@ returns-clause-step g c = λ i sound is _.
     let params = c.args.params.now in
     let was = ap (λ (a : AgentState). a.concrete) c.self.view_is ∙ is in
     let e = c.in_ok-ask.ensures in
-    let node = ap (λ (s : ConcreteState). s.config.name) is in
+    let config = ap (λ (s : ConcreteState). s.config) is in
     let at : c.in-Some.time ≡ i.queries.clock = c.in-Some.ensures.some.1 ∙ ap (λ (s : ConcreteState). s.queries.clock) was in
     let time : i.queries.clock < 2 ^ 64 - 1 = subst (λ (n : ℕ). n < 2 ^ 64 - 1) (ap (λ (s : ConcreteState). s.queries.clock) was) c.in-Some.ensures.some.0 in
     let runs = sym (ap (λ (s : ConcreteState). s.snapshot.stopped) was) ∙ (sym c.is_stopped.ensures ∙ c.if-is_stopped.false) in
-    let small : is_too_large_query i.config.name i.queries.clock c.args.id name payload params ≡ false = ap (λ (s : ConcreteState). is_too_large_query s.config.name s.queries.clock c.args.id name payload params) (sym is) ∙ (sym c.query_is_too_large.ensures ∙ c.if-query_is_too_large.false) in
+    let small : is_too_large_query i.config i.queries.clock c.args.id name payload params ≡ false = ap (λ (s : ConcreteState). is_too_large_query s.config s.queries.clock c.args.id name payload params) (sym is) ∙ (sym c.query_is_too_large.ensures ∙ c.if-query_is_too_large.false) in
     let some = sym c.has_no_time.ensures ∙ c.if-has_no_time.false in
     let may = subst (λ (t : ℕ). MayNote kinds.Query t i.snapshot Kept) at (subst (λ (s : ConcreteState). MayNote kinds.Query c.in-Some.time s.snapshot Kept) is e.line.allowed) in
-    let fired = e.fired ∙ (λ k. fired_query (node k) c.args.now (query_at (at k) (node k) c.args.id name payload params)) in
+    let fired = e.fired ∙ (λ k. fired_query (config k) c.args.now (query_at (at k) (config k).name c.args.id name payload params)) in
     let device = e.line.device ∙ ap (λ (s : ConcreteState). device_noted kinds.Query c.in-Some.time s.snapshot c.args.self.now.device) is ∙ ap (λ (t : ℕ). device_noted kinds.Query t i.snapshot c.args.self.now.device) at in
     steps-query_asked c.sound_snapshots.ensures i c.args.now c.args.id name payload params _ c.args.self.now.device c.ask.new.self sound runs time (query-allowed i c.args.id name payload params runs small some time) may
     (λ k. Ok (fired k))
-    (e.entered i is ∙ (λ k. view_of (with_snapshot (noted kinds.Query (at k) i.snapshot Kept) (query_asked c.args.now (query_at (at k) (node k) c.args.id name payload params) i)))) device
+    (e.entered i is ∙ (λ k. view_of (with_snapshot (noted kinds.Query (at k) i.snapshot Kept) (query_asked c.args.now (query_at (at k) (config k).name c.args.id name payload params) i)))) device
 
 pub returns-in_err-ask-clause-step : goal.returns-in_err-ask-clause-step
 returns-in_err-ask-clause-step g c = λ i sound is memory.
@@ -50,7 +50,7 @@ returns-in_err-ask-clause-step g c = λ i sound is memory.
     let at : c.in-Some.time ≡ i.queries.clock = c.in-Some.ensures.some.1 ∙ ap (λ (s : ConcreteState). s.queries.clock) was in
     let time : i.queries.clock < 2 ^ 64 - 1 = subst (λ (n : ℕ). n < 2 ^ 64 - 1) (ap (λ (s : ConcreteState). s.queries.clock) was) c.in-Some.ensures.some.0 in
     let runs = sym (ap (λ (s : ConcreteState). s.snapshot.stopped) was) ∙ (sym c.is_stopped.ensures ∙ c.if-is_stopped.false) in
-    let small : is_too_large_query i.config.name i.queries.clock c.args.id name payload params ≡ false = ap (λ (s : ConcreteState). is_too_large_query s.config.name s.queries.clock c.args.id name payload params) (sym is) ∙ (sym c.query_is_too_large.ensures ∙ c.if-query_is_too_large.false) in
+    let small : is_too_large_query i.config i.queries.clock c.args.id name payload params ≡ false = ap (λ (s : ConcreteState). is_too_large_query s.config s.queries.clock c.args.id name payload params) (sym is) ∙ (sym c.query_is_too_large.ensures ∙ c.if-query_is_too_large.false) in
     let some = sym c.has_no_time.ensures ∙ c.if-has_no_time.false in
     let durable = c.ask.new.self.concrete.snapshot.durable in
     let may = subst (λ (t : ℕ). MayNote kinds.Query t i.snapshot (Failed durable)) at (subst (λ (s : ConcreteState). MayNote kinds.Query c.in-Some.time s.snapshot (Failed durable)) is e.allowed) in

@@ -1,5 +1,5 @@
 use Rattle.std.proofs.lemmas.Result.{err_from_is_err_and}
-use Rattle.serf_agent.proofs.Names.{◌≡◌, ℕ, List, cond, Some, None, not, ap, sym, subst, refl, ◌∙◌, Ok, Err, WindowOf, texts_left, NoteFault, Kept, Failed}
+use Rattle.serf_agent.proofs.Names.{◌≡◌, ℕ, List, cond, Some, None, not, ap, sym, subst, ◌∙◌, Ok, Err, WindowOf, NoteFault, Kept, Failed}
 use Rattle.serf_snap.specs.declared.kind.ClockKind.TheVariants as kinds
 use Rattle.serf_agent.specs.Calls.{MayNote}
 use Rattle.serf_agent.specs.Devices.{device_noted}
@@ -29,10 +29,10 @@ returns-in_ok-handed-in-None-clause-step g c = λ i sound is _.
     let q = query_said c.args.query.now in
     let new = c.in-None.ensures in
     let e = c.in_ok-handed-in-None.ensures in
-    let node = ap (λ (s : ConcreteState). s.config.name) is in
+    let config = ap (λ (s : ConcreteState). s.config) is in
     let passed = c.lent_filters_pass-passed.ensures ∙ ap (λ (n : List ℕ). all_pass c.args.tags_pass q.filters n) (c.as_slice.ensures ∙ ap (λ (s : ConcreteState). s.config.name) was) in
-    let handed = e.handed ∙ (λ k. cond (passed k) (Some (handed_query (node k) c.args.now q)) None) in
-    let ack = e.ack ∙ (λ k. cond (passed k) (cond (has_flag 1 q.flags) (Some (ack_packet (node k) q)) None) None) in
+    let handed = e.handed ∙ (λ k. cond (passed k) (Some (handed_query (config k) c.args.now q)) None) in
+    let ack = e.ack ∙ (λ k. cond (passed k) (cond (has_flag 1 q.flags) (Some (ack_packet (config k).name q)) None) None) in
     let broadcast = c.has_flag.ensures in
     let runs = sym (ap (λ (s : ConcreteState). s.snapshot.stopped) is) ∙ c.requires in
     let may = subst (λ (s : ConcreteState). MayNote kinds.Query q.time s.snapshot Kept) is e.line.allowed in

@@ -8,7 +8,6 @@ use Rattle.serf_window.specs.Texts.{same_texts}
 use Rattle.serf_window.specs.Window.{SlotOf, TimedEntry, TimesBelow, count_in, slots_of, verdict_of}
 use Rattle.serf_agent.specs.Events.{texts_len}
 use Rattle.serf_agent.specs.Tracks.{track_reason}
-use Rattle.serf_agent.specs.View.{view_of}
 use Rattle.serf_explain.specs.Judging.{both_verdicts}
 use Rattle.serf_explain.proofs.JudgeLaws.{admitted, config-sizes, reason-both}
 use Rattle.serf_explain.proofs.judge.Judge.reason.Goals as goal
@@ -33,8 +32,7 @@ returns-clause-reason c = λ i j sound is h.
     let verdict : c.offer-entered.result ≡ verdict_of same_texts n k h.entered (observed clock t) least t what =
     c.offer-entered.ensures.verdict h.entered (h.slots_are ∙ ap (λ m. slots_of m h.entered) (sym size)) (omega (arith, clock_is)) (subst (λ (x : ℕ). TimesBelow x c.args.self.now.entered.slots) (sym clock_is) (subst (λ (s : List (SlotOf EventBody)). TimesBelow (observed clock t) s) (sym h.slots_are) below))
     ∙ (λ q. verdict_of same_texts (size q) (h.per_time_is q) h.entered (clock_is q) least t what) in
-    let full : c.is_full.result ≡ nat_le (k - count_in (view_of i).events.slots t) (count_in (slots_of n h.entered) t) =
-    c.is_full.ensures ∙ (λ q. nat_le ((is q).config.per_time - count_in (is q).events.slots (c.get-2.ensures.value q)) (count_in (h.slots_are q) (c.get-2.ensures.value q))) in
-    c.both.ensures ∙ (λ q. both_verdicts (before q) (verdict q) (full q))
+    c.both.ensures
+    ∙ (λ q. both_verdicts (before q) (verdict q) (nat_le ((is q).config.per_time - count_in (is q).events.slots (c.get-2.ensures.value q)) (count_in (h.slots_are q) (c.get-2.ensures.value q))))
     ∙ reason-both c.slot_laws.ensures.events n k i.life i.snapshot.event_clock clock least t i.events what h.entered sound.events sizes.0 sizes.1 h.clock_up h.minimum_up below
     ∙ sym (admitted i j t what c.args.self.now h small)

@@ -1,0 +1,267 @@
+-- The text of a compaction of an agent that keeps its events has all that was entered.
+use Rattle.serf_agent.proofs.Names.{◌≡◌, ℕ, ◌+◌, ◌-◌, ◌^◌, ◌<◌, ◌≤◌, ◌%◌, ◌==◌, inl, inr, max, nat_lt, cond, Bool, true, false, List, [], ◌∷◌, ◌++◌, length, map, filter, refl, sym, subst, ap, ◌∙◌, append-nil, append_assoc, arith, All, cases_lt, eq-eqb, le-ltb, All-cons, All-head, All-nil, All-tail, All-weaker, flat_map, EventBody, TimedEntry, SlotOf, TimesBelow, ClockKind, last_clock, slots_of}
+use Rattle.std.specs.Prelude.{Contains, ◌⊎◌}
+use Rattle.std.proofs.lemmas.Bool.{eqb-true}
+use Rattle.std.proofs.lemmas.List.Elements.{All-append, All-contains, All-map, Contains-append_left, Contains-append_right, Contains-get_or}
+use Rattle.serf_window.specs.Laws.{SlotLaws}
+use Rattle.serf_window.specs.Window.{empty_slot, held_at, held_of, slot_for}
+use Rattle.serf_snap.specs.declared.kept.Wanted.{Wanted}
+use Rattle.serf_snap.specs.declared.kind.ClockKind.TheVariants as kinds
+use Rattle.serf_snap.specs.Notes.{AreTimes}
+use Rattle.serf_snap.specs.Clocks.{is_whole, line_above_zero}
+use Rattle.serf_snap.specs.EventLines.{event_line, least_in, least_line, query_line}
+use Rattle.serf_snap.specs.KeptNotes.{SaysNoClock, kept_compaction_of, kept_line_above_zero}
+use Rattle.serf_agent.specs.Ideal.{IdealAgent, Past, Track}
+use Rattle.serf_agent.specs.Keeping.{in_life}
+use Rattle.serf_agent.specs.KeptLines.{AreTold, CompactionLaws, held_from, held_in, kept_lines, least_told, lines_told, track_lines}
+use Rattle.serf_agent.specs.KeptTexts.{AreKept, IsIdShort, IsIdTold, IsShort, IsTold, KeptEventLaws, KeptQueryLaws, KeptTextLaws, kept_events, kept_queries, line_of_event, whatever}
+use Rattle.serf_agent.specs.KeptRestart.{HasKept}
+use Rattle.serf_agent.specs.Sound.{IsSound}
+use Rattle.serf_agent.specs.Tracks.{IsTrackSound, of_life}
+use Rattle.serf_agent.proofs.KeepingLaws.{All-kept, Contains-entry, Contains-map}
+use Rattle.serf_agent.proofs.TrackLaws.{slots-below}
+
+-- ---- what the crates below promise
+
+pub record BelowCompactions : Type 0 where
+  pub event_slots : SlotLaws EventBody
+  pub query_slots : SlotLaws ℕ
+  pub event_texts : KeptEventLaws
+  pub query_texts : KeptQueryLaws
+  pub least_own : (k : ClockKind) (text : List ℕ) (t : ℕ) → is_whole text ≡ true → t ≤ 2 ^ 64 - 1 → least_in k (text ++ least_line k t) ≡ max (least_in k text) t
+  pub least_grows : (k : ClockKind) (front tail : List ℕ) → least_in k front ≤ least_in k (front ++ tail)
+  pub event_line_whole : (t : ℕ) (name payload : List ℕ) → t < 2 ^ 64 - 1 → SaysNoClock (event_line t name payload)
+  pub query_line_whole : (t id : ℕ) → t < 2 ^ 64 - 1 → id < 2 ^ 32 → SaysNoClock (query_line t id)
+  pub least_line_whole : (k : ClockKind) (t : ℕ) → t ≤ 2 ^ 64 - 1 → SaysNoClock (least_line k t)
+  pub both : (a b : List ℕ) → SaysNoClock a → SaysNoClock b → SaysNoClock (a ++ b)
+  pub whole : (text line : List ℕ) → is_whole text ≡ true → is_whole line ≡ true → is_whole (text ++ line) ≡ true
+
+-- ---- lists
+
+Contains-flat_map : {A B : Type 0} (f : A → List B) (xs : List A) (x : A) (y : B) → Contains xs x → Contains (f x) y → Contains (flat_map f xs) y
+Contains-flat_map {A} {B} f xs x y there inside = All-contains (λ (z : A). Contains (f z) y → Contains (flat_map f xs) y) xs x (all xs) there inside
+  where
+    all : (zs : List A) → All (λ (z : A). Contains (f z) y → Contains (flat_map f zs) y) zs
+    all [] = All-nil (λ (z : A). Contains (f z) y → Contains (flat_map f []) y)
+    all (z ∷ zs) =
+        All-cons (λ (a : A). Contains (f a) y → Contains (flat_map f (z ∷ zs)) y) z zs (λ h. Contains-append_left (f z) (flat_map f zs) y h)
+        (All-weaker (λ (a : A). Contains (f a) y → Contains (flat_map f zs) y) (λ (a : A). Contains (f a) y → Contains (flat_map f (z ∷ zs)) y) (λ a h i. Contains-append_right (f z) (flat_map f zs) y (h i)) zs (all zs))
+
+All-flat_map : {A B : Type 0} (f : A → List B) (P : B → Type 0) (xs : List A) → All (λ x. All P (f x)) xs → All P (flat_map f xs)
+All-flat_map {A} {B} f P [] h = All-nil P
+All-flat_map {A} {B} f P (x ∷ xs) h = All-append P (f x) (flat_map f xs) (All-head (λ (y : A). All P (f y)) x xs h) (All-flat_map f P xs (All-tail (λ (y : A). All P (f y)) x xs h))
+
+-- ---- what the slots hold
+
+abbrev entry_at : {K : Type 0} → ℕ → K → TimedEntry K
+entry_at t key = record { time = t; key = key }
+
+-- an entry that may still be taken stands in its slot
+held-entry : {K : Type 0} (laws : SlotLaws K) (n life last : ℕ) (track : Track K) → IsTrackSound track life last → 0 < n → (p : Past K) → Contains track.history p → least_told n last track ≤ p.entry.time
+    → Contains (held_from (least_told n last track) (slots_of n (of_life life track.history))) p.entry
+held-entry {K} laws n life last track sound pos p there high = by (laws.held_or_too_old n track.clock t es pos below)
+  where
+    t : ℕ
+    t = p.entry.time
+
+    es : List (TimedEntry K)
+    es = of_life life track.history
+
+    slots : List (SlotOf K)
+    slots = slots_of n (of_life life track.history)
+
+    slot : SlotOf K
+    slot = slot_for (slots_of n (of_life life track.history)) p.entry.time
+
+    reached : p.entry.time ≤ last
+    reached = All-contains (λ (q : Past K). q.entry.time ≤ last) track.history p sound.noted there
+
+    behind : p.entry.time < track.clock
+    behind = All-contains (λ (q : Past K). q.entry.time < track.clock) track.history p sound.below_clock there
+
+    below : TimesBelow track.clock (slots_of n (of_life life track.history))
+    below = slots-below n life track.clock track.history (omega (arith, behind)) sound.below_clock
+
+    own : p.life ≡ life
+    own =
+        let le : p.life ≤ life = All-contains (λ (q : Past K). q.life ≤ life) track.history p sound.lives there in
+        let before : p.life < life → p.entry.time < track.minimum = All-contains (λ (q : Past K). q.life < life → q.entry.time < track.minimum) track.history p sound.earlier there in
+        elim (cases_lt p.life life) [
+          | inl old ↦ absurd (let low : p.entry.time < track.minimum = before old in let up : p.entry.time ≤ last = reached in omega (arith, low, up, high))
+          | inr now ↦ omega arith
+        ]
+
+    is_in : Contains (of_life life track.history) p.entry
+    is_in =
+        Contains-entry (filter (λ (q : Past K). q.life == life) track.history) p
+        (All-contains (λ (q : Past K). (q.life == life) ≡ true → Contains (filter (λ (q : Past K). q.life == life) track.history) q) track.history p (All-kept (λ (q : Past K). q.life == life) track.history) there (eq-eqb p.life life own))
+
+    key_in : Contains (held_at p.entry.time (of_life life track.history)) p.entry.key
+    key_in =
+        let at : TimedEntry K → Bool = λ e. e.time == p.entry.time in
+        Contains-map (λ (e : TimedEntry K). e.key) (filter at es) p.entry
+        (All-contains (λ (e : TimedEntry K). at e ≡ true → Contains (filter at es) e) es p.entry (All-kept at es) is_in (eq-eqb p.entry.time p.entry.time refl))
+
+    here : Contains slots slot
+    here =
+        let size : length (slots_of n (of_life life track.history)) ≡ n = laws.size n (of_life life track.history) in
+        Contains-get_or (slots_of n (of_life life track.history)) (p.entry.time % length (slots_of n (of_life life track.history))) empty_slot (omega (arith, size, pos))
+
+    in_slot : (b : Bool) → (slot.time == p.entry.time) ≡ b → Contains (cond b slot.held []) p.entry.key → Contains (held_in (least_told n last track) slot) p.entry
+    in_slot false is inside = absurd (omega (arith, inside.1))
+    in_slot true is inside =
+        let same : slot.time ≡ p.entry.time = eqb-true slot.time p.entry.time is in
+        let late : nat_lt slot.time (least_told n last track) ≡ false = le-ltb slot.time (least_told n last track) (omega (arith, same, high)) in
+        let told : Contains (map (entry_at slot.time) slot.held) (entry_at slot.time p.entry.key) = Contains-map (entry_at slot.time) slot.held p.entry.key inside in
+        let entry : Contains (map (entry_at slot.time) slot.held) p.entry = subst (λ (m : ℕ). Contains (map (entry_at slot.time) slot.held) (entry_at m p.entry.key)) same told in
+        subst (λ (b : Bool). Contains (cond b [] (map (entry_at slot.time) slot.held)) p.entry) (sym late) entry
+
+    by : (held_of (slot_for (slots_of n (of_life life track.history)) p.entry.time) p.entry.time ≡ held_at p.entry.time (of_life life track.history)) ⊎ (p.entry.time + n < track.clock)
+        → Contains (held_from (least_told n last track) (slots_of n (of_life life track.history))) p.entry
+    by (inr old) = absurd (let up : p.entry.time ≤ last = reached in omega (arith, old, up, high))
+    by (inl same) =
+        Contains-flat_map (held_in (least_told n last track)) slots slot p.entry here
+        (in_slot (slot.time == p.entry.time) refl (subst (λ (l : List K). Contains l p.entry.key) (sym same) key_in))
+
+-- what the slots hold was entered
+only-entered : {K : Type 0} (laws : SlotLaws K) (n life least : ℕ) (history : List (Past K)) (P : TimedEntry K → Type 0) → All (λ p. P p.entry) history → All P (held_from least (slots_of n (of_life life history)))
+only-entered {K} laws n life least history P all =
+    All-flat_map (held_in least) P (slots_of n (of_life life history))
+    (All-weaker (λ (s : SlotOf K). All (λ what. Contains (of_life life history) (entry_at s.time what)) s.held) (λ (s : SlotOf K). All P (held_in least s)) (λ s h. of_slot s h (nat_lt s.time least))
+    (slots_of n (of_life life history)) (laws.only_entered n (of_life life history)))
+  where
+    mine : (hs : List (Past K)) → All (λ p. P p.entry) hs → All P (of_life life hs)
+    mine [] h = All-nil P
+    mine (x ∷ hs) h = step (x.life == life) (mine hs (All-tail (λ (p : Past K). P p.entry) x hs h))
+      where
+        step : (b : Bool) → All P (of_life life hs) → All P (map (λ (p : Past K). p.entry) (cond b (x ∷ filter (λ (p : Past K). p.life == life) hs) (filter (λ (p : Past K). p.life == life) hs)))
+        step true rest = All-cons P x.entry (of_life life hs) (All-head (λ (p : Past K). P p.entry) x hs h) rest
+        step false rest = rest
+
+    of_slot : (s : SlotOf K) → All (λ what. Contains (of_life life history) (entry_at s.time what)) s.held → (b : Bool) → All P (cond b [] (map (entry_at s.time) s.held))
+    of_slot s h true = All-nil P
+    of_slot s h false =
+        All-map P (entry_at s.time) s.held
+        (All-weaker (λ (what : K). Contains (of_life life history) (entry_at s.time what)) (λ (what : K). P (entry_at s.time what))
+        (λ what there. All-contains P (of_life life history) (entry_at s.time what) (mine history all) there) s.held h)
+
+-- ---- the lines of a track
+
+abbrev Fits : {K : Type 0} → (K → Type 0) → (ℕ → K → Type 0) → TimedEntry K → Type 0
+Fits Told Short e = (0 < e.time) × (e.time < 2 ^ 64 - 1) × Told e.key × Short 9216 e.key
+
+-- lines behind a text keep their entries
+lines_kept : {K : Type 0} (kind : ClockKind) (read : Wanted → List ℕ → List (TimedEntry K)) (line : ℕ → K → List ℕ) (Told : K → Type 0) (Short : ℕ → K → Type 0) → KeptTextLaws kind read line Told Short
+    → ((text line : List ℕ) → is_whole text ≡ true → is_whole line ≡ true → is_whole (text ++ line) ≡ true) → ((e : TimedEntry K) → Fits Told Short e → is_whole (line e.time e.key) ≡ true)
+    → (es : List (TimedEntry K)) (history : List (Past K)) (text : List ℕ) → is_whole text ≡ true → All (Fits Told Short) es → AreKept kind read history text
+    → (is_whole (text ++ lines_told line es) ≡ true) × AreKept kind read (history ++ in_life 0 es) (text ++ lines_told line es)
+lines_kept {K} kind read line Told Short texts both line_whole [] history text whole fits kept =
+    (ap is_whole (append-nil text) ∙ whole, subst (λ (l : List ℕ). AreKept kind read (history ++ []) l) (sym (append-nil text)) (subst (λ (h : List (Past K)). AreKept kind read h text) (sym (append-nil history)) kept))
+lines_kept {K} kind read line Told Short texts both line_whole (e ∷ es) history text whole fits kept =
+    let fit : Fits Told Short e = All-head (Fits Told Short) e es fits in
+    let p : Past K = record { life = 0; entry = e } in
+    let first : AreKept kind read (history ++ p ∷ []) (text ++ line e.time e.key) = texts.line_kept history text 0 e.time e.key whole fit.0 fit.1 fit.2 fit.3 kept in
+    let rest = lines_kept kind read line Told Short texts both line_whole es (history ++ p ∷ []) (text ++ line e.time e.key) (both text (line e.time e.key) whole (line_whole e fit)) (All-tail (Fits Told Short) e es fits) first in
+    let joined : (text ++ line e.time e.key) ++ lines_told line es ≡ text ++ lines_told line (e ∷ es) = append_assoc text (line e.time e.key) (lines_told line es) in (
+      ap is_whole (sym joined) ∙ rest.0,
+      subst (λ (l : List ℕ). AreKept kind read (history ++ in_life 0 (e ∷ es)) l) joined
+          (subst (λ (h : List (Past K)). AreKept kind read h ((text ++ line e.time e.key) ++ lines_told line es)) (append_assoc history (p ∷ []) (in_life 0 es)) rest.1),
+    )
+
+-- the lines of a track, with bytes behind them
+track-kept : {K : Type 0} (kind : ClockKind) (read : Wanted → List ℕ → List (TimedEntry K)) (line : ℕ → K → List ℕ) (Told : K → Type 0) (Short : ℕ → K → Type 0) → BelowCompactions → SlotLaws K → KeptTextLaws kind read line Told Short
+    → ((e : TimedEntry K) → Fits Told Short e → is_whole (line e.time e.key) ≡ true)
+    → (n life last : ℕ) (track : Track K) (front back : List ℕ) → IsTrackSound track life last → 0 < n → last < 2 ^ 64 - 1 → is_whole front ≡ true → All (λ p. Fits Told Short p.entry) track.history
+    → (is_whole (front ++ track_lines kind line n life last track) ≡ true) × AreKept kind read track.history ((front ++ track_lines kind line n life last track) ++ back)
+track-kept {K} kind read line Told Short laws slots texts line_whole n life last track front back sound pos small whole fits =
+    let least : ℕ = least_told n last track in
+    let told : List (TimedEntry K) = held_from least (slots_of n (of_life life track.history)) in
+    let start : List ℕ = front ++ least_line kind least in
+    let bound : least ≤ 2 ^ 64 - 1 = omega arith in
+    let start_whole : is_whole start ≡ true = laws.whole front (least_line kind least) whole (laws.least_line_whole kind least bound).whole in
+    let none : AreKept kind read [] start = All-nil (λ (p : Past K). (p.entry.time < least_in kind start) ⊎ Contains (read whatever start) p.entry) in
+    let all = lines_kept kind read line Told Short texts laws.whole line_whole told [] start start_whole (only-entered slots n life least track.history (Fits Told Short) fits) none in
+    let joined : start ++ lines_told line told ≡ front ++ track_lines kind line n life last track = append_assoc front (least_line kind least) (lines_told line told) in
+    let text : List ℕ = (front ++ track_lines kind line n life last track) ++ back in
+    let stands : AreKept kind read (in_life 0 told) text = texts.grows (in_life 0 told) (front ++ track_lines kind line n life last track) back (subst (λ (l : List ℕ). AreKept kind read (in_life 0 told) l) joined all.1) in
+    let is_least : least_in kind start ≡ max (least_in kind front) least = laws.least_own kind front least whole bound in
+    let up : least_in kind start ≤ least_in kind (start ++ lines_told line told) = laws.least_grows kind start (lines_told line told) in
+    let over : least_in kind (start ++ lines_told line told) ≡ least_in kind (front ++ track_lines kind line n life last track) = ap (least_in kind) joined in
+    let more : least_in kind (front ++ track_lines kind line n life last track) ≤ least_in kind text = laws.least_grows kind (front ++ track_lines kind line n life last track) back in
+    let high : least ≤ least_in kind text = omega (arith, is_least, up, over, more) in
+    (ap is_whole (sym joined) ∙ all.0, each text high (back_to told text stands) track.history (λ p there. there))
+  where
+    Stands : List ℕ → TimedEntry K → Type 0
+    Stands text e = (e.time < least_in kind text) ⊎ Contains (read whatever text) e
+
+    back_to : (es : List (TimedEntry K)) (text : List ℕ) → AreKept kind read (in_life 0 es) text → All (λ e. (e.time < least_in kind text) ⊎ Contains (read whatever text) e) es
+    back_to [] text h = All-nil (λ e. (e.time < least_in kind text) ⊎ Contains (read whatever text) e)
+    back_to (e ∷ es) text h =
+        let p : Past K = record { life = 0; entry = e } in
+        let P : Past K → Type 0 = λ q. (q.entry.time < least_in kind text) ⊎ Contains (read whatever text) q.entry in
+        All-cons (λ x. (x.time < least_in kind text) ⊎ Contains (read whatever text) x) e es (All-head P p (in_life 0 es) h) (back_to es text (All-tail P p (in_life 0 es) h))
+
+    each : (text : List ℕ) → least_told n last track ≤ least_in kind text → All (λ e. (e.time < least_in kind text) ⊎ Contains (read whatever text) e) (held_from (least_told n last track) (slots_of n (of_life life track.history)))
+        → (ps : List (Past K)) → ((p : Past K) → Contains ps p → Contains track.history p) → All (λ p. (p.entry.time < least_in kind text) ⊎ Contains (read whatever text) p.entry) ps
+    each text high stands [] inside = All-nil (λ p. (p.entry.time < least_in kind text) ⊎ Contains (read whatever text) p.entry)
+    each text high stands (p ∷ ps) inside =
+        All-cons (λ q. (q.entry.time < least_in kind text) ⊎ Contains (read whatever text) q.entry) p ps
+        (elim (cases_lt p.entry.time (least_told n last track)) [
+          | inl low ↦ inl (omega (arith, low, high))
+          | inr late ↦ All-contains (λ e. (e.time < least_in kind text) ⊎ Contains (read whatever text) e) (held_from (least_told n last track) (slots_of n (of_life life track.history))) p.entry stands
+              (held-entry slots n life last track sound pos p (inside p (0, omega arith, refl)) late)
+        ])
+        (each text high stands ps (λ q there. inside q (Contains-append_right (p ∷ []) ps q there)))
+
+-- ---- what the lines say
+
+lines-say : {K : Type 0} (line : ℕ → K → List ℕ) (Fit : TimedEntry K → Type 0) → BelowCompactions → ((e : TimedEntry K) → Fit e → SaysNoClock (line e.time e.key)) → (es : List (TimedEntry K)) → All Fit es → SaysNoClock (lines_told line es)
+lines-say line Fit laws says [] fits = record { whole = refl; clocks = no_clock }
+  where
+    no_clock : (kind : ClockKind) → last_clock kind [] ≡ 0
+    no_clock kind = refl
+lines-say line Fit laws says (e ∷ es) fits = laws.both (line e.time e.key) (lines_told line es) (says e (All-head Fit e es fits)) (lines-say line Fit laws says es (All-tail Fit e es fits))
+
+track-says : {K : Type 0} (kind : ClockKind) (line : ℕ → K → List ℕ) (Fit : TimedEntry K → Type 0) → BelowCompactions → SlotLaws K → ((e : TimedEntry K) → Fit e → SaysNoClock (line e.time e.key)) → (n life last : ℕ) (track : Track K)
+    → last < 2 ^ 64 - 1 → All (λ p. Fit p.entry) track.history → SaysNoClock (track_lines kind line n life last track)
+track-says {K} kind line Fit laws slots says n life last track small fits =
+    let least : ℕ = least_told n last track in
+    let bound : least ≤ 2 ^ 64 - 1 = omega arith in
+    laws.both (least_line kind least) (lines_told line (held_from least (slots_of n (of_life life track.history)))) (laws.least_line_whole kind least bound)
+    (lines-say line Fit laws says (held_from least (slots_of n (of_life life track.history))) (only-entered slots n life least track.history Fit fits))
+
+says_no_clock : BelowCompactions → (i : IdealAgent) → IsSound i → AreTimes i.snapshot → All (λ p. IsIdTold p.entry.key) i.queries.history → SaysNoClock (kept_lines i)
+says_no_clock laws i sound times told =
+    let event : ℕ = i.snapshot.event_clock in
+    let asked : ℕ = i.snapshot.query_clock in
+    let low_event : event < 2 ^ 64 - 1 = times.event_clock in
+    let low_query : asked < 2 ^ 64 - 1 = times.query_clock in
+    laws.both (track_lines kinds.Event line_of_event i.config.event_buffer i.life event i.events) (track_lines kinds.Query query_line i.config.query_buffer i.life asked i.queries)
+    (track-says kinds.Event line_of_event (λ (e : TimedEntry EventBody). e.time ≤ event) laws laws.event_slots (λ e low. laws.event_line_whole e.time e.key.name e.key.payload (omega arith)) i.config.event_buffer i.life event i.events low_event sound.events.noted)
+    (track-says kinds.Query query_line (λ (e : TimedEntry ℕ). (e.time ≤ asked) × IsIdTold e.key) laws laws.query_slots (λ e low. laws.query_line_whole e.time e.key (omega (arith, low.0)) low.1) i.config.query_buffer i.life asked i.queries low_query
+    (λ k d inside. (sound.queries.noted k d inside, told k d inside)))
+
+-- ---- an agent
+
+keeps : BelowCompactions → (i : IdealAgent) → IsSound i → 0 < i.config.event_buffer → 0 < i.config.query_buffer → AreTimes i.snapshot → AreTold IsTold i.events.history → AreTold IsIdTold i.queries.history
+    → HasKept i (kept_compaction_of (kept_lines i) i.snapshot)
+keeps laws i sound some_events some_queries times told_events told_queries =
+    let s = i.snapshot in
+    let ev : List ℕ = track_lines kinds.Event line_of_event i.config.event_buffer i.life i.snapshot.event_clock i.events in
+    let qu : List ℕ = track_lines kinds.Query query_line i.config.query_buffer i.life i.snapshot.query_clock i.queries in
+    let m : List ℕ = line_above_zero kinds.Member i.snapshot.member_clock in
+    let e : List ℕ = kept_line_above_zero kinds.Event i.snapshot.event_clock in
+    let q : List ℕ = kept_line_above_zero kinds.Query i.snapshot.query_clock in
+    let event_fits : All (λ (p : Past EventBody). Fits IsTold IsShort p.entry) i.events.history = λ k d inside. let t = told_events k d inside in (t.0, t.1, t.2, sound.short k d inside) in
+    let query_fits : All (λ (p : Past ℕ). Fits IsIdTold IsIdShort p.entry) i.queries.history = λ k d inside. let t = told_queries k d inside in (t.0, t.1, t.2, omega arith) in
+    let events = track-kept kinds.Event kept_events line_of_event IsTold IsShort laws laws.event_slots laws.event_texts (λ x fit. (laws.event_line_whole x.time x.key.name x.key.payload fit.1).whole)
+    i.config.event_buffer i.life i.snapshot.event_clock i.events [] qu sound.events some_events times.event_clock refl event_fits in
+    let queries = track-kept kinds.Query kept_queries query_line IsIdTold IsIdShort laws laws.query_slots laws.query_texts (λ x fit. (laws.query_line_whole x.time x.key fit.1 fit.2).whole)
+    i.config.query_buffer i.life i.snapshot.query_clock i.queries ev m sound.queries some_queries times.query_clock events.0 query_fits in
+    record {
+      events = laws.event_texts.grows i.events.history (((ev ++ qu) ++ m) ++ e) q (laws.event_texts.grows i.events.history ((ev ++ qu) ++ m) e (laws.event_texts.grows i.events.history (ev ++ qu) m events.1));
+      queries = laws.query_texts.grows i.queries.history (((ev ++ qu) ++ m) ++ e) q (laws.query_texts.grows i.queries.history ((ev ++ qu) ++ m) e queries.1);
+    }
+
+pub compaction_laws : BelowCompactions → CompactionLaws
+compaction_laws laws = record { keeps = keeps laws; says_no_clock = says_no_clock laws }

@@ -1,0 +1,118 @@
+-- What is durable of an agent that keeps its events, after each of its notes.
+use Rattle.serf_agent.proofs.Names.{◌≡◌, ℕ, ◌-◌, ◌^◌, ◌<◌, ◌≤◌, nat_le, cond, Bool, true, false, List, [], ◌∷◌, ◌++◌, Option, Some, None, take, refl, sym, subst, ap, ◌∙◌, append-nil, append_assoc, arith, option_map, EventBody, TimedEntry, ClockKind, clock_line, Kept, Failed, KeepsPart, noted, written, last_line}
+use Rattle.serf_snap.specs.declared.kept.Wanted.{Wanted}
+use Rattle.serf_snap.specs.declared.kind.ClockKind.TheVariants as kinds
+use Rattle.serf_snap.specs.Clocks.{is_whole}
+use Rattle.serf_snap.specs.EventLines.{kept_clock_line, query_line}
+use Rattle.serf_snap.specs.KeptNotes.{kept_bytes, kept_noted}
+use Rattle.serf_snap.specs.Notes.{IsSnapshotSound}
+use Rattle.serf_agent.specs.Events.{event_entered, texts_len}
+use Rattle.serf_agent.specs.Ideal.{IdealAgent, Past, with_snapshot}
+use Rattle.serf_agent.specs.KeptRestart.{HasKept, IsKeptSound}
+use Rattle.serf_agent.specs.KeptSteps.{KeptNoteLaws}
+use Rattle.serf_agent.specs.KeptTexts.{AreKept, IsIdShort, IsIdTold, IsShort, IsTold, KeptEventLaws, KeptQueryLaws, KeptTextLaws, kept_events, kept_queries, line_of_event}
+use Rattle.serf_agent.specs.Queries.{query_entered}
+
+-- ---- what the crates below promise
+
+pub record BelowSteps : Type 0 where
+  pub event_texts : KeptEventLaws
+  pub query_texts : KeptQueryLaws
+  pub clock_line_whole : (k : ClockKind) (text : List ℕ) (t : ℕ) → is_whole (text ++ kept_clock_line k t) ≡ true
+
+-- ---- what is durable
+
+some-same : {X : Type 0} (x y : X) → Some x ≡ Some y → x ≡ y
+some-same x y h = cc
+
+-- bytes behind what was durable
+pub grown-durable : (s : Option (List ℕ)) (bytes new : List ℕ) → option_map (λ (k : List ℕ). k ++ bytes) s ≡ Some new → (old : List ℕ) × (s ≡ Some old) × (old ++ bytes ≡ new)
+grown-durable None bytes new at = absurd (cc at)
+grown-durable (Some old) bytes new at = (old, refl, some-same _ _ at)
+
+-- and a part of them
+part-durable : (s : Option (List ℕ)) (bytes new : List ℕ) → KeepsPart s bytes (Some new) → (old : List ℕ) × (more : List ℕ) × (s ≡ Some old) × (new ≡ old ++ more)
+part-durable None bytes new part = absurd (cc part)
+part-durable (Some old) bytes new part = (old, take part.0 bytes, refl, part.1)
+
+-- ---- one more line
+
+abbrev front_of : ClockKind → ℕ → ℕ → List ℕ
+front_of kind t last = cond (nat_le t last) [] (kept_clock_line kind t)
+
+whole-front : BelowSteps → (kind : ClockKind) (text : List ℕ) (t last : ℕ) → is_whole text ≡ true → is_whole (text ++ front_of kind t last) ≡ true
+whole-front laws kind text t last whole = by (nat_le t last)
+  where
+    by : (b : Bool) → is_whole (text ++ cond b [] (kept_clock_line kind t)) ≡ true
+    by true = ap is_whole (append-nil text) ∙ whole
+    by false = laws.clock_line_whole kind text t
+
+entered : {K : Type 0} (kind : ClockKind) (read : Wanted → List ℕ → List (TimedEntry K)) (line : ℕ → K → List ℕ) (Told : K → Type 0) (Short : ℕ → K → Type 0) → BelowSteps → KeptTextLaws kind read line Told Short
+    → (history : List (Past K)) (old : List ℕ) (life t last : ℕ) (what : K) → is_whole old ≡ true → 0 < t → t < 2 ^ 64 - 1 → Told what → Short 9216 what → AreKept kind read history old
+    → AreKept kind read (history ++ record { life = life; entry = record { time = t; key = what } } ∷ []) (old ++ kept_bytes kind t (line t what) last)
+entered {K} kind read line Told Short laws texts history old life t last what whole some small told short kept =
+    let front : List ℕ = front_of kind t last in
+    subst (λ (l : List ℕ). AreKept kind read (history ++ record { life = life; entry = record { time = t; key = what } } ∷ []) l) (append_assoc old (front_of kind t last) (line t what))
+    (texts.line_kept history (old ++ front_of kind t last) life t what (whole-front laws kind old t last whole) some small told short (texts.grows history old (front_of kind t last) kept))
+
+enters_event : BelowSteps → (t : ℕ) (what : EventBody) (i : IdealAgent) → IsKeptSound i → IsSnapshotSound i.snapshot → i.snapshot.stopped ≡ false → 0 < t → t < 2 ^ 64 - 1 → IsTold what → texts_len what ≤ 9216
+    → IsKeptSound (with_snapshot (kept_noted kinds.Event t (line_of_event t what) i.snapshot Kept) (event_entered t what i))
+enters_event laws t what i had sound runs some small told short durable at =
+    let bytes : List ℕ = kept_bytes kinds.Event t (line_of_event t what) i.snapshot.event_clock in
+    let g = grown-durable i.snapshot.durable bytes durable at in
+    let before : HasKept i g.0 = had g.0 g.1 in
+    let whole : is_whole g.0 ≡ true = (sound g.0 g.1).whole runs in
+    let after : HasKept (event_entered t what i) (g.0 ++ bytes) = record {
+      events = entered kinds.Event kept_events line_of_event IsTold IsShort laws laws.event_texts i.events.history g.0 i.life t i.snapshot.event_clock what whole some small told short before.events;
+      queries = laws.query_texts.grows i.queries.history g.0 bytes before.queries;
+    } in
+    let next : HasKept (event_entered t what i) durable = subst (HasKept (event_entered t what i)) g.2 after in
+    record { events = next.events; queries = next.queries }
+
+enters_query : BelowSteps → (t id : ℕ) (i : IdealAgent) → IsKeptSound i → IsSnapshotSound i.snapshot → i.snapshot.stopped ≡ false → 0 < t → t < 2 ^ 64 - 1 → IsIdTold id
+    → IsKeptSound (with_snapshot (kept_noted kinds.Query t (query_line t id) i.snapshot Kept) (query_entered t id i))
+enters_query laws t id i had sound runs some small told durable at =
+    let bytes : List ℕ = kept_bytes kinds.Query t (query_line t id) i.snapshot.query_clock in
+    let g = grown-durable i.snapshot.durable bytes durable at in
+    let before : HasKept i g.0 = had g.0 g.1 in
+    let whole : is_whole g.0 ≡ true = (sound g.0 g.1).whole runs in
+    let after : HasKept (query_entered t id i) (g.0 ++ bytes) = record {
+      events = laws.event_texts.grows i.events.history g.0 bytes before.events;
+      queries = entered kinds.Query kept_queries query_line IsIdTold IsIdShort laws laws.query_texts i.queries.history g.0 i.life t i.snapshot.query_clock id whole some small told (omega arith) before.queries;
+    } in
+    let next : HasKept (query_entered t id i) durable = subst (HasKept (query_entered t id i)) g.2 after in
+    record { events = next.events; queries = next.queries }
+
+-- ---- lines that enter nothing
+
+kept-grows : BelowSteps → (i : IdealAgent) (text more : List ℕ) → HasKept i text → HasKept i (text ++ more)
+kept-grows laws i text more had = record { events = laws.event_texts.grows i.events.history text more had.events; queries = laws.query_texts.grows i.queries.history text more had.queries }
+
+tells : BelowSteps → (kind : ClockKind) (t : ℕ) (line : List ℕ) (i : IdealAgent) → IsKeptSound i → IsKeptSound (with_snapshot (kept_noted kind t line i.snapshot Kept) i)
+tells laws kind t line i had durable at =
+    let bytes : List ℕ = kept_bytes kind t line (last_line kind i.snapshot) in
+    let g = grown-durable i.snapshot.durable bytes durable at in
+    let after : HasKept i (g.0 ++ bytes) = kept-grows laws i g.0 bytes (had g.0 g.1) in
+    let next : HasKept i durable = subst (HasKept i) g.2 after in
+    record { events = next.events; queries = next.queries }
+
+saves : BelowSteps → (t : ℕ) (i : IdealAgent) → IsKeptSound i → IsKeptSound (with_snapshot (noted kinds.Member t i.snapshot Kept) i)
+saves laws t i had durable = by (nat_le t i.snapshot.member_clock)
+  where
+    by : (b : Bool) → (cond b i.snapshot (written kinds.Member t i.snapshot Kept)).durable ≡ Some durable → HasKept (with_snapshot (noted kinds.Member t i.snapshot Kept) i) durable
+    by true at = let next : HasKept i durable = had durable at in record { events = next.events; queries = next.queries }
+    by false at =
+        let g = grown-durable i.snapshot.durable (clock_line kinds.Member t) durable at in
+        let after : HasKept i (g.0 ++ clock_line kinds.Member t) = kept-grows laws i g.0 (clock_line kinds.Member t) (had g.0 g.1) in
+        let next : HasKept i durable = subst (HasKept i) g.2 after in
+        record { events = next.events; queries = next.queries }
+
+fails : BelowSteps → (kind : ClockKind) (t : ℕ) (bytes : List ℕ) (durable : Option (List ℕ)) (i : IdealAgent) → IsKeptSound i → KeepsPart i.snapshot.durable bytes durable → IsKeptSound (with_snapshot (written kind t i.snapshot (Failed durable)) i)
+fails laws kind t bytes durable i had part new at =
+    let p = part-durable i.snapshot.durable bytes new (subst (λ (o : Option (List ℕ)). KeepsPart i.snapshot.durable bytes o) at part) in
+    let after : HasKept i (p.0 ++ p.1) = kept-grows laws i p.0 p.1 (had p.0 p.2) in
+    let next : HasKept i new = subst (HasKept i) (sym p.3) after in
+    record { events = next.events; queries = next.queries }
+
+pub kept_note_laws : BelowSteps → KeptNoteLaws
+kept_note_laws laws = record { enters_event = enters_event laws; enters_query = enters_query laws; tells = tells laws; saves = saves laws; fails = fails laws }

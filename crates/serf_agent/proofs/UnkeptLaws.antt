@@ -1,0 +1,167 @@
+-- What is durable of an agent that keeps no events: its clock lines say that all up to them was handed out.
+use Rattle.serf_agent.proofs.Names.{◌≡◌, ◌≢◌, ℕ, ◌+◌, ◌-◌, ◌^◌, ◌<◌, ◌≤◌, ◌⊎◌, ◌==◌, inl, inr, max, nat_le, cond, Bool, true, false, List, [], ◌∷◌, ◌++◌, Some, map, refl, sym, subst, ap, ◌∙◌, append-nil, arith, All-push, All-weaker, eqb-false, leb-false, leb-true, EventBody, ClockKind, clock_line, Device, Kept, compaction_of, noted, opened, written}
+use Rattle.std.specs.Prelude.{Contains}
+use Rattle.std.proofs.lemmas.Bool.{eqb-true}
+use Rattle.serf_snap.specs.declared.kept.Wanted.{Wanted}
+use Rattle.serf_snap.specs.declared.kind.ClockKind.TheVariants as kinds
+use Rattle.serf_snap.specs.Clocks.{compacted_text, is_whole, line_above_zero, sealed}
+use Rattle.serf_snap.specs.EventLines.{least_in, least_of_lines, events_in, queries_in}
+use Rattle.serf_snap.specs.Clocks.{lines_of}
+use Rattle.serf_snap.specs.Notes.{AreTimes, IsSnapshotSound}
+use Rattle.serf_agent.specs.Events.{event_entered}
+use Rattle.serf_agent.specs.Ideal.{IdealAgent, Past, with_snapshot}
+use Rattle.serf_agent.specs.KeptRestart.{HasKept}
+use Rattle.serf_agent.specs.KeptTexts.{KeptEventLaws, KeptQueryLaws, event_entry, kept_events, kept_queries, query_entry, whatever}
+use Rattle.serf_agent.specs.Queries.{query_entered}
+use Rattle.serf_agent.specs.Restart.{restarted}
+use Rattle.serf_agent.specs.Sound.{IsSound}
+use Rattle.serf_agent.specs.Unkept.{HasSaid, IsSaid, IsSaidSound, UnkeptLaws}
+use Rattle.serf_agent.proofs.KeptRestartLaws.{sealed-kept}
+use Rattle.serf_agent.proofs.KeptStepLaws.{grown-durable}
+
+-- ---- what the crates below promise
+
+pub record BelowUnkept : Type 0 where
+  pub event_texts : KeptEventLaws
+  pub query_texts : KeptQueryLaws
+  pub least_grows : (k : ClockKind) (front tail : List ℕ) → least_in k front ≤ least_in k (front ++ tail)
+  pub least_clock_line : (k : ClockKind) (text : List ℕ) (t : ℕ) → is_whole text ≡ true → 0 < t → t < 2 ^ 64 - 1 → least_in k (text ++ clock_line k t) ≡ max (least_in k text) (t + 1)
+  pub least_sealed : (k : ClockKind) (text : List ℕ) → least_in k (sealed text) ≡ least_in k text
+  pub events_sealed : (w : Wanted) (text : List ℕ) → events_in w (sealed text) ≡ events_in w text
+  pub queries_sealed : (w : Wanted) (text : List ℕ) → queries_in w (sealed text) ≡ queries_in w text
+  pub compacted_whole : (m e q : ℕ) → is_whole (compacted_text m e q) ≡ true
+
+-- ---- a time that enters
+
+said-grows : BelowUnkept → (kind : ClockKind) (minimum last : ℕ) (text more : List ℕ) → IsSaid kind minimum last text → IsSaid kind minimum last (text ++ more)
+said-grows laws kind minimum last text more (inl low) = inl low
+said-grows laws kind minimum last text more (inr said) = inr (omega (arith, said, laws.least_grows kind text more))
+
+-- at or below the last line
+said-below : (kind : ClockKind) (minimum last t : ℕ) (text : List ℕ) → IsSaid kind minimum last text → minimum ≤ t → t ≤ last → t < least_in kind text
+said-below kind minimum last t text (inl low) from up = absurd (omega arith)
+said-below kind minimum last t text (inr said) from up = omega arith
+
+-- above it
+said-above : BelowUnkept → (kind : ClockKind) (minimum t : ℕ) (text : List ℕ) → is_whole text ≡ true → 0 < t → t < 2 ^ 64 - 1 → IsSaid kind minimum t (text ++ clock_line kind t)
+said-above laws kind minimum t text whole some small = inr (omega (arith, laws.least_clock_line kind text t whole some small))
+
+enters_event : BelowUnkept → (t : ℕ) (what : EventBody) (i : IdealAgent) → IsSaidSound i → IsSnapshotSound i.snapshot → i.snapshot.stopped ≡ false → i.events.minimum ≤ t → t < 2 ^ 64 - 1
+    → IsSaidSound (with_snapshot (noted kinds.Event t i.snapshot Kept) (event_entered t what i))
+enters_event laws t what i had sound runs from small durable = by (nat_le t i.snapshot.event_clock) refl
+  where
+    p : Past EventBody
+    p = record { life = i.life; entry = record { time = t; key = what } }
+
+    by : (b : Bool) → nat_le t i.snapshot.event_clock ≡ b → (cond b i.snapshot (written kinds.Event t i.snapshot Kept)).durable ≡ Some durable
+        → HasSaid (with_snapshot (cond b i.snapshot (written kinds.Event t i.snapshot Kept)) (event_entered t what i)) durable
+    by true low at =
+        let before : HasSaid i durable = had durable at in
+        let up : t ≤ i.snapshot.event_clock = leb-true t i.snapshot.event_clock low in
+        record {
+          kept = record {
+            events = All-push (λ (q : Past EventBody). (q.entry.time < least_in kinds.Event durable) ⊎ Contains (kept_events whatever durable) q.entry) i.events.history p before.kept.events
+                (inl (said-below kinds.Event i.events.minimum i.snapshot.event_clock t durable before.events from up));
+            queries = before.kept.queries;
+          };
+          events = before.events;
+          queries = before.queries;
+        }
+    by false high at =
+        let above : i.snapshot.event_clock < t = leb-false t i.snapshot.event_clock high in
+        let some : 0 < t = omega arith in
+        let g = grown-durable i.snapshot.durable (clock_line kinds.Event t) durable at in
+        let before : HasSaid i g.0 = had g.0 g.1 in
+        let whole : is_whole g.0 ≡ true = (sound g.0 g.1).whole runs in
+        subst (HasSaid (with_snapshot (written kinds.Event t i.snapshot Kept) (event_entered t what i))) g.2 (record {
+          kept = record {
+            events = laws.event_texts.clock_line_kept i.events.history g.0 i.life t t what whole (omega arith) some small before.kept.events;
+            queries = laws.query_texts.grows i.queries.history g.0 (clock_line kinds.Event t) before.kept.queries;
+          };
+          events = said-above laws kinds.Event i.events.minimum t g.0 whole some small;
+          queries = said-grows laws kinds.Query i.queries.minimum i.snapshot.query_clock g.0 (clock_line kinds.Event t) before.queries;
+        })
+
+enters_query : BelowUnkept → (t id : ℕ) (i : IdealAgent) → IsSaidSound i → IsSnapshotSound i.snapshot → i.snapshot.stopped ≡ false → i.queries.minimum ≤ t → t < 2 ^ 64 - 1
+    → IsSaidSound (with_snapshot (noted kinds.Query t i.snapshot Kept) (query_entered t id i))
+enters_query laws t id i had sound runs from small durable = by (nat_le t i.snapshot.query_clock) refl
+  where
+    p : Past ℕ
+    p = record { life = i.life; entry = record { time = t; key = id } }
+
+    by : (b : Bool) → nat_le t i.snapshot.query_clock ≡ b → (cond b i.snapshot (written kinds.Query t i.snapshot Kept)).durable ≡ Some durable
+        → HasSaid (with_snapshot (cond b i.snapshot (written kinds.Query t i.snapshot Kept)) (query_entered t id i)) durable
+    by true low at =
+        let before : HasSaid i durable = had durable at in
+        let up : t ≤ i.snapshot.query_clock = leb-true t i.snapshot.query_clock low in
+        record {
+          kept = record {
+            events = before.kept.events;
+            queries = All-push (λ (q : Past ℕ). (q.entry.time < least_in kinds.Query durable) ⊎ Contains (kept_queries whatever durable) q.entry) i.queries.history p before.kept.queries
+                (inl (said-below kinds.Query i.queries.minimum i.snapshot.query_clock t durable before.queries from up));
+          };
+          events = before.events;
+          queries = before.queries;
+        }
+    by false high at =
+        let above : i.snapshot.query_clock < t = leb-false t i.snapshot.query_clock high in
+        let some : 0 < t = omega arith in
+        let g = grown-durable i.snapshot.durable (clock_line kinds.Query t) durable at in
+        let before : HasSaid i g.0 = had g.0 g.1 in
+        let whole : is_whole g.0 ≡ true = (sound g.0 g.1).whole runs in
+        subst (HasSaid (with_snapshot (written kinds.Query t i.snapshot Kept) (query_entered t id i))) g.2 (record {
+          kept = record {
+            events = laws.event_texts.grows i.events.history g.0 (clock_line kinds.Query t) before.kept.events;
+            queries = laws.query_texts.clock_line_kept i.queries.history g.0 i.life t t id whole (omega arith) some small before.kept.queries;
+          };
+          events = said-grows laws kinds.Event i.events.minimum i.snapshot.event_clock g.0 (clock_line kinds.Query t) before.events;
+          queries = said-above laws kinds.Query i.queries.minimum t g.0 whole some small;
+        })
+
+-- ---- openings and compactions
+
+restarts : BelowUnkept → (i : IdealAgent) (text : List ℕ) (d : Device) → HasKept i text → HasSaid (restarted (opened text d) i) (sealed text)
+restarts laws i text d had = record {
+  kept = record {
+    events = sealed-kept kinds.Event kept_events i.events.history text (laws.least_sealed kinds.Event text) (ap (map event_entry) (laws.events_sealed whatever text)) had.events;
+    queries = sealed-kept kinds.Query kept_queries i.queries.history text (laws.least_sealed kinds.Query text) (ap (map query_entry) (laws.queries_sealed whatever text)) had.queries;
+  };
+  events = inl (omega arith);
+  queries = inl (omega arith);
+}
+
+least-some : (k : ClockKind) (ls : List (List ℕ)) → 1 ≤ least_of_lines k ls
+least-some k [] = omega arith
+least-some k (l ∷ ls) = let ih : 1 ≤ least_of_lines k ls = least-some k ls in omega arith
+
+line-said : BelowUnkept → (kind : ClockKind) (text : List ℕ) (t : ℕ) → is_whole text ≡ true → t < 2 ^ 64 - 1 → t < least_in kind (text ++ line_above_zero kind t)
+line-said laws kind text t whole small = by (t == 0) refl
+  where
+    by : (b : Bool) → (t == 0) ≡ b → t < least_in kind (text ++ cond b [] (clock_line kind t))
+    by true zero = let none : t ≡ 0 = eqb-true t 0 zero in let some : 1 ≤ least_in kind (text ++ []) = least-some kind (lines_of (text ++ [])) in omega arith
+    by false more = let ne : t ≢ 0 = eqb-false t 0 more in omega (arith, laws.least_clock_line kind text t whole (omega arith) small)
+
+compacts : BelowUnkept → (i : IdealAgent) → IsSound i → AreTimes i.snapshot → HasSaid i (compaction_of i.snapshot)
+compacts laws i sound times =
+    let s = i.snapshot in
+    let m : List ℕ = line_above_zero kinds.Member i.snapshot.member_clock in
+    let e : List ℕ = line_above_zero kinds.Event i.snapshot.event_clock in
+    let q : List ℕ = line_above_zero kinds.Query i.snapshot.query_clock in
+    let whole_m : is_whole m ≡ true = ap is_whole (sym (append-nil (m ++ []) ∙ append-nil m)) ∙ laws.compacted_whole i.snapshot.member_clock 0 0 in
+    let whole_e : is_whole (m ++ e) ≡ true = ap is_whole (sym (append-nil (m ++ e))) ∙ laws.compacted_whole i.snapshot.member_clock i.snapshot.event_clock 0 in
+    let event_line : i.snapshot.event_clock < least_in kinds.Event (m ++ e) = line-said laws kinds.Event m i.snapshot.event_clock whole_m times.event_clock in
+    let event_said : i.snapshot.event_clock < least_in kinds.Event ((m ++ e) ++ q) = omega (arith, event_line, laws.least_grows kinds.Event (m ++ e) q) in
+    let query_said : i.snapshot.query_clock < least_in kinds.Query ((m ++ e) ++ q) = line-said laws kinds.Query (m ++ e) i.snapshot.query_clock whole_e times.query_clock in
+    record {
+      kept = record {
+        events = All-weaker (λ (p : Past EventBody). p.entry.time ≤ i.snapshot.event_clock) (λ (p : Past EventBody). (p.entry.time < least_in kinds.Event ((m ++ e) ++ q)) ⊎ Contains (kept_events whatever ((m ++ e) ++ q)) p.entry)
+            (λ p low. inl (omega (arith, low, event_said))) i.events.history sound.events.noted;
+        queries = All-weaker (λ (p : Past ℕ). p.entry.time ≤ i.snapshot.query_clock) (λ (p : Past ℕ). (p.entry.time < least_in kinds.Query ((m ++ e) ++ q)) ⊎ Contains (kept_queries whatever ((m ++ e) ++ q)) p.entry)
+            (λ p low. inl (omega (arith, low, query_said))) i.queries.history sound.queries.noted;
+      };
+      events = inr event_said;
+      queries = inr query_said;
+    }
+
+pub unkept_laws : BelowUnkept → UnkeptLaws
+unkept_laws laws = record { restarts = restarts laws; enters_event = enters_event laws; enters_query = enters_query laws; compacts = compacts laws }

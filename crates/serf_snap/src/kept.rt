@@ -1,0 +1,90 @@
+//! What the lines of an agent that keeps its events say.
+
+ghost use Rattle.std.specs.Prelude.{◌≡◌};
+
+use serf_lamport::Time;
+use std::marker::Model;
+
+/// An event that was kept: its time, its name and its payload.
+#[derive(Debug, Drop)]
+pub struct KeptEvent {
+    time: Time,
+    name: Vec<u8>,
+    payload: Vec<u8>,
+}
+
+impl Model for KeptEvent {
+    ghost use Rattle.serf_snap.specs.TimedEvent.{TimedEvent};
+
+    ghost Value = { TimedEvent };
+
+    ghost view = { λ e. record { time = e.time; name = e.name.items; payload = e.payload.items } };
+}
+
+impl KeptEvent {
+    /// An event of these texts. Takes no memory.
+    pub(crate) fn new(time: Time, name: Vec<u8>, payload: Vec<u8>) -> KeptEvent
+        ensures { result ≡ record { time = time; name = name.items; payload = payload.items } }
+    {
+        KeptEvent {
+            time,
+            name,
+            payload,
+        }
+    }
+
+    /// Its time. Takes no memory.
+    pub fn time(&self) -> Time
+        ensures { result ≡ self.now.time }
+    {
+        self.time
+    }
+
+    /// Its name. Takes no memory.
+    pub fn name(&self) -> &[u8]
+        ensures { result.now ≡ self.now.name }
+    {
+        self.name.as_slice()
+    }
+
+    /// Its payload. Takes no memory.
+    pub fn payload(&self) -> &[u8]
+        ensures { result.now ≡ self.now.payload }
+    {
+        self.payload.as_slice()
+    }
+
+    /// Its name and its payload. Takes no memory.
+    pub fn into_texts(self) -> (Vec<u8>, Vec<u8>)
+        ensures name { result.0.items ≡ self.name }
+        ensures payload { result.1.items ≡ self.payload }
+    {
+        let KeptEvent { name, payload, .. } = self;
+        (name, payload)
+    }
+}
+
+/// A query that was kept: its time and its ID.
+#[derive(Clone, Copy, Debug, PartialEq, Eq)]
+pub struct KeptQuery {
+    pub time: Time,
+    pub id: u32,
+}
+
+/// Which events and queries of a text are wanted.
+#[derive(Clone, Copy, Debug, PartialEq, Eq)]
+pub struct Wanted {
+    /// The first time that is wanted.
+    pub from: u64,
+    /// The first time that isn't wanted any more.
+    pub below: u64,
+    /// The most bytes that an event's name and payload have together.
+    pub longest: u64,
+}
+
+/// The least time that an agent takes of its events, and of its queries.
+#[derive(Clone, Copy, Debug, PartialEq, Eq)]
+pub struct LeastTimes {
+    pub events: u64,
+    pub queries: u64,
+}

@@ -1,0 +1,308 @@
+//! The lines of an agent that keeps its events, as they are read.
+
+ghost use Rattle.std.specs.Prelude.{false, ◌≡◌, ◌<◌, ◌++◌, ◌==◌, IfOk, MatchOption, OnOk, Some, None, max};
+ghost use Rattle.std.specs.List.{slice_split};
+ghost use Rattle.serf_snap.specs.Clocks.{behind, time_text_value};
+ghost use Rattle.serf_snap.specs.EventLines.{above_unkept, begins_with_zero, bytes_of_hex, event_from, event_from_parts, event_of_line, events_in, id_of, if_event_wanted, if_query_wanted, least_in, least_of_line, least_text_value, queries_in, query_from, query_from_parts, query_of_line};
+ghost use Rattle.serf_snap.specs.declared.kind.ClockKind.TheVariants.{Event, Query};
+
+use crate::clocks::{is_all_digits, number_of, time_of};
+use crate::event_lines::least_prefix_of;
+use crate::kept::{KeptEvent, KeptQuery, LeastTimes, Wanted};
+use crate::kind::ClockKind;
+use crate::parts::{cut, first_line};
+use hex::FromHexError;
+use serf_lamport::Time;
+use std::alloc::{AllocError, Global};
+
+/// The time that digits write, which isn't 0.
+fn time_above_zero(digits: &[u8]) -> Option<Time>
+    ensures { MatchOption result (time_text_value (Some digits.now) ≡ 0)
+        (λ t. (time_text_value (Some digits.now) ≡ t) × ((t == 0) ≡ false)) }
+{
+    let time = time_of(digits);
+    if time == 0 { None } else { Time::new(time) }
+}
+
+/// What follows a prefix.
+fn without_prefix<'a>(prefix: &[u8], line: &'a [u8]) -> Option<&'a [u8]>
+    ensures { MatchOption result (behind prefix.now line.now ≡ None)
+        (λ rest. behind prefix.now line.now ≡ Some rest.now) }
+{
+    match line.strip_prefix(prefix) {
+        Some(rest) => Some(rest),
+        None => None,
+    }
+}
+
+/// The bytes that hex digits write.
+fn hex_bytes(alloc: Global, digits: &[u8]) -> Result<Option<Vec<u8>>, AllocError>
+    ensures { IfOk result (λ found. MatchOption found (bytes_of_hex digits.now ≡ None)
+        (λ bytes. bytes_of_hex digits.now ≡ Some bytes.items)) }
+{
+    match hex::decode(alloc, digits) {
+        Ok(found) => Ok(Some(found)),
+        Err(FromHexError::OutOfMemory) => Err(AllocError),
+        Err(_) => Ok(None),
+    }
+}
+
+/// An event of these parts.
+fn event_of(
+    alloc: Global,
+    time: &[u8],
+    name: &[u8],
+    payload: &[u8],
+) -> Result<Option<KeptEvent>, AllocError>
+    ensures { IfOk result (λ found. found ≡ event_from (time_text_value (Some time.now))
+        (bytes_of_hex name.now) (bytes_of_hex payload.now)) }
+{
+    let Some(name) = hex_bytes(alloc, name)? else {
+        return Ok(None);
+    };
+    let Some(payload) = hex_bytes(alloc, payload)? else {
+        return Ok(None);
+    };
+    match time_above_zero(time) {
+        Some(time) => Ok(Some(KeptEvent::new(time, name, payload))),
+        None => Ok(None),
+    }
+}
+
+/// An event of a text whose parts stand between single spaces.
+fn event_of_text(alloc: Global, text: &[u8]) -> Result<Option<KeptEvent>, AllocError>
+    ensures { IfOk result (λ found. found
+        ≡ event_from_parts (slice_split (λ b. b == 32) text.now)) }
+{
+    let (time, more) = cut(text, b' ');
+    let Some(rest) = more else {
+        return Ok(None);
+    };
+    let (name, more) = cut(rest, b' ');
+    let Some(rest) = more else {
+        return Ok(None);
+    };
+    let (payload, more) = cut(rest, b' ');
+    match more {
+        Some(_) => Ok(None),
+        None => event_of(alloc, time, name, payload),
+    }
+}
+
+/// The event of a line, where it is an event's line.
+fn event_in(alloc: Global, line: &[u8]) -> Result<Option<KeptEvent>, AllocError>
+    ensures { IfOk result (λ found. found ≡ event_of_line line.now) }
+{
+    match without_prefix(b"#event ", line) {
+        Some(text) => event_of_text(alloc, text),
+        None => Ok(None),
+    }
+}
+
+/// Takes the event of a line, where it is one that is wanted.
+fn take_event(
+    events: &mut Vec<KeptEvent>,
+    alloc: Global,
+    line: &[u8],
+    wanted: Wanted,
+) -> Result<(), AllocError>
+    ensures { OnOk result (events.new.items ≡ events.old.items
+        ++ if_event_wanted wanted (event_of_line line.now)) }
+{
+    match event_in(alloc, line)? {
+        Some(event) => {
+            if wanted.has_event(&event) {
+                events.push(event)?;
+            }
+            Ok(())
+        }
+        None => Ok(()),
+    }
+}
+
+/// The events of a text's lines that are wanted, in order; an `AllocError` where there is no memory for them.
+///
+/// Any bytes are a text. A line ends with a newline, so bytes behind the last one are no line. An event's line is
+/// `#event TIME NAME PAYLOAD`: the time is one or more digits, of a value from 1 to 2^64 - 2; the name and the
+/// payload are in hex, two digits for each byte, and none for no bytes; and there is just one space before each.
+/// Each other line is skipped.
+pub fn read_events(alloc: Global, text: &[u8], wanted: Wanted) -> Result<Vec<KeptEvent>, AllocError>
+    ensures { IfOk result (λ events. events.items ≡ events_in wanted text.now) }
+{
+    let mut events = Vec::new(alloc);
+    let mut left = text;
+    'lines: loop {
+        let Some((line, rest)) = first_line(left) else {
+            return Ok(events);
+        };
+        take_event(&mut events, alloc, line, wanted)?;
+        left = rest;
+    }
+}
+
+/// The ID that digits write.
+fn id_in(digits: &[u8]) -> Option<u32>
+    ensures { result ≡ id_of digits.now }
+{
+    if digits.is_empty() || !is_all_digits(digits) {
+        return None;
+    }
+    let id = number_of(digits);
+    if id <= u32::MAX as u64 {
+        Some(id as u32)
+    } else {
+        None
+    }
+}
+
+/// A query of these parts.
+fn query_of(time: &[u8], id: &[u8]) -> Option<KeptQuery>
+    ensures { result ≡ query_from (time_text_value (Some time.now)) (id_of id.now) }
+{
+    let Some(id) = id_in(id) else {
+        return None;
+    };
+    match time_above_zero(time) {
+        Some(time) => Some(KeptQuery { time, id }),
+        None => None,
+    }
+}
+
+/// A query of a text whose parts stand between single spaces.
+fn query_of_text(text: &[u8]) -> Option<KeptQuery>
+    ensures { result ≡ query_from_parts (slice_split (λ b. b == 32) text.now) }
+{
+    let (time, more) = cut(text, b' ');
+    let Some(rest) = more else {
+        return None;
+    };
+    let (id, more) = cut(rest, b' ');
+    match more {
+        Some(_) => None,
+        None => query_of(time, id),
+    }
+}
+
+/// The query of a line, where it is a query's line.
+fn query_in(line: &[u8]) -> Option<KeptQuery>
+    ensures { result ≡ query_of_line line.now }
+{
+    match without_prefix(b"#query ", line) {
+        Some(text) => query_of_text(text),
+        None => None,
+    }
+}
+
+/// Takes the query of a line, where it is one that is wanted.
+fn take_query(queries: &mut Vec<KeptQuery>, line: &[u8], wanted: Wanted) -> Result<(), AllocError>
+    ensures { OnOk result (queries.new.items ≡ queries.old.items
+        ++ if_query_wanted wanted (query_of_line line.now)) }
+{
+    match query_in(line) {
+        Some(query) => {
+            if wanted.has_time(query.time) {
+                queries.push(query)?;
+            }
+            Ok(())
+        }
+        None => Ok(()),
+    }
+}
+
+/// The queries of a text's lines that are wanted, in order; an `AllocError` where there is no memory for them.
+///
+/// Any bytes are a text, as for [`read_events`]. A query's line is `#query TIME ID`: the time is one or more
+/// digits, of a value from 1 to 2^64 - 2, and the ID of a value below 2^32; and there is just one space before
+/// each. Each other line is skipped.
+pub fn read_queries(
+    alloc: Global,
+    text: &[u8],
+    wanted: Wanted,
+) -> Result<Vec<KeptQuery>, AllocError>
+    ensures { IfOk result (λ queries. queries.items ≡ queries_in wanted text.now) }
+{
+    let mut queries = Vec::new(alloc);
+    let mut left = text;
+    'lines: loop {
+        let Some((line, rest)) = first_line(left) else {
+            return Ok(queries);
+        };
+        take_query(&mut queries, line, wanted)?;
+        left = rest;
+    }
+}
+
+fn has_zero_in_front(digits: &[u8]) -> bool
+    ensures { result ≡ begins_with_zero digits.now }
+{
+    match digits.first() {
+        Some(digit) => *digit == b'0',
+        None => false,
+    }
+}
+
+/// One above the time of digits without a zero in front, 0 where they are no time.
+fn above_unkept(digits: &[u8]) -> u64
+    ensures { result ≡ above_unkept (Some digits.now) }
+{
+    if has_zero_in_front(digits) || !is_all_digits(digits) {
+        return 0;
+    }
+    let time = number_of(digits);
+    if digits.is_empty() || time == u64::MAX {
+        0
+    } else {
+        time + 1
+    }
+}
+
+/// The least time that digits write, 0 where they are none.
+fn least_time_of(digits: &[u8]) -> u64
+    ensures { result ≡ least_text_value (Some digits.now) }
+{
+    if digits.is_empty() || !is_all_digits(digits) {
+        return 0;
+    }
+    number_of(digits)
+}
+
+/// The least time that may be taken of a kind after a line, as far as this line says.
+fn least_after(kind: ClockKind, line: &[u8]) -> u64
+    ensures { result ≡ least_of_line kind line.now }
+{
+    let least = match without_prefix(least_prefix_of(kind), line) {
+        Some(digits) => least_time_of(digits),
+        None => 0,
+    };
+    let above = match without_prefix(kind.prefix(), line) {
+        Some(digits) => above_unkept(digits),
+        None => 0,
+    };
+    least.max(above)
+}
+
+/// The least times that an agent takes, by a text. Takes no memory.
+///
+/// Any bytes are a text, as for [`read_events`]. The least time of a kind is the greatest that a line says, and 1
+/// where none says more. The line of a least time, `#least event-clock: N` or `#least query-clock: N`, says N, or
+/// 2^64 - 1 where N is above it. A
+/// clock line without a zero in front of its number says one above it: who wrote it kept no events. Each other line
+/// is skipped.
+pub fn read_least_times(text: &[u8]) -> LeastTimes
+    ensures events { result.events ≡ least_in Event text.now }
+    ensures queries { result.queries ≡ least_in Query text.now }
+{
+    let mut least = LeastTimes {
+        events: 1,
+        queries: 1,
+    };
+    let mut left = text;
+    'lines: loop {
+        let Some((line, rest)) = first_line(left) else {
+            return least;
+        };
+        least.events = least.events.max(least_after(ClockKind::Event, line));
+        least.queries = least.queries.max(least_after(ClockKind::Query, line));
+        left = rest;
+    }
+}

@@ -1,0 +1,40 @@
+use Rattle.std.proofs.Common.{◌≡◌, inl, inr, ℕ, List, ◌++◌, ◌∷◌, ◌∙◌, [], append_assoc, subst, sym}
+use Rattle.std.proofs.lemmas.Result.{IfErr-weaker, on_ok_weaker}
+use Rattle.serf_text.specs.Io.{AppendsFront}
+use Rattle.serf_text.specs.declared.stream_fault.StreamFault.TheVariants.{WriteFault}
+use Rattle.serf_text.proofs.StreamLaws.{both-err, reached-written, stopped-at-write}
+use Rattle.serf_text.proofs.stream.do_line.Goals as goal
+
+pub returns-in-Err-clause-stopped : goal.returns-in-Err-clause-stopped
+returns-in-Err-clause-stopped g c = λ all lines more first cut h.
+    inl (record {
+      lines = lines;
+      line = c.args.kept.now.held.items ++ c.args.line.now;
+      more = more;
+      cut = cut;
+      job = c.args.job.now;
+      text = h.text;
+      appended = h.appended;
+      tells = subst (λ (w : List ℕ). g.J.LineTeller.told c.args.job.now lines (h.text ++ w)) (sym c.in-Err.ensures.same) h.tells;
+      fault_is = c.in-Err.ensures.stopped lines first (g.W.Write.contents c.args.writer.now) h;
+    })
+
+pub returns-clause-done : goal.returns-clause-done
+returns-clause-done g c = λ lines first h.
+    let old = g.W.Write.contents c.args.writer.now in
+    let new = g.W.Write.contents c.write_waiting.new.writer in
+    let kept = c.end_line.new.kept in
+    on_ok_weaker c.write_waiting.result
+    (λ w. reached-written g.J.LineTeller.told c.end_line.new.job kept.number kept.waiting.items c.write_waiting.new.waiting.items (lines ++ (c.args.kept.now.held.items ++ c.args.line.now) ∷ []) first old new (c.in-Ok.ensures.done lines first old h) w c.write_waiting.ensures.empty)
+    c.write_waiting.ensures.done
+
+pub returns-clause-stopped : goal.returns-clause-stopped
+returns-clause-stopped g c = λ all lines more first cut h.
+    let old = g.W.Write.contents c.args.writer.now in
+    let new = g.W.Write.contents c.write_waiting.new.writer in
+    let kept = c.end_line.new.kept in
+    let line : List ℕ = c.args.kept.now.held.items ++ c.args.line.now in
+    let done : all ≡ (lines ++ line ∷ []) ++ more = cut ∙ sym (append_assoc lines (line ∷ []) more) in
+    IfErr-weaker c.write_waiting.result _ _
+    (λ fault w. inr (w.1, c.write_waiting.ensures.empty, stopped-at-write g.J.LineTeller.told g.J.LineTeller.refuses c.end_line.new.job kept.number kept.waiting.items all (lines ++ line ∷ []) more first old new done (c.in-Ok.ensures.done lines first old h) w.0))
+    (both-err (AppendsFront old new kept.waiting.items) (λ fault. fault ≡ WriteFault) c.write_waiting.result c.write_waiting.ensures.front c.write_waiting.ensures.fault)

@@ -1,0 +1,11 @@
+use Rattle.std.proofs.Common.{◌≡◌, ℕ, List, []}
+use Rattle.std.specs.Io.KnownBytes.{Consumes}
+use Rattle.serf_text.specs.Streams.{HasRead}
+use Rattle.serf_text.proofs.stream.tell_lines.Given as goal
+
+-- what was read is what the reader has lost, and the lines in it that are over were done
+abbrev pub invariant-loop-turn : goal.invariant-loop-turn
+invariant-loop-turn g l = (g.J.LineTeller.told l.fn.job [] [] → (bytes : List ℕ)
+    × Consumes (g.R.Read.remaining l.fn.reader) (g.R.Read.remaining l.reader) bytes
+    × HasRead g.J.LineTeller.told l.job l.kept.held.items l.kept.number l.kept.waiting.items bytes (g.W.Write.contents l.fn.writer) (g.W.Write.contents l.writer))
+    × (l.kept.waiting.items ≡ [])
