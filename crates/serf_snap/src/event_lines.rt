@@ -48,7 +48,7 @@ fn put_hex_part(text: &mut Vec<u8>, bytes: &[u8]) -> Result<(), AllocError>
 
 /// Appends the line of an event: `#event`, its time, and its name and its payload in hex, with single spaces
 /// between them. It has at most 30 bytes beside two for each byte of these texts. After an `AllocError`, which
-/// comes where there is no memory for it, `text` may have a front of it.
+/// comes where there is no memory for it, `text` may have a prefix of it.
 pub fn put_event_line(
     text: &mut Vec<u8>,
     time: Time,
@@ -66,7 +66,7 @@ pub fn put_event_line(
 }
 
 /// Appends the line of a query: `#query`, its time and its ID, with single spaces between them; at most 39 bytes.
-/// After an `AllocError`, which comes where there is no memory for it, `text` may have a front of it.
+/// After an `AllocError`, which comes where there is no memory for it, `text` may have a prefix of it.
 pub fn put_query_line(text: &mut Vec<u8>, time: Time, id: u32) -> Result<(), AllocError>
     ensures { OnOk result (text.new.items ≡ text.old.items ++ query_line time id) }
 {
@@ -89,7 +89,7 @@ pub(crate) fn least_prefix_of(kind: ClockKind) -> &'static [u8]
 }
 
 /// Appends the line of a least time: `#least` and a clock line; at most 41 bytes. After an `AllocError`, which comes
-/// where there is no memory for it, `text` may have a front of it.
+/// where there is no memory for it, `text` may have a prefix of it.
 pub fn put_least_line(text: &mut Vec<u8>, kind: ClockKind, time: u64) -> Result<(), AllocError>
     ensures { OnOk result (text.new.items ≡ text.old.items ++ least_line kind time) }
 {
@@ -100,7 +100,7 @@ pub fn put_least_line(text: &mut Vec<u8>, kind: ClockKind, time: u64) -> Result<
 
 /// Appends the clock line of a time whose events or queries have lines of their own: it has one zero in front of
 /// its number; at most 35 bytes. After an `AllocError`, which comes where there is no memory for it, `text` may
-/// have a front of it.
+/// have a prefix of it.
 pub fn put_kept_clock_line(text: &mut Vec<u8>, kind: ClockKind, time: u64) -> Result<(), AllocError>
     ensures { OnOk result (text.new.items ≡ text.old.items ++ kept_clock_line kind time) }
 {

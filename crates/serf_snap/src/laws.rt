@@ -69,7 +69,7 @@ pub fn plan_laws()
         → MayReplace s w → IsObservable (compacted s w) }
 {}
 
-/// What the lines of events say: a line that was written reads back as what was written, and no front of it says
+/// What the lines of events say: a line that was written reads back as what was written, and no prefix of it says
 /// anything. No bytes behind a text take an event from it, and a seal changes none. And a line that begins with `#`
 /// changes no clock, wherever it stands.
 pub fn event_line_laws()
